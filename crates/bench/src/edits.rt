@@ -1,4 +1,5 @@
-//! Edits of a text: the time of the last thousand, of undoing them, of opening and of copying.
+//! Edits of a text: the processor time of the last thousand, of undoing them, of opening and of copying. A turn is the
+//! number of an edit, from 0.
 //!
 //! The edits insert or remove one byte at scattered offsets, type letters one after another, or insert each before all others.
 //! In `turning`, a letter goes to the next multiple of the golden ratio, as a fraction of the text's length. In `ranked`, its
@@ -29,14 +30,14 @@ fn lines(alloc: Global, bytes: usize) -> Result<String> {
     Ok(text)
 }
 
-/// An offset in a text of `len` bytes, far from the one before.
+/// An offset in a text of `len` bytes, far from the one before: the factor is 2^64 divided by the golden ratio.
 fn scattered(turn: usize, len: usize) -> usize
     ensures { result ≤ len }
 {
     turn.wrapping_mul(0x9E37_79B9_7F4A_7C15) % (len.min(usize::MAX - 1) + 1)
 }
 
-/// The fraction of a multiple of the golden ratio, in units of 2^-32.
+/// The fraction of a multiple of the golden ratio, in units of 2^-32: the factor is a prime near 2^32 divided by that ratio.
 fn multiple(turn: usize) -> u64 {
     (turn as u64).wrapping_mul(0x9E37_79B1) % 0x1_0000_0000
 }
@@ -79,6 +80,7 @@ fn write_at(text: &mut Text, at: usize) -> Result<()> {
 /// The offsets of the edits.
 #[derive(Clone, Copy, PartialEq)]
 enum Offsets {
+    /// Far from the one before, by `scattered`.
     Scattered,
     /// After the previous edit.
     Typing,
@@ -91,6 +93,7 @@ enum Offsets {
 }
 
 impl Offsets {
+    /// The offsets with this name.
     fn from_word(word: &str) -> Option<Offsets> {
         if word == "scattered" {
             Some(Offsets::Scattered)
@@ -111,6 +114,7 @@ impl Offsets {
 /// The edits to make.
 #[derive(Drop)]
 struct Edits {
+    /// Where they are.
     offsets: Offsets,
     /// The offset at which typing begins.
     middle: usize,
@@ -119,6 +123,7 @@ struct Edits {
 }
 
 impl Edits {
+    /// The edits of `turns` turns, of a text of `bytes` bytes.
     fn new(alloc: Global, offsets: Offsets, bytes: usize, turns: usize) -> Result<Edits> {
         let ranks = match offsets {
             Offsets::Ranked => ranks(alloc, turns)?,

@@ -1,8 +1,9 @@
-//! The glyphs of each script.
+//! The glyphs of each script that pictures are filled with.
 
 ghost use Rattle.std.specs.Prelude.{◌≡◌, ◌≤◌, true};
 ghost use Rattle.bx_grid.specs.Columns.{is_one_glyph, run_width};
 
+/// What a picture is filled with.
 #[derive(Clone, Copy)]
 pub enum Script {
     Ascii,
@@ -15,6 +16,7 @@ pub enum Script {
 }
 
 impl Script {
+    /// The script with this name.
     pub fn named(name: &str) -> Option<Script> {
         if name == "ascii" {
             Some(Script::Ascii)

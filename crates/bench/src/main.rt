@@ -88,6 +88,7 @@ fn one<R: Print + CpuClock + AllocGlobal>(rt: &R, words: &[String], is_timed: bo
     Ok(())
 }
 
+/// Carries out the command line.
 fn run<R: Print + Env + CpuClock + AllocGlobal>(rt: &R) -> Result<()> {
     let mut words = Vec::new(rt.alloc());
     for word in env::args(rt)?.skip(1) {

@@ -31,8 +31,8 @@ fn put_glyph(grid: &mut Grid, cell: Cell, glyph: Glyph, negative: bool) -> Resul
     Ok(())
 }
 
-/// Fills a line with glyphs except for its last five or six columns. If `marked`, the glyph at column 41 is another one, and
-/// negative.
+/// Fills a line of 80 columns with glyphs except for its last five or six columns, a blank tail. If `marked`, the glyph at
+/// column 41, the middle, is another one, and negative.
 fn put_line(grid: &mut Grid, script: Script, line: u16, marked: bool) -> Result<()> {
     let mut column = 1;
     while column < 75 {
@@ -44,8 +44,8 @@ fn put_line(grid: &mut Grid, script: Script, line: u16, marked: bool) -> Result<
     Ok(())
 }
 
-/// A picture full of glyphs except for the last five or six columns of each row. If `marked`, one glyph is another one, and
-/// negative.
+/// A picture full of glyphs except for the last five or six columns of each row. If `marked`, one glyph, in line 12, is
+/// another one, and negative.
 fn full(alloc: Global, script: Script, marked: bool) -> Result<Picture> {
     let mut grid = Grid::blank(alloc, 24, 80)?;
     for line in 1..25 {
@@ -70,7 +70,7 @@ fn changes_len(alloc: Global, old: &Picture, new: &Picture) -> Result<usize> {
     Ok(changes(alloc, old, new)?.len())
 }
 
-/// The measured work.
+/// The measured work, as the file's head says it.
 #[derive(Clone, Copy)]
 enum Task {
     Changes,
@@ -112,14 +112,20 @@ impl Task {
 /// The values that the tasks work on.
 #[derive(Drop)]
 struct Work {
+    /// What the pictures are filled with.
     script: Script,
+    /// The picture without the other glyph.
     old: Picture,
+    /// The picture with it.
     new: Picture,
+    /// The bytes that paint `new` whole.
     painting: Vec<u8>,
+    /// Reads the painting.
     screen: Screen,
 }
 
 impl Work {
+    /// The pictures of a script, a painting and a screen.
     fn new(alloc: Global, script: Script) -> Result<Work> {
         let old = full(alloc, script, false)?;
         let new = full(alloc, script, true)?;

@@ -85,9 +85,13 @@ fn restore<D: BidiData>(text: &mut Text, index: &mut Index, tables: &D) -> Resul
 /// The work measured after the index is built.
 #[derive(Clone, Copy)]
 enum Task {
+    /// Nothing more: the building itself is measured.
     Build,
+    /// A line feed is inserted this number of times.
     Edit(usize),
+    /// The text is removed and that undone this number of times.
     Restore(usize),
+    /// A walk over all paragraphs and back.
     Walk,
 }
 

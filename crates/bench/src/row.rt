@@ -15,12 +15,16 @@ use bx_ucd::{BidiData, Tables, sample_tables};
 use std::alloc::Global;
 use std::time::CpuClock;
 
-/// A part of showing a row.
+/// A part of showing a row, as the file's head names it.
 #[derive(Clone, Copy)]
 enum Part {
+    /// `units`
     Units,
+    /// `levels`
     Levels,
+    /// `visual`
     Order,
+    /// `draw`
     Picture,
 }
 

@@ -1,4 +1,4 @@
-//! The texts for measuring levels.
+//! The texts for measuring levels. 60 and 62 openers are fewer than the 63 that the stack keeps (UAX #9, BD16).
 
 use std::alloc::{AllocError, Global};
 
@@ -107,7 +107,8 @@ fn idle_closers(alloc: Global, count: usize) -> Result<String, AllocError> {
     Ok(body)
 }
 
-/// A letter, 60 opening brackets each followed by a pair around a Hebrew letter, blanks, and 60 closing brackets.
+/// A letter, 60 opening brackets each followed by a pair around a Hebrew letter, blanks, and 60 closing brackets: 301
+/// characters without the blanks.
 fn blanks_inside(alloc: Global, count: usize) -> Result<String, AllocError> {
     let mut body = String::new(alloc);
     body.push('a')?;
@@ -123,7 +124,7 @@ fn blanks_inside(alloc: Global, count: usize) -> Result<String, AllocError> {
     Ok(body)
 }
 
-/// Repeats 62 nested isolates.
+/// Repeats 62 nested isolates: 62 FSI, and 62 PDI.
 fn deep_isolates(alloc: Global, count: usize) -> Result<String, AllocError> {
     let mut body = String::new(alloc);
     let mut k: usize = 0;

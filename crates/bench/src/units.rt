@@ -90,13 +90,18 @@ enum Task {
     Split,
     /// The clusters of `unicode_segmentation`'s iterator, each with its face.
     Iterator,
+    /// The units of the line.
     Units,
+    /// The units, and the rows that they make.
     Wrap,
+    /// Where the rows start.
     RowStarts,
+    /// Whether the line has one row.
     HasOneRow,
 }
 
 impl Task {
+    /// The task with this name.
     fn named(word: &str) -> Option<Task> {
         if word == "split" {
             Some(Task::Split)

@@ -12,7 +12,7 @@ abbrev pub IsFaultOf : List ℕ → FileFault → Type 0
 IsFaultOf path (Unreadable named) = named.now ≡ path
 IsFaultOf path OutOfMemory = Prim.Unit {0}
 
--- the bytes of both files by which letters are joined: as they are kept, and as they are lent
+-- the bytes of both files by which letters are joined: as `JoiningBytes` keeps them, and as `JoiningFiles` lends them
 abbrev pub kept_pair : JoiningBytes → List ℕ × List ℕ
 kept_pair bytes = (bytes.joining.items, bytes.characters.items)
 

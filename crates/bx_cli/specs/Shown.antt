@@ -1,4 +1,4 @@
--- Names and texts in messages.
+-- Names and texts in messages (`src/shown.rt`).
 use Rattle.std.specs.Prelude.{ℕ, Bool, ◌==◌, ◌&&◌, ◌||◌, nat_lt, if◌then◌else◌, List, [], ◌∷◌, length}
 use Rattle.std.specs.Char.{is_ascii_alphanumeric}
 use Rattle.std.specs.List.{list_all, list_any}
@@ -7,7 +7,9 @@ use Rattle.ucd_table.specs.Rows.{Range, in_ranges}
 use Rattle.bx_cli.specs.declared.shown.Style.{Style}
 use Rattle.bx_cli.specs.declared.shown.Style.TheVariants.{Bare, Quoted, Escaped}
 
--- the characters that a terminal obeys, takes for directions or shows in no column, but for joiners
+-- the characters that a terminal obeys, takes for directions or shows in no column, but for joiners: controls (Cc), line and
+-- paragraph separators, and format characters (Cf) without Prepended_Concatenation_Mark; from 2060 to 206F and from E0000 to
+-- E0FFF all, also unassigned ones
 abbrev pub hidden_ranges : List Range
 hidden_ranges =
     (0x0000, 0x001F)
@@ -27,6 +29,7 @@ hidden_ranges =
     ∷ (0xE0000, 0xE0FFF)
     ∷ []
 
+-- the character is one of these
 abbrev pub is_hidden : ℕ → Bool
 is_hidden c = in_ranges hidden_ranges c
 

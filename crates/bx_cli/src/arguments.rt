@@ -35,7 +35,7 @@ pub fn parse<'a, S: AsStr, O, F: FnOnce(&ArgMatches<'a>) -> Option<O>>(
     }
 }
 
-/// An option whose value is a side of a window.
+/// An option whose value is a side of a window, from 1 to 500.
 pub fn side<'a>(alloc: Global, name: &'a str, default: &'a str) -> Arg<'a> {
     Arg::new(alloc, name)
         .long(name)

@@ -1,4 +1,5 @@
-//! The exit statuses of the programs, and their messages on standard error.
+//! The exit statuses of the programs, and their messages on standard error: 0, 1 for a fault of the run, 2 for a refused
+//! command line.
 
 use crate::shown::Numbered;
 use clap::error::ErrorKind;

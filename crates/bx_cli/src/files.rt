@@ -1,4 +1,4 @@
-//! The files that the programs read.
+//! The files that the programs read: texts, and Unicode's.
 
 ghost use Rattle.std.specs.Prelude.{IfErr};
 ghost use Rattle.bx_cli.specs.Files.{IsFaultOf};

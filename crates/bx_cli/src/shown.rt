@@ -1,4 +1,5 @@
-//! Names and texts in messages, with the characters escaped that a terminal would obey or hide.
+//! Names and texts in messages, with the characters escaped that a terminal would obey or hide, so that a file's name cannot
+//! change the screen.
 
 ghost use Rattle.std.specs.Prelude.{◌≡◌, false};
 ghost use Rattle.std.specs.List.{list_all, list_any};
@@ -12,7 +13,7 @@ use std::fmt::{self, Display};
 #[derive(Clone, Copy, PartialEq, Eq, Debug)]
 pub struct Shown<'a>(pub &'a str);
 
-/// A text with the bytes of such characters as octal numbers, except line ends.
+/// A text with the bytes of such characters as octal numbers, except its line ends.
 #[derive(Clone, Copy, PartialEq, Eq, Debug)]
 pub struct Numbered<'a>(pub &'a str);
 
@@ -23,6 +24,7 @@ pub struct Inner<'a>(pub &'a str);
 /// How a name is shown.
 #[derive(Clone, Copy, PartialEq, Eq, Debug)]
 pub enum Style {
+    /// As it is.
     Bare,
     /// Between quotes.
     Quoted,

@@ -47,16 +47,22 @@ pub struct UnicodeFiles<'a> {
 /// The bytes of the two files by which letters are joined.
 #[derive(Drop)]
 struct JoiningBytes {
+    /// Of ArabicShaping.txt.
     joining: Vec<u8>,
+    /// Of UnicodeData.txt.
     characters: Vec<u8>,
 }
 
 /// The bytes of Unicode's files.
 #[derive(Drop)]
 pub struct UnicodeBytes {
+    /// Of DerivedBidiClass.txt.
     classes: Vec<u8>,
+    /// Of BidiBrackets.txt.
     brackets: Vec<u8>,
+    /// Of BidiMirroring.txt.
     mirroring: Vec<u8>,
+    /// None if letters are not joined.
     joining: Option<JoiningBytes>,
 }
 
@@ -98,6 +104,7 @@ pub fn paths_of<'a>(matches: &ArgMatches<'a>) -> Option<UnicodePaths<'a>>
 }
 
 impl JoiningBytes {
+    /// Reads both files.
     fn read<'a>(rt: &HostRuntime, paths: JoiningPaths<'a>) -> Result<JoiningBytes, FileFault<'a>> {
         Ok(JoiningBytes {
             joining: bytes_of(rt, paths.joining)?,
@@ -105,6 +112,7 @@ impl JoiningBytes {
         })
     }
 
+    /// Borrows their bytes.
     fn lend(&self) -> JoiningFiles<'_>
         ensures { lent_pair result ≡ kept_pair self.now }
     {

@@ -5,11 +5,11 @@ use Rattle.bx_terms.specs.Sizes.{largest_text}
 use Rattle.bx_command.specs.declared.check.TextFault.{TextFault}
 use Rattle.bx_command.specs.declared.check.TextFault.TheVariants.{NotUtf8, TooLong}
 
--- the number, from 1, of the line that the byte at this offset is in: one more than the line feeds before it
+-- the number, from 1, of the line that the byte at this offset is in: one more than the line feeds (0A) before it
 abbrev pub line_of : List ℕ → ℕ → ℕ
 line_of bytes offset = count_by (λ b. b == 0x0a) (take offset bytes) + 1
 
--- the bytes are UTF-8 up to a byte in this line, and no further
+-- the bytes are UTF-8 up to a byte in this line, and not with that byte
 pub record IsFirstBadLine (bytes : List ℕ) (line : ℕ) : Type 0 where
   pub front : ℕ
   pub valid : IsValidUpTo bytes front

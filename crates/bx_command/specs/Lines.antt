@@ -1,6 +1,7 @@
 -- The lines of a text, each of which but the last ends with LF.
 use Rattle.std.specs.Prelude.{ℕ, ◌+◌, ◌==◌, Bool, true, false, List, [], ◌∷◌, take}
 
+-- `start` before the others, if the bool says so
 abbrev pub with_start : Bool → ℕ → List ℕ → List ℕ
 with_start true start starts = start ∷ starts
 with_start false start starts = starts
@@ -14,7 +15,7 @@ behind_feeds offset (b ∷ bytes) = with_start (b == 0x0a) (offset + 1) (behind_
 abbrev pub line_starts : List ℕ → List ℕ
 line_starts text = 0 ∷ behind_feeds 0 text
 
--- the last of these offsets, or `before` if there is none
+-- the last of these offsets, or `before` if the list is empty
 abbrev pub last_from : ℕ → List ℕ → ℕ
 last_from before [] = before
 last_from before (start ∷ starts) = last_from start starts

@@ -1,4 +1,4 @@
-//! The input files of a session.
+//! The input files of a session: Unicode's, the text, and a journal to replay.
 
 use crate::parsed::Options;
 use bx_cli::{FileFault, UnicodeBytes, bytes_of, text_of};

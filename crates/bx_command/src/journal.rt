@@ -1,4 +1,4 @@
-//! The journal's file.
+//! The journal's file: keys are appended to it as they are read, and synced.
 
 ghost use Rattle.std.specs.Io.{WritesAtMost};
 
@@ -13,7 +13,7 @@ const SAVE: u8 = 0x13;
 /// Number of seconds after the last sync at which a flush syncs again.
 const WAIT: u64 = 1;
 
-/// The texts for standard error, with their ends.
+/// The texts that are written to standard error, each with its end.
 #[derive(Clone, Copy)]
 pub struct JournalNotes<'a> {
     /// The journal could not be written.
@@ -29,13 +29,17 @@ pub struct JournalNotes<'a> {
 /// fault ends with a successful flush after a successful write, which is printed too.
 #[derive(Drop)]
 pub struct JournalFile<'a> {
+    /// Files, clock and standard error of the system.
     rt: HostRuntime,
     /// None if no journal is kept.
     path: Option<&'a str>,
+    /// What is written to standard error.
     notes: JournalNotes<'a>,
-    /// None until the file is opened.
+    /// None until it is opened.
     file: Option<File>,
+    /// When it was last synced; None before the first time.
     synced: Option<Instant>,
+    /// Whether a Save was written since it was last synced.
     holds_save: bool,
     /// Whether the last write failed, so that bytes are missing.
     lacks_bytes: bool,
@@ -43,7 +47,7 @@ pub struct JournalFile<'a> {
     has_fault: bool,
 }
 
-/// Opens a file for appending. A new file gets permissions for its owner alone.
+/// Opens a file for appending. A new file gets permissions for its owner alone (0600).
 fn open_at_end(rt: &HostRuntime, path: &str) -> io::Result<File> {
     OpenOptions::new()
         .append(true)

@@ -1,4 +1,4 @@
-//! The cursor's first line.
+//! Where the cursor's first line begins.
 
 ghost use Rattle.std.specs.Prelude.{◌≡◌};
 ghost use Rattle.bx_command.specs.Lines.{start_of_line};

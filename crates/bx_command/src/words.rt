@@ -1,4 +1,4 @@
-//! The editor's command line.
+//! The options of the editor's command line, and how they are parsed.
 
 ghost use Rattle.std.specs.Prelude.{IfSome};
 ghost use Rattle.bx_command.specs.Options.{AreOptionsIn};

@@ -1,4 +1,5 @@
--- The codes of columns, numbers by which rows are compared.
+-- The codes of columns, numbers by which rows are compared. A code is, from the lowest bit on: whether the glyph is negative
+-- (1 bit), the column's index in it and its number of columns (2 bits each), its packed text (57 bits).
 use Rattle.std.specs.Prelude.{ℕ, ◌+◌, ◌*◌, ◌/◌, ◌%◌, ◌==◌, Bool, false, ◌&&◌, nat_le, nat_lt, List, [], ◌∷◌, map, length, if◌then◌else◌}
 use Rattle.std.specs.List.{list_all}
 use Rattle.bx_grid.specs.Columns.{Col, Unknown, Glyph}
@@ -6,7 +7,7 @@ use Rattle.bx_grid.specs.Columns.{Col, Unknown, Glyph}
 abbrev pub is_byte : ℕ → Bool
 is_byte b = nat_lt b 256
 
--- a text of at most seven bytes
+-- a text of at most seven bytes, which with its end mark is below 2^57
 abbrev pub is_short : List ℕ → Bool
 is_short text = nat_le (length text) 7 && list_all is_byte text
 
@@ -15,13 +16,15 @@ abbrev pub packed : List ℕ → ℕ
 packed [] = 1
 packed (b ∷ bs) = packed bs * 256 + b
 
--- the common code of columns with no code of their own
+-- the common code of columns with no code of their own: the highest of 64 bits, which no other code has
 abbrev pub no_code : ℕ
 no_code = 0x8000_0000_0000_0000
 
+-- a code of one column alone, not the common one
 abbrev pub is_code : ℕ → Bool
 is_code code = nat_lt code no_code
 
+-- the code of a glyph's packed text, its number of columns, the index of a column in it, and its rendition
 abbrev pub code_in : ℕ → ℕ → ℕ → Bool → ℕ
 code_in number columns offset negative = ((number * 4 + columns) * 4 + offset) * 2 + (if negative then 1 else 0)
 

@@ -7,6 +7,8 @@ use Rattle.unicode_width.specs.Width.{str_width}
 use Rattle.std.specs.Prelude.{◌≡◌, replicate, ℕ, zero, suc, chars, ◌+◌, ◌-◌, ◌*◌, nat_lt, if◌then◌else◌, Bool, true, false, ◌&&◌, ◌==◌, not, List, [], ◌∷◌}
 use Rattle.std.specs.Prelude.{◌++◌, length, map, take, drop}
 
+-- one column of a glyph: the glyph's text, its number of columns, the index of this one from 0 (`offset`), and whether the
+-- glyph is negative
 pub data Col : Type 0 where
   Unknown : Col
   Glyph : (text : List ℕ) (columns offset : ℕ) (negative : Bool) → Col
@@ -15,7 +17,7 @@ pub data Col : Type 0 where
 abbrev pub blank : Col
 blank = Glyph (32 ∷ []) 1 0 false
 
--- the number of columns that a column's glyph has after it, and before it
+-- the number of columns that a column's glyph has after this one, and before it
 abbrev pub columns_after : Col → ℕ
 columns_after Unknown = 0
 columns_after (Glyph text columns offset negative) = columns - (offset + 1)
@@ -24,12 +26,13 @@ abbrev pub columns_before : Col → ℕ
 columns_before Unknown = 0
 columns_before (Glyph text columns offset negative) = offset
 
--- the columns of a row before an index from which others are put: a glyph that reaches past it becomes unknown
+-- the columns of a row before those that are put: a glyph that reaches into these becomes unknown
 abbrev pub cut_before : List Col → List Col
 cut_before [] = []
 cut_before (x ∷ xs) = (if nat_lt (length xs) (columns_after x) then Unknown else x) ∷ cut_before xs
 
--- the columns after the new ones, of which `d` come before these: a glyph that begins in the new ones becomes unknown
+-- the columns of a row after the ones that are put, where `d` columns lie between these and the first: a glyph that begins
+-- before the first becomes unknown
 abbrev pub cut_after : ℕ → List Col → List Col
 cut_after d [] = []
 cut_after d (x ∷ xs) = (if nat_lt d (columns_before x) then Unknown else x) ∷ cut_after (d + 1) xs
@@ -51,12 +54,13 @@ pub record AreSameAround (k count : ℕ) (old new : List Col) : Type 0 where
 abbrev pub put_in_row : List Col → ℕ → List Col → List Col
 put_in_row row k new = cut_before (take k row) ++ new ++ cut_after 0 (drop (k + length new) row)
 
--- all columns, with some put in a row from a column on
+-- the columns of all rows of this width, with `new` put in a row from a column on, both counted from 0
 abbrev pub put : ℕ → List Col → ℕ → ℕ → List Col → List Col
 put width columns row column new =
     take (row * width) columns
     ++ (put_in_row (take width (drop (row * width) columns)) column new ++ drop width (drop (row * width) columns))
 
+-- the column is a blank
 abbrev pub is_blank : Col → Bool
 is_blank Unknown = false
 is_blank (Glyph text columns offset negative) = is_only 0x20 text && (columns == 1) && (offset == 0) && not negative
@@ -72,6 +76,7 @@ col_eq Unknown (Glyph text columns offset negative) = false
 col_eq (Glyph text columns offset negative) Unknown = false
 col_eq (Glyph a n i x) (Glyph b m j y) = (bytes_eq a b && (n == m)) && ((i == j) && bool_eq x y)
 
+-- both lists look the same
 abbrev pub are_equal : List Col → List Col → Bool
 are_equal [] [] = true
 are_equal [] (d ∷ ds) = false
@@ -80,7 +85,7 @@ are_equal (c ∷ cs) (d ∷ ds) = col_eq c d && are_equal cs ds
 
 -- ---- glyphs
 
--- columns of a glyph, from an offset on
+-- `count` columns of a glyph, the first at this offset in it
 abbrev pub glyph_columns_from : List ℕ → ℕ → Bool → ℕ → ℕ → List Col
 glyph_columns_from text columns negative offset zero = []
 glyph_columns_from text columns negative offset (suc count) =

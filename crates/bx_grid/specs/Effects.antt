@@ -1,4 +1,5 @@
--- The effects of reading on a terminal's columns: each glyph that it puts, and each erasure.
+-- The effects of reading on a terminal's columns: each glyph that it puts, and each erasure. `bx_paint` says by them what a
+-- painting sends.
 use Rattle.std.specs.Prelude.{ℕ, drop, ◌+◌, ◌*◌, Bool, true, false, ◌&&◌, nat_le, ◌==◌, List, [], ◌∷◌, ◌++◌, length, Option, Some, None, if◌then◌else◌}
 use Rattle.bx_grid.specs.Columns.{Col, Unknown, Glyph, run_columns}
 use Rattle.bx_grid.specs.Tokens.{fate, command}
@@ -15,8 +16,9 @@ pub data Effect : Type 0 where
   Puts : (index : ℕ) (text : List ℕ) (negative : Bool) → Effect
   -- from an index to the row's end
   Erases : (index : ℕ) → Effect
-  -- all columns
+  -- all columns become blanks
   Clears : Effect
+  -- all columns become unknown
   Forgets : Effect
 
 -- the glyphs of columns, the first of them at an index
@@ -26,10 +28,12 @@ glyphs_at index (Unknown ∷ cs) = glyphs_at (index + 1) cs
 glyphs_at index (Glyph text columns offset negative ∷ cs) =
     if offset == 0 then Puts index text negative ∷ glyphs_at (index + 1) cs else glyphs_at (index + 1) cs
 
+-- glyphs put from a row and a column on; where they do not fit in the row, all is unknown
 abbrev pub put_effects : Terminal → ℕ × ℕ → List Col → List Effect
 put_effects t p new =
     if nat_le 1 (length new) && nat_le (p.1 + length new) t.width then glyphs_at (p.0 * t.width + p.1) new else Forgets ∷ []
 
+-- a run put at a position, in a rendition
 abbrev pub run_effects : Terminal → Option (ℕ × ℕ) → Option Bool → List ℕ → List Effect
 run_effects t position negative [] = []
 run_effects t (Some p) (Some negative) (b ∷ bs) = put_effects t p (run_columns negative (b ∷ bs))
@@ -40,17 +44,20 @@ run_effects t None negative (b ∷ bs) = Forgets ∷ []
 abbrev pub pending_effects : Terminal → List Effect
 pending_effects t = run_effects t t.position t.negative t.run
 
+-- what a command does; each forgets all where the terminal's state becomes unknown (`Terminal.antt`)
 abbrev pub erase_effects : Terminal → Option (ℕ × ℕ) → Option Bool → List Effect
 erase_effects t (Some p) (Some false) = Erases (p.0 * t.width + p.1) ∷ []
 erase_effects t (Some p) (Some true) = Forgets ∷ []
 erase_effects t (Some p) None = Forgets ∷ []
 erase_effects t None negative = Forgets ∷ []
 
+-- an erasure of the screen, in this rendition
 abbrev pub clear_effects : Option Bool → List Effect
 clear_effects (Some false) = Clears ∷ []
 clear_effects (Some true) = Forgets ∷ []
 clear_effects None = Forgets ∷ []
 
+-- a move to a line and a column, counted from 1: only one out of the window has an effect
 abbrev pub move_effects : Terminal → ℕ → ℕ → List Effect
 move_effects t line column =
     if nat_le 1 line && nat_le line t.height && nat_le 1 column && nat_le column t.width then [] else Forgets ∷ []
@@ -62,12 +69,14 @@ command_effects t Erase = erase_effects t t.position t.negative
 command_effects t (Render negative) = []
 command_effects t Other = Forgets ∷ []
 
+-- a whole character or sequence: a printable character only extends the run
 abbrev pub token_effects : Terminal → List ℕ → List Effect
 token_effects t [] = []
 token_effects t (b ∷ rest) =
     if b == 0x1B then command_effects t (command (drop 1 rest))
     else if are_printable (b ∷ rest) then [] else Forgets ∷ []
 
+-- a byte where no token is half read
 abbrev pub first_byte_effects_as : Terminal → ℕ → Fate → List Effect
 first_byte_effects_as t b Waits = []
 first_byte_effects_as t b Ends = token_effects t (b ∷ [])
@@ -76,11 +85,13 @@ first_byte_effects_as t b Breaks = Forgets ∷ []
 abbrev pub first_byte_effects : Terminal → ℕ → List Effect
 first_byte_effects t b = if b == 0x1B then pending_effects t else first_byte_effects_as t b (fate (b ∷ []))
 
+-- a byte after a half-read token
 abbrev pub next_byte_effects : Terminal → ℕ → Fate → List Effect
 next_byte_effects t b Waits = []
 next_byte_effects t b Ends = token_effects t (t.half_read ++ b ∷ [])
 next_byte_effects t b Breaks = Forgets ∷ first_byte_effects (all_unknown t) b
 
+-- a byte after these half-read bytes
 abbrev pub effects_after : Terminal → ℕ → List ℕ → List Effect
 effects_after t b [] = first_byte_effects t b
 effects_after t b (h ∷ half_read) = next_byte_effects t b (fate (h ∷ half_read ++ b ∷ []))

@@ -35,7 +35,7 @@ AreWholeRows (suc rows) width columns = AreWhole (take width columns) × AreWhol
 
 -- ---- two lists of columns
 
--- the column at an index belongs to a glyph that has all its columns there
+-- the column of this glyph at `index` belongs to a glyph that has all its `count` columns there
 pub record StandsWhole (text : List ℕ) (count offset : ℕ) (negative : Bool) (index : ℕ) (columns : List Col) : Type 0 where
   pub glyph : IsGlyph (record { text = text; negative = negative })
   pub counted : count ≡ length (run_columns negative text)
@@ -43,6 +43,7 @@ pub record StandsWhole (text : List ℕ) (count offset : ℕ) (negative : Bool) 
   pub begins : offset ≤ index
   pub all : take count (drop (index - offset) columns) ≡ run_columns negative text
 
+-- a column with its glyph stands whole at an index of the columns
 abbrev pub IsWholeAt : Col → ℕ → List Col → Type 0
 IsWholeAt Unknown index columns = ⊥
 IsWholeAt (Glyph text count offset negative) index columns = StandsWhole text count offset negative index columns

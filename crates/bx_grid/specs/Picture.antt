@@ -5,13 +5,13 @@ use Rattle.bx_grid.specs.Glyphs.{AreWholeRows}
 use Rattle.bx_terms.specs.Sizes.{is_side, largest_side}
 use Rattle.bx_grid.specs.Terminal.{Terminal, reads}
 
--- the columns of a grid, row by row
+-- the columns of a grid, row by row, with its numbers of rows and of columns in a row
 pub record GridState : Type 0 where
   pub height : ℕ
   pub width : ℕ
   pub columns : List Col
 
--- a grid's columns, and the cursor's row and column from 0
+-- a grid's columns, and the cursor's row and column, counted from 0
 pub record PictureState : Type 0 where
   pub height : ℕ
   pub width : ℕ
@@ -45,11 +45,12 @@ pub record IsSized (height width columns : ℕ) : Type 0 where
   pub wide : width ≤ largest_side
   pub each : columns ≡ height * width
 
--- a grid's columns are all known, and each row is whole glyphs that a printable run can put
+-- a grid's columns are all known, and each row is whole glyphs (`IsGlyph`)
 pub record IsGrid (height width : ℕ) (columns : List Col) : Type 0 where
   pub sized : IsSized height width (length columns)
   pub rows : AreWholeRows height width columns
 
+-- each side is from 1 to 500
 abbrev pub is_size : ℕ → ℕ → Bool
 is_size height width = is_side height && is_side width
 

@@ -9,8 +9,11 @@ use Rattle.bx_grid.specs.declared.command.Command.{Command}
 use Rattle.bx_grid.specs.declared.command.Command.TheVariants.{Move, Clear, Erase, Render, Other}
 use Rattle.bx_grid.specs.Tokens.{fate, command}
 
+-- the state of a terminal, as far as it is known
 pub record Terminal : Type 0 where
+  -- the number of rows
   pub height : ℕ
+  -- the number of columns in a row
   pub width : ℕ
   -- row by row
   pub columns : List Col
@@ -23,6 +26,7 @@ pub record Terminal : Type 0 where
   -- the bytes of a character or a sequence that is half read
   pub half_read : List ℕ
 
+-- nothing is known of the terminal, and nothing is half read
 abbrev pub all_unknown : Terminal → Terminal
 all_unknown t = record {
   height = t.height;
@@ -34,25 +38,29 @@ all_unknown t = record {
   half_read = [];
 }
 
--- ---- sequences
+-- ---- sequences: where the model does not say what a terminal does, all becomes unknown
 
+-- CSI H: to a line and a column, counted from 1
 abbrev pub after_move : Terminal → ℕ → ℕ → Terminal
 after_move t line column =
     if nat_le 1 line && nat_le line t.height && nat_le 1 column && nat_le column t.width
     then record t { position = Some (line - 1, column - 1) }
     else all_unknown t
 
+-- CSI 2 J, in a known normal rendition
 abbrev pub after_clear : Terminal → Option Bool → Terminal
 after_clear t (Some false) = record t { columns = replicate (t.height * t.width) blank; position = None }
 after_clear t (Some true) = all_unknown t
 after_clear t None = all_unknown t
 
+-- CSI K, at a known position in a known normal rendition: from the cursor to the row's end
 abbrev pub after_erase : Terminal → Option (ℕ × ℕ) → Option Bool → Terminal
 after_erase t (Some p) (Some false) = record t { columns = put t.width t.columns p.0 p.1 (replicate (t.width - p.1) blank); position = None }
 after_erase t (Some p) (Some true) = all_unknown t
 after_erase t (Some p) None = all_unknown t
 after_erase t None negative = all_unknown t
 
+-- CSI m
 abbrev pub after_rendition : Terminal → Bool → Terminal
 after_rendition t negative = record t { negative = Some negative }
 
@@ -76,6 +84,7 @@ glyphs_put t p new =
     then record t { columns = put t.width t.columns p.0 p.1 new; position = within t.width p.0 (p.1 + length new); run = [] }
     else all_unknown t
 
+-- a run put at a position in a rendition, if both are known
 abbrev pub run_put : Terminal → Option (ℕ × ℕ) → Option Bool → List ℕ → Terminal
 run_put t position negative [] = t
 run_put t (Some p) (Some negative) (b ∷ bs) = glyphs_put t p (run_columns negative (b ∷ bs))
@@ -97,6 +106,7 @@ abbrev pub token_read : Terminal → List ℕ → Terminal
 token_read t [] = t
 token_read t (b ∷ rest) = if b == 0x1B then after_command (record t { half_read = [] }) (command (drop 1 rest)) else character_read t (b ∷ rest)
 
+-- a byte other than ESC where no token is half read, by the fate of the byte alone
 abbrev pub after_first_byte_as : Terminal → ℕ → Fate → Terminal
 after_first_byte_as t b Waits = record t { half_read = b ∷ [] }
 after_first_byte_as t b Ends = token_read t (b ∷ [])
@@ -112,13 +122,16 @@ after_next_byte t b Waits = record t { half_read = t.half_read ++ b ∷ [] }
 after_next_byte t b Ends = token_read t (t.half_read ++ b ∷ [])
 after_next_byte t b Breaks = after_first_byte (all_unknown t) b
 
+-- a byte after these half-read bytes
 abbrev pub read_after : Terminal → ℕ → List ℕ → Terminal
 read_after t b [] = after_first_byte t b
 read_after t b (h ∷ half_read) = after_next_byte t b (fate (h ∷ half_read ++ b ∷ []))
 
+-- the terminal after one more byte
 abbrev pub byte_read : Terminal → ℕ → Terminal
 byte_read t b = read_after t b t.half_read
 
+-- all bytes are read, in order
 abbrev pub reads : Terminal → List ℕ → Terminal
 reads t [] = t
 reads t (b ∷ bs) = reads (byte_read t b) bs

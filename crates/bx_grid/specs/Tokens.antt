@@ -1,4 +1,4 @@
--- The tokens that a list of bytes may begin.
+-- The tokens of a terminal's input that a list of bytes may begin, and the commands of sequences.
 use Rattle.std.specs.Prelude.{ℕ, Bool, true, false, ◌&&◌, nat_le, ◌==◌, List, [], ◌∷◌, Option, Some, None, if◌then◌else◌}
 use Rattle.std.specs.Str.{all_ascii_digits}
 use Rattle.bx_bytes.specs.Fate.{fate_in}
@@ -9,6 +9,7 @@ use Rattle.bx_grid.specs.declared.command.Command.{Command}
 use Rattle.bx_grid.specs.declared.command.Command.TheVariants.{Move, Clear, Erase, Render, Other}
 use Rattle.std.specs.Str.Parse.{digits_value}
 
+-- the bytes of a control sequence after CSI, ESC and `[` (ECMA-48, 5.4): parameter bytes, intermediate bytes, a final byte
 abbrev pub is_param : ℕ → Bool
 is_param b = nat_le 0x30 b && nat_le b 0x3F
 
@@ -31,11 +32,13 @@ abbrev pub after_intermediates : List ℕ → List ℕ
 after_intermediates [] = []
 after_intermediates (b ∷ rest) = if is_intermediate b then after_intermediates rest else b ∷ rest
 
+-- the state of a sequence, by its bytes after the intermediate ones
 abbrev pub final_fate : List ℕ → Fate
 final_fate [] = Waits
 final_fate (b ∷ []) = if is_final b then Ends else Breaks
 final_fate (b ∷ c ∷ rest) = Breaks
 
+-- the state of a sequence, by its bytes after ESC
 abbrev pub escape_fate : List ℕ → Fate
 escape_fate [] = Waits
 escape_fate (b ∷ body) = if b == 0x5B then final_fate (after_intermediates (after_params body)) else Breaks
@@ -46,7 +49,7 @@ abbrev pub fate : List ℕ → Fate
 fate [] = Waits
 fate (b ∷ rest) = if b == 0x1B then escape_fate rest else fate_in characters (b ∷ rest)
 
--- a number, 1 where it is absent
+-- a number, 1 where it is absent; None where a byte is no digit
 abbrev pub number : List ℕ → Option ℕ
 number [] = Some 1
 number (d ∷ ds) = if all_ascii_digits (d ∷ ds) then Some (digits_value 10 (d ∷ ds)) else None
@@ -59,20 +62,24 @@ abbrev pub after_semicolon : List ℕ → List ℕ
 after_semicolon [] = []
 after_semicolon (b ∷ bs) = if b == 0x3B then bs else after_semicolon bs
 
+-- a move to a line and a column, counted from 1
 abbrev pub move_to : Option ℕ → Option ℕ → Command
 move_to (Some line) (Some column) = Move line column
 move_to (Some line) None = Other
 move_to None column = Other
 
+-- the bytes are this one byte
 abbrev pub is_only : ℕ → List ℕ → Bool
 is_only b [] = false
 is_only b (c ∷ []) = b == c
 is_only b (c ∷ d ∷ rest) = false
 
+-- there is no byte, or the digit 0 alone
 abbrev pub is_absent_or_zero : List ℕ → Bool
 is_absent_or_zero [] = true
 is_absent_or_zero (b ∷ bs) = is_only 0x30 (b ∷ bs)
 
+-- H (CUP) with two numbers; J (ED) with 2; K (EL) with none or 0; m (SGR) with none, 0 or 7
 abbrev pub command_of : List ℕ → ℕ → Command
 command_of ps final =
     if final == 0x48 then move_to (number (before_semicolon ps)) (number (after_semicolon ps))
@@ -84,11 +91,12 @@ command_of ps final =
     else Other)
     else Other
 
--- the command of the bytes after 1B 5B
+-- the command of a sequence, by its parameter bytes and those after them
 abbrev pub command_at : List ℕ → List ℕ → Command
 command_at ps [] = Other
 command_at ps (b ∷ []) = command_of ps b
 command_at ps (b ∷ c ∷ rest) = Other
 
+-- the command of the bytes after CSI
 abbrev pub command : List ℕ → Command
 command body = command_at (params body) (after_params body)

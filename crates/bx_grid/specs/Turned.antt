@@ -1,4 +1,4 @@
--- Columns in the other rendition.
+-- Columns in the other rendition, as a region or a shown match has them.
 use Rattle.std.specs.Prelude.{◌≡◌, ℕ, not, List, map, take, drop, slice_index_or}
 use Rattle.bx_grid.specs.Columns.{Col, Unknown, Glyph, blank, columns_before, paste}
 

@@ -1,4 +1,4 @@
-//! A row of a grid, or a part of one, borrowed.
+//! A row of a grid, or a part of one, borrowed, for the painter to compare.
 
 ghost use Rattle.std.specs.Prelude.{◌≡◌, ℕ, ◌≤◌, ◌<◌, length, take, drop, true, false};
 ghost use Rattle.bx_grid.specs.Columns.{are_equal};
@@ -13,7 +13,9 @@ use std::marker::Model;
 /// Columns of one row of a grid, side by side.
 #[derive(Drop)]
 pub struct BorrowedRow<'g> {
+    /// The columns, from the left.
     columns: &'g [Column],
+    /// The code of each column.
     codes: &'g [u64],
 }
 

@@ -1,4 +1,4 @@
-//! Codes: a number for each column, so that rows compare as arrays of numbers.
+//! Codes: a number for each column, so that rows compare as arrays of numbers. `specs/Codes.antt` says what their bits are.
 
 ghost use Rattle.std.specs.Prelude.{◌≡◌, ◌≤◌, ◌-◌, ◌<◌, ◌^◌, [], ◌∷◌, ◌++◌, length, take, drop, replicate, set, true, IfOk};
 ghost use Rattle.std.specs.List.{list_all};
@@ -10,12 +10,13 @@ ghost use Rattle.bx_grid.specs.Seen.{seen, all_seen};
 use crate::column::{Column, all_same};
 use std::alloc::{AllocError, Global};
 
-/// The common code of columns with no code of their own.
+/// The common code of columns with no code of their own: the highest bit, which no other code has.
 const NO_CODE: u64 = 0x8000_0000_0000_0000;
 
 /// The code of a blank: `code_in(0x120, 1, 0, false)`, where 0x120 is the packed text of U+0020.
 const BLANK_CODE: u64 = 9224;
 
+/// The code of a column, by its glyph's packed text and number of columns, its index in the glyph, and the rendition.
 fn code_in(number: u64, columns: u16, offset: u16, negative: bool) -> u64
     requires { number < 2 ^ 57 }
     ensures { result ≡ spec.code_in number columns offset negative }
@@ -23,6 +24,7 @@ fn code_in(number: u64, columns: u16, offset: u16, negative: bool) -> u64
     ((number * 4 + u64::from(columns)) * 4 + u64::from(offset)) * 2 + u64::from(negative)
 }
 
+/// The code of a column: its own if the glyph has at most seven bytes and three columns.
 #[inline(always)]
 fn code_of(column: &Column) -> u64
     ensures { result ≡ code_of (seen column.now) }
@@ -60,7 +62,7 @@ pub fn blank_codes(alloc: Global, count: usize) -> Result<Vec<u64>, AllocError>
     vec![in alloc; BLANK_CODE; count]
 }
 
-/// Sets the codes of columns from an index up to another.
+/// Sets the codes of the columns from the index `from` up to `to`, without it.
 pub fn note_codes(codes: &mut [u64], columns: &[Column], from: usize, to: usize)
     requires as_long { length codes.old ≡ length columns.now }
     requires order { from ≤ to }
@@ -75,7 +77,9 @@ pub fn note_codes(codes: &mut [u64], columns: &[Column], from: usize, to: usize)
 /// The bits in which two lists of codes differ, and those set in any code of the first list.
 #[derive(Clone, Copy)]
 struct Bits {
+    /// Bits that differ between two codes at the same index.
     differing: u64,
+    /// Bits that some code of the first list has.
     any: u64,
 }
 

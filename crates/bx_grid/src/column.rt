@@ -12,12 +12,17 @@ use std::alloc::{AllocError, Global};
 /// The content of one column of a grid.
 #[derive(Drop)]
 pub enum Column {
+    /// What is shown here is not known; only the terminal's model has such columns.
     Unknown,
     /// One column of a glyph: the glyph's text, its number of columns, and the index of this one, from 0.
     Glyph {
+        /// The text of the whole glyph.
         text: GlyphText,
+        /// Number of columns of the whole glyph.
         columns: u16,
+        /// The index of this column in the glyph, from 0.
         offset: u16,
+        /// Whether the glyph is in reverse video.
         negative: bool,
     },
 }

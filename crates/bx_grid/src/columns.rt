@@ -1,4 +1,5 @@
-//! Lists of columns: filling them, and putting glyphs.
+//! Lists of columns: filling them, and putting glyphs over them, for grids and for the terminal's model. Indices count
+//! columns from 0.
 
 ghost use Rattle.std.specs.Prelude.{◌≡◌, ◌+◌, ◌≤◌, length, replicate, ◌-◌, ◌*◌, ◌<◌};
 ghost use Rattle.std.specs.Prelude.{true, ◌&&◌, false, IfOk, IsOk, OnOk, OnErr, IsTrue};
@@ -21,6 +22,7 @@ fn blank_column() -> Column
     Column::of_byte(b' ', false)
 }
 
+/// `count` blanks.
 pub(crate) fn blank_columns(alloc: Global, count: usize) -> Result<Vec<Column>, AllocError>
     ensures { IfOk result (λ columns. all_seen columns.items ≡ replicate count blank) }
 {
@@ -31,7 +33,7 @@ pub(crate) fn blank_columns(alloc: Global, count: usize) -> Result<Vec<Column>, 
     Ok(columns)
 }
 
-/// Fills columns with blanks, from an index up to another.
+/// Fills the columns from the index `from` up to `to`, without it, with blanks.
 pub fn fill_blank(columns: &mut [Column], from: usize, to: usize)
     requires order { from ≤ to }
     requires inside { to ≤ length columns.old }
@@ -42,7 +44,7 @@ pub fn fill_blank(columns: &mut [Column], from: usize, to: usize)
     }
 }
 
-/// Puts a run of characters from SPACE to TILDE.
+/// Puts a run of characters from SPACE to TILDE, each a glyph, from the index `from` on.
 fn put_run(columns: &mut [Column], from: usize, run: &[u8], negative: bool)
     requires inside { from + length run.now ≤ length columns.old }
     requires printable { are_ascii_printable run.now ≡ true }
@@ -109,6 +111,7 @@ pub(crate) fn are_blank(columns: &[Column]) -> bool
     all_blank(columns)
 }
 
+/// Whether all columns are blanks, as a loop tells.
 fn all_blank(columns: &[Column]) -> bool
     ensures { result ≡ list_all is_blank (all_seen columns.now) }
 {

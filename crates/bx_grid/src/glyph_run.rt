@@ -1,4 +1,4 @@
-//! A run of text in one rendition, measured.
+//! A run of text in one rendition, measured, to be put into columns.
 
 ghost use Rattle.std.specs.Prelude.{◌≡◌};
 ghost use Rattle.bx_grid.specs.Columns.{run_width};
@@ -6,7 +6,9 @@ ghost use Rattle.bx_grid.specs.Columns.{run_width};
 /// A run of text in one rendition, and its width in columns.
 #[derive(Clone, Copy)]
 pub struct GlyphRun<'t> {
+    /// Characters from SPACE to TILDE, a glyph each, or the text of one glyph.
     pub text: &'t str,
+    /// In columns.
     pub width: u16,
     /// Whether it is in reverse video.
     pub negative: bool,

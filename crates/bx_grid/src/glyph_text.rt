@@ -1,4 +1,4 @@
-//! The text of a glyph, as a column stores it.
+//! The text of a glyph, as a column stores it: seven bytes and their count fill one word of 64 bits.
 
 ghost use Rattle.std.specs.Prelude.{◌≡◌, ◌+◌, ◌*◌, ◌^◌, ◌≤◌, ◌<◌, [], ◌∷◌, length, IfOk, IsOk, MatchOption, false, true};
 ghost use Rattle.std.specs.Str.{bytes_eq};
@@ -16,7 +16,9 @@ pub(crate) const SHORT: usize = 7;
 /// A text of at most seven bytes.
 #[derive(Drop)]
 struct ShortText {
+    /// Those from `len` on are 0 and not read.
     bytes: [u8; 7],
+    /// Number of bytes.
     len: u8,
 }
 
@@ -31,6 +33,7 @@ impl Model for ShortText {
 }
 
 impl ShortText {
+    /// A text of these bytes.
     #[inline(always)]
     fn new(text: &[u8]) -> ShortText
         requires { length text.now ≤ 7 }
@@ -52,6 +55,7 @@ impl ShortText {
         }
     }
 
+    /// A copy.
     #[inline(always)]
     fn copy(&self) -> ShortText
         ensures { result ≡ self.now }
@@ -62,6 +66,7 @@ impl ShortText {
         }
     }
 
+    /// Its bytes.
     fn as_bytes(&self) -> &[u8]
         ensures bytes { result.now ≡ self.now }
         ensures short { length result.now ≤ 7 }
@@ -73,7 +78,9 @@ impl ShortText {
 /// A short text is stored inline, any other on the heap.
 #[derive(Drop)]
 enum Stored {
+    /// At most seven bytes.
     Short(ShortText),
+    /// More than seven bytes.
     Long(String),
 }
 

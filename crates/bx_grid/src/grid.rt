@@ -1,4 +1,4 @@
-//! A grid of columns, all of them known.
+//! A grid of columns, all of them known: what the editor draws on.
 
 ghost use Rattle.std.specs.Prelude.{◌≡◌, ℕ, ◌*◌, ◌+◌, ◌-◌, ◌<◌, ◌≤◌, ◌↔◌, List, ◌++◌, length, replicate, take, drop, IfOk, OnOk, OnErr, IfErr, IsErrOf, IsOk};
 ghost use Rattle.std.specs.Prelude.{IsTrue, true, false};
@@ -22,9 +22,13 @@ use std::marker::Model;
 /// A grid of columns, row by row. Each row consists of whole glyphs.
 #[derive(Drop)]
 pub struct Grid {
+    /// Number of rows, from 1 to 500.
     pub(crate) height: u16,
+    /// Number of columns of a row, from 1 to 500.
     pub(crate) width: u16,
+    /// Row by row.
     pub(crate) columns: Vec<Column>,
+    /// The code of each column.
     pub(crate) codes: Vec<u64>,
 }
 

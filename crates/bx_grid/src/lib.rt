@@ -1,4 +1,5 @@
-//! A grid of columns, and pictures.
+//! Grids of columns, and pictures, which the editor draws and the painter shows; and the model of the terminal that shows
+//! them.
 #![tactic(auto)]
 
 ghost use Rattle.std.specs.Prelude.{◌≡◌};

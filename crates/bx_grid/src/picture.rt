@@ -1,4 +1,4 @@
-//! A picture: a grid and a cursor in it.
+//! A picture: a grid and a cursor in it, which the painter shows.
 
 ghost use Rattle.std.specs.Prelude.{◌≡◌, ◌+◌, ◌-◌, ◌*◌, ◌≤◌, ◌<◌, length};
 ghost use Rattle.bx_grid.specs.Picture.{GridState, PictureState, IsPicture, IsWithin};
@@ -10,7 +10,9 @@ use std::marker::Model;
 /// A grid and the cell of the cursor.
 #[derive(Drop)]
 pub struct Picture {
+    /// What is shown.
     grid: Grid,
+    /// Where the cursor is, inside the grid.
     cursor: Cell,
 }
 

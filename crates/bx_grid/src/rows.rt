@@ -1,4 +1,5 @@
-//! Whole rows of a grid: puts one from another grid, and blanks some.
+//! Whole rows of a grid: puts one from another grid, and blanks some, where a new picture is made on the page of an older
+//! one.
 
 ghost use Rattle.std.specs.Prelude.{List, ◌≡◌, ◌+◌, ◌-◌, ◌*◌, ◌≤◌, ◌<◌, ◌++◌, length, take, drop, replicate, OnOk, OnErr};
 ghost use Rattle.bx_grid.specs.Columns.{Col, blank, paste, AreSameAround};
@@ -70,8 +71,8 @@ impl Grid {
     }
 }
 
-/// Copies columns from the index `at` on, up to the first where the old or the new one has a text on the heap or is unknown.
-/// Returns that index.
+/// Copies the columns `others[at..]` over `columns`, where `others[0]` belongs at the index `from`, up to the first where
+/// the old or the new one has a text on the heap or is unknown. Returns that one's index in `others`.
 #[inline(never)]
 fn copy_short(columns: &mut [Column], from: usize, others: &[Column], at: usize) -> usize
     requires inside { from + length others.now ≤ length columns.old }
@@ -90,7 +91,7 @@ fn copy_short(columns: &mut [Column], from: usize, others: &[Column], at: usize)
     others.len()
 }
 
-/// Copies columns over others. If memory runs out, some of them are written, and nothing else.
+/// Copies columns over others, from the index `from` on. If memory runs out, some of them are written, and nothing else.
 fn copy_over(
     alloc: Global,
     columns: &mut [Column],
@@ -109,7 +110,7 @@ fn copy_over(
     Ok(())
 }
 
-/// Copies columns over others. If memory runs out, all of them are blanks.
+/// Copies columns over others, from the index `from` on. If memory runs out, all of them are blanks.
 fn put_copies(
     alloc: Global,
     columns: &mut [Column],
@@ -127,7 +128,7 @@ fn put_copies(
     copied
 }
 
-/// Copies codes over others.
+/// Copies codes over others, from the index `from` on.
 fn put_codes(codes: &mut [u64], from: usize, others: &[u64])
     requires { from + length others.now ≤ length codes.old }
     ensures { codes.new ≡ take from codes.old ++ others.now ++ drop (from + length others.now) codes.old }

@@ -1,4 +1,4 @@
-//! Turns columns of a grid to the other rendition.
+//! Turns columns of a grid to the other rendition, for the region or a shown match.
 
 ghost use Rattle.std.specs.Prelude.{◌≡◌, ◌+◌, ◌-◌, ◌*◌, ◌≤◌, ◌<◌, length, map, take, drop};
 ghost use Rattle.bx_grid.specs.Columns.{paste};
@@ -18,7 +18,7 @@ fn turn_all(columns: &mut [Column])
     }
 }
 
-/// Turns the columns from an index up to another to the other rendition.
+/// Turns the columns from the index `from` up to `to`, without it, to the other rendition.
 fn turn_columns(columns: &mut [Column], from: usize, to: usize)
     requires order { from ≤ to }
     requires inside { to ≤ length columns.old }

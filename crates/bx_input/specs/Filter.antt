@@ -1,4 +1,4 @@
--- The filter's step for a byte, and its output for input.
+-- The filter's step for a byte, and its output for input, in two states: outside a paste, and within one.
 use Rattle.std.specs.Prelude.{ℕ, Bool, true, false, not, ◌&&◌, ◌||◌, ◌==◌, List, [], ◌∷◌, ◌++◌, Option, Some, None, if◌then◌else◌}
 use Rattle.std.specs.Str.{bytes_eq}
 use Rattle.bx_bytes.specs.Pattern.{is_within}
@@ -8,11 +8,12 @@ use Rattle.bx_input.specs.Table.{Row, fate, row_of, paste_end, start_told, end_t
 use Rattle.bx_input.specs.Paste.{pasted_byte, pasted_part, paste_fate}
 
 -- The waiting bytes begin a sequence that the filter knows. Outside a paste, a sequence that went out unchanged may still be
--- open: its last byte is not read yet. Within a paste, the last byte may have been a CR.
+-- open (`is_open`): its last byte is not read yet. Within a paste, the last byte may have been a CR (`after_return`).
 pub data State : Type 0 where
   Outside : (waiting : List ℕ) (is_open : Bool) → State
   Within : (waiting : List ℕ) (after_return : Bool) → State
 
+-- outside a paste, with nothing waiting
 abbrev pub start : State
 start = Outside [] false
 
@@ -21,6 +22,7 @@ pub record Filtering : Type 0 where
   pub erases_by_delete : Bool
   pub state : State
 
+-- a filter in this state
 abbrev pub filtering : Bool → State → Filtering
 filtering erases_by_delete state = record { erases_by_delete = erases_by_delete; state = state }
 
@@ -29,13 +31,16 @@ pub record Step : Type 0 where
   pub state : State
   pub output : List ℕ
 
+-- a step to this state, with this output
 abbrev pub step_to : State → List ℕ → Step
 step_to state output = record { state = state; output = output }
 
+-- bytes before the output of the rest
 abbrev pub with_front : List ℕ → Step → Step
 with_front front s = step_to s.state (front ++ s.output)
 
--- ---- outside a paste
+-- ---- outside a paste; `fate` (`Table.antt`) says whether bytes are a known sequence (Ends), begin one (Waits) or neither
+-- (Breaks)
 
 -- ESC begins a sequence even if one is open. Any other byte would go into the open one, so a CAN, which has no key for the
 -- editor, ends it first.
@@ -54,7 +59,7 @@ is_empty (b ∷ bs) = false
 
 -- whether or not the terminal's own erase character is DELETE
 module _ (erases_by_delete : Bool) where
-  -- a byte where none waits
+  -- a byte where none waits; an open sequence stays open after a parameter or intermediate byte (20 to 3F: ECMA-48, 5.4)
   abbrev pub fresh : Fate → Bool → ℕ → Step
   fresh Waits is_open b = step_to (Outside (b ∷ []) is_open) []
   fresh Ends is_open b = ended is_open (row_of erases_by_delete (b ∷ []))
@@ -64,13 +69,15 @@ module _ (erases_by_delete : Bool) where
   abbrev pub broken : List ℕ → Bool → ℕ → Step
   broken waiting is_open b = with_front waiting (fresh (fate (b ∷ [])) (is_open || not (is_empty waiting)) b)
 
+  -- a byte after the waiting bytes, by the fate of both
   abbrev pub step_by : Fate → List ℕ → Bool → ℕ → Step
   step_by Waits waiting is_open b = step_to (Outside (waiting ++ b ∷ []) is_open) []
   step_by Ends waiting is_open b = ended is_open (row_of erases_by_delete (waiting ++ b ∷ []))
   step_by Breaks waiting is_open b = broken waiting is_open b
 
--- ---- within a paste
+-- ---- within a paste; `paste_fate` (`Paste.antt`) says the same of the sequences that are known there
 
+-- a byte where none waits
 abbrev pub fresh_in_paste : Fate → Bool → ℕ → Step
 fresh_in_paste Waits after_return b = step_to (Within (b ∷ []) false) []
 fresh_in_paste _ after_return b = step_to (Within [] (b == 0x0D)) (pasted_byte after_return b)
@@ -79,6 +86,7 @@ fresh_in_paste _ after_return b = step_to (Within [] (b == 0x0D)) (pasted_byte a
 abbrev pub ended_in_paste : Bool → Step
 ended_in_paste is_end = if is_end then step_to start end_told else step_to (Within [] false) []
 
+-- a byte after the waiting bytes, by the fate of both
 abbrev pub paste_step_by : Fate → List ℕ → Bool → ℕ → Step
 paste_step_by Waits waiting after_return b = step_to (Within (waiting ++ b ∷ []) false) []
 paste_step_by Ends waiting after_return b = ended_in_paste (bytes_eq (waiting ++ b ∷ []) paste_end)

@@ -1,4 +1,4 @@
--- The models of the filter's types.
+-- The models of the filter's types: which bytes their values mean.
 use Rattle.std.specs.Prelude.{◌≡◌, ◌≢◌, ℕ, Bool, true, false, slice_index, List, [], ◌∷◌, ◌++◌, codes, Option, Some, None, option_map, option_to_list}
 use Rattle.std.specs.Str.{bytes_eq}
 use Rattle.bx_bytes.specs.declared.fate.Fate.TheVariants.{Waits, Ends, Breaks}
@@ -44,6 +44,7 @@ begun beginning.ThreeControlled = csi (codes "3;5")
 begun beginning.Five = csi (codes "5")
 begun beginning.Six = csi (codes "6")
 
+-- the state that the filter's state means
 abbrev pub state_of : FilterState → State
 state_of (state.Outside waiting is_open) = spec.Outside (begun waiting) is_open
 state_of (state.Within waiting after_return) = spec.Within (tail_bytes waiting) after_return
@@ -52,13 +53,14 @@ state_of (state.Within waiting after_return) = spec.Within (tail_bytes waiting) 
 abbrev pub bytes_of : Output → List ℕ
 bytes_of output = output.before.now ++ (output.key.now ++ option_to_list output.byte)
 
+-- what a whole sequence becomes, if the table has it
 abbrev pub becomes_of : Bool → List ℕ → Option (List ℕ)
 becomes_of erases_by_delete read = option_map (λ (r : Row). r.becomes) (row_of erases_by_delete read)
 
 abbrev pub BeginsByEscape : List ℕ → Type 0
 BeginsByEscape bs = slice_index bs 0 ≡ 0x1B
 
--- `After` describes the bytes `read`: the ones that waited, and one more
+-- `After` tells what the bytes `read` are: those that waited, and one more
 abbrev pub Tells : Bool → After → List ℕ → Type 0
 Tells erases_by_delete (after.Waits beginning) read = (fate read ≡ Waits) × (begun beginning ≡ read)
 Tells erases_by_delete (after.Becomes bytes) read =
@@ -67,7 +69,7 @@ Tells erases_by_delete (after.Digit digit) read = (fate read ≡ Ends) × (becom
 Tells erases_by_delete after.Pastes read = (fate read ≡ Ends) × (row_of erases_by_delete read ≡ None)
 Tells erases_by_delete after.Breaks read = fate read ≡ Breaks
 
--- the same within a paste
+-- the same of `AfterInPaste`, within a paste
 abbrev pub TellsInPaste : AfterInPaste → List ℕ → Type 0
 TellsInPaste (after_in_paste.Waits tail) read = (paste_fate read ≡ Waits) × (tail_bytes tail ≡ read)
 TellsInPaste after_in_paste.Drops read = (paste_fate read ≡ Ends) × (bytes_eq read paste_end ≡ false)

@@ -1,4 +1,4 @@
--- The text of a paste.
+-- The text of a paste: what of its bytes goes to the editor.
 use Rattle.std.specs.Prelude.{ℕ, Bool, false, ◌&&◌, ◌||◌, ◌==◌, List, [], ◌∷◌, ◌++◌, flat_map, if◌then◌else◌}
 use Rattle.bx_bytes.specs.Fate.{fate_in}
 use Rattle.bx_bytes.specs.Pattern.{Piece, One, is_within}
@@ -30,6 +30,7 @@ pasted_after after_return (b ∷ []) = pasted_byte after_return b
 pasted_after after_return (b ∷ c ∷ bs) =
     if is_c1 b c then pasted_after false bs else pasted_byte after_return b ++ pasted_after (b == 0x0D) (c ∷ bs)
 
+-- the output for a paste of these bytes
 abbrev pub pasted : List ℕ → List ℕ
 pasted bs = pasted_after false bs
 
@@ -42,10 +43,12 @@ kept_character after_return c =
     else if is_within 0x00 0x1F c || is_within 0x7F 0x9F c then []
     else c ∷ []
 
+-- the characters that stay, after a CR or not
 abbrev pub kept_after : Bool → List ℕ → List ℕ
 kept_after after_return [] = []
 kept_after after_return (c ∷ cs) = kept_character after_return c ++ kept_after (c == 0x0D) cs
 
+-- the characters of a paste that stay
 abbrev pub kept_characters : List ℕ → List ℕ
 kept_characters cs = kept_after false cs
 
@@ -53,6 +56,7 @@ kept_characters cs = kept_after false cs
 abbrev pub paste_sequences : List (List Piece)
 paste_sequences = exact paste_end ∷ (One 0xC2 0xC2 ∷ One 0x80 0x9F ∷ []) ∷ []
 
+-- whether bytes are one of these sequences (Ends), begin one (Waits) or neither (Breaks)
 abbrev pub paste_fate : List ℕ → Fate
 paste_fate bs = fate_in paste_sequences bs
 

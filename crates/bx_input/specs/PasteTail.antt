@@ -1,4 +1,4 @@
--- The bytes that wait within a paste.
+-- The bytes that wait within a paste, which the type `PasteTail` numbers.
 use Rattle.std.specs.Prelude.{ℕ, List, [], ◌∷◌, codes}
 use Rattle.bx_input.specs.Table.{csi}
 use Rattle.bx_input.specs.declared.paste_tail.PasteTail.{PasteTail}

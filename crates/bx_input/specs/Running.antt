@@ -4,7 +4,9 @@ use Rattle.std.specs.Io.KnownBytes.{Appends, Consumes, IsAtEnd}
 use Rattle.bx_bytes.specs.Writing.{WritesFront}
 use Rattle.bx_input.specs.Filter.{State, start, run, filtered}
 
--- The progress of a run: these bytes were read, their output was written, and the filter is in this state.
+-- The progress of a run: `bytes` were read, their output was written, and the filter is in this state. `reader` and `writer`
+-- are what the reader still has and what was written, before; `reader'` and `writer'` after; None where they have no such
+-- model.
 pub record HasPassed (erases_by_delete : Bool) (reader reader' writer writer' : Option (List ℕ)) (bytes : List ℕ) (state : State) : Type 0 where
   pub reads : Consumes reader reader' bytes
   pub writes : Appends writer writer' (run erases_by_delete start bytes).output
@@ -16,7 +18,7 @@ pub record IsFiltered (erases_by_delete : Bool) (reader reader' writer writer' :
   pub ends : IsAtEnd reader'
   pub writes : Appends writer writer' (filtered erases_by_delete bytes)
 
--- the output of these bytes was written, except at most the output of the last 256
+-- the output of these bytes was written, except at most the output of the last 256, which are one read
 pub record IsOneReadLate (erases_by_delete : Bool) (writer writer' : Option (List ℕ)) (bytes : List ℕ) : Type 0 where
   pub before : List ℕ
   pub last : List ℕ

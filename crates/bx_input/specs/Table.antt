@@ -17,19 +17,23 @@ pub record Row : Type 0 where
   pub selects : Bool
   pub key : Key
 
+-- the editor's keys for what the sequence becomes
 abbrev pub keys_of : Row → List Key
 keys_of r = if r.selects then Select ∷ r.key ∷ [] else r.key ∷ []
 
+-- CSI (ECMA-48: ESC and `[`) and these bytes
 abbrev pub csi : List ℕ → List ℕ
 csi bs = 0x1B ∷ 0x5B ∷ bs
 
+-- a row without Select
 abbrev row : List ℕ → List ℕ → Key → Row
 row sequence becomes key = record { sequence = sequence; becomes = becomes; selects = false; key = key }
 
--- Select, and then the key
+-- a row with Select (81~) before the key
 abbrev selecting_row : List ℕ → List ℕ → Key → Row
 selecting_row sequence becomes key = record { sequence = sequence; becomes = csi (codes "81~") ++ becomes; selects = true; key = key }
 
+-- SS3 (ECMA-48: ESC and `O`) and these bytes
 abbrev pub ss3 : List ℕ → List ℕ
 ss3 bs = 0x1B ∷ 0x4F ∷ bs
 
@@ -57,7 +61,7 @@ application_keys =
 abbrev rxvt_keys : List Row
 rxvt_keys = row (csi (codes "7~")) (csi (codes "H")) RowHome ∷ row (csi (codes "8~")) (csi (codes "F")) RowEnd ∷ []
 
--- the same keys with Shift, as xterm, tmux and screen send them
+-- arrows, Home and End with Shift, as xterm, tmux and screen send them
 abbrev shifted_keys : List Row
 shifted_keys =
     selecting_row (csi (codes "1;2A")) (csi (codes "96~")) LineUp
@@ -68,7 +72,7 @@ shifted_keys =
     ∷ selecting_row (csi (codes "1;2F")) (csi (codes "F")) RowEnd
     ∷ []
 
--- the same keys with Shift, as rxvt sends them
+-- arrows, Home and End with Shift, as rxvt sends them
 abbrev shifted_rxvt_keys : List Row
 shifted_rxvt_keys =
     selecting_row (csi (codes "a")) (csi (codes "96~")) LineUp
@@ -134,7 +138,7 @@ keypad_digits =
     ∷ row (ss3 (codes "y")) (codes "9") (Insert 0x39)
     ∷ []
 
--- F1, of the terminals of F2
+-- F1, of the terminals that `direction_keys` names
 abbrev help_keys : List Row
 help_keys =
     row (ss3 (codes "P")) (csi (codes "80~")) Help
@@ -142,7 +146,7 @@ help_keys =
     ∷ row (csi (codes "[A")) (csi (codes "80~")) Help
     ∷ []
 
--- F3, of the same terminals
+-- F3, of the terminals that `direction_keys` names
 abbrev find_keys : List Row
 find_keys =
     row (ss3 (codes "R")) (csi (codes "92~")) FindNext
@@ -150,7 +154,7 @@ find_keys =
     ∷ row (csi (codes "[C")) (csi (codes "92~")) FindNext
     ∷ []
 
--- F4, of the same terminals
+-- F4, of the terminals that `direction_keys` names
 abbrev replace_keys : List Row
 replace_keys =
     row (ss3 (codes "S")) (csi (codes "85~")) Replace
@@ -178,9 +182,11 @@ text_end_keys =
     ∷ row (csi (codes "8^")) (csi (codes "79~")) TextEnd
     ∷ []
 
+-- the rows with Select
 abbrev selecting_rows : List Row
 selecting_rows = shifted_keys ++ (shifted_rxvt_keys ++ (shifted_st_keys ++ shifted_control_keys))
 
+-- the rows whose sequence begins with ESC
 abbrev pub escape_rows : List Row
 escape_rows =
     row_keys
@@ -191,7 +197,8 @@ escape_rows =
     ++ (delete_word_keys
     ++ (erase_word_keys ++ (direction_keys ++ (keypad_digits ++ (help_keys ++ (find_keys ++ (replace_keys ++ (word_keys ++ text_end_keys))))))))))))
 
--- CTRL with @ (or the space bar), C, G, K, R, T, V, W, X, Y, Z and the backslash, and Enter
+-- the rows whose sequence is one control byte: CTRL with @ (or the space bar), C, G, K, R, T, V, W, X, Y, Z and the
+-- backslash, and Enter
 abbrev pub control_rows : List Row
 control_rows =
     row (0x00 ∷ []) (csi (codes "72~")) Mark
@@ -217,9 +224,11 @@ erase_rows erases_by_delete =
     ∷ row (0x08 ∷ []) (csi (if erases_by_delete then codes "88~" else codes "94~")) (if erases_by_delete then EraseWord else ErasePoint)
     ∷ []
 
+-- the rows whose sequence is one byte
 abbrev pub byte_rows : Bool → List Row
 byte_rows erases_by_delete = control_rows ++ erase_rows erases_by_delete
 
+-- all rows of the table
 abbrev pub rows : Bool → List Row
 rows erases_by_delete = escape_rows ++ byte_rows erases_by_delete
 
@@ -230,7 +239,7 @@ paste_start = csi (codes "200~")
 abbrev pub paste_end : List ℕ
 paste_end = csi (codes "201~")
 
--- what they become: the editor's PasteStart and PasteEnd
+-- what these marks become: the editor's PasteStart and PasteEnd
 abbrev pub start_told : List ℕ
 start_told = csi (codes "90~")
 
@@ -245,8 +254,10 @@ exact bs = map (λ b. One b b) bs
 abbrev pub sequences : List (List Piece)
 sequences = exact paste_start ∷ map (λ (r : Row). exact r.sequence) (rows false)
 
+-- whether bytes are a known sequence (Ends), begin one (Waits) or neither (Breaks)
 abbrev pub fate : List ℕ → Fate
 fate bs = fate_in sequences bs
 
+-- the row with this sequence; None if no row has it, as for a paste's start
 abbrev pub row_of : Bool → List ℕ → Option Row
 row_of erases_by_delete bs = find (λ (r : Row). bytes_eq r.sequence bs) (rows erases_by_delete)

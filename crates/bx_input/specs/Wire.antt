@@ -1,4 +1,4 @@
--- A reader and a writer as a pipe.
+-- A reader and a writer as one pipe (`Wired` of `src/wired.rt`): what each action changes of the two.
 use Rattle.std.specs.Prelude.{◌≡◌, ℕ, List, [], ◌∷◌, ◌++◌, Option}
 use Rattle.std.specs.Io.KnownBytes.{Appends, Consumes, IsAtEnd}
 use Rattle.bx_input.specs.declared.wired.Wired.{Wired}
@@ -15,6 +15,7 @@ written_by (Write bytes) = bytes
 written_by (WriteFailed bytes) = bytes
 written_by _ = []
 
+-- the bytes of all actions, in order
 abbrev pub bytes_by : (Action → List ℕ) → List Action → List ℕ
 bytes_by bytes [] = []
 bytes_by bytes (action ∷ more) = bytes action ++ bytes_by bytes more
@@ -30,7 +31,8 @@ pub record AreSameEnds {R W : Type 0} (old new : Wired R W) : Type 0 where
   pub reader : new.reader.ghost_name ≡ old.reader.ghost_name
   pub writer : new.writer.ghost_name ≡ old.writer.ghost_name
 
--- one action; a read of no bytes comes only at the end of the input
+-- one action; a read of no bytes comes only at the end of the input. `remaining` is what a reader still has, `contents` what
+-- a writer got.
 pub record DidWired {R W : Type 0} (remaining : R → Option (List ℕ)) (contents : W → Option (List ℕ)) (old : Wired R W) (action : Action) (new : Wired R W)
     : Type 0 where
   pub same : AreSameEnds old new

@@ -1,4 +1,5 @@
-//! The state after the waiting bytes and one more, outside a paste.
+//! What the waiting bytes and one more are, outside a paste, by `specs/Table.antt`. Each comment names the keys of its
+//! function's arms, in order.
 
 ghost use Rattle.std.specs.Prelude.{◌≡◌, ◌≢◌, Bool, ◌∷◌, [], ◌++◌, Some, None, IfSome};
 ghost use Rattle.bx_bytes.specs.declared.fate.Fate.TheVariants as fate_is;
@@ -10,7 +11,7 @@ use crate::beginning::Beginning;
 /// The control byte ESC, with which each sequence begins.
 pub const ESC: u8 = 0x1B;
 
-/// The state after a byte outside a paste.
+/// What the waiting bytes and one more are.
 #[derive(Clone, Copy, Debug)]
 pub enum After {
     /// The bytes begin a sequence of the table, or the start of a paste.
@@ -25,7 +26,7 @@ pub enum After {
     Breaks,
 }
 
-/// The state after the waiting bytes and one more.
+/// What the waiting bytes and one more are.
 pub fn sequence_after(erases_by_delete: bool, waiting: Beginning, byte: u8) -> After
     ensures { Tells erases_by_delete result (begun waiting ++ byte ∷ []) }
 {
@@ -57,6 +58,7 @@ pub fn sequence_after(erases_by_delete: bool, waiting: Beginning, byte: u8) -> A
     }
 }
 
+/// After no byte: ESC, or a key of one byte.
 fn after_nothing(erases_by_delete: bool, byte: u8) -> After
     ensures { Tells erases_by_delete result (byte ∷ []) }
 {
@@ -69,7 +71,8 @@ fn after_nothing(erases_by_delete: bool, byte: u8) -> After
     }
 }
 
-/// The bytes that a byte of the table becomes.
+/// The bytes that a byte of the table becomes: Mark, Copy, GoTo, EraseWord, ErasePoint, Name, NewLine, FindBack, Tell, Put,
+/// Find, Cut, RedoRun, UndoRun, Replace.
 pub fn control_key(erases_by_delete: bool, byte: u8) -> Option<&'static [u8]>
     ensures key { IfSome result (λ key. (fate (byte ∷ []) ≡ fate_is.Ends) × (becomes_of erases_by_delete (byte ∷ []) ≡ Some key.now) × BeginsByEscape key.now) }
     ensures none { result ≡ None → byte ≢ 0x1B → fate (byte ∷ []) ≡ fate_is.Breaks }
@@ -94,6 +97,8 @@ pub fn control_key(erases_by_delete: bool, byte: u8) -> Option<&'static [u8]>
     }
 }
 
+/// After ESC O: LineUp, LineDown, Right, Left, RowHome, RowEnd, Help, Direction, FindNext, Replace, WordRight, WordLeft, the
+/// digits.
 fn after_single_shift(byte: u8) -> After
     ensures { (erases_by_delete : Bool) → Tells erases_by_delete result (0x1B ∷ 0x4F ∷ byte ∷ []) }
 {
@@ -124,6 +129,7 @@ fn after_single_shift(byte: u8) -> After
     }
 }
 
+/// After CSI: LineUp, LineDown; Select and LineUp, LineDown, Right, Left; DeleteWord, Delete.
 fn after_csi(byte: u8) -> After
     ensures { (erases_by_delete : Bool) → Tells erases_by_delete result (0x1B ∷ 0x5B ∷ byte ∷ []) }
 {
@@ -148,7 +154,7 @@ fn after_csi(byte: u8) -> After
     }
 }
 
-/// After CSI 1;2
+/// After CSI 1;2: Select and LineUp, LineDown, Right, Left, RowHome, RowEnd
 fn after_shifted(byte: u8) -> After
     ensures { (erases_by_delete : Bool) → Tells erases_by_delete result (0x1B ∷ 0x5B ∷ 0x31 ∷ 0x3B ∷ 0x32 ∷ byte ∷ []) }
 {
@@ -163,7 +169,7 @@ fn after_shifted(byte: u8) -> After
     }
 }
 
-/// After CSI 1;5
+/// After CSI 1;5: WordRight, WordLeft, TextStart, TextEnd
 fn after_controlled(byte: u8) -> After
     ensures { (erases_by_delete : Bool) → Tells erases_by_delete result (0x1B ∷ 0x5B ∷ 0x31 ∷ 0x3B ∷ 0x35 ∷ byte ∷ []) }
 {
@@ -176,7 +182,7 @@ fn after_controlled(byte: u8) -> After
     }
 }
 
-/// After CSI 1;6
+/// After CSI 1;6: Select and WordRight, WordLeft, TextStart, TextEnd
 fn after_shift_controlled(byte: u8) -> After
     ensures { (erases_by_delete : Bool) → Tells erases_by_delete result (0x1B ∷ 0x5B ∷ 0x31 ∷ 0x3B ∷ 0x36 ∷ byte ∷ []) }
 {
@@ -189,7 +195,7 @@ fn after_shift_controlled(byte: u8) -> After
     }
 }
 
-/// After ESC
+/// After ESC: EraseWord
 fn after_escape(byte: u8) -> After
     ensures { (erases_by_delete : Bool) → Tells erases_by_delete result (0x1B ∷ byte ∷ []) }
 {
@@ -215,7 +221,7 @@ fn after_one(byte: u8) -> After
     }
 }
 
-/// After CSI 11
+/// After CSI 11: Help
 fn after_eleven(byte: u8) -> After
     ensures { (erases_by_delete : Bool) → Tells erases_by_delete result (0x1B ∷ 0x5B ∷ 0x31 ∷ 0x31 ∷ byte ∷ []) }
 {
@@ -225,7 +231,7 @@ fn after_eleven(byte: u8) -> After
     }
 }
 
-/// After CSI 12
+/// After CSI 12: Direction
 fn after_twelve(byte: u8) -> After
     ensures { (erases_by_delete : Bool) → Tells erases_by_delete result (0x1B ∷ 0x5B ∷ 0x31 ∷ 0x32 ∷ byte ∷ []) }
 {
@@ -235,7 +241,7 @@ fn after_twelve(byte: u8) -> After
     }
 }
 
-/// After CSI 13
+/// After CSI 13: FindNext
 fn after_thirteen(byte: u8) -> After
     ensures { (erases_by_delete : Bool) → Tells erases_by_delete result (0x1B ∷ 0x5B ∷ 0x31 ∷ 0x33 ∷ byte ∷ []) }
 {
@@ -245,7 +251,7 @@ fn after_thirteen(byte: u8) -> After
     }
 }
 
-/// After CSI 14
+/// After CSI 14: Replace
 fn after_fourteen(byte: u8) -> After
     ensures { (erases_by_delete : Bool) → Tells erases_by_delete result (0x1B ∷ 0x5B ∷ 0x31 ∷ 0x34 ∷ byte ∷ []) }
 {
@@ -267,7 +273,7 @@ fn after_one_and(byte: u8) -> After
     }
 }
 
-/// After CSI 2
+/// After CSI 2: Select and RowHome, RowEnd
 fn after_two(byte: u8) -> After
     ensures { (erases_by_delete : Bool) → Tells erases_by_delete result (0x1B ∷ 0x5B ∷ 0x32 ∷ byte ∷ []) }
 {
@@ -299,7 +305,7 @@ fn after_two_hundred(byte: u8) -> After
     }
 }
 
-/// After CSI 3
+/// After CSI 3: DeleteWord
 fn after_three(byte: u8) -> After
     ensures { (erases_by_delete : Bool) → Tells erases_by_delete result (0x1B ∷ 0x5B ∷ 0x33 ∷ byte ∷ []) }
 {
@@ -320,7 +326,7 @@ fn after_three_and(byte: u8) -> After
     }
 }
 
-/// After CSI 3;5
+/// After CSI 3;5: DeleteWord
 fn after_three_controlled(byte: u8) -> After
     ensures { (erases_by_delete : Bool) → Tells erases_by_delete result (0x1B ∷ 0x5B ∷ 0x33 ∷ 0x3B ∷ 0x35 ∷ byte ∷ []) }
 {
@@ -330,7 +336,7 @@ fn after_three_controlled(byte: u8) -> After
     }
 }
 
-/// After CSI 5
+/// After CSI 5: PageBack, WordRight, WordLeft
 fn after_five(byte: u8) -> After
     ensures { (erases_by_delete : Bool) → Tells erases_by_delete result (0x1B ∷ 0x5B ∷ 0x35 ∷ byte ∷ []) }
 {
@@ -342,7 +348,7 @@ fn after_five(byte: u8) -> After
     }
 }
 
-/// After CSI 6
+/// After CSI 6: PageOn
 fn after_six(byte: u8) -> After
     ensures { (erases_by_delete : Bool) → Tells erases_by_delete result (0x1B ∷ 0x5B ∷ 0x36 ∷ byte ∷ []) }
 {
@@ -352,7 +358,7 @@ fn after_six(byte: u8) -> After
     }
 }
 
-/// After CSI 7
+/// After CSI 7: RowHome, Select and RowHome, TextStart
 fn after_seven(byte: u8) -> After
     ensures { (erases_by_delete : Bool) → Tells erases_by_delete result (0x1B ∷ 0x5B ∷ 0x37 ∷ byte ∷ []) }
 {
@@ -364,7 +370,7 @@ fn after_seven(byte: u8) -> After
     }
 }
 
-/// After CSI 8
+/// After CSI 8: RowEnd, Select and RowEnd, TextEnd
 fn after_eight(byte: u8) -> After
     ensures { (erases_by_delete : Bool) → Tells erases_by_delete result (0x1B ∷ 0x5B ∷ 0x38 ∷ byte ∷ []) }
 {
@@ -376,7 +382,7 @@ fn after_eight(byte: u8) -> After
     }
 }
 
-/// After CSI [
+/// After CSI [: Help, Direction, FindNext, Replace
 fn after_bracket(byte: u8) -> After
     ensures { (erases_by_delete : Bool) → Tells erases_by_delete result (0x1B ∷ 0x5B ∷ 0x5B ∷ byte ∷ []) }
 {

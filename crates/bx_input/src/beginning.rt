@@ -1,4 +1,4 @@
-//! The beginnings of the table's sequences.
+//! The beginnings of the table's sequences, each a state of the filter outside a paste.
 
 ghost use Rattle.std.specs.Prelude.{◌≡◌, ◌∷◌, [], ◌++◌};
 ghost use Rattle.bx_input.specs.Models.{begun};
@@ -6,6 +6,7 @@ ghost use Rattle.bx_input.specs.Models.{begun};
 /// The bytes that wait outside a paste.
 #[derive(Clone, Copy, PartialEq, Eq, Debug)]
 pub enum Beginning {
+    /// No byte waits.
     Nothing,
     /// ESC
     Escape,
@@ -56,6 +57,7 @@ pub enum Beginning {
 }
 
 impl Beginning {
+    /// The bytes themselves.
     pub fn bytes(self) -> &'static [u8]
         ensures { result.now ≡ begun self }
     {

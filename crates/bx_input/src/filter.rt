@@ -1,4 +1,4 @@
-//! The filter, byte by byte.
+//! The filter, byte by byte; `running.rt` runs it.
 
 ghost use Rattle.std.specs.Prelude.{◌≡◌};
 ghost use Rattle.bx_input.specs.Filter as spec;
@@ -14,7 +14,9 @@ use std::marker::Model;
 /// A filter between a terminal and the editor.
 #[derive(Drop, Debug)]
 pub struct Filter {
+    /// Whether the terminal's own erase character is DELETE, 7F.
     erases_by_delete: bool,
+    /// What waits, outside a paste or within one.
     state: FilterState,
 }
 

@@ -1,4 +1,4 @@
-//! The state after the waiting bytes and one more, within a paste.
+//! What the waiting bytes and one more are, within a paste.
 
 ghost use Rattle.std.specs.Prelude.{◌∷◌, [], ◌++◌};
 ghost use Rattle.bx_input.specs.Models.{TellsInPaste};
@@ -7,7 +7,7 @@ ghost use Rattle.bx_input.specs.PasteTail.{tail_bytes};
 use crate::after::ESC;
 use crate::paste_tail::PasteTail;
 
-/// The state after a byte within a paste.
+/// What the waiting bytes and one more are.
 #[derive(Clone, Copy, PartialEq, Eq, Debug)]
 pub enum AfterInPaste {
     /// The bytes begin the paste's end, or a control character of C1.
@@ -20,7 +20,7 @@ pub enum AfterInPaste {
     Breaks,
 }
 
-/// The state after the waiting bytes and one more.
+/// What the waiting bytes and one more are. C1 in UTF-8 is C2 and 80 to 9F; the paste's end is CSI 201~.
 pub fn paste_after(waiting: PasteTail, byte: u8) -> AfterInPaste
     ensures { TellsInPaste result (tail_bytes waiting ++ byte ∷ []) }
 {

@@ -1,11 +1,12 @@
 //! The filter's output for a byte.
 
-/// The output for one byte of input: first bytes, then the sequences of keys, then one more byte. Each of the three may be missing.
+/// The output for one byte of input: first bytes, then the sequences of keys, then one more byte. Each of the three may be
+/// missing.
 #[derive(Clone, Copy, Debug)]
 pub struct Output {
-    /// The first bytes, at most five.
+    /// The waiting bytes that go out unchanged, at most five (CSI 200).
     pub before: &'static [u8],
-    /// The bytes of one or two keys after them, at most ten.
+    /// The bytes of one or two keys after them, at most ten (Select and one more, each of five).
     pub key: &'static [u8],
     /// The byte after them, if any.
     pub byte: Option<u8>,

@@ -1,4 +1,4 @@
-//! Runs the filter from a reader to a writer.
+//! Runs the filter from a reader to a writer, for the program `bidi_input`.
 
 ghost use Rattle.std.specs.Prelude.{◌≡◌, ◌⊎◌, List, ℕ, IsErrOf, OnOk, OnErr};
 ghost use Rattle.bx_input.specs.Filter as spec;
@@ -10,7 +10,7 @@ use crate::wired::Wired;
 use std::alloc::Global;
 use std::io::{Read, Write};
 
-/// The largest number of reads of a run.
+/// The largest number of reads of a run, which bounds its loop: more than keys and pastes ever need.
 const READS: u64 = 1_000_000_000_000;
 
 /// Filters all of the reader's input to its end: reads at most 256 bytes at a time, and writes their output in one write.
@@ -36,7 +36,7 @@ pub fn run<R: Read, W: Write>(
     run_wired(alloc, erases_by_delete, &mut pipe)
 }
 
-/// Filters all of the reader's input.
+/// Filters all of the input of the pipe of a reader and a writer.
 fn run_wired<R: Read, W: Write>(
     alloc: Global,
     erases_by_delete: bool,

@@ -4,9 +4,10 @@ ghost use Rattle.std.specs.Prelude.{◌≡◌};
 ghost use Rattle.bx_input.specs.Paste.{pasted_part};
 ghost use Rattle.bx_input.specs.PasteTail.{tail_bytes};
 
-/// The beginnings of the paste's end, and of a control character of C1 in UTF-8.
+/// The beginnings of the paste's end (CSI 201~), and of a control character of C1 in UTF-8 (C2 and 80 to 9F).
 #[derive(Clone, Copy, PartialEq, Eq, Debug)]
 pub enum PasteTail {
+    /// No byte waits.
     Nothing,
     /// The byte C2.
     Lead,

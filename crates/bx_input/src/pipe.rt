@@ -1,4 +1,4 @@
-//! An input and an output.
+//! An input and an output, as the filter's run uses them.
 
 use bx_bytes::WriteFault;
 use thiserror::Error;

@@ -1,4 +1,4 @@
-//! Runs the filter over a pipe.
+//! Runs the filter over a pipe, whose contract tells the order of reads and writes.
 
 ghost use Rattle.std.specs.Prelude.{◌≡◌, ◌++◌, List, OnOk, OnErr};
 ghost use Rattle.bx_input.specs.Filter as spec;
@@ -28,6 +28,7 @@ impl Filter {
     }
 }
 
+/// Appends the bytes of an output.
 fn append(out: &mut Vec<u8>, output: Output) -> Result<(), AllocError>
     ensures { OnOk result (out.new.items ≡ out.old.items ++ bytes_of output) }
 {
@@ -44,7 +45,7 @@ fn append(out: &mut Vec<u8>, output: Output) -> Result<(), AllocError>
 
 /// Writes the bytes, if there are any, and flushes.
 ///
-/// Errors: `WriteFault`; a prefix of them was written.
+/// Errors: `WriteFault`; a prefix of the bytes was written.
 fn send<P: Pipe>(pipe: &mut P, bytes: &[u8]) -> Result<(), FilterFault>
     ensures sent { (actions : List Action) × DidAll P.did pipe.old actions pipe.new × IsSending result bytes.now actions }
 {
@@ -60,7 +61,7 @@ fn send<P: Pipe>(pipe: &mut P, bytes: &[u8]) -> Result<(), FilterFault>
 
 /// Filters bytes and writes their output.
 ///
-/// Errors: `WriteFault` and `OutOfMemory`; a prefix of it was written.
+/// Errors: `WriteFault`, and a prefix of the output was written; `OutOfMemory`, and nothing was.
 fn pass<P: Pipe>(
     alloc: Global,
     filter: &mut Filter,
@@ -78,11 +79,12 @@ fn pass<P: Pipe>(
     }
 }
 
-/// Filters all of the input to its end: reads at most 256 bytes at a time, and writes all their output in one write before the
-/// next read. Only bytes that begin a sequence wait for it.
+/// Filters all of the input to its end: reads at most 256 bytes at a time, and writes all their output in one write before
+/// the next read. Only bytes that begin a sequence wait for that read.
 ///
 /// Errors: `ReadFault`, and `ReadLimit` after `limit` reads that each gave a byte: the output of all bytes read was written.
-/// `WriteFault`: a prefix of the output of the last read was written; `OutOfMemory`: nothing of it. The first fault ends the run.
+/// `WriteFault`: a prefix of the output of the last read was written; `OutOfMemory`: none of that output. The first fault
+/// ends the run.
 pub fn run_pipe<P: Pipe>(
     limit: u64,
     alloc: Global,

@@ -14,12 +14,14 @@ use crate::in_paste::{AfterInPaste, paste_after};
 use crate::output::Output;
 use crate::paste_tail::PasteTail;
 
+/// No output.
 const NOTHING: Output = Output {
     before: b"",
     key: b"",
     byte: None,
 };
 
+/// Outside a paste, with nothing waiting.
 const OUTSIDE: FilterState = FilterState::Outside {
     waiting: Beginning::Nothing,
     is_open: false,
@@ -58,7 +60,7 @@ fn outside(
     }
 }
 
-/// Sends a digit, after a CAN if a sequence is open, which would take it.
+/// Sends a digit, after a CAN (18) if a sequence is open, which would else take the digit as its own.
 fn apart(is_open: bool, digit: u8) -> Output
     requires { digit ≢ 0x1B }
     ensures { bytes_of result ≡ apart_from is_open (digit ∷ []) }
@@ -125,6 +127,7 @@ fn output(before: &'static [u8], byte: Option<u8>) -> Output
     }
 }
 
+/// Within a paste, with nothing waiting.
 fn fresh_paste(after_return: bool) -> FilterState
     ensures { state_of result ≡ spec.Within [] after_return }
 {
@@ -146,6 +149,7 @@ fn within(waiting: PasteTail, after_return: bool, byte: u8) -> (FilterState, Out
     }
 }
 
+/// Within a paste, with these bytes waiting.
 fn waits(waiting: PasteTail) -> FilterState
     ensures { state_of result ≡ spec.Within (tail_bytes waiting) false }
 {
@@ -169,7 +173,7 @@ fn broken_off_in_paste(waiting: PasteTail, after_return: bool, byte: u8) -> (Fil
     }
 }
 
-/// The output for a byte of a paste.
+/// The output for a byte of a paste: CR and LF are LF, once for CR LF; TAB stays; other control bytes are dropped.
 fn pasted(after_return: bool, byte: u8) -> Option<u8>
     ensures { option_to_list result ≡ pasted_byte after_return byte }
 {

@@ -1,4 +1,4 @@
-//! A reader and a writer as a pipe.
+//! A reader and a writer as a pipe, by which `run` becomes a run over a pipe.
 
 use crate::pipe::{Pipe, PipeFault};
 use bx_bytes::{WriteFault, write_all};

@@ -11,6 +11,7 @@ use Rattle.bx_input.specs.Paste.{is_control_byte, kept_characters, pasted}
 use Rattle.bx_input.specs.Filter as filter
 use Rattle.bx_input.specs.Filter.{State, Outside, Within, Step, step_to, with_front, start, at_end, apart_from, is_empty}
 
+-- the bytes that wait in a state
 abbrev pub waiting_in : State → List ℕ
 waiting_in (Outside waiting is_open) = waiting
 waiting_in (Within waiting after_return) = waiting
@@ -19,11 +20,12 @@ waiting_in (Within waiting after_return) = waiting
 abbrev pub HasNone : List (List Piece) → List ℕ → Type 0
 HasNone patterns bs = (front middle back : List ℕ) → bs ≡ front ++ (middle ++ back) → matches_any patterns middle ≡ false
 
--- an ESC waits, and makes a row of what comes
+-- the row of ESC and a sequence, if ESC is all that waits
 abbrev pub longer_by : List ℕ → Option Row → Option Row
 longer_by waiting None = None
 longer_by waiting (Some r) = if bytes_eq waiting (0x1B ∷ []) then Some r else None
 
+-- the longer row, if there is one, else the row itself
 abbrev pub row_behind : Row → Option Row → Row
 row_behind r None = r
 row_behind r (Some longer) = longer
@@ -36,6 +38,7 @@ PastesKeepCharacters = (text : List ℕ) → IsUtf8 text → IsUtf8 (pasted text
 abbrev pub is_text_byte : ℕ → Bool
 is_text_byte b = (b == 0x09 || b == 0x0A) || not (is_control_byte b)
 
+-- no byte is a control byte except TAB and LF
 abbrev pub IsText : List ℕ → Type 0
 IsText bs = list_all is_text_byte bs ≡ true
 
@@ -47,14 +50,16 @@ is_key_byte b = list_any (λ (r : Row). bytes_eq r.sequence (b ∷ [])) (byte_ro
 abbrev pub HasKeys : Row → Type 0
 HasKeys r = decoding r.becomes ≡ record { keys = keys_of r; rest = [] }
 
--- keys of one or two bytes, and selections of three or four, which give more than five thirds of their bytes
+-- rows of one or two bytes, and rows with Select of three or four, whose output is more than 5/3 as long as their sequence
 abbrev pub is_short : Row → Bool
 is_short r = nat_le (length r.sequence) 2 || (r.selects && nat_le (length r.sequence) 4)
 
+-- there is a row, and it is short
 abbrev pub has_short : Option Row → Bool
 has_short None = false
 has_short (Some r) = is_short r
 
+-- the key inserts a character
 abbrev pub is_insert : Key → Bool
 is_insert (Insert c) = true
 is_insert _ = false
@@ -73,14 +78,16 @@ module _ (erases_by_delete : Bool) where
       let first : Step = run s bs in
       run s (bs ++ more) ≡ with_front first.output (run first.state more)
 
-  -- at most five bytes wait
+  -- at most five bytes wait (CSI 200, the longest beginning of a sequence or of a paste's start)
   abbrev pub WaitsForFive : Type 0
   WaitsForFive = (bs : List ℕ) → length (waiting_in (run start bs).state) ≤ 5
 
-  -- the row of an ESC that waits and the sequence, where there is one: ESC and DELETE are one
+  -- the row that the bytes of `r` complete where an ESC waits before them, if the table has one: of ESC and DELETE
   abbrev pub longer_row : List ℕ → Row → Option Row
   longer_row waiting r = longer_by waiting (row_of erases_by_delete (0x1B ∷ r.sequence))
 
+  -- the output for input and then the sequence of `r`: if there is a longer row, its output takes the place of the ESC that
+  -- waits
   abbrev pub became : List ℕ → List ℕ → Bool → Row → Option Row → List ℕ
   became bs waiting is_open r None = filtered bs ++ apart_from (is_open || not (is_empty waiting)) r.becomes
   became bs waiting is_open r (Some longer) = (run start bs).output ++ apart_from is_open longer.becomes
@@ -111,11 +118,11 @@ module _ (erases_by_delete : Bool) where
     pub input_ends : (waiting : List ℕ) (after_return : Bool) → IsText (at_end (Within waiting after_return))
     pub whole : (text : List ℕ) → IsText (pasted text)
 
-  -- a key of one byte becomes five bytes
+  -- output is at most five times as long as the input: a key of one byte becomes five bytes
   abbrev pub GrowsFiveTimes : Type 0
   GrowsFiveTimes = (bs : List ℕ) → length (filtered bs) ≤ 5 * length bs
 
-  -- without key bytes, three bytes become at most ten
+  -- without key bytes, output is at most 10/3 as long as the input: three bytes become at most ten
   abbrev pub GrowsByTenThirds : Type 0
   GrowsByTenThirds = (bs : List ℕ) → list_all (λ b. not (is_key_byte b)) bs ≡ true → 3 * length (filtered bs) ≤ 10 * length bs
 
@@ -123,7 +130,7 @@ module _ (erases_by_delete : Bool) where
   abbrev pub HasNoShort : List ℕ → Type 0
   HasNoShort bs = (front middle back : List ℕ) → bs ≡ front ++ (middle ++ back) → has_short (row_of erases_by_delete middle) ≡ false
 
-  -- without short rows, three bytes become at most five
+  -- without short rows, output is at most 5/3 as long as the input: three bytes become at most five
   abbrev pub GrowsByTwoThirds : Type 0
   GrowsByTwoThirds = (bs : List ℕ) → HasNoShort bs → 3 * length (filtered bs) ≤ 5 * length bs
 

@@ -1,4 +1,5 @@
-//! Laws of the filter, for any input and either erase character of the terminal. Each function's contract is a law; its body is empty.
+//! Laws of the filter, for any input and either erase character of the terminal. Each function's contract is a law; its body
+//! is empty.
 
 ghost use Rattle.std.specs.Prelude.{Bool};
 ghost use Rattle.std.specs.List.{AllByRecursion};
@@ -22,7 +23,8 @@ pub fn pastes_are_clean()
     ensures { (erases_by_delete : Bool) → PastesAreClean erases_by_delete }
 {}
 
-/// A sequence of the table becomes the bytes of its row, except within a paste and behind an ESC of a longer row.
+/// A sequence of the table becomes the bytes of its row, except within a paste and after an ESC with which it is a longer
+/// row.
 pub fn rows_become()
     ensures { (erases_by_delete : Bool) → AllByRecursion (BecomesRow erases_by_delete) (rows erases_by_delete) }
 {}

@@ -1,4 +1,4 @@
-//! Laws of the filter, for readers: no program needs them.
+//! Laws of the filter of `bx_input`, for readers: no program needs them.
 #![tactic(auto)]
 
 mod laws;

@@ -1,4 +1,4 @@
--- What answers mean.
+-- What a user's answers mean.
 use Rattle.std.specs.Prelude.{ℕ, List, [], ◌∷◌, ◌||◌, bytes_eq, codes, Option, Some, None, if◌then◌else◌}
 use Rattle.bx_keep.specs.declared.asking.Choice.{Choice}
 use Rattle.bx_keep.specs.declared.asking.Choice.TheVariants.{Recover, Delete, Later}

@@ -4,6 +4,7 @@ use Rattle.std.specs.declared.io.ErrorKind.TheVariants as kind
 use Rattle.bx_keys.specs.declared.notice.Notice.{Notice}
 use Rattle.bx_keys.specs.declared.notice.Notice.TheVariants as notice
 
+-- the notice of a session that is not kept, by the kind of the system's fault
 abbrev pub notice_of : ErrorKind → Notice
 notice_of kind.StorageFull = notice.NoSpace
 notice_of kind.QuotaExceeded = notice.NoSpace

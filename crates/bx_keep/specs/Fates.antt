@@ -1,4 +1,4 @@
--- What is known of a session at its end.
+-- What is known of a session at its end, by which it is kept or removed.
 use Rattle.std.specs.Prelude.{◌≡◌, ◌⊎◌, true, false}
 use Rattle.bx_keep.specs.declared.fate.Left.{Left}
 

@@ -1,4 +1,4 @@
-//! What all steps of a start know.
+//! What all steps of a start know: passed to each, so that none reads the environment itself.
 
 use crate::start::Start;
 use bx_launch::Tables;
@@ -9,15 +9,20 @@ use std::{fs, process};
 /// What all steps of a start know.
 #[derive(Clone, Copy)]
 pub struct Around<'a> {
+    /// Files, clocks and processes of the system.
     pub rt: &'a HostRuntime,
+    /// What the host said at the start.
     pub start: &'a Start,
+    /// The files of Unicode's tables.
     pub tables: &'a Tables,
+    /// The version of the editor, with its programs and tables.
     pub versions: &'a Versions,
     /// This machine.
     pub here: &'a Machine,
 }
 
-/// The number of the process that started this one, by the kernel's line: number, name in parentheses, state, parent.
+/// The number of the process that started this one, by the kernel's line for this one: number, name in parentheses, state,
+/// parent.
 fn parent_in(line: &str) -> Option<u32> {
     let (_, behind) = line.rsplit_once(')')?;
     behind.split_ascii_whitespace().nth(1)?.parse().ok()

@@ -1,4 +1,4 @@
-//! Questions, which are asked again at any other answer.
+//! Questions, which are asked again at any other answer (up to `u64::MAX` times: without end).
 
 ghost use Rattle.std.specs.Prelude.{◌≡◌};
 ghost use Rattle.bx_keep.specs.Answers.{choice_of};
@@ -13,8 +13,11 @@ const NO_FURTHER: u8 = 2;
 /// What to do with an unfinished session.
 #[derive(Clone, Copy, PartialEq, Eq, Debug)]
 pub enum Choice {
+    /// Goes on with it.
     Recover,
+    /// Removes it.
     Delete,
+    /// Opens FILE, and leaves the session.
     Later,
 }
 

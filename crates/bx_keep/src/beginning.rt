@@ -15,13 +15,13 @@ use std::rt::Files;
 use std::thread;
 use std::time::Duration;
 
-/// The room that a session takes beside its text, in bytes.
+/// The room that a session takes beside its text, in bytes: for its short files and the first keys.
 const BESIDE_TEXT: u64 = 65_536;
 
 /// How long a message stays before the screen hides it, in seconds.
 const PAUSE: u64 = 1;
 
-/// The message where FILE could not be saved.
+/// What the refusal of a FILE that could not be saved adds.
 const FORCE: &str = "--force opens it all the same";
 
 /// A session, as the program starts.

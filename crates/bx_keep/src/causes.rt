@@ -1,4 +1,4 @@
-//! Why nothing can be kept or stored.
+//! Why nothing can be kept or stored, as messages and the last row say it.
 
 ghost use Rattle.std.specs.Prelude.{◌≡◌};
 ghost use Rattle.bx_keep.specs.Causes.{notice_of};
@@ -34,7 +34,9 @@ pub fn cause_of(kind: ErrorKind) -> &'static str {
 /// Why unsaved text is not kept.
 #[derive(Drop)]
 pub struct Unkept {
+    /// What messages say after the word "since".
     pub why: String,
+    /// What the last row shows.
     pub notice: Notice,
 }
 

@@ -17,15 +17,17 @@ const REFUSED: u8 = 1;
 /// FILE, and where its sessions are.
 #[derive(Drop)]
 pub struct Edited {
+    /// Where saves go.
     pub destination: Destination,
+    /// The folder of its sessions.
     pub sessions_folder: SessionsFolder,
-    /// Why saves are written into FILE itself.
+    /// Why saves are written into FILE itself; None where a save replaces FILE.
     pub in_place: Option<Reason>,
     /// FILE is there and cannot be read.
     pub is_closed: bool,
 }
 
-/// The message about a save that was cut off; None if none was.
+/// The message about a save that was cut off; None if none was. `mark` is the path of the file with its whole text.
 pub fn mended_line(
     alloc: Global,
     file: &str,

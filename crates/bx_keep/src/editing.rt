@@ -113,7 +113,8 @@ pub fn edit<R: Read + Drop, W: Write + Drop, P: Replayer>(
     edit_with(around, wire, edited, options, met.taken, replayer)
 }
 
-/// Recovers FILE's session. Returns the exit status; None if the host is gone.
+/// Recovers FILE's session, and goes on with it, or stores its text as another file where the user names one. Returns the
+/// exit status; None if the host is gone.
 pub fn edit_recovered<R: Read + Drop, W: Write + Drop, P: Replayer>(
     around: Around<'_>,
     wire: &mut Wire<R, W>,

@@ -1,4 +1,4 @@
-//! The end of a session.
+//! The end of a session: what was kept of what was typed, what becomes of the session, and what the user is told.
 
 use crate::checking::mended_line;
 use crate::fate::{Fate, Left};

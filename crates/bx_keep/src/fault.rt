@@ -8,14 +8,23 @@ use std::alloc::{AllocError, Global};
 /// Why the program ended.
 #[derive(Debug, Drop)]
 pub enum Ended {
+    /// The line, from 1, with the first invalid byte.
     NotUtf8(u64),
+    /// FILE is longer than an editor's text may be.
     TooLong,
+    /// FILE cannot be read.
     Unreadable,
+    /// Memory ran out.
     Memory,
+    /// A table was refused; why.
     Tables(String),
+    /// Its input ended before all was saved.
     Unsaved,
+    /// Its output could not be written.
     Output,
+    /// Its input could not be read.
     Input,
+    /// Its input never ended.
     Reads,
 }
 

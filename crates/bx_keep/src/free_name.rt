@@ -3,7 +3,7 @@
 use std::alloc::{AllocError, Global};
 use std::rt::Files;
 
-/// How many names are tried.
+/// How many names are tried. The next one is returned untried.
 const TRIES: u32 = 10_000;
 
 /// Whether a path is free, also of a link that leads nowhere.

@@ -1,4 +1,4 @@
-//! The text of a session as it was opened, which is copied beside the first painting.
+//! The text of a session as it was opened: copied into the session once the program has read FILE.
 
 use crate::around::Around;
 use crate::beginning::Begun;
@@ -11,10 +11,10 @@ use std::io;
 use std::os::unix::fs::MetadataExt;
 use std::rt::Files;
 
-/// How often FILE is copied where the copy is not what the program read.
+/// How often FILE is copied, where the copy is not what the program read.
 const TRIES: u32 = 2;
 
-/// The bits of a mode that a session notes.
+/// The bits of a mode that a session notes: no set-ID and sticky bits.
 const PERMISSIONS: u32 = 0o777;
 
 /// The bits of a mode that let others than the owner read.
@@ -38,10 +38,13 @@ pub enum Text {
 /// FILE as the program read it.
 #[derive(Clone, Copy)]
 struct AsRead<'a> {
+    /// The system's files.
     rt: &'a HostRuntime,
+    /// FILE's path.
     path: &'a str,
     /// FILE, opened before the program started: a save that replaces FILE leaves its bytes in it.
     handle: Option<&'a File>,
+    /// FILE's look, as the program said.
     look: Look,
 }
 

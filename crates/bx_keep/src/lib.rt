@@ -1,4 +1,5 @@
-//! The keeper of sessions: it decides about words, text, files and sessions for the host, which has the terminal.
+//! The keeper of sessions: it decides about words, text, files and sessions for the host, which has the terminal. Loops up
+//! to `u64::MAX` are meant to have no end.
 #![tactic(auto)]
 
 mod around;

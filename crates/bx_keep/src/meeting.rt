@@ -1,4 +1,4 @@
-//! FILE's other sessions, before FILE is opened.
+//! The questions about FILE's other sessions, before FILE is opened.
 
 use crate::around::Around;
 use crate::asking::{Choice, ask_choice, ask_to_go_on};
@@ -23,12 +23,14 @@ pub struct Met {
 
 /// What came of one try.
 enum Try {
+    /// It is settled which session goes on, if any.
     Met(Met),
     /// Another start of the editor has the session by now.
     Again,
 }
 
-/// Tells that another window of the user's may have FILE open, and asks whether to go on. All sessions that are found are his own.
+/// Tells that another window of the user's may have FILE open, and asks whether to go on. Only the user's own sessions are
+/// found.
 pub fn ask_beside<H: Host>(
     around: Around<'_>,
     host: &mut H,

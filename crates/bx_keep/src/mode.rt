@@ -5,7 +5,7 @@ use std::io;
 use std::os::unix::fs::{MetadataExt, PermissionsExt};
 use std::rt::Files;
 
-/// The bits of a mode that a recovered file gets.
+/// The bits of a mode that a recovered file gets: no set-ID and sticky bits.
 const PERMISSIONS: u32 = 0o777;
 
 /// The bits of a mode for all but the owner.

@@ -1,4 +1,4 @@
-//! What the program says.
+//! What the program says: the words that the host hands on from the program's standard error.
 
 use bx_sessions::Look;
 use std::str;
@@ -8,14 +8,19 @@ use std::str;
 pub enum Fault<'a> {
     /// This line of FILE, from 1, has the first invalid byte.
     NotUtf8(u64),
+    /// FILE is longer than an editor's text may be.
     TooLong,
+    /// FILE cannot be read.
     Unreadable,
+    /// Memory ran out.
     Memory,
     /// A table was refused; why.
     Tables(&'a str),
     /// Its input ended before all was saved.
     Unsaved,
+    /// Its output could not be written.
     Output,
+    /// Its input could not be read.
     Input,
     /// Its input never ended.
     Reads,
@@ -28,6 +33,7 @@ pub enum ProgramWord<'a> {
     Opened(Option<Look>),
     /// FILE was changed while it was read.
     Changed,
+    /// Why the program ended.
     Fault(Fault<'a>),
     /// The journal could not be written.
     JournalLost,
@@ -35,7 +41,7 @@ pub enum ProgramWord<'a> {
     JournalKept,
 }
 
-/// The look that the words `DEV INO SIZE SECONDS NANOS` tell.
+/// The look that the words `DEV INO SIZE SECONDS NANOS` tell, the last two of the time of FILE's last change.
 fn look_of(words: &str) -> Option<Look> {
     let mut words = words.split_ascii_whitespace();
     Some(Look {
@@ -69,6 +75,7 @@ pub fn read_program_word(word: &[u8]) -> Option<ProgramWord<'_>> {
     match str::from_utf8(word).ok()? {
         "o -" => Some(ProgramWord::Opened(None)),
         "o changed" => Some(ProgramWord::Changed),
+        // the program may say it without a line
         "f not-utf8" => Some(ProgramWord::Fault(Fault::NotUtf8(1))),
         "j lost" => Some(ProgramWord::JournalLost),
         "j kept" => Some(ProgramWord::JournalKept),

@@ -1,4 +1,4 @@
-//! `--recover FILE`.
+//! `--recover FILE`: a session goes on, or its text is stored as another file (`--to OTHER`).
 
 use crate::around::Around;
 use crate::asking::ask_to_go_on;
@@ -246,6 +246,7 @@ fn store_session<H: Host, P: Replayer>(
     };
     let text = text_of(around, host, edited, session, replayer)?;
     let keys = number_of_keys(around, session);
+    // a session that does not tell FILE's permissions: for the user alone
     let mode = session.mode(around.rt).unwrap_or(0o600);
     store(around, other, text.as_slice(), mode)?;
     let (file, other) = (Shown(edited.file()), Shown(other));

@@ -1,4 +1,4 @@
-//! Replays of a session's keys.
+//! Replays of a session's keys, which the keeper has done for it through a trait.
 
 use crate::around::Around;
 use bx_sessions::Session;
@@ -17,14 +17,16 @@ pub enum FoundText {
 /// A session's text after its keys, and what FILE has beside it.
 #[derive(Drop)]
 pub struct Replay {
+    /// What FILE has beside it.
     pub found: FoundText,
+    /// The text after the keys.
     pub text: Vec<u8>,
 }
 
 /// Why a session's keys cannot be replayed.
 #[derive(Clone, Copy, PartialEq, Eq, Debug)]
 pub enum ReplayFault {
-    /// A part of it is missing, or is none of a session.
+    /// A part of it is missing, or has another form than a session's.
     Unreadable,
     OutOfMemory,
 }

@@ -1,4 +1,4 @@
-//! The session while the program runs.
+//! The session while the program runs: what the program says, and what is done each second.
 
 use crate::around::Around;
 use crate::beginning::Begun;
@@ -15,14 +15,17 @@ use std::alloc::Global;
 use std::fs::File;
 use std::io::{Read, Write};
 
-/// The room at which the program tries its journal again, in bytes.
+/// The room at which the program tries its journal again, in bytes: more than a second of typing takes.
 const ROOM_FOR_KEYS: u64 = 8192;
 
 /// A session while the program runs.
 #[derive(Drop)]
 pub struct Running<'a> {
+    /// What all steps know.
     pub around: Around<'a>,
+    /// FILE, and the folder of its sessions.
     pub edited: &'a Edited,
+    /// The session, as the program started.
     pub begun: Begun,
     /// The text as it was opened.
     pub text: Text,
@@ -38,9 +41,9 @@ pub struct Running<'a> {
     pub signal: Option<u64>,
     /// Why no copy of what is typed is kept, as the user has read.
     pub trouble: Option<Notice>,
-    /// There was room for keys a second ago.
+    /// There was room for keys a second ago, while the journal was lost already; else false.
     pub had_room: bool,
-    /// The size of the journal on the disk.
+    /// The size of the journal on the disk, in bytes.
     pub synced: u64,
 }
 
@@ -125,7 +128,7 @@ impl<'a> Running<'a> {
         }
     }
 
-    /// Takes a word of the program in. One that is none is passed over.
+    /// Takes a word of the program in. Other words than the program's are passed over.
     fn take_word(&mut self, word: &[u8]) -> Result<(), Stop> {
         match read_program_word(word) {
             Some(ProgramWord::Opened(look)) => self.take_look(look),
@@ -204,7 +207,7 @@ impl<'a> Running<'a> {
         }
     }
 
-    /// The journal's size in bytes; 0 if there is none.
+    /// The journal's size in bytes; 0 if it is not there.
     pub fn journal_size(&self, kept: &Kept) -> u64 {
         match kept.session.look(self.around.rt, Part::Journal) {
             Ok(Some(found)) => found.len(),

@@ -1,4 +1,4 @@
-//! Lines for the user.
+//! Lines for the user, with the program's name.
 
 use bx_wire::Host;
 use std::alloc::{AllocError, Global};

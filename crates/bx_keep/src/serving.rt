@@ -1,4 +1,4 @@
-//! What a command line asks for.
+//! Does what a command line asks for, from the host's first message to the exit status.
 
 use crate::around::Around;
 use crate::editing::{edit, edit_recovered};

@@ -7,14 +7,14 @@ use std::alloc::Global;
 use std::io::{Read, Write};
 use std::str;
 
-/// The window's rows and columns, each from 1 to 500.
+/// The window's size in rows and columns, each from 1 to 500.
 #[derive(Clone, Copy, PartialEq, Eq, Debug)]
 pub struct Window {
     pub rows: u32,
     pub cols: u32,
 }
 
-/// The window where the host tells none.
+/// The window where the host tells none: as large as a VT100's.
 const USUAL_WINDOW: Window = Window { rows: 24, cols: 80 };
 
 /// What the host says at the start. A variable that is not UTF-8 counts as not set.
@@ -34,7 +34,9 @@ pub struct Start {
     pub tables: Option<Vec<u8>>,
     /// The folder of the editor's own tables.
     pub own_tables: Vec<u8>,
+    /// The user's effective number.
     user: u32,
+    /// The user's home by the user database; may be empty.
     own_home: String,
     /// The toolchain that was noted at the build.
     pub toolchain: Option<String>,
@@ -42,6 +44,7 @@ pub struct Start {
     pub terminal: String,
     /// The columns of the terminal on standard output; 0 if it is none.
     pub columns: u64,
+    /// The terminal's size.
     pub window: Window,
 }
 
@@ -60,6 +63,7 @@ fn window_of(message: &Message) -> Option<Window> {
 }
 
 impl Start {
+    /// A start of which the host has said nothing.
     fn new(alloc: Global) -> Self {
         Start {
             words: Vec::new(alloc),

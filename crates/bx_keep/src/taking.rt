@@ -1,4 +1,4 @@
-//! A session of FILE that goes on.
+//! A session of FILE that goes on: taken over, judged by a replay, and noted as going on.
 
 use crate::around::Around;
 use crate::asking::{Rest, ask_rest, ask_to_go_on};
@@ -29,6 +29,7 @@ const UNSURE: &str =
 /// A session that goes on, and the file that it saves.
 #[derive(Drop)]
 pub struct Taken {
+    /// The session, locked.
     pub kept: Kept,
     /// FILE, or a new file beside it.
     pub file: String,
@@ -50,9 +51,13 @@ pub enum Outcome {
 /// FILE, and the folder whose sessions may go on.
 #[derive(Drop)]
 pub struct Taking<'a, P: Replayer> {
+    /// What all steps know.
     pub around: Around<'a>,
+    /// FILE.
     pub edited: &'a Edited,
+    /// The folder of its sessions.
     pub sessions: &'a Sessions,
+    /// Replays keys.
     pub replayer: &'a P,
 }
 
@@ -69,7 +74,7 @@ impl<P: Replayer> Taking<'_, P> {
         Ok(Stop::fault(alloc, line.as_str()))
     }
 
-    /// The cause to report for a failed write in the session's folder.
+    /// Turns a failed write in the session's folder into the stop that reports it.
     fn written(&self, answer: io::Result<()>) -> Result<(), Stop> {
         match answer {
             Ok(()) => Ok(()),

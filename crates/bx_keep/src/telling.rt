@@ -1,4 +1,4 @@
-//! Messages about a session.
+//! What messages say of a session: its time, keys, process and machine.
 
 use crate::around::Around;
 use crate::stop::Stop;

@@ -1,4 +1,4 @@
-//! What keeps a running session from being kept.
+//! Why a running session is not kept at the moment.
 
 use crate::causes::notice_of;
 use crate::keeping::Text;
@@ -7,7 +7,7 @@ use bx_keys::Notice;
 use bx_sessions::{Kept, Part};
 use std::fs::{OpenFile, OpenOptions};
 
-/// Whether a cause is one of a journal that cannot be written. It stays until the journal is kept again.
+/// Whether a cause is of a journal that cannot be written, which stays until the journal is kept again.
 fn is_of_journal(notice: Notice) -> bool {
     !matches!(notice, Notice::FolderGone)
 }

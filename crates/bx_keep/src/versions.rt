@@ -1,4 +1,4 @@
-//! The version of the editor that keeps a session.
+//! The version of the editor that keeps a session, since another one may replay its keys otherwise.
 
 use crate::stop::Stop;
 use bx_launch::{Tables, VERSION};
@@ -22,8 +22,8 @@ fn editor_beside(rt: &HostRuntime, keeper: Path<'_>) -> io::Result<String> {
     Ok(built.into_string())
 }
 
-/// Looks at the files that a replay depends on. Where the system does not tell where the programs are, as without /proc, the tables
-/// and the version tell alone.
+/// Looks at the files that a replay depends on. Where the system does not tell where the programs are, as without /proc,
+/// only the tables and the version count.
 fn look(rt: &HostRuntime, tables: &Tables) -> io::Result<Versions> {
     let [classes, brackets, mirroring] = [
         tables.classes.as_str(),

@@ -5,22 +5,26 @@ use Rattle.std.proofs.lemmas.List.{length-take-le, take-append-drop}
 use Rattle.bx_keys.specs.Waiting.{IsWaiting}
 use Rattle.bx_keys.specs.declared.decoder.Decoder.TheInside.{Inside}
 
+-- the bytes that wait, or the first 12 of them
 abbrev pub head_bytes : Inside → List ℕ
 head_bytes d = take d.len d.bytes
 
--- bytes that wait, padded with zeros
+-- at most 12 waiting bytes (`HEAD_LEN` of `src/decoder.rt` says why), padded with zeros
 pub record IsDecoder (d : Inside) : Type 0 where
   pub len_fits : d.len ≤ 12
   pub len_bytes : length d.bytes ≡ 12
   pub zeros : drop d.len d.bytes ≡ replicate (12 - d.len) 0
   pub waits : IsWaiting (take d.len d.bytes)
 
+-- a decoder with these fields
 abbrev made : List ℕ → ℕ → Inside
 made bytes len = record { bytes = bytes; len = len }
 
+-- the decoder that holds these waiting bytes
 abbrev pub decoder_of : List ℕ → Inside
 decoder_of bs = record { bytes = bs ++ replicate (12 - length bs) 0; len = length bs }
 
+-- a decoder is determined by the bytes that it holds
 pub decoder_of-head_bytes : (d : Inside) → IsDecoder d → decoder_of (head_bytes d) ≡ d
 decoder_of-head_bytes d h =
     let front : List ℕ = take d.len d.bytes in

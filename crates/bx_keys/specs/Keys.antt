@@ -1,4 +1,4 @@
--- The key of each item, and the keys of input.
+-- The key of each item, and the keys of input: what a decoder gives.
 use Rattle.bx_terms.specs.Sizes.{is_side, largest_side}
 use Rattle.std.specs.Prelude.{ℕ, zero, suc, ◌-◌, ◌≤◌, max, Bool, ◌&&◌, nat_le, ◌==◌, List, [], ◌∷◌, ◌++◌, length, slice_index, take, drop, Option, Some, None}
 use Rattle.std.specs.Prelude.{find, option_map, option_to_list, codes, if◌then◌else◌}
@@ -17,15 +17,19 @@ use Rattle.bx_keys.specs.declared.notice.Notice.TheVariants as notices
 
 -- ---- the key of an item
 
+-- CTRL with B, F, H, I, J, M, L, Q, S, Y and Z, and DELETE (7F)
 abbrev pub control_keys : List (ℕ × Key)
 control_keys =
     (0x02, Back) ∷ (0x06, Forward) ∷ (0x08, Erase) ∷ (0x7F, Erase) ∷ (0x09, Insert 0x09) ∷ (0x0A, Insert 0x0A)
     ∷ (0x0D, Insert 0x0A) ∷ (0x0C, Repaint) ∷ (0x11, Quit) ∷ (0x13, Save) ∷ (0x19, Redo) ∷ (0x1A, Undo) ∷ []
 
+-- the key of an item of one byte below 80
 abbrev pub single_key : ℕ → Option Key
 single_key b = if is_ascii_printable b then Some (Insert b) else option_map (λ k. k.1) (find (λ k. k.0 == b) control_keys)
 
--- the bytes after CSI, with their keys
+-- the bytes after CSI, with their keys. Those up to 6~ are as terminals send them; 9~ and 70~ to 99~ are the numbers that
+-- the filter (`bx_input`), and for 93~ the host, write in place of what terminals send; those with > are the notices of the
+-- host.
 abbrev pub sequence_keys : List (List ℕ × Key)
 sequence_keys =
     (codes "A", Up) ∷ (codes "B", Down) ∷ (codes "C", Right) ∷ (codes "D", Left) ∷ (codes "H", RowHome) ∷ (codes "F", RowEnd)
@@ -76,15 +80,17 @@ sequence_keys =
 abbrev pub is_side_in_digits : List ℕ → Bool
 is_side_in_digits ds = (nat_le 1 (length ds) && nat_le (length ds) 3) && (all_ascii_digits ds && is_side (digits_value 10 ds))
 
--- 8 ; rows ; columns
+-- what the host tells of a window: CSI 8 ; rows ; columns t
 abbrev pub size_key : List (List ℕ) → Option Key
 size_key (kind ∷ h ∷ w ∷ []) =
     if bytes_eq kind (codes "8") && (is_side_in_digits h && is_side_in_digits w) then Some (Size (digits_value 10 h) (digits_value 10 w)) else None
 size_key _ = None
 
+-- the last of the bytes after CSI
 abbrev pub final_byte : List ℕ → ℕ
 final_byte body = slice_index body (length body - 1)
 
+-- the bytes between CSI and the last one
 abbrev pub before_final : List ℕ → List ℕ
 before_final body = take (length body - 1) body
 
@@ -94,6 +100,7 @@ sequence_key body =
     if final_byte body == 0x74 then size_key (slice_split (λ b. b == 0x3B) (before_final body))
     else option_map (λ k. k.1) (find (λ k. bytes_eq k.0 body) sequence_keys)
 
+-- the key of a character of more than one byte
 abbrev pub character_key : List ℕ → Option Key
 character_key [] = None
 character_key (c ∷ cs) = Some (Insert c)
@@ -106,7 +113,7 @@ key_of (b ∷ c ∷ rest) =
     if b == 0x1B then (if c == 0x5B then sequence_key rest else None)
     else character_key (chars (b ∷ c ∷ rest))
 
--- a size that a window may have
+-- a size that a window may have: each side is from 1 to 500
 abbrev pub HasSides : Key → Type 0
 HasSides (Size h w) = ((1 ≤ h) × (h ≤ largest_side)) × ((1 ≤ w) × (w ≤ largest_side))
 HasSides _ = Unit {0}
@@ -127,6 +134,7 @@ pub record Decoding : Type 0 where
   pub keys : List Key
   pub rest : List ℕ
 
+-- the key, if there is one, before the keys of the rest
 abbrev pub with_key : Option Key → Decoding → Decoding
 with_key key d = record { keys = option_to_list key ++ d.keys; rest = d.rest }
 

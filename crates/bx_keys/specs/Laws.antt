@@ -22,12 +22,14 @@ ComesInPieces = (bs more : List ℕ) →
 
 -- ---- the parts of input
 
--- A part is a whole item, the beginning of one that the byte after it breaks, or one byte that begins none.
+-- A part is a whole item, the beginning of one that the byte after it breaks, or one byte that begins none. `after` is the
+-- bytes that follow it.
 abbrev pub IsPartBy : Fate → List ℕ → List ℕ → Type 0
 IsPartBy Ends part after = Unit {0}
 IsPartBy Waits part after = (1 ≤ length part) × (fate (part ++ take 1 after) ≡ Breaks)
 IsPartBy Breaks part after = length part ≡ 1
 
+-- a part of input, by the bytes that follow it
 abbrev pub IsPart : List ℕ → List ℕ → Type 0
 IsPart part after = IsPartBy (fate part) part after
 

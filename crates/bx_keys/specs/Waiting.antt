@@ -6,6 +6,7 @@ use Rattle.bx_bytes.specs.declared.fate.Fate.TheVariants.{Waits}
 use Rattle.bx_keys.specs.Items.{items}
 pub use Rattle.bx_keys.specs.Keys.{head_of}
 
+-- whether bytes are an item (Ends), begin one (Waits) or neither (Breaks)
 abbrev pub fate : List ℕ → Fate
 fate bs = fate_in items bs
 
@@ -13,7 +14,7 @@ fate bs = fate_in items bs
 abbrev pub IsWaiting : List ℕ → Type 0
 IsWaiting rest = fate rest ≡ Waits
 
--- the decoder keeps the head of these waiting bytes
+-- the bytes that a decoder holds are the head of these waiting bytes
 pub record StandsFor (decoder rest : List ℕ) : Type 0 where
   pub waits : IsWaiting rest
   pub is_head : decoder ≡ head_of rest

@@ -1,4 +1,4 @@
-//! A decoder of keys, byte by byte.
+//! A decoder of keys, byte by byte, for the session that reads the input.
 
 ghost use Rattle.std.specs.Prelude.{◌≡◌, ◌≤◌, ℕ, List, [], ◌∷◌, ◌++◌, length, option_to_list, IfOk, IfSome, OnOk, OnErr};
 ghost use Rattle.bx_keys.specs.Keys as spec;
@@ -12,13 +12,16 @@ use bx_bytes::Fate;
 use std::alloc::{AllocError, Global};
 use std::marker::Model;
 
-/// Capacity for waiting bytes: one more than come before the last byte of the longest sequence with a key.
+/// Capacity for waiting bytes. The longest sequence with a key has 12 bytes (CSI 8;500;500t): 11 of them wait, and a twelfth
+/// that waits shows that there is no key.
 const HEAD_LEN: usize = 12;
 
 /// The bytes of an unfinished item, or the first 12 of a longer one, which gives no key.
 #[derive(Clone, Copy, PartialEq, Eq, Debug)]
 pub struct Decoder {
+    /// Those from `len` on are 0.
     bytes: [u8; HEAD_LEN],
+    /// Number of bytes held, from 0 to 12.
     len: usize,
 }
 
@@ -114,6 +117,7 @@ impl Decoder {
         }
     }
 
+    /// The bytes held.
     fn waiting(&self) -> &[u8]
         ensures value { result.now ≡ self.now }
         ensures waits { fate self.now ≡ Fate.Waits }
@@ -122,6 +126,7 @@ impl Decoder {
         &self.bytes[..self.len]
     }
 
+    /// Holds one more byte, or drops it where 12 are held.
     fn keep(&mut self, byte: u8)
         requires { fate (self.old ++ byte ∷ []) ≡ Fate.Waits }
         ensures { self.new ≡ head_of (self.old ++ byte ∷ []) }
@@ -132,6 +137,7 @@ impl Decoder {
         }
     }
 
+    /// Drops the bytes held.
     fn forget(&mut self)
         ensures { self.new ≡ [] }
     {
@@ -139,6 +145,7 @@ impl Decoder {
     }
 }
 
+/// Appends a key, if there is one.
 fn push_key(keys: &mut Vec<Key>, key: Option<Key>) -> Result<(), AllocError>
     ensures { OnOk result (keys.new.items ≡ keys.old.items ++ option_to_list key) }
 {

@@ -31,9 +31,13 @@ pub enum Key {
     PageUp,
     /// A screen of rows down.
     PageDown,
+    /// Stores the text.
     Save,
+    /// Ends the session; asks again where not all is saved.
     Quit,
+    /// Takes back the latest edit.
     Undo,
+    /// Makes the latest edit again that was taken back.
     Redo,
     /// Paints the whole picture again.
     Repaint,
@@ -55,7 +59,9 @@ pub enum Key {
     WordLeft,
     /// One word to the right on the screen.
     WordRight,
+    /// To the text's first place.
     TextStart,
+    /// To the text's end.
     TextEnd,
     /// Shows the keys in the status row.
     Help,

@@ -1,4 +1,4 @@
-//! The keys of whole items.
+//! The keys of whole items, by the tables of `specs/Keys.antt`.
 
 ghost use Rattle.std.specs.Prelude.{◌≡◌, ℕ, ◌<◌, ◌≤◌, ◌-◌, ◌==◌, ◌∷◌, [], ◌++◌, IfSome, SomeIff, codes, position, true, if◌then◌else◌};
 ghost use Rattle.std.specs.List.{slice_split};
@@ -28,6 +28,7 @@ pub fn key_of(waiting: &[u8], byte: u8) -> Option<Key>
     }
 }
 
+/// The key of a byte below 80.
 fn single_key(byte: u8) -> Option<Key>
     requires { byte < 0x80 }
     ensures value { result ≡ spec.single_key byte }
@@ -60,6 +61,7 @@ fn sequence_key(sequence: &[u8], byte: u8) -> Option<Key>
     }
 }
 
+/// The key of a control sequence, by the bytes between CSI and the last one, and that one.
 fn control_sequence_key(between: &[u8], last: u8) -> Option<Key>
     ensures value { result ≡ spec.sequence_key (between.now ++ last ∷ []) }
     ensures sides { IfSome result HasSides }
@@ -73,6 +75,7 @@ fn control_sequence_key(between: &[u8], last: u8) -> Option<Key>
     }
 }
 
+/// The key of CSI and one byte.
 fn plain_key(last: u8) -> Option<Key>
     ensures value { result ≡ spec.sequence_key (last ∷ []) }
     ensures sides { IfSome result HasSides }
@@ -88,6 +91,7 @@ fn plain_key(last: u8) -> Option<Key>
     }
 }
 
+/// The key of CSI, one digit and `~`.
 fn numbered_key(number: u8) -> Option<Key>
     ensures value { result ≡ spec.sequence_key (number ∷ 0x7E ∷ []) }
     ensures sides { IfSome result HasSides }
@@ -103,6 +107,7 @@ fn numbered_key(number: u8) -> Option<Key>
     }
 }
 
+/// The key of CSI, two bytes and `~`.
 fn two_byte_key(first: u8, second: u8) -> Option<Key>
     ensures value { result ≡ spec.sequence_key (first ∷ second ∷ 0x7E ∷ []) }
     ensures sides { IfSome result HasSides }
@@ -195,6 +200,7 @@ fn nineties_key(ones: u8) -> Option<Key>
     }
 }
 
+/// The key of a size, by what is between CSI and `t`: 8;ROWS;COLUMNS.
 fn size_key(between: &[u8]) -> Option<Key>
     ensures value { result ≡ spec.size_key (slice_split (λ b. b == 0x3B) between.now) }
     ensures sides { IfSome result HasSides }
@@ -205,6 +211,7 @@ fn size_key(between: &[u8]) -> Option<Key>
     }
 }
 
+/// The key of a size, by ROWS;COLUMNS.
 fn sides_key(sides: &[u8]) -> Option<Key>
     ensures value { result ≡ spec.size_key (codes "8" ∷ slice_split (λ b. b == 0x3B) sides.now) }
     ensures sides { IfSome result HasSides }
@@ -213,6 +220,7 @@ fn sides_key(sides: &[u8]) -> Option<Key>
     Some(Key::Size(side(&sides[..rows])?, side(&sides[rows + 1..])?))
 }
 
+/// The index of the first semicolon; None without one.
 fn first_semicolon(bytes: &[u8]) -> Option<usize>
     ensures { result ≡ position (λ b. b == 0x3B) bytes.now }
 {
@@ -233,6 +241,7 @@ fn side(digits: &[u8]) -> Option<u16>
     if is_side(side) { Some(side) } else { None }
 }
 
+/// The value of a digit; None of any other byte.
 fn digit(byte: u8) -> Option<u16>
     ensures value { SomeIff result (is_ascii_digit byte ≡ true) (byte - 0x30) }
     ensures small { (n : ℕ) → result ≡ Some n → n < 10 }

@@ -1,4 +1,4 @@
-//! Notices for the status row.
+//! Notices for the status row, which come with the input.
 
 /// What the host, the program that starts the editor and keeps a copy of what is typed, tells its user.
 #[derive(Clone, Copy, PartialEq, Eq, Debug)]

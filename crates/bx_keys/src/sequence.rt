@@ -1,4 +1,5 @@
-//! The state after one more byte: in characters and in escape sequences (ECMA-35, ECMA-48).
+//! The state after one more byte: in characters and in escape sequences (ECMA-35, ECMA-48). `specs/Items.antt` has the
+//! ranges.
 
 ghost use Rattle.std.specs.Prelude.{◌≡◌, ◌∷◌, [], ◌++◌};
 ghost use Rattle.bx_keys.specs.Waiting.{fate};
@@ -32,6 +33,7 @@ fn fate_in_sequence(sequence: &[u8], byte: u8) -> Fate
     }
 }
 
+/// Right after ESC.
 fn fate_after_escape(byte: u8) -> Fate
     ensures { result ≡ fate (0x1B ∷ byte ∷ []) }
 {
@@ -42,7 +44,7 @@ fn fate_after_escape(byte: u8) -> Fate
     }
 }
 
-/// Right after CSI, and after parameter and intermediate bytes.
+/// After CSI, and after the parameter and intermediate bytes that follow it.
 fn fate_after_csi(byte: u8) -> Fate
     ensures { result ≡ fate (0x1B ∷ 0x5B ∷ byte ∷ []) }
 {
@@ -53,6 +55,7 @@ fn fate_after_csi(byte: u8) -> Fate
     }
 }
 
+/// Right after SS3.
 fn fate_after_ss3(byte: u8) -> Fate
     ensures { result ≡ fate (0x1B ∷ 0x4F ∷ byte ∷ []) }
 {

@@ -1,4 +1,4 @@
--- Line ends.
+-- Line ends: LF (10) and CR LF (13 10).
 use Rattle.std.specs.Prelude.{◌≡◌, ℕ, ◌-◌, ◌<◌, List, length, slice_index, EachIndex, SomeIndex}
 
 -- the text has line feeds, and a carriage return precedes each

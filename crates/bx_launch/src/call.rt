@@ -43,6 +43,7 @@ pub struct Options {
 /// A file to be edited.
 #[derive(Debug, Drop, PartialEq, Eq)]
 pub struct EditCall {
+    /// Its path.
     pub file: String,
     pub options: Options,
 }
@@ -50,16 +51,20 @@ pub struct EditCall {
 /// A file whose session is recovered.
 #[derive(Debug, Drop, PartialEq, Eq)]
 pub struct RecoverCall {
+    /// The path of its file.
     pub file: String,
     /// Where the recovered text is stored; None to go on with the session.
     pub to: Option<String>,
+    /// How it is edited, where the session goes on.
     pub options: Options,
 }
 
 /// A file whose rows are printed.
 #[derive(Debug, Drop, PartialEq, Eq)]
 pub struct PrintCall {
+    /// Its path.
     pub file: String,
+    /// The direction of all paragraphs.
     pub direction: Base,
     /// The columns of a row, from 1 to 500; None takes the width of the terminal.
     pub columns: Option<u16>,

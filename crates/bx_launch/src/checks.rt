@@ -8,13 +8,13 @@ use std::alloc::{AllocError, Global};
 use std::fs;
 use std::rt::Files;
 
-/// How many bytes longer than a file's name the name of its draft is.
+/// How many bytes longer than a file's name the name of its draft is: FILE.bx.
 const DRAFT: u64 = 3;
 
 /// The longest name that most file systems take, where the system does not tell.
 const USUAL_NAME: u64 = 255;
 
-/// Whether a path names what a caller handed over.
+/// Whether a path names a descriptor that a caller handed over, as a shell does for `<(..)`.
 fn is_handed_over(file: &str) -> bool {
     file.starts_with("/dev/std")
         || file.starts_with("/dev/fd/")
@@ -100,7 +100,7 @@ impl Destination {
         Ok(())
     }
 
-    /// The line that tells of files with names of drafts, which a killed save leaves; None where there are none.
+    /// The line that tells of files with names of drafts, which a killed save leaves; None if no such file is there.
     pub fn leftovers(&self, rt: &impl Files, alloc: Global) -> Result<Option<String>, AllocError> {
         let target = self.target.as_str();
         let mut names = String::new(alloc);

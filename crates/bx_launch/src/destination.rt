@@ -39,7 +39,7 @@ fn split_path(path: &str) -> (&str, &str) {
     }
 }
 
-/// The path that the words of a link lead to.
+/// The path that the words of a link, which is at the path `link`, lead to.
 fn joined(alloc: Global, link: &str, words: &str) -> Result<String, AllocError> {
     match link.rsplit_once('/') {
         Some((folder, _)) if !words.starts_with('/') => format!(in alloc; "{folder}/{words}"),
@@ -61,7 +61,7 @@ fn cause_of(kind: ErrorKind) -> FileCause {
     }
 }
 
-/// Where a file's links lead. What is there need not exist.
+/// The path that a file's links lead to. Nothing need be there.
 ///
 /// Errors: `LeadsInCircle`; `LinkNotUtf8`; `LeadsNowhere` where a link cannot be read; `OutOfMemory`.
 fn followed(rt: &impl Files, alloc: Global, file: &str) -> Result<String, FileFault> {
@@ -79,7 +79,7 @@ fn followed(rt: &impl Files, alloc: Global, file: &str) -> Result<String, FileFa
     Err(FileFault::refused(alloc, file, FileCause::LeadsInCircle))
 }
 
-/// Refuses a folder that is none, or that is not there.
+/// Refuses what is not a folder, or is not there.
 fn check_folder(rt: &impl Files, alloc: Global, folder: &str) -> Result<(), FileFault> {
     match kind_at(rt, folder) {
         Kind::Folder => Ok(()),

@@ -6,7 +6,7 @@ ghost use Rattle.bx_launch.specs.LineEnds.{HasOnlyCrlf};
 use bx_cli::Shown;
 use std::alloc::{AllocError, Global};
 
-/// The names of the signals from 1 on.
+/// The names of Linux's signals, from number 1 on.
 static SIGNALS: [&str; 31] = [
     "HUP", "INT", "QUIT", "ILL", "TRAP", "ABRT", "BUS", "FPE", "KILL", "USR1", "SEGV", "USR2",
     "PIPE", "ALRM", "TERM", "STKFLT", "CHLD", "CONT", "STOP", "TSTP", "TTIN", "TTOU", "URG",
@@ -47,7 +47,8 @@ pub fn mixed_line(
     ).map(Some)
 }
 
-/// The line about the signal that ended the program, by its exit status; None where none did.
+/// The line about the signal that ended the program, by its exit status, which is 128 plus the signal's number; None where
+/// none did.
 pub fn signal_line(alloc: Global, status: u64) -> Result<Option<String>, AllocError> {
     let Some(number) = status.checked_sub(128).filter(|number| *number > 0) else {
         return Ok(None);

@@ -32,7 +32,7 @@ pub enum FileCause {
     WriteProtected,
     #[error("cannot be read by you: chmod u+r lets its owner read it, and --force opens an empty text in its place")]
     Unreadable,
-    /// Nothing opens it.
+    /// As `Unreadable`, where `--force` does not help: the printing program only reads.
     #[error("cannot be read by you: chmod u+r lets its owner read it")]
     Closed,
     /// The name's bytes, and the most that can be saved.

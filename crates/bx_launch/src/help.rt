@@ -14,7 +14,8 @@ pub const USAGE: &str = "usage: bidi-edit [--direction auto|ltr|rtl] [--line N |
 pub const PRINT_USAGE: &str = "usage: bidi-edit --print FILE [--cols N] [--marks] [--no-joining]
        [--direction auto|ltr|rtl]";
 
-/// What `--help` says after the usage: at most 23 lines with it, of at most 80 columns.
+/// What `--help` says after the usage: with it at most 23 lines of at most 80 columns, which a window of 24 rows shows with
+/// the shell's next prompt.
 const KEYS: &str = "       bidi-edit --print FILE [--cols N] [--marks]: its rows to standard output
 Edits text of any scripts, each paragraph in its direction, from line N. --force
 opens what cannot be saved, -n keeps no session, --no-joining joins no letters.

@@ -1,4 +1,4 @@
-//! Reading the words after `--print`.
+//! Reading the words after `--print`: FILE and options, in any order.
 
 ghost use Rattle.std.specs.Prelude.{◌≤◌, IfOk, IfSome, length};
 ghost use Rattle.bx_launch.specs.Calls.{HasNoFile};
@@ -11,7 +11,9 @@ use std::alloc::Global;
 /// An option with a value.
 #[derive(Clone, Copy)]
 enum Valued {
+    /// `--cols`
     Columns,
+    /// `--direction`
     Direction,
 }
 
@@ -25,19 +27,21 @@ impl Valued {
     }
 }
 
-/// What a word is, where options are looked for.
+/// What a word is, as long as options are looked for.
 enum Word<'a> {
     /// An option whose value is the next word.
     Wants(Valued),
     /// An option with its value.
     Has(Valued, &'a [u8]),
+    /// `--marks`
     Marks,
+    /// `--no-joining`
     Unjoined,
-    /// The end of the options.
+    /// `--`, the end of the options.
     End,
-    /// No option that there is.
+    /// It begins with `-`, and is not one of these options.
     Unknown,
-    /// No option.
+    /// FILE.
     Name,
 }
 
@@ -52,7 +56,7 @@ fn option_of(word: &[u8]) -> Word<'_> {
     }
 }
 
-/// What a word is, where options are looked for.
+/// What a word is, as long as options are looked for.
 fn word_of(word: &[u8]) -> Word<'_> {
     match word {
         b"--cols" => Word::Wants(Valued::Columns),
@@ -68,14 +72,20 @@ fn word_of(word: &[u8]) -> Word<'_> {
 /// What the words so far say.
 #[derive(Drop)]
 struct Before<'a> {
+    /// The word that names FILE; None as long as none does.
     file: Option<&'a [u8]>,
+    /// The direction of all paragraphs.
     direction: Base,
+    /// None where no option tells.
     columns: Option<u16>,
+    /// Whether marks are printed.
     has_marks: bool,
+    /// Whether letters are not joined.
     is_unjoined: bool,
 }
 
 impl<'a> Before<'a> {
+    /// Takes the value of an option.
     fn take_value(&mut self, option: Valued, value: &'a [u8]) -> Result<(), WordFault<'a>> {
         match option {
             Valued::Columns => self.columns = Some(width_of(value)?),
@@ -84,6 +94,7 @@ impl<'a> Before<'a> {
         Ok(())
     }
 
+    /// Takes the word that names FILE.
     fn take_file(&mut self, word: &'a [u8]) -> Result<(), WordFault<'a>> {
         if self.file.is_some() {
             return Err(WordFault::NotOneFile);

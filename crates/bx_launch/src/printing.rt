@@ -13,7 +13,7 @@ use std::rt::Files;
 /// The columns of a row, where neither the command line nor a terminal tells.
 const USUAL_COLUMNS: u16 = 80;
 
-/// The columns of a row on a terminal of this width, or on none.
+/// The columns of a row on a terminal of this width; 0 without a terminal.
 pub fn columns_on(terminal: u64) -> u16 {
     match u16::try_from(terminal) {
         Ok(0) => USUAL_COLUMNS,

@@ -1,4 +1,4 @@
-//! What messages call a file that the program refuses.
+//! What messages call a file that the program refuses: a binary file, UTF-16, or bytes.
 
 use crate::fault::{FileCause, FileFault};
 use crate::kind::{Kind, kind_at};
@@ -7,7 +7,7 @@ use std::fs::File;
 use std::io::Read;
 use std::rt::Files;
 
-/// How many bytes of a file are looked at.
+/// How many bytes of a file are looked at: more than marks and headers take.
 const LOOK: usize = 512;
 
 /// How the first bytes of a file look that is not UTF-8.

@@ -10,13 +10,13 @@ use bx_terms::{Base, LARGEST_SIDE};
 use std::alloc::Global;
 use std::str;
 
-/// The number of the last line of the longest text: 16,777,216 line feeds end one line fewer.
+/// The number of the last line of the longest text: 16,777,216 line feeds end as many lines, and one more line follows.
 pub const LAST_LINE: u64 = 16_777_217;
 
-/// The most digits of a number of columns.
+/// The most digits of a number of columns, which is at most 500.
 const MOST_DIGITS: usize = 3;
 
-/// The least number that counts as the last line's: one of nine digits.
+/// What numbers of more than eight digits become while they are read, so that they do not overflow.
 const TOO_LARGE: u64 = 100_000_000;
 
 /// The line that decimal digits name: the last line if the number has more than eight digits after zeros in front. None if

@@ -1,4 +1,4 @@
-//! Reading a command line.
+//! Reading a command line: options, and then FILE.
 
 ghost use Rattle.std.specs.Prelude.{◌≡◌, IfOk, drop};
 ghost use Rattle.bx_launch.specs.Calls.{HasNoFile, IsLastWord, OfFile};
@@ -13,8 +13,11 @@ use std::alloc::Global;
 /// An option with a value.
 #[derive(Clone, Copy)]
 enum Valued {
+    /// `--direction`
     Direction,
+    /// `--line`
     Line,
+    /// `--to`
     To,
 }
 
@@ -29,35 +32,43 @@ impl Valued {
     }
 }
 
-/// What a word is, where options are looked for.
+/// What a word is, as long as options are looked for.
 enum Word<'a> {
+    /// `-h` or `--help`
     Help,
+    /// `--version`
     Version,
-    /// What follows is about printing.
+    /// `--print`: the words that follow are read by `print_reading.rt`.
     Print,
     /// An option whose value is the next word.
     Wants(Valued),
     /// An option, whole.
     Option(Setting<'a>),
-    /// The end of the options.
+    /// `--`, the end of the options.
     End,
-    /// No option.
+    /// FILE.
     Name,
 }
 
 /// An option in one word.
 enum Setting<'a> {
+    /// An option with its value.
     Value(Valued, &'a [u8]),
+    /// `--force`
     Force,
+    /// `-n`
     Unkept,
+    /// `--no-joining`
     Unjoined,
+    /// `--recover`
     Recover,
+    /// `--forget`
     Forget,
-    /// A line, after its `+`.
+    /// `+LINE`, without its `+`.
     Plus(&'a [u8]),
     /// An option of other editors: no new window, wait for the end.
     Ignored,
-    /// No option that there is.
+    /// It begins with `-`, and is not one of these options.
     Unknown(&'a [u8]),
 }
 
@@ -74,7 +85,7 @@ fn setting_of(word: &[u8]) -> Setting<'_> {
     }
 }
 
-/// What a word is, where options are looked for.
+/// What a word is, as long as options are looked for.
 fn word_of(word: &[u8]) -> Word<'_> {
     match word {
         b"-h" | b"--help" => Word::Help,
@@ -99,14 +110,18 @@ fn word_of(word: &[u8]) -> Word<'_> {
 /// What the options before FILE say.
 #[derive(Drop)]
 struct Before<'a> {
+    /// How FILE is edited.
     options: Options,
+    /// `--recover` was given.
     is_recovery: bool,
+    /// `--forget` was given.
     is_forgetting: bool,
     /// The value of `--to`.
     other: Option<&'a [u8]>,
 }
 
 impl<'a> Before<'a> {
+    /// No option.
     fn new() -> Self {
         Before {
             options: Options {
@@ -122,6 +137,7 @@ impl<'a> Before<'a> {
         }
     }
 
+    /// Takes the value of an option.
     fn take_value(&mut self, option: Valued, value: &'a [u8]) -> Result<(), WordFault<'a>> {
         match option {
             Valued::Direction => self.options.direction = direction_of(value)?,
@@ -132,6 +148,7 @@ impl<'a> Before<'a> {
         Ok(())
     }
 
+    /// Takes an option in one word.
     fn take(&mut self, setting: Setting<'a>) -> Result<(), WordFault<'a>> {
         match setting {
             Setting::Value(option, value) => self.take_value(option, value)?,

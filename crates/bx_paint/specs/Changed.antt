@@ -6,7 +6,7 @@ use Rattle.bx_grid.specs.Effects.{Effect, Puts, Erases}
 use Rattle.bx_grid.specs.Picture.{PictureState}
 use Rattle.bx_paint.specs.Painting.{before_tail, leading_blanks, is_sent}
 
--- the glyphs before a row's tail that differ in some column; the first column has this index
+-- the glyphs before a row's tail that differ in some column; the first column has this index, counted over all rows
 abbrev pub glyphs_changed : ℕ → List Col → List Col → List Effect
 glyphs_changed index old [] = []
 glyphs_changed index old (Unknown ∷ cs) = glyphs_changed (index + 1) (drop 1 old) cs
@@ -15,21 +15,24 @@ glyphs_changed index old (Glyph text columns offset negative ∷ cs) =
     then Puts index text negative ∷ glyphs_changed (index + 1) (drop 1 old) cs
     else glyphs_changed (index + 1) (drop 1 old) cs
 
--- a row's tail, from its first column that differs
+-- the end of a row, where the new columns are blanks, from the first old column that is not blank on; `index` is that of the
+-- tail's first column
 abbrev pub tail_changed : ℕ → List Col → List Effect
 tail_changed index old = if list_all is_blank old then [] else Erases (index + leading_blanks old) ∷ []
 
+-- the changes of a row whose first column has this index
 abbrev pub row_changed : ℕ → List Col → List Col → List Effect
 row_changed index old new =
     let front = before_tail new in
     glyphs_changed index (take (length front) old) front ++ tail_changed (index + length front) (drop (length front) old)
 
--- a number of rows, the first of which begins at this index
+-- the changes of a number of rows, the first of which begins at this index
 abbrev pub rows_changed : ℕ → ℕ → ℕ → List Col → List Col → List Effect
 rows_changed zero width index old new = []
 rows_changed (suc count) width index old new =
     row_changed index (take width old) (take width new) ++ rows_changed count width (index + width) (drop width old) (drop width new)
 
+-- the changes between two pictures of one size
 abbrev pub changed : PictureState → PictureState → List Effect
 changed old new = rows_changed new.height new.width 0 old.columns new.columns
 

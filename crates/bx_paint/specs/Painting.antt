@@ -5,7 +5,7 @@ use Rattle.std.specs.List.{list_all}
 use Rattle.bx_grid.specs.Columns.{Col, Unknown, Glyph, blank, is_blank, is_ascii_glyph, are_equal}
 use Rattle.bx_grid.specs.Picture.{PictureState}
 
--- ---- sequences
+-- ---- sequences (ECMA-48, 8.3)
 
 -- CUP, `\e[LINE;COLUMNH`, to a row and a column from 0
 abbrev pub move_bytes : ℕ → ℕ → List ℕ
@@ -15,7 +15,7 @@ move_bytes row column = 0x1B ∷ 0x5B ∷ ((decimal (row + 1) ++ 0x3B ∷ decima
 abbrev pub render_bytes : Bool → List ℕ
 render_bytes negative = 0x1B ∷ 0x5B ∷ (if negative then 0x37 else 0x30) ∷ 0x6D ∷ []
 
--- SGR, if the rendition must change
+-- SGR, if the rendition must change from one to the other; true is negative
 abbrev pub render_change : Bool → Bool → List ℕ
 render_change true true = []
 render_change true false = render_bytes false
@@ -33,6 +33,7 @@ pub record Sent : Type 0 where
   pub bytes : List ℕ
   pub negative : Bool
 
+-- bytes before the bytes of the rest
 abbrev pub then_sent : List ℕ → Sent → Sent
 then_sent bytes s = record { bytes = bytes ++ s.bytes; negative = s.negative }
 
@@ -53,7 +54,8 @@ is_sent old (Unknown ∷ cs) = false
 is_sent old (Glyph text columns offset negative ∷ cs) =
     (offset == 0) && not (are_equal (take columns old) (take columns (Glyph text columns offset negative ∷ cs)))
 
--- the bytes of a glyph; near says that it follows a character from SPACE to TILDE that was just sent
+-- the bytes of a glyph. near says that a character from SPACE to TILDE was just sent before it, so that another such
+-- character needs no move; any other glyph gets one, since a run with other characters is one glyph.
 abbrev pub glyph_bytes : ℕ → ℕ → Bool → Bool → List ℕ → Bool → List ℕ
 glyph_bytes row column near negative text glyph_negative =
     (if near && is_ascii_glyph text then [] else move_bytes row column) ++ (render_change negative glyph_negative ++ text)
@@ -64,6 +66,7 @@ pub record Step : Type 0 where
   pub near : Bool
   pub negative : Bool
 
+-- a column for which nothing is sent, in this rendition
 abbrev pub nothing_sent : Bool → Step
 nothing_sent negative = record { bytes = []; near = false; negative = negative }
 
@@ -90,9 +93,11 @@ tail_sent row column negative old =
     then record { bytes = []; negative = negative }
     else record { bytes = move_bytes row (column + leading_blanks old) ++ (render_change negative false ++ erase_bytes); negative = false }
 
+-- what was sent before a row's tail, and then the tail
 abbrev pub tail_after : ℕ → ℕ → List Col → Sent → Sent
 tail_after row column old s = then_sent s.bytes (tail_sent row column s.negative old)
 
+-- the bytes sent for a row, where its old columns were
 abbrev pub row_sent : ℕ → Bool → List Col → List Col → Sent
 row_sent row negative old new =
     let front = before_tail new in
@@ -100,6 +105,7 @@ row_sent row negative old new =
 
 -- ---- a picture
 
+-- what was sent for a row, and then the other rows, in the rendition that it left
 abbrev pub rows_after : Sent → (Bool → Sent) → Sent
 rows_after s more = then_sent s.bytes (more s.negative)
 
@@ -118,13 +124,16 @@ columns_changed old p = rows_sent p.height 0 p.width false old p.columns
 abbrev pub ended : PictureState → Sent → List ℕ
 ended p s = s.bytes ++ (render_change s.negative false ++ move_bytes p.row p.column)
 
+-- the cursors of both pictures are at one place
 abbrev pub is_at_cursor_of : PictureState → PictureState → Bool
 is_at_cursor_of p q = (p.row == q.row) && (p.column == q.column)
 
+-- there are no bytes
 abbrev pub is_none : List ℕ → Bool
 is_none [] = true
 is_none (b ∷ bs) = false
 
+-- nothing, where neither columns nor cursor changed
 abbrev pub if_changed : PictureState → PictureState → Sent → List ℕ
 if_changed old new s = if is_none s.bytes && is_at_cursor_of old new then [] else ended new s
 

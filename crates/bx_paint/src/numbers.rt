@@ -1,4 +1,4 @@
-//! The line and column numbers of a move.
+//! The line and column numbers of a move. A window's have at most three digits, for which each part takes one append.
 
 ghost use Rattle.std.specs.Prelude.{◌≡◌, ◌+◌, ◌<◌, ◌++◌, ◌∷◌, [], decimal, OnOk};
 
@@ -6,6 +6,7 @@ use crate::output::Output;
 use itoa::Buffer;
 use std::alloc::AllocError;
 
+/// The ASCII digit of a number below 10.
 fn digit(number: u16) -> u8
     requires { number < 10 }
     ensures { result ≡ 48 + number }

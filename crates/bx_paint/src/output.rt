@@ -7,10 +7,12 @@ ghost use Rattle.bx_paint.specs.Painting.{is_none};
 use std::alloc::AllocError;
 use std::marker::Model;
 
-/// Bytes, and the index at which the painting begins.
+/// A painting after other bytes.
 #[derive(Drop)]
 pub struct Output {
+    /// The bytes before, and then the painting.
     bytes: Vec<u8>,
+    /// The index in `bytes` at which the painting begins.
     start: usize,
 }
 

@@ -16,10 +16,10 @@ use bx_terms::OutOfMemory;
 use std::alloc::{AllocError, Global};
 use std::mem;
 
-/// Initial capacity in bytes, enough for a few glyphs.
+/// Initial capacity in bytes, enough for a few glyphs and moves.
 const ROOM: usize = 64;
 
-/// Sends normal rendition, and moves to the cursor.
+/// Sends normal rendition, and moves to the cursor. `negative` is the rendition before.
 fn write_end(out: &mut Output, negative: bool, cursor: Cell) -> Result<(), AllocError>
     requires line { (1 ≤ cursor.line) × (cursor.line ≤ largest_side) }
     requires column { (1 ≤ cursor.column) × (cursor.column ≤ largest_side) }

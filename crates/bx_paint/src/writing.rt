@@ -1,4 +1,6 @@
-//! Writes the bytes of a painting.
+//! Writes the bytes of a painting: what of two grids differs. Rows and columns count from 0, and are below 65535, so that
+//! the numbers of a move, counted from 1, fit in 16 bits. `negative` is the rendition before; a returned bool is the
+//! rendition after.
 
 ghost use Rattle.std.specs.Prelude.{◌≡◌, ℕ, ◌+◌, ◌*◌, ◌<◌, ◌≤◌, ◌^◌, [], ◌∷◌, ◌++◌, length, true};
 ghost use Rattle.std.specs.Prelude.{false, IfOk, OnOk, OnErr, string_bytes, take, drop, replicate};
@@ -23,6 +25,7 @@ pub fn write_move(out: &mut Output, row: u16, column: u16) -> Result<(), AllocEr
     write_column_number(out, column + 1)
 }
 
+/// Changes the rendition from one to the other, if they differ; true is negative.
 pub fn write_rendition(out: &mut Output, from: bool, to: bool) -> Result<(), AllocError>
     ensures bytes { OnOk result (out.new.painting ≡ out.old.painting ++ render_change from to) }
     ensures before { out.new.before ≡ out.old.before }
@@ -37,14 +40,16 @@ pub fn write_rendition(out: &mut Output, from: bool, to: bool) -> Result<(), All
     }
 }
 
-/// Whether a character from SPACE to TILDE was sent for the column before, and the rendition.
+/// The state between two glyphs of a row.
 #[derive(Clone, Copy)]
 struct Pen {
+    /// A character from SPACE to TILDE was sent for the column before, so that another such character needs no move.
     near: bool,
+    /// The rendition.
     negative: bool,
 }
 
-/// Sends a glyph.
+/// Sends a glyph, of this rendition.
 fn write_glyph(
     out: &mut Output,
     row: u16,
@@ -157,7 +162,7 @@ fn write_at(
     )
 }
 
-/// Sends the changed glyphs of a row before its tail.
+/// Sends the changed glyphs of a row before its tail. Returns the rendition after them.
 fn write_columns(
     out: &mut Output,
     row: u16,
@@ -209,7 +214,7 @@ fn blanks_len(columns: &[Column]) -> usize
     len
 }
 
-/// Erases a row's tail from its first column that differs.
+/// Erases a row's tail, which begins at `column`, from the first of its old columns that is not blank.
 fn write_tail(
     out: &mut Output,
     row: u16,

@@ -1,4 +1,5 @@
--- The number of keys in a journal. A key is counted at its first byte.
+-- The number of keys in a journal. A key is counted at its first byte. Of the bytes 13 is Save, 1B ESC, 5B `[`, 3E `>`, 74 t
+-- and 7E the tilde; 80 to BF go on with a character in UTF-8.
 use Rattle.std.specs.Prelude.{◌==◌, ◌+◌, ◌-◌, ◌||◌, ℕ, Bool, true, false, List, [], ◌∷◌, if◌then◌else◌}
 use Rattle.bx_terms.specs.Characters.{is_within}
 use Rattle.bx_sessions.specs.declared.keys.After.{After}
@@ -58,5 +59,6 @@ abbrev pub keys_from : After → ℕ → List ℕ → ℕ
 keys_from after count [] = count
 keys_from after count (b ∷ bs) = keys_from (next after b) (counted after count b) bs
 
+-- the number of keys in a journal
 abbrev pub keys_in : List ℕ → ℕ
 keys_in journal = keys_from Key 0 journal

@@ -1,4 +1,5 @@
--- Folders that other users cannot change, by their owners and modes.
+-- Folders that other users cannot change, by their owners and modes. Of a mode, hexadecimal 12 is octal 22, the group and
+-- others may write; 2 that others may; 200 is octal 1000, the sticky bit.
 use Rattle.std.specs.Prelude.{◌≡◌, ◌≢◌, ◌⊎◌, ℕ, bit_and}
 
 -- the user's own, and neither the group nor others may write it

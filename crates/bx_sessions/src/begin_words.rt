@@ -6,8 +6,11 @@ use std::alloc::{AllocError, Global};
 /// The first window, direction and line of a session.
 #[derive(Clone, Copy, PartialEq, Eq, Debug)]
 pub struct Begin {
+    /// Number of rows.
     pub rows: u32,
+    /// Number of columns.
     pub cols: u32,
+    /// The base direction.
     pub direction: Base,
     /// The line, from 1; None for the first.
     pub line: Option<u32>,

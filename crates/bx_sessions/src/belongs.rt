@@ -1,4 +1,4 @@
-//! Whose sessions: those of a file, under any of its names.
+//! How a session belongs to a file, under any of the file's names.
 
 use crate::file_id::FileId;
 use crate::part::Part;

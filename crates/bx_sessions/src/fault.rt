@@ -1,4 +1,4 @@
-//! Why a session cannot be made.
+//! Why a folder of sessions cannot be used.
 
 use std::alloc::AllocError;
 use std::io;

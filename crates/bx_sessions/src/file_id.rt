@@ -5,16 +5,18 @@ use std::fs::Metadata;
 use std::os::unix::fs::MetadataExt;
 use std::time::{Duration, SystemTime};
 
-/// A file, whatever its names: its device, its inode, and the time since 1970 at which it was made, where the file system tells.
-/// A new file may get the inode of a removed one, and not its time.
+/// A file, whatever its names. A new file may get the inode of a removed one, and not its time of birth.
 #[derive(Clone, Copy, PartialEq, Eq, Debug)]
 pub struct FileId {
+    /// The number of the device that has its file system.
     pub device: u64,
+    /// Its number in that file system.
     pub inode: u64,
+    /// The time since 1970 at which it was made; None where the file system does not tell.
     pub birth: Option<Duration>,
 }
 
-/// A number in decimal.
+/// A number in decimal; None if the word is missing or is not a number.
 pub fn number_of(word: Option<&str>) -> Option<u64> {
     word?.parse().ok()
 }

@@ -1,4 +1,4 @@
-//! The sessions of a file.
+//! The sessions of a file, and the state of each.
 
 use crate::belongs::{Belonging, Target};
 use crate::machine::{Machine, may_go_on_elsewhere};
@@ -35,7 +35,7 @@ pub enum State {
     Unfinished,
 }
 
-/// What a session is.
+/// What a session is. `here` is this machine.
 ///
 /// Errors: `Io` if its process cannot be read.
 pub fn state_of(rt: &HostRuntime, session: &Session, here: &Machine) -> io::Result<State> {

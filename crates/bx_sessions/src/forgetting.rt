@@ -10,7 +10,7 @@ use std::io;
 use std::rt::Files;
 use std::time::SystemTime;
 
-/// The age, in seconds, at which a folder without a path was left by a start that was killed.
+/// The age, in seconds, from which on a folder without a path is one that a killed start left.
 const HOUR: u64 = 3600;
 
 /// A session that was removed.
@@ -74,7 +74,8 @@ fn is_meant(rt: &HostRuntime, session: &Session, target: Option<&Target<'_>>) ->
     }
 }
 
-/// Whether a session that ended may be removed, and had something to tell.
+/// Removes a session that ended, unless another start has it by now. Returns what is to be told of it; None if it stays, or
+/// held no unsaved text.
 fn forget_one(rt: &HostRuntime, session: &Session, state: State) -> Option<Forgotten> {
     let forgotten = Forgotten {
         path: session.file_path(rt).unwrap_or(None),

@@ -109,8 +109,8 @@ fn counted(after: After, count: usize, byte: u8) -> usize
     }
 }
 
-/// The number of keys in a journal. A control sequence is one key; a notice of the host is none, a size that the terminal reports
-/// is none, nor is the Save right before one, with which a resumed session begins.
+/// The number of keys in a journal. A control sequence is one key. Not counted are a notice of the host, a size that the
+/// terminal reports, and the Save right before a size, with which a resumed session begins.
 pub fn count_keys(journal: &[u8]) -> usize
     ensures { result ≡ keys_in journal.now }
 {

@@ -12,14 +12,16 @@ use thiserror::Error;
 /// The permissions of a lock's file: for the user alone.
 const FOR_USER_ALONE: u32 = 0o600;
 
-/// Number of tries for a lock, and the milliseconds between two of them: a second in all.
+/// Number of tries for a lock, with `PAUSE` after each: a second in all.
 const TRIES: u32 = 20;
 
+/// Milliseconds.
 const PAUSE: u64 = 50;
 
 /// A lock on a session, which is locked until this is dropped.
 #[derive(Drop)]
 pub struct Lock {
+    /// The lock's file, open and locked.
     file: File,
 }
 

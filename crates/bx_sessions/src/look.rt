@@ -3,13 +3,18 @@
 use std::fs::Metadata;
 use std::os::unix::fs::MetadataExt;
 
-/// A file as it was at a time: its device and inode, its size in bytes, and the time of its last change of content.
+/// A file as it was at a time.
 #[derive(Clone, Copy, PartialEq, Eq, Debug)]
 pub struct Look {
+    /// The number of the device that has its file system.
     pub device: u64,
+    /// Its number in that file system.
     pub inode: u64,
+    /// In bytes.
     pub size: u64,
+    /// The time of its last change of content, since 1970: whole seconds.
     pub seconds: i64,
+    /// The rest of that time, in nanoseconds.
     pub nanos: i64,
 }
 

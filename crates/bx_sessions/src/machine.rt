@@ -1,27 +1,32 @@
-//! The machine on which a session runs.
+//! The machine on which a session runs, since its lock may not be seen from another one.
 
 use std::alloc::{AllocError, Global};
 use std::fs;
 
-/// The files by which the kernel tells its name and its boot.
+/// The file by which the kernel tells the machine's name.
 const HOST_NAME: &str = "/proc/sys/kernel/hostname";
 
+/// The file by which the kernel tells a name of this boot.
 const BOOT: &str = "/proc/sys/kernel/random/boot_id";
 
 /// What is written for a boot that is not known.
 const UNKNOWN: &str = "-";
 
-/// A machine: its name, since containers on one machine have names of their own, and its boot, if that is known.
+/// A machine, or a container on one: containers of one machine have names of their own, and the same boot.
 #[derive(Drop, PartialEq, Eq, Debug)]
 pub struct Machine {
+    /// Its name.
     pub host: String,
+    /// Its boot; None if that is not known.
     pub boot: Option<String>,
 }
 
 /// A process that began or resumed a session.
 #[derive(Drop, PartialEq, Eq, Debug)]
 pub struct Process {
+    /// Its number.
     pub number: u32,
+    /// Where it ran.
     pub machine: Machine,
 }
 

@@ -1,4 +1,4 @@
-//! Whether a file has the text of a mark.
+//! Whether a file has the text of a mark: the whole text of a save into the file, kept until that is written.
 
 ghost use Rattle.std.specs.Prelude.{◌≡◌, ◌≢◌, ◌↔◌, true};
 ghost use Rattle.bx_sessions.specs.Marks.{is_torn};

@@ -1,4 +1,4 @@
-//! A file after a save into it that was cut off.
+//! The repair of a file after a save into it that was cut off, by the mark of the session that saved.
 
 use crate::belongs::Target;
 use crate::finding::{State, state_of};
@@ -27,6 +27,7 @@ pub enum Mended {
 /// What became of a file by one session's mark.
 #[derive(Drop, PartialEq, Eq, Debug)]
 pub struct Outcome {
+    /// What became of the file.
     pub mended: Mended,
     /// The path of the mark. It is there as long as the file is torn.
     pub mark: String,
@@ -49,7 +50,7 @@ impl Session {
     }
 }
 
-/// Whether another session that may be running saves into the file.
+/// Whether another session than `but` that may be running saves into the file.
 fn is_being_saved(
     rt: &HostRuntime,
     sessions: &Sessions,
@@ -124,8 +125,8 @@ fn mend_by(rt: &HostRuntime, session: &Session, target: &Target<'_>) -> io::Resu
     Ok(put_back(rt, target.path, text.as_slice()).unwrap_or(Mended::StillTorn))
 }
 
-/// Repairs a file after a save of a locked session was cut off. The mark is kept as the text of the last one that was left,
-/// unless the file is still torn.
+/// Repairs a file after a save of a locked session was cut off. Unless the file is still torn, the mark then becomes the
+/// session's `Part::Save`.
 ///
 /// Errors: `Io` if the session cannot be read or written; the mark stays.
 pub fn mend(

@@ -1,4 +1,4 @@
-//! The mounts in memory.
+//! The folders at which file systems in memory are mounted.
 
 use std::alloc::{AllocError, Global};
 use std::fs;

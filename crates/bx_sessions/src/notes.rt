@@ -18,7 +18,7 @@ const LONGEST_WITHOUT_KEYS: u64 = 4096;
 /// The bits of a mode that a recovered file gets: no set-ID and sticky bits.
 const PERMISSIONS: u32 = 0o777;
 
-/// The number that octal digits name, of at most seven bits that are wanted.
+/// The number that octal digits name; None if the text has other characters.
 fn octal(digits: &str) -> Option<u32> {
     u32::from_str_radix(digits, 8).ok()
 }
@@ -32,7 +32,7 @@ impl Session {
         }
     }
 
-    /// The first window, direction and line; None if they are not there, or are not those of a session.
+    /// The first window, direction and line; None if the file is not there, or has another form.
     pub fn begin(&self, rt: &HostRuntime) -> io::Result<Option<Begin>> {
         Ok(
             self.text_note(rt, Part::Begin)?

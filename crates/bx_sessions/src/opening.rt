@@ -18,22 +18,28 @@ use thiserror::Error;
 /// A session that this process has locked.
 #[derive(Drop)]
 pub struct Kept {
+    /// The session's folder.
     pub session: Session,
+    /// Its lock, held until this is dropped.
     pub lock: Lock,
 }
 
 /// What a new session notes beside its text.
 #[derive(Clone, Copy)]
 pub struct Opening<'a> {
+    /// FILE.
     pub target: Target<'a>,
     /// FILE's permissions, if FILE is there.
     pub mode: Option<u32>,
+    /// The first window, direction and line.
     pub begin: Begin,
     /// Letters are joined.
     pub is_joined: bool,
     /// FILE can be read by root alone.
     pub is_secret: bool,
+    /// The process that runs the session.
     pub process: &'a Process,
+    /// What a replay depends on.
     pub versions: &'a Versions,
 }
 
@@ -68,7 +74,7 @@ impl From<io::Error> for FillFault {
     }
 }
 
-/// All files that filling a session makes, the text last.
+/// All files that `fill` makes new, the text last.
 const FILLED: [Part; 8] = [
     Part::Path,
     Part::Begin,
@@ -108,14 +114,14 @@ pub fn open_plain(rt: &HostRuntime, path: &str) -> io::Result<File> {
 
 /// All bytes of a plain file.
 ///
-/// Errors: `InvalidInput` if it is none; `Io`.
+/// Errors: `InvalidInput` if it is not a plain file; `Io`.
 pub fn read_plain(rt: &HostRuntime, path: &str) -> io::Result<Vec<u8>> {
     let mut bytes = Vec::new(rt.alloc());
     open_plain(rt, path)?.read_to_end(&mut bytes)?;
     Ok(bytes)
 }
 
-/// Another handle of an open file, at its first byte.
+/// Another handle of an open file, moved to its first byte.
 fn from_start(file: &File) -> io::Result<File> {
     let mut file = file.try_clone()?;
     file.seek(SeekFrom::Start(0))?;

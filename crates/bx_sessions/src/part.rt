@@ -39,9 +39,9 @@ pub enum Part {
     MarkDraft,
     /// The path of the FILE that saves are written into, where they are made in place.
     InPlace,
-    /// The text of the last mark that was left.
+    /// The text of the last mark, once FILE was repaired by it or needed no repair.
     Save,
-    /// FILE's device and inode as it was opened.
+    /// FILE's device, inode and birth as it was opened.
     File,
     /// FILE could be read by root alone.
     Secret,

@@ -57,7 +57,7 @@ fn without_end(path: &str) -> &str {
     path.trim_end_matches('/')
 }
 
-/// Whether a path is that of a folder or below it.
+/// Whether a path is the folder's or below the folder.
 fn is_in(path: &str, folder: &str) -> bool {
     match path.strip_prefix(without_end(folder)) {
         Some(rest) => rest.is_empty() || rest.starts_with('/'),
@@ -71,7 +71,7 @@ fn own_folder_in(rt: &HostRuntime, folder: &str, user: u32) -> Result<String, Al
     format!(in rt.alloc(); "{folder}/bidi_edit.{user}")
 }
 
-/// How long a folder stays that is in one of these.
+/// `Temporary`, if a path without links is in this folder of temporary files; None if it is not, or the folder is not there.
 fn stay_in(rt: &HostRuntime, path: &str, folder: &str) -> Result<Option<Stay>, AllocError> {
     let real = match Path::new(folder).canonicalize(rt) {
         Ok(real) => real.into_string(),
@@ -153,7 +153,7 @@ fn memory_folder<H: Host>(
 /// Picks the folder of sessions for a file: the state folder, unless the file is more short-lived than that. None if there is
 /// no folder for it. The path of the file's folder is without links.
 ///
-/// Errors: that of the host; out of memory.
+/// Errors: `Host`, as the host answers; `OutOfMemory`.
 pub fn sessions_folder<H: Host>(
     rt: &HostRuntime,
     host: &mut H,

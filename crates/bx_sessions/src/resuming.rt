@@ -1,4 +1,4 @@
-//! A session that goes on.
+//! A session that goes on: what is appended to its journal.
 
 use crate::part::Part;
 use crate::session::{Session, create, if_found};

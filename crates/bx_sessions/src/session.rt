@@ -12,13 +12,15 @@ use std::time::SystemTime;
 /// The permissions of a session's files: for the user alone.
 const FOR_USER_ALONE: u32 = 0o600;
 
-/// The largest file that is read whole but for texts and journals, in bytes.
+/// The most bytes of a file that is neither a text nor a journal.
 const LARGEST_NOTE: u64 = 65_536;
 
 /// A session's folder.
 #[derive(Drop)]
 pub struct Session {
+    /// Its path.
     path: String,
+    /// Which folder it is, whatever has its path by now.
     id: FileId,
 }
 
@@ -222,6 +224,7 @@ impl Session {
         for entry in fs::read_dir(rt, self.path())? {
             blocks = blocks.saturating_add(entry?.metadata()?.blocks());
         }
+        // the system counts blocks of 512 bytes
         Ok(blocks.div_ceil(2))
     }
 }

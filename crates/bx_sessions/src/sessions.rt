@@ -1,4 +1,4 @@
-//! A folder of sessions.
+//! A folder of sessions: judged, listed, and given new sessions.
 
 use crate::fault::FolderFault;
 use crate::file_id::FileId;
@@ -16,10 +16,10 @@ use std::time::SystemTime;
 /// The permissions of a folder of sessions, and of a session's: for the user alone.
 const FOR_USER_ALONE: u32 = 0o700;
 
-/// Number of random letters in a session's name.
+/// Number of random letters in a session's name, five bits each.
 const LETTERS: usize = 8;
 
-/// The letters of which a session's name has some.
+/// The letters of which a session's name has some: 32, so that a random byte picks each alike.
 const ALPHABET: &[u8; 32] = b"abcdefghijklmnopqrstuvwxyz234567";
 
 /// Number of names that are tried for a session.
@@ -32,8 +32,11 @@ const REPLAY: &str = ".replay.";
 /// can exchange it or write in it.
 #[derive(Drop)]
 pub struct Sessions {
+    /// Its path, with all links resolved.
     path: String,
+    /// Which folder was judged.
     id: FileId,
+    /// The number of the user whose sessions these are.
     user: u32,
 }
 
@@ -58,14 +61,14 @@ fn random_letters(rt: &HostRuntime) -> io::Result<String> {
     Ok(letters)
 }
 
-/// Whether a name in the folder is that of a session.
+/// Whether a name in the folder is a session's: it begins with a digit.
 fn is_session(name: &str) -> bool {
     name.as_bytes()
         .first()
         .is_some_and(|byte| byte.is_ascii_digit())
 }
 
-/// Whether a name in the folder is that of a folder into which an older editor replayed keys.
+/// Whether a name in the folder belongs to a folder into which an older editor replayed keys.
 fn is_replay(name: &str) -> bool {
     name.starts_with(REPLAY)
 }

@@ -1,4 +1,4 @@
-//! What the environment says of folders.
+//! What the environment says of folders: the state folder, in which sessions are kept.
 
 use std::alloc::{AllocError, Global};
 use std::fs;

@@ -40,7 +40,7 @@ pub fn is_own_folder(found: &Metadata, user: u32) -> bool {
 /// The first folder on an absolute path without links that another user could change, from the root on; None if only the user
 /// and root can exchange what is at the path.
 ///
-/// Errors: that of a folder that cannot be looked at.
+/// Errors: `Io` of the first folder that cannot be looked at.
 pub fn first_open_above<'p, R: Files>(
     files: &R,
     path: &'p str,

@@ -1,4 +1,4 @@
-//! What a replay of a session's keys depends on.
+//! What a replay of a session's keys depends on: the editor's version, programs and tables.
 
 use crate::part::Part;
 use crate::session::Session;
@@ -10,6 +10,7 @@ use std::rt::Files;
 /// Joined letters change no text and no place, so their tables are not among them.
 #[derive(Drop)]
 pub struct Versions {
+    /// As in a session's file: a line for the version, and one for each file.
     words: String,
 }
 
@@ -40,7 +41,8 @@ impl Versions {
         self.words.as_str()
     }
 
-    /// Whether the last of the files that were looked at, which are these, are as they were then. What cannot be looked at is not.
+    /// Whether these files, the last ones that were looked at, are as they were then. A file that cannot be looked at counts
+    /// as changed.
     pub fn still_has(&self, rt: &HostRuntime, files: &[&str]) -> bool {
         match lines_of(rt, files) {
             Ok(lines) => self.words().ends_with(lines.as_str()),

@@ -1,4 +1,4 @@
-//! The time on the user's clock.
+//! The time on the user's clock, for the names of sessions and for messages.
 
 use jiff_core::Timestamp;
 use jiff_core::civil::DateTime;
@@ -10,9 +10,10 @@ use std::{fs, io};
 /// The folder of time zones that TZ names.
 const ZONES: &str = "/usr/share/zoneinfo";
 
-/// The user's time zone: that of TZ, else of the system, else UTC.
+/// The user's time zone: the one that TZ names, else the system's, else UTC.
 #[derive(Drop)]
 pub struct LocalClock {
+    /// That of the system, or the name that TZ gives.
     system: SystemTimeZone,
     /// The zone that TZ names, if it names one.
     named: TimeZoneDatabase,

@@ -7,6 +7,7 @@ use Rattle.bx_store.specs.declared.cause.SaveCause.{SaveCause}
 use Rattle.bx_store.specs.declared.cause.SaveCause.TheVariants as cause
 use Rattle.bx_store.specs.declared.store.StoreFault.{StoreFault}
 
+-- the cause of a fault, by its kind
 abbrev pub cause_of_kind : ErrorKind → SaveCause
 cause_of_kind kind.StorageFull = cause.NoSpace
 cause_of_kind kind.QuotaExceeded = cause.NoSpace
@@ -18,6 +19,7 @@ cause_of_kind kind.FileTooLarge = cause.TooLarge
 cause_of_kind kind.OutOfMemory = cause.OutOfMemory
 cause_of_kind _ = cause.Other
 
+-- the words for the status row
 abbrev pub cause_text : SaveCause → List ℕ
 cause_text cause.NoSpace = codes "no space"
 cause_text cause.NotPermitted = codes "not permitted"
@@ -34,6 +36,6 @@ cause_text cause.Other = codes "disk error"
 abbrev pub fault : Option SaveCause → StoreFault
 fault told = record { cause = told }
 
--- the cause of a failed put into a store in memory: none if the call was asked to fail
+-- the cause of a failed put into a store in memory; None if the call was asked to fail
 abbrev pub cause_of_put : MemoryState → Option SaveCause
 cause_of_put s = if fails_next s then None else Some cause.OutOfMemory

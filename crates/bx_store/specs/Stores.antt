@@ -3,7 +3,7 @@ use Rattle.std.specs.Prelude.{ℕ, suc, ◌+◌, ◌-◌, ◌<◌, ◌^◌, ◌=
 use Rattle.bx_store.specs.declared.faults.Faults.{Faults}
 use Rattle.bx_store.specs.declared.store.StoreFault.{StoreFault}
 
--- counts of failures and calls saturate here
+-- the greatest u64, at which counts of failures and calls stay
 abbrev pub greatest : ℕ
 greatest = 2 ^ 64 - 1
 
@@ -18,7 +18,7 @@ no_faults = record { count = 0; latest = None }
 abbrev pub with_fault : StoreFault → Faults → Faults
 with_fault fault faults = record { count = one_more faults.count; latest = Some fault }
 
--- an empty draft, and a draft after an append; None stays None
+-- the bytes of an empty draft, and of a draft after an append; None, of a store that does not model them, stays None
 abbrev pub no_bytes : Option (List ℕ) → Option (List ℕ)
 no_bytes told = option_map (λ _. []) told
 
@@ -45,10 +45,11 @@ is_call (Some call) number = number == call
 abbrev pub fails_next : MemoryState → Bool
 fails_next s = is_call s.fail_call (one_more s.calls)
 
--- after a failed call: the save has ended
+-- after a failed call, which ends the save
 abbrev pub after_failure : StoreFault → MemoryState → MemoryState
 after_failure fault s = record s { has_draft = false; calls = one_more s.calls; faults = with_fault fault s.faults }
 
+-- after a call of begin, of put and of commit that succeeded
 abbrev pub after_begin : MemoryState → MemoryState
 after_begin s = record s { draft = []; has_draft = true; calls = one_more s.calls }
 

@@ -1,4 +1,4 @@
-//! The file that a save writes before the file that it saves.
+//! The draft: the file that a save writes before the file that it saves.
 
 use crate::owner::{Replaced, set_ids, take_over};
 use crate::target::{folder_of, if_found, is_same_file};
@@ -26,7 +26,9 @@ const BUFFER_SIZE: usize = 65_536;
 /// A file that gets the new text, in the folder of the file that it will replace.
 #[derive(Drop)]
 pub struct Draft<F: Read + Write + Seek + OpenFile + AsFd + Drop> {
+    /// The file, whose last bytes may still be in a buffer.
     file: BufWriter<F>,
+    /// Its path.
     path: String,
     /// The path of the file to replace; None if it replaces none.
     target: Option<String>,
@@ -63,8 +65,8 @@ fn make_beside<R: Files>(
     Err(ErrorKind::AlreadyExists.into())
 }
 
-/// Wraps a new file in a buffer. It takes over what `old`, the file that it replaces, had. Also returns the
-/// permissions that the file gets once it is complete.
+/// Wraps a new file in a buffer. It takes over the owner, group and permissions of `old`, the file that it replaces. Also
+/// returns the permissions that the file gets once it is complete; 0 leaves them unchanged.
 fn buffered<F: Read + Write + Seek + OpenFile + AsFd + Drop>(
     alloc: Global,
     file: F,
@@ -95,7 +97,8 @@ impl<F: Read + Write + Seek + OpenFile + AsFd + Drop> Draft<F> {
         Ok(draft)
     }
 
-    /// Creates an empty draft beside `place` that replaces no file, with these permissions and then those of `old`, if any.
+    /// Creates an empty draft beside `place` that replaces no file, with these permissions, and then with the permissions of
+    /// `old`, if it is given.
     pub fn only_beside<R: Files<File = F>>(
         files: &R,
         alloc: Global,
@@ -119,8 +122,8 @@ impl<F: Read + Write + Seek + OpenFile + AsFd + Drop> Draft<F> {
         }
     }
 
-    /// Creates an empty draft of a file that belongs to the program, readable by its owner alone. First removes a draft left by
-    /// an interrupted save.
+    /// Creates an empty draft of a file of the program's own, as a session's mark, readable by its owner alone. First
+    /// removes a draft left by an interrupted save.
     pub fn of_own<R: Files<File = F>>(files: &R, alloc: Global, target: &str) -> io::Result<Self> {
         let target = String::from_str(alloc, target)?;
         let path = format!(in alloc; "{target}.bx")?;
@@ -192,7 +195,7 @@ impl<F: Read + Write + Seek + OpenFile + AsFd + Drop> Draft<F> {
         self.file.get_ref().metadata()
     }
 
-    /// Removes a draft that replaces nothing.
+    /// Removes a draft that has replaced no file.
     pub fn remove<R: Files<File = F>>(self, files: &R) {
         let is_there = matches!(&self.is_at_its_path(files), Ok(true));
         let Draft {

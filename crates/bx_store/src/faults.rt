@@ -9,6 +9,7 @@ use crate::store::StoreFault;
 pub struct Faults {
     /// At most the greatest u64.
     pub count: u64,
+    /// None if no call failed.
     pub latest: Option<StoreFault>,
 }
 

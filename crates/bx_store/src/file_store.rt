@@ -40,12 +40,15 @@ pub struct FileStore<'a, R: Files>
 where
     R::File: AsFd,
 {
+    /// The file that saves go to, as last seen.
     watch: Watch<'a, R>,
     /// The path of the mark; None if it is a draft beside the file, where saves overwrite the file.
     mark: Option<String>,
     /// The mark of a save that overwrote the file and broke off: the file may lack its bytes.
     torn: Option<String>,
+    /// The save in progress.
     draft: Option<Saving<R::File>>,
+    /// The failed calls.
     failures: Faults,
 }
 

@@ -16,7 +16,9 @@ use std::rt::Files;
 pub struct InPlace<F: Read + Write + Seek + OpenFile + AsFd + Drop> {
     /// The mark, or its draft before `keep`.
     draft: Draft<F>,
+    /// The path of the file to overwrite.
     target: String,
+    /// Whether the draft is the mark by now.
     is_kept: bool,
 }
 
@@ -88,7 +90,7 @@ impl<F: Read + Write + Seek + OpenFile + AsFd + Drop> InPlace<F> {
         file.sync_all()
     }
 
-    /// Removes the draft or the mark. A torn file keeps its mark, whose bytes it may lack.
+    /// Removes the draft or the mark, but not the mark at the path `torn`, whose bytes a torn file may lack.
     pub fn remove<R: Files<File = F>>(self, files: &R, torn: Option<&str>) {
         let InPlace {
             draft,

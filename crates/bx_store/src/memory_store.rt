@@ -14,11 +14,17 @@ use std::mem;
 /// `fail_call` fails. Otherwise only a `put` fails, and only where the draft's memory has no room for its bytes and cannot grow.
 #[derive(Drop)]
 pub struct MemoryStore {
+    /// The bytes of the last successful save.
     contents: Vec<u8>,
+    /// The bytes put since the last `begin`.
     draft: Vec<u8>,
+    /// Whether a save is in progress.
     has_draft: bool,
+    /// Number of calls so far, at most the greatest u64.
     calls: u64,
+    /// The failed calls.
     failures: Faults,
+    /// The number of the call that fails, from 1; None if none is to fail.
     fail_call: Option<u64>,
 }
 

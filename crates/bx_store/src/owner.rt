@@ -5,7 +5,7 @@ use std::io;
 use std::os::fd::AsFd;
 use std::os::unix::fs::{MetadataExt, PermissionsExt, fchown};
 
-/// The set-user-ID and set-group-ID bits.
+/// The set-user-ID and set-group-ID bits of a mode.
 const SET_IDS: u32 = 0o6000;
 
 /// The file that a new one replaces.
@@ -13,14 +13,16 @@ const SET_IDS: u32 = 0o6000;
 pub struct Replaced<'a> {
     /// Its facts when it was last seen.
     pub old: &'a Metadata,
-    /// Whether its permissions say all; otherwise the group's may be those of an access list, which a new file has not.
+    /// Whether its mode says all; otherwise the group's permissions may be those of an access list, which a new file lacks.
     pub is_plain: bool,
 }
 
 /// Whether a new file got the old file's owner and group.
 #[derive(Clone, Copy)]
 struct Preserved {
+    /// It has the old owner.
     owner: bool,
+    /// It has the old group.
     group: bool,
 }
 
@@ -50,14 +52,15 @@ fn take_owner<F: OpenFile + AsFd>(file: &F, old: &Metadata) -> io::Result<Preser
     Ok(preserved)
 }
 
-/// Gives the group the same permissions as others, for a file whose group may have had fewer before.
+/// A mode whose group has the permissions of others, for a file whose group may have had fewer before. 007 are the bits of
+/// others, 070 those of the group.
 fn without_group(mode: u32) -> u32 {
     let others = mode & 0o007;
     (mode & !0o070) | (others << 3)
 }
 
-/// The permissions of the new file. It loses the set-ID bits unless it got both owner and group, and the group's permissions
-/// unless it got the group.
+/// The permissions of the new file, of all the bits that a mode has for them (7777). It loses the set-ID bits unless it got
+/// both owner and group, and the group's permissions unless it got the group.
 fn mode_of(preserved: Preserved, old: &Metadata) -> u32 {
     let mode = old.mode() & 0o7777;
     if preserved.owner && preserved.group {

@@ -25,7 +25,7 @@ impl<F: Read + Write + Seek + OpenFile + AsFd + Drop> Saving<F> {
         }
     }
 
-    /// Removes the files of a save that stored nothing, but for the mark of a torn file.
+    /// Removes the files of a save that stored nothing, except the mark at the path `torn`, which a torn file needs.
     pub fn remove<R: Files<File = F>>(self, files: &R, torn: Option<&str>) {
         match self {
             Saving::Beside(draft) => draft.remove(files),

@@ -1,4 +1,4 @@
-//! The trait of stores.
+//! The trait of stores: what the editor asks of a place to save a text.
 ghost use Rattle.std.specs.Prelude.{◌≡◌};
 
 use crate::cause::SaveCause;
@@ -10,6 +10,7 @@ use thiserror::Error;
 #[derive(Clone, Copy, PartialEq, Eq, Debug, Error)]
 #[error("the store failed")]
 pub struct StoreFault {
+    /// None if the store does not know it.
     pub cause: Option<SaveCause>,
 }
 

@@ -7,7 +7,7 @@ use std::os::unix::fs::MetadataExt;
 use std::path::Path;
 use std::rt::Files;
 
-/// Number of links that the system follows for one name.
+/// Number of links that the system follows for one name, as Linux does.
 const MOST_LINKS: u32 = 40;
 
 /// Turns the error `NotFound` into None.

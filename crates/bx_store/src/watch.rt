@@ -1,4 +1,4 @@
-//! The file of a store, as last seen.
+//! The file of a store, as last seen, by which changes of other programs are noticed.
 ghost use Rattle.std.specs.Prelude.{◌≡◌, Some, Err, OnErr};
 ghost use Rattle.bx_store.specs.Causes.{fault};
 ghost use Rattle.bx_store.specs.declared.cause.SaveCause.TheVariants.{OutOfMemory};
@@ -16,7 +16,9 @@ use std::rt::Files;
 /// A path and the file that it leads to, which is looked at again at each save.
 #[derive(Drop)]
 pub struct Watch<'a, R: Files> {
+    /// The file system.
     pub files: &'a R,
+    /// The path as it was given; links on it are followed at each look.
     path: String,
     /// The path without links that saves go to; None if it could not be resolved yet.
     target: Option<String>,
@@ -26,8 +28,8 @@ pub struct Watch<'a, R: Files> {
     seen: Option<Metadata>,
     /// Whether the next look is a fault, if the file is there.
     is_distrusted: bool,
-    /// The metadata of a file of which a rename loses at most other names: that of the file as first seen, or as last replaced by
-    /// a save. An access list and the like cannot be seen, but to give a file one changes its time of change.
+    /// The metadata of a file of which a rename loses at most other names: the file as first seen, or as last replaced by a
+    /// save. An access list and the like cannot be seen, but to give a file one changes its time of change.
     plain: Option<Metadata>,
 }
 
@@ -56,7 +58,7 @@ fn seen_at<R: Files>(files: &R, target: &Option<String>) -> Result<Option<Metada
     Ok(if_answered(find(files, target.as_str()))?.unwrap_or(None))
 }
 
-/// The file at a path without links, if one is there. A link, which another program put there, is none.
+/// The file at a path without links, if one is there. A link, which another program put there, counts as no file.
 ///
 /// Errors: `NotPlain` if it is a folder, a device, a pipe or a socket.
 fn file_at<R: Files>(files: &R, target: &str) -> Result<Option<Metadata>, StoreFault> {
@@ -114,7 +116,8 @@ impl<'a, R: Files> Watch<'a, R> {
         self.seen = written.ok();
     }
 
-    /// Notes the file that replaced it, by two looks. A change between them shows as one of something that a rename loses.
+    /// Notes the file that replaced the old one, by two looks. Where it changed between them, it counts as a file of which a
+    /// rename loses something.
     pub fn note_replaced(&mut self, first: io::Result<Metadata>, second: io::Result<Metadata>) {
         self.plain = first.ok();
         self.seen = second.ok();

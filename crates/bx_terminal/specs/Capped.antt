@@ -1,4 +1,4 @@
--- A command whose numbers are at most 1000, past any window.
+-- A command whose numbers are at most 1000, past any window (a side is at most 500): the code reads numbers only so far.
 use Rattle.std.specs.Prelude.{min}
 use Rattle.bx_grid.specs.declared.command.Command.{Command}
 use Rattle.bx_grid.specs.declared.command.Command.TheVariants.{Move, Clear, Erase, Render, Other}

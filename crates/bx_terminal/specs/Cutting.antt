@@ -3,14 +3,18 @@ use Rattle.std.specs.Prelude.{ℕ, zero, suc, max, Bool, ◌==◌, List, [], ◌
 use Rattle.bx_bytes.specs.Pattern.{Piece, One, Many, matches_any, begins_any}
 use Rattle.bx_bytes.specs.Utf8.{long_characters, are_printable}
 
--- ---- items: characters in UTF-8 except ESC, and control sequences
+-- ---- items: characters in UTF-8 except ESC (1B), and control sequences
 
+-- ECMA-48, 5.4: CSI (ESC and `[`), parameter bytes, intermediate bytes, and one final byte, in this order. (What `bx_keys`
+-- reads as a sequence of the input may mix the first two.)
 abbrev pub control_sequence : List Piece
 control_sequence = One 0x1B 0x1B ∷ One 0x5B 0x5B ∷ Many 0x30 0x3F ∷ Many 0x20 0x2F ∷ One 0x40 0x7E ∷ []
 
+-- ASCII without ESC, sequences, and the characters of two to four bytes
 abbrev pub items : List (List Piece)
 items = (One 0x00 0x1A ∷ []) ∷ (One 0x1C 0x7F ∷ []) ∷ control_sequence ∷ long_characters
 
+-- the bytes are one whole item
 abbrev pub is_item : List ℕ → Bool
 is_item bs = matches_any items bs
 
@@ -29,6 +33,7 @@ beginning bs = beginning_up_to (length bs) bs
 
 -- ---- tokens
 
+-- what a terminal reads as one piece
 pub data Token : Type 0 where
   -- printable characters
   Run : (text : List ℕ) → Token
@@ -47,10 +52,11 @@ pub record Cut : Type 0 where
   pub tokens : List Token
   pub rest : List ℕ
 
+-- the token before the tokens of the rest
 abbrev pub with_token : Token → Cut → Cut
 with_token token c = record { tokens = token ∷ c.tokens; rest = c.rest }
 
--- the tokens of bytes, where each printable character is a run, in at most n cuts
+-- the tokens of bytes, in which each printable character is a run of its own, in at most n cuts (each takes a byte or more)
 abbrev pub cut_within : ℕ → List ℕ → Cut
 cut_within zero bs = record { tokens = []; rest = bs }
 cut_within (suc n) [] = record { tokens = []; rest = [] }
@@ -73,10 +79,11 @@ abbrev pub run_token : List ℕ → List Token
 run_token [] = []
 run_token (b ∷ bs) = Run (b ∷ bs) ∷ []
 
+-- tokens before the tokens of the rest
 abbrev pub with_tokens : List Token → Cutting → Cutting
 with_tokens tokens c = record { tokens = tokens ++ c.tokens; run = c.run; rest = c.rest }
 
--- later characters may extend the last run, unless an escape waits after it
+-- the cutting after the last token: later characters may extend the run, unless an escape waits after it
 abbrev pub last_run : List ℕ → List ℕ → Cutting
 last_run run [] = record { tokens = []; run = run; rest = [] }
 last_run run (b ∷ bs) =

@@ -1,4 +1,4 @@
--- Laws of a terminal that reads any bytes.
+-- Laws of a terminal that reads any bytes: it obeys the tokens of `Cutting.antt`, in order.
 use Rattle.std.specs.Prelude.{◌≡◌, ℕ, Bool, true, false, not, ◌&&◌, List, [], ◌∷◌, ◌++◌, drop, flat_map, fold}
 use Rattle.bx_terminal.specs.Cutting.{Cutting, Token, Run, Sequence, Other, cutting, run_token}
 use Rattle.bx_grid.specs.Picture.{IsIdle}
@@ -11,6 +11,7 @@ token_done t (Run text) = run_put t t.position t.negative text
 token_done t (Sequence bytes) = after_command t (command (drop 2 bytes))
 token_done t (Other bytes) = all_unknown t
 
+-- the terminal after tokens, in order
 abbrev pub tokens_done : Terminal → List Token → Terminal
 tokens_done t tokens = fold token_done t tokens
 
@@ -20,6 +21,7 @@ ReadsTokens = (t : Terminal) (bs : List ℕ) → IsIdle t →
     let c : Cutting = cutting bs in
     reads t bs ≡ record (tokens_done t c.tokens) { run = c.run; half_read = c.rest }
 
+-- the bytes of which a token is made
 abbrev pub token_bytes : Token → List ℕ
 token_bytes (Run text) = text
 token_bytes (Sequence bytes) = bytes

@@ -1,4 +1,4 @@
--- The model of the program's terminal.
+-- The model of the program's terminal (`Live`).
 use Rattle.std.specs.Prelude.{◌≡◌, ◌<◌, length, IfSome, string_bytes}
 use Rattle.bx_grid.specs.Seen.{all_seen}
 use Rattle.bx_grid.specs.Tokens.{fate}
@@ -19,6 +19,8 @@ terminal_of s = record {
   half_read = s.half_read.items;
 }
 
+-- the columns fit the size, the cursor's row and column are inside, the half-read bytes can become a token, and no glyph is
+-- cut
 pub record IsLive (s : Inside) : Type 0 where
   pub sized : IsSized s.height s.width (length s.columns.items)
   pub position : IfSome s.position (λ p. (p.0 < s.height) × (p.1 < s.width))

@@ -1,9 +1,10 @@
--- Texts without controls.
+-- Texts without controls, which the code shows at once (`src/text.rt`).
 use Rattle.std.specs.Prelude.{◌≡◌, ◌≤◌, ◌<◌, ◌==◌, List, ℕ, Bool, true, length, take, get_or, if◌then◌else◌}
 use Rattle.std.specs.Str.{IsUtf8}
 use Rattle.bx_bytes.specs.Utf8.{are_printable}
 use Rattle.bx_bytes.specs.Pattern.{is_within}
 
+-- the bytes are a text without controls
 pub record IsPrintable (bytes : List ℕ) : Type 0 where
   pub utf8 : IsUtf8 bytes
   pub printed : are_printable bytes ≡ true
@@ -16,7 +17,7 @@ pub record IsBeforeEscape (text bytes : List ℕ) : Type 0 where
   pub printable : IsPrintable text
   pub escape : get_or bytes (length text) 0 ≡ 0x1B
 
--- the second byte of a character of three bytes, by its first
+-- the second byte of a character of three bytes, by its first (Unicode, table 3-7): no overlong form (E0), no surrogate (ED)
 abbrev pub is_second : ℕ → ℕ → Bool
 is_second lead second =
     if lead == 0xE0 then is_within 0xA0 0xBF second

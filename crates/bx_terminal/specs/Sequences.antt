@@ -1,4 +1,4 @@
--- A control sequence that is read at once.
+-- A control sequence that the code reads at once, not byte by byte (`src/sequence.rt`).
 use Rattle.std.specs.Prelude.{◌≡◌, ◌≤◌, ℕ, List, [], length, drop}
 use Rattle.bx_grid.specs.declared.command.Command.{Command}
 use Rattle.bx_grid.specs.Terminal.{Terminal, run_ended, after_command, reads}

@@ -1,15 +1,17 @@
--- Texts that are as wide as their first character.
+-- Texts that are as wide as their first character, so that one look-up gives their width (`src/width.rt`).
 use Rattle.std.specs.Prelude.{◌≡◌, ℕ, ◌<◌, Bool, true, false, ◌&&◌, ◌||◌, ◌==◌, nat_lt, List, ◌∷◌, drop, Option, Some, None}
 use Rattle.std.specs.List.{list_all}
 use Rattle.std.specs.Str.{chars}
 use Rattle.unicode_width.specs.Width.{char_width}
 use Rattle.bx_terms.specs.Characters.{is_within}
 
+-- the width is told, and is no column
 abbrev pub takes_none : Option ℕ → Bool
 takes_none (Some columns) = columns == 0
 takes_none None = false
 
--- it takes no column, and is below the selectors, which change the character before them
+-- it takes no column, and is below the variation selectors (U+FE00), which change the width of the character before them; up
+-- to U+00A0 are ASCII, controls and the no-break space
 abbrev pub is_still : ℕ → Bool
 is_still c = (nat_lt 0xA0 c && nat_lt c 0xFE00) && takes_none (char_width false c)
 
@@ -19,7 +21,7 @@ pub record IsBase (text : List ℕ) (c : ℕ) : Type 0 where
   pub high : 0xA0 < c
   pub still : list_all is_still (drop 1 (chars text)) ≡ true
 
--- marks of Latin, Hebrew and Arabic that take no column
+-- marks of Latin, Hebrew and Arabic that take no column; `src/width.rt` says how they were chosen
 abbrev pub is_mark : ℕ → Bool
 is_mark c = ((is_within 0x300 0x36F c || is_within 0x591 0x5BD c) || is_within 0x5C1 0x5C2 c) || is_within 0x64B 0x65F c
 

@@ -1,4 +1,5 @@
-//! Lists of columns, some of them unknown: filling them, putting glyphs, and forgetting the rest of an overwritten glyph.
+//! Lists of columns, some of them unknown, as the terminal (`Live`) changes them: filling them, putting glyphs, and
+//! forgetting the rest of an overwritten glyph. Indices count columns from 0.
 
 ghost use Rattle.std.specs.Prelude.{◌≡◌, ◌+◌, ◌≤◌, length, take, drop, replicate, ◌-◌, ◌*◌, ◌<◌};
 ghost use Rattle.std.specs.Prelude.{◌&&◌, IfOk, OnOk, OnErr};
@@ -12,6 +13,7 @@ ghost use Rattle.bx_terms.specs.Sizes.{largest_side};
 use bx_grid::{Column, GlyphRun, fill_blank, put_glyphs};
 use std::alloc::{AllocError, Global};
 
+/// `count` unknown columns.
 pub(crate) fn unknown_columns(alloc: Global, count: usize) -> Result<Vec<Column>, AllocError>
     ensures { IfOk result (λ columns. all_seen columns.items ≡ replicate count spec.Unknown) }
 {
@@ -22,6 +24,7 @@ pub(crate) fn unknown_columns(alloc: Global, count: usize) -> Result<Vec<Column>
     Ok(columns)
 }
 
+/// Makes all columns unknown.
 pub(crate) fn fill_unknown(columns: &mut [Column])
     ensures { all_seen columns.new ≡ replicate (length columns.old) spec.Unknown }
 {
@@ -61,7 +64,8 @@ fn forget(column: &mut Column)
     *column = Column::Unknown;
 }
 
-/// Makes a glyph that reaches past these columns unknown. Reads only its columns and the one before them.
+/// Makes a glyph that reaches past these columns, the part of a row before a run, unknown. Reads only its columns and the
+/// one before them.
 fn forget_left(row: &mut [Column])
     requires { AreUncut (all_seen row.old) }
     ensures { all_seen row.new ≡ cut_before (all_seen row.old) }
@@ -74,7 +78,8 @@ fn forget_left(row: &mut [Column])
     }
 }
 
-/// Makes a glyph that began before these columns unknown. Reads only its columns and the one after them.
+/// Makes a glyph that began before these columns, the part of a row after a run, unknown. Reads only its columns and the one
+/// after them.
 fn forget_right(row: &mut [Column])
     requires { AreUncut (all_seen row.old) }
     ensures { all_seen row.new ≡ cut_after 0 (all_seen row.old) }
@@ -86,7 +91,7 @@ fn forget_right(row: &mut [Column])
     }
 }
 
-/// Puts a run in a row. If memory runs out, part of it is written.
+/// Puts a run in a row, from the column `from` on. If memory runs out, part of it is written.
 fn show_in_row(
     alloc: Global,
     row: &mut [Column],
@@ -102,6 +107,7 @@ fn show_in_row(
     put_glyphs(alloc, row, from, run)
 }
 
+/// Blanks a row from the column `from` on.
 pub(crate) fn erase_in_row(row: &mut [Column], from: usize)
     requires uncut { AreUncut (all_seen row.old) }
     requires inside { from ≤ length row.old }
@@ -112,7 +118,8 @@ pub(crate) fn erase_in_row(row: &mut [Column], from: usize)
     fill_blank(row, from, count);
 }
 
-/// Puts a run in one row of a grid's columns. If memory runs out, all columns become unknown.
+/// Puts a run in one row, counted from 0, of a grid's columns, `width` of them in a row. If memory runs out, all columns
+/// become unknown.
 pub(crate) fn show_at(
     alloc: Global,
     columns: &mut [Column],
@@ -136,6 +143,7 @@ pub(crate) fn show_at(
     shown
 }
 
+/// Blanks one row, counted from 0, from the column `from` on.
 pub(crate) fn erase_at(columns: &mut [Column], width: usize, row: usize, from: usize)
     requires small { (row < largest_side) × (width ≤ largest_side) }
     requires rows { row * width + width ≤ length columns.old }

@@ -1,4 +1,4 @@
-//! A terminal that has not failed.
+//! A terminal that has not failed: its state, and what one byte changes. `reading.rt` reads many bytes.
 
 ghost use Rattle.std.specs.Prelude.{◌≡◌, ℕ, ◌*◌, ◌<◌, ◌≤◌, List, [], ◌∷◌, ◌++◌, length, replicate, nat_eq, drop, true, IsTrue, ◌↔◌, IfOk, OnOk};
 ghost use Rattle.bx_grid.specs.Columns as spec;
@@ -23,14 +23,22 @@ use std::mem;
 
 mod reading;
 
+/// The state of a terminal, as `Terminal` of `bx_grid` says it.
 #[derive(Drop)]
 pub struct Live {
+    /// Number of rows, from 1 to 500.
     height: u16,
+    /// Number of columns of a row, from 1 to 500.
     width: u16,
+    /// Row by row.
     columns: Vec<Column>,
+    /// Row and column of the cursor, from 0; None if they are unknown, as after a glyph in a row's last column.
     position: Option<(u16, u16)>,
+    /// Whether the rendition is negative; None if it is unknown.
     negative: Option<bool>,
+    /// Printable characters that are not shown yet, since later ones may extend them.
     run: String,
+    /// The bytes of a character or a control sequence whose last byte is not read yet.
     half_read: Vec<u8>,
 }
 
@@ -47,6 +55,7 @@ impl Model for Live {
 }
 
 impl Live {
+    /// A terminal of this many rows and columns, whose content is unknown.
     pub fn new(alloc: Global, height: u16, width: u16) -> Result<Live, AllocError>
         requires tall { (1 ≤ height) × (height ≤ largest_side) }
         requires wide { (1 ≤ width) × (width ≤ largest_side) }
@@ -83,12 +92,14 @@ impl Live {
         self.half_read.clear();
     }
 
+    /// Obeys `CSI m`: sets the rendition.
     fn render(&mut self, negative: bool)
         ensures { self.new ≡ after_rendition self.old negative }
     {
         self.negative = Some(negative);
     }
 
+    /// Obeys `CSI H`: moves the cursor, to a line and a column from 1. Outside the window the whole state becomes unknown.
     #[inline(always)]
     fn go_to(&mut self, line: u16, column: u16)
         ensures { self.new ≡ after_move self.old line column }
@@ -100,6 +111,7 @@ impl Live {
         }
     }
 
+    /// Obeys `CSI 2 J`: blanks all, if the rendition is normal. The position is then unknown.
     fn clear(&mut self)
         ensures { self.new ≡ after_clear self.old self.old.negative }
     {
@@ -112,6 +124,7 @@ impl Live {
         }
     }
 
+    /// Obeys `CSI K`: blanks the row from the cursor on, if the rendition is normal. The position is then unknown.
     fn erase(&mut self)
         ensures { self.new ≡ after_erase self.old self.old.position self.old.negative }
     {
@@ -143,7 +156,8 @@ impl Live {
         }
     }
 
-    /// Puts a text's glyphs at a position, and empties the run.
+    /// Puts a text's glyphs at a row and a column, from 0, and empties the run. If they do not fit, the whole state becomes
+    /// unknown.
     fn put_text(
         &mut self,
         row: u16,
@@ -178,7 +192,7 @@ impl Live {
         Ok(())
     }
 
-    /// Puts the run's glyphs at a position.
+    /// Puts the run's glyphs at a row and a column, from 0.
     fn put_run(&mut self, row: u16, column: u16, negative: bool) -> Result<(), AllocError>
         requires { (row < self.old.height) × (column < self.old.width) }
         ensures { OnOk result (self.new ≡ glyphs_put self.old (row, column) (run_columns negative self.old.run)) }
@@ -305,6 +319,7 @@ impl Live {
         }
     }
 
+    /// Takes another size, which makes the content unknown. Half-read bytes stay.
     pub fn resize(&mut self, height: u16, width: u16) -> Result<(), AllocError>
         requires tall { (1 ≤ height) × (height ≤ largest_side) }
         requires wide { (1 ≤ width) × (width ≤ largest_side) }

@@ -1,4 +1,4 @@
-//! The terminal, which may fail by running out of memory.
+//! The terminal (`Live`) for tests and worlds. It may fail by running out of memory.
 
 ghost use Rattle.std.specs.Prelude.{◌≡◌, ◌*◌, ◌↔◌, [], List, length, replicate, true, false, IsTrue, Some, None, option_map, IsSome, IfOk, OnOk, OnErr};
 ghost use Rattle.std.specs.Prelude.{IsErrOf};
@@ -16,7 +16,9 @@ use std::marker::Model;
 /// A terminal. Once it runs out of memory, it has failed for good.
 #[derive(Drop)]
 pub struct Screen {
+    /// The terminal; of no use once it has failed.
     live: Live,
+    /// Whether memory has run out.
     failed: bool,
 }
 

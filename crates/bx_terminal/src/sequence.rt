@@ -1,4 +1,5 @@
-//! Control sequences and texts that are whole in the bytes read.
+//! The control sequences and texts that are whole in the bytes read, found so that they need not be read byte by byte.
+//! Lengths count bytes.
 
 ghost use Rattle.std.specs.Prelude.{◌≡◌, ◌∷◌, ◌≤◌, length, IfSome};
 ghost use Rattle.bx_terminal.specs.Sequences.{BeginWithSequence};
@@ -6,14 +7,17 @@ ghost use Rattle.bx_terminal.specs.Sequences.{BeginWithSequence};
 use crate::token::{ESCAPE, command_of, first_digits, is_last, params_len};
 use bx_grid::Command;
 
-/// A control sequence of parameter bytes and a final byte: its command, and its length in bytes.
+/// A control sequence of parameter bytes and a final byte: its command, and its length in bytes, with ESC and `[`.
 #[derive(Clone, Copy)]
 pub struct Sequence {
+    /// What it does.
     pub command: Command,
+    /// Number of bytes.
     pub len: usize,
 }
 
-/// The move at the start of `body`, the bytes after CSI, if it gives both its numbers. Reads each number once.
+/// The move at the start of `body`, the bytes after CSI, if it gives both its numbers (`LINE;COLUMNH`). Reads each number
+/// once.
 fn move_in(body: &[u8]) -> Option<Sequence>
     ensures { IfSome result (λ s. BeginWithSequence (0x1B ∷ 0x5B ∷ body.now) s.command s.len) }
 {
@@ -28,6 +32,7 @@ fn move_in(body: &[u8]) -> Option<Sequence>
     }
     Some(Sequence {
         command: Command::Move(line.number, column.number),
+        // ESC, `[`, `;` and `H`
         len: line.len + column.len + 4,
     })
 }
@@ -41,6 +46,7 @@ fn sequence_in(body: &[u8]) -> Option<Sequence>
     match rest {
         [last, ..] if is_last(*last) => Some(Sequence {
             command: command_of(params, *last),
+            // ESC, `[` and the final byte
             len: count + 3,
         }),
         _ => None,

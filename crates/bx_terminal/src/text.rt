@@ -1,11 +1,12 @@
-//! Texts without controls, read up to an escape.
+//! Texts without controls, read up to an escape and checked for UTF-8 and controls in one pass. The byte ranges are those of
+//! UTF-8 (Unicode, table 3-7).
 
 ghost use Rattle.std.specs.Prelude.{◌≡◌, ◌≤◌, [], ◌∷◌, true, length, take, IfSome};
 ghost use Rattle.bx_terminal.specs.Printables.{is_second, IsPrintable, IsBeforeEscape};
 
 use crate::token::ESCAPE;
 
-/// Whether the byte is a character and no control.
+/// Whether the byte is a character and no control: SPACE to TILDE.
 #[inline(always)]
 fn is_one(byte: u8) -> bool
     ensures { result ≡ true → IsPrintable (byte ∷ []) }
@@ -16,7 +17,7 @@ fn is_one(byte: u8) -> bool
     byte <= b'~'
 }
 
-/// Whether the two bytes are a character and no control.
+/// Whether the two bytes are a character and no control: U+00A0 to U+07FF.
 #[inline(always)]
 fn is_two(lead: u8, last: u8) -> bool
     ensures { result ≡ true → IsPrintable (lead ∷ last ∷ []) }
@@ -42,7 +43,7 @@ fn is_second(lead: u8, second: u8) -> bool
     }
 }
 
-/// Whether the three bytes are a character outside U+2028 to U+203F, a range with two controls.
+/// Whether the three bytes are a character outside U+2028 to U+203F, a range with two controls (U+2028 and U+2029).
 #[inline(always)]
 fn is_three(lead: u8, second: u8, last: u8) -> bool
     ensures { result ≡ true → IsPrintable (lead ∷ second ∷ last ∷ []) }

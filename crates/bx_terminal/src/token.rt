@@ -1,4 +1,5 @@
-//! Tokens: the state after one more byte of a token, and the command of a sequence.
+//! Tokens: whether one more byte ends, continues or breaks a token, and the command of a control sequence. `body` is the
+//! bytes of a sequence after CSI (ESC and `[`).
 
 ghost use Rattle.std.specs.Prelude.{◌≡◌, ℕ, ◌+◌, ◌*◌, ◌<◌, ◌≤◌, Bool, true, false, ◌&&◌, ◌∷◌, [], ◌++◌, length, min, nat_le, option_map, take, drop, None};
 ghost use Rattle.std.specs.List.{list_all};
@@ -11,27 +12,31 @@ ghost use Rattle.bx_terminal.specs.Capped.{capped};
 use bx_bytes::{Fate, character_fate};
 use bx_grid::Command;
 
+/// The byte ESC.
 pub const ESCAPE: u8 = 0x1B;
 
+/// Whether the byte is a parameter byte of a control sequence (ECMA-48, 5.4).
 fn param(byte: u8) -> bool
     ensures { result ≡ is_param byte }
 {
     0x30 <= byte && byte <= 0x3F
 }
 
+/// Whether the byte is an intermediate byte (ECMA-48, 5.4).
 fn intermediate(byte: u8) -> bool
     ensures { result ≡ is_intermediate byte }
 {
     0x20 <= byte && byte <= 0x2F
 }
 
+/// Whether the byte is a final byte (ECMA-48, 5.4).
 pub fn is_last(byte: u8) -> bool
     ensures { result ≡ is_final byte }
 {
     0x40 <= byte && byte <= 0x7E
 }
 
-/// Whether all bytes of an unfinished sequence are parameters. Looks at the last one alone.
+/// Whether all bytes of an unfinished sequence are parameter bytes. Looks at the last one alone.
 fn are_params(body: &[u8]) -> bool
     requires { after_intermediates (after_params body.now) ≡ [] }
     ensures { result ≡ list_all is_param body.now }
@@ -42,7 +47,7 @@ fn are_params(body: &[u8]) -> bool
     }
 }
 
-/// The state after a sequence's bytes past its start, `body`, and one more.
+/// The state of a sequence after `body` and one more byte.
 fn fate_in_sequence(body: &[u8], byte: u8) -> Fate
     requires { after_intermediates (after_params body.now) ≡ [] }
     ensures { result ≡ final_fate (after_intermediates (after_params (body.now ++ byte ∷ []))) }
@@ -81,6 +86,7 @@ pub fn fate_of(half_read: &[u8], byte: u8) -> Fate
     }
 }
 
+/// The state after ESC, the bytes `rest` after it, and one more byte.
 fn fate_after_escape(rest: &[u8], byte: u8) -> Fate
     requires { escape_fate rest.now ≡ Fate.Waits }
     ensures { result ≡ escape_fate (rest.now ++ byte ∷ []) }
@@ -97,7 +103,7 @@ fn fate_after_escape(rest: &[u8], byte: u8) -> Fate
     }
 }
 
-/// Length of the parameters.
+/// Number of parameter bytes that `body` begins with.
 pub fn params_len(body: &[u8]) -> usize
     ensures within { result ≤ length body.now }
     ensures front { take result body.now ≡ params body.now }
@@ -113,6 +119,7 @@ pub fn params_len(body: &[u8]) -> usize
     len
 }
 
+/// Number of bytes before the first semicolon, or of all.
 fn semicolon(params: &[u8]) -> usize
     ensures within { result ≤ length params.now }
     ensures front { take result params.now ≡ before_semicolon params.now }
@@ -128,13 +135,17 @@ fn semicolon(params: &[u8]) -> usize
     len
 }
 
-/// The leading digits of some bytes: their number, at most 1000, and their count.
+/// The leading digits of some bytes: their number, at most 1000 (past any window, so that it fits in 16 bits), and their
+/// count.
 #[derive(Clone, Copy)]
 pub struct Digits {
+    /// At most 1000.
     pub number: u16,
+    /// How many digits they are.
     pub len: usize,
 }
 
+/// The digits that the bytes begin with.
 pub fn first_digits(bytes: &[u8]) -> Digits
     ensures within { result.len ≤ length bytes.now }
     ensures digits { all_ascii_digits (take result.len bytes.now) ≡ true }
@@ -153,7 +164,7 @@ pub fn first_digits(bytes: &[u8]) -> Digits
     Digits { number, len }
 }
 
-/// A number, at most 1000; 1 if it is absent.
+/// The number that all these bytes are, at most 1000; 1 if there is no byte, None if a byte is not a digit.
 fn number_of(bytes: &[u8]) -> Option<u16>
     ensures { result ≡ option_map (λ n. min 1000 n) (number bytes.now) }
 {
@@ -167,6 +178,7 @@ fn number_of(bytes: &[u8]) -> Option<u16>
     Some(digits.number)
 }
 
+/// The move of the parameters `LINE;COLUMN`.
 fn move_of(params: &[u8]) -> Command
     ensures { result ≡ capped (command_of params.now 0x48) }
 {
@@ -205,7 +217,7 @@ pub fn command_of(params: &[u8], last: u8) -> Command
     }
 }
 
-/// The command of a sequence, without its start.
+/// The command of a sequence, by `body`.
 pub fn command_in(body: &[u8]) -> Command
     ensures { result ≡ capped (command body.now) }
 {

@@ -1,4 +1,4 @@
-//! Width of texts, in columns.
+//! Width of texts in columns, with short ways for the texts that screens show most.
 //!
 //! The ranges of letters and combining marks are chosen by hand from the table of `unicode_width` (Unicode 18.0.0). They save
 //! its look-up for the characters that screens show most; `proofs/Marks.antt` computes their widths from the table.
@@ -24,7 +24,8 @@ fn is_mark(c: char) -> bool
         || ('\u{64B}' <= c && c <= '\u{65F}')
 }
 
-/// Whether a character takes no column, and leaves the width of the character before it unchanged.
+/// Whether a character takes no column, and leaves the width of the character before it unchanged, as variation selectors
+/// (from U+FE00 on) may not.
 #[inline(always)]
 #[tactic(auto, using(crate::proofs::Marks::mark_still))]
 fn is_still(c: char) -> bool
@@ -42,6 +43,7 @@ fn is_still(c: char) -> bool
     }
 }
 
+/// Whether all characters are still.
 fn are_still(text: &str) -> bool
     ensures { result ≡ list_all is_still (chars text.now) }
 {

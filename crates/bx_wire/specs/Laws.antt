@@ -11,7 +11,7 @@ use Rattle.bx_wire.specs.declared.heard.Message.{Message}
 use Rattle.bx_wire.specs.declared.fault.WireFault.{WireFault}
 use Rattle.bx_wire.specs.declared.fault.WireFault.TheVariants.{Unreadable, OutOfMemory}
 
--- a result is this message, with these bytes left after it, unless the read failed or memory ran out
+-- a result is this message, with these bytes (`rest`) left after it, unless the read failed or memory ran out
 abbrev pub IsReadBack : Heard → List ℕ → List ℕ → List ℕ → Result (Option Message) WireFault → Type 0
 IsReadBack heard text rest new (Ok (Some message)) = (message.heard ≡ heard) × (message.text.items ≡ text) × (new ≡ rest)
 IsReadBack heard text rest new (Ok None) = ⊥

@@ -3,6 +3,7 @@ use Rattle.std.specs.Prelude.{ℕ, ◌+◌, List, [], ◌∷◌}
 use Rattle.bx_keys.specs.declared.notice.Notice.{Notice}
 use Rattle.bx_keys.specs.declared.notice.Notice.TheVariants as notice
 
+-- the number by which the keeper says a notice, and the host makes its sequence
 abbrev pub number_of : Notice → ℕ
 number_of notice.NoSpace = 1
 number_of notice.FolderGone = 2

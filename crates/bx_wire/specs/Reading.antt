@@ -1,4 +1,4 @@
--- The steps of reading a message: one byte, and a text with its NUL.
+-- The steps of reading a message: one byte, and a text with its NUL. `old` and `new` are as in `Messages.antt`.
 use Rattle.std.specs.Prelude.{◌≡◌, ℕ, ◌+◌, List, [], ◌∷◌, ◌++◌, length, Option, Some, None, Result, Ok, Err}
 use Rattle.std.specs.Global.{Vec}
 use Rattle.std.specs.Io.KnownBytes.{Consumes, IsAtEnd}

@@ -30,7 +30,8 @@ pub struct Facts {
     pub longest_name: u64,
     /// The free bytes there for the user.
     pub free: u64,
-    /// The absolute path without links. Of what is not there, that of the nearest folder above and the rest as written.
+    /// The absolute path without links. Where nothing is there: the path without links of the nearest folder above, and the
+    /// rest as written.
     pub real_path: String,
 }
 

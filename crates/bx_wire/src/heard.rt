@@ -26,7 +26,7 @@ pub enum Heard {
     Columns,
     /// The rows and columns of the window to edit in, in decimal.
     Window,
-    /// The end of several messages that belong together; also the answer of a second that has nothing to say.
+    /// The end of several messages that belong together: those at the start, or the facts about a path.
     End,
     /// An answer: the user's line, or the letters of the facts about a path.
     Answer,
@@ -44,7 +44,7 @@ pub enum Heard {
     ProgramWord,
     /// The signal that ended the host, in decimal.
     Signal,
-    /// The program's exit status, in decimal; 128 and the signal's number where a signal ended it.
+    /// The program's exit status, in decimal; 128 plus the signal's number where a signal ended it.
     Status,
 }
 
@@ -117,6 +117,7 @@ impl Heard {
 /// A message of the host.
 #[derive(Drop, Debug)]
 pub struct Message {
+    /// What it says.
     pub heard: Heard,
     /// The text, without NUL; not always UTF-8.
     pub text: Vec<u8>,

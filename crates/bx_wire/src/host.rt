@@ -1,4 +1,5 @@
-//! What the keeper may ask of its host before the screen changes.
+//! What the keeper asks of its host: facts at any time, questions and texts while the program does not run. Tests play the
+//! trait.
 
 use crate::facts::Facts;
 use crate::fault::HostFault;

@@ -1,4 +1,4 @@
-//! Notices for the editor's last row.
+//! The numbers of notices.
 
 ghost use Rattle.std.specs.Prelude.{◌≡◌};
 ghost use Rattle.bx_wire.specs.Notices.{number_of};

@@ -32,6 +32,7 @@ fn read_text<R: Read>(reader: &mut R, alloc: Global) -> Result<Vec<u8>, WireFaul
     ensures { ReadsText result (R.remaining reader.old) (R.remaining reader.new) }
 {
     let mut text = Vec::new(alloc);
+    // one byte more than a text may have: the largest text is followed by its NUL
     'bytes: for _ in 0..LARGEST_MESSAGE + 1 {
         match read_byte(reader)? {
             None => return Err(WireFault::CutOff),

@@ -18,13 +18,16 @@ use std::io::{Read, Write};
 #[derive(Drop)]
 pub struct Wire<R: Read + Drop, W: Write + Drop> {
     alloc: Global,
+    /// What the host says.
     pub reader: R,
+    /// What the host hears.
     pub writer: W,
     /// Messages that came while an answer was awaited, the last one first.
     pub late: Vec<Message>,
 }
 
 impl<R: Read + Drop, W: Write + Drop> Wire<R, W> {
+    /// A wire over these pipes.
     pub fn new(alloc: Global, reader: R, writer: W) -> Self {
         Wire {
             alloc,
@@ -62,7 +65,7 @@ impl<R: Read + Drop, W: Write + Drop> Wire<R, W> {
         write_message(&mut self.writer, self.alloc, said, text.as_bytes())
     }
 
-    /// The next message of an answer, which should be of this kind. What comes from the program and its end meanwhile waits.
+    /// The next message of an answer, which should be of this kind. What the host tells unasked meanwhile is kept in `late`.
     fn hear_only(&mut self, heard: Heard) -> Result<Message, HostFault> {
         for _ in 0..u64::MAX {
             let Some(message) = self.read()? else {
@@ -79,12 +82,12 @@ impl<R: Read + Drop, W: Write + Drop> Wire<R, W> {
         Err(HostFault::Gone)
     }
 
-    /// The next message's number.
+    /// The number in the next message of an answer, which should be of this kind.
     fn hear_number(&mut self, heard: Heard) -> Result<u64, HostFault> {
         self.hear_only(heard)?.number().ok_or(HostFault::Gone)
     }
 
-    /// Sends a text that ends in nothing else; a host that is gone gets nothing.
+    /// Sends a text whose loss is not reported: a host that is gone gets nothing.
     fn try_say(&mut self, said: Said, text: &str) {
         let _ = self.say(said, text);
     }

@@ -181,6 +181,7 @@ fn saves_into_the_file_itself_want_a_journal(rt: HostRuntime) -> Result<(), Fail
 #[test]
 fn lines(rt: HostRuntime) {
     assert_eq!(rt; refusal_of_option(rt.alloc(), "--line", "1"), None);
+    // the second is 2^64
     for line in ["0", "18446744073709551616", "x", ""] {
         assert_eq!(rt;
             refusal_of_option(rt.alloc(), "--line", line),
@@ -235,6 +236,7 @@ fn sides(rt: HostRuntime) {
         for side in ["1", "500", "024"] {
             assert_eq!(rt; refusal_of_option(rt.alloc(), option, side), None);
         }
+        // 2^16 + 1 and 2^64 + 1 would be 1 in numbers of 16 and of 64 bits
         for side in ["0", "501", "65537", "18446744073709551617", "x", ""] {
             assert_eq!(rt;
                 refusal_of_option(rt.alloc(), option, side),

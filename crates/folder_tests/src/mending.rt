@@ -5,7 +5,7 @@ use bx_sessions::{Mended, Part, Sessions, Target, mend_all};
 use std::fs;
 use std::test::Fail;
 
-/// What becomes of a file with these bytes by a mark of `hello`, and its bytes then.
+/// What becomes of a file with these bytes by a mark of `hello`, and its bytes then. `test` names its folder.
 fn mend_file(rt: &HostRuntime, test: &str, bytes: &str) -> Result<(Option<Mended>, String), Fail> {
     let top = new_folder(rt, test)?;
     let top = top.as_str();

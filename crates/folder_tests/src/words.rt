@@ -74,6 +74,7 @@ fn machines(rt: HostRuntime) -> Result<(), Fail> {
 
 #[test]
 fn keys_of_a_journal(rt: HostRuntime) {
+    // journals, and their numbers of keys; 13 is Save
     for (journal, keys) in [
         (b"".as_slice(), 0),
         (b"a\xd7\x90\n".as_slice(), 3),

@@ -4,7 +4,9 @@ use bx_launch::{Call, CallFault, Options, PrintCall, direction_word, read_words}
 use std::alloc::{AllocError, Global};
 use std::test::Fail;
 
-/// Each line: words, what they ask for, and before a refusal the exit status.
+/// Each line: the words of a command line, and after the bar what they ask for (the call, its file, direction, line or
+/// columns, and each option that is on), or of a refusal the exit status and the cause. 16777217 is the last line of the
+/// longest text.
 const ROWS: &str = "\
 note | edit note auto
 --direction rtl --line=12 --force -n --no-joining note | edit note rtl 12 forced unkept unjoined
@@ -103,7 +105,7 @@ fn text_of(alloc: Global, call: &Call) -> Result<String, AllocError> {
     Ok(text)
 }
 
-/// The exit status and the cause.
+/// The exit status and the cause of a refusal, without the usage.
 fn refusal(alloc: Global, fault: &CallFault<'_>) -> Result<String, AllocError> {
     let status = fault.status();
     let message = format!(in alloc; "{fault}")?;

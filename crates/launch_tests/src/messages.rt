@@ -58,6 +58,7 @@ fn line_ends_are_told(rt: HostRuntime) -> Result<(), Fail> {
 
 #[test]
 fn signals_are_told(rt: HostRuntime) -> Result<(), Fail> {
+    // 128 plus the signal's number; 34 is a real-time signal, which has no name
     let cases = [
         (0, ""),
         (1, ""),
@@ -85,6 +86,7 @@ fn looks_and_columns(rt: HostRuntime) {
     assert_eq!(rt; look_of(b"\x7fELF\x02"), Look::Binary);
     assert_eq!(rt; look_of(b"a\xff\0"), Look::Binary);
     assert_eq!(rt; look_of(b"a\xff"), Look::Bytes);
+    // the columns of a terminal, 0 without a terminal, and of a printed row
     for (terminal, wanted) in [(0, 80), (132, 132), (500, 500), (501, 500), (70_000, 500)] {
         assert_eq!(rt; columns_on(terminal), wanted);
     }

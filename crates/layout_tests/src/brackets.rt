@@ -18,7 +18,8 @@ const BRACKETS: &str = "\
 3009; 3008; c
 ";
 
-/// Each line: what it shows, characters in hexadecimal, all of type ON, and their pairs.
+/// Each line: what it shows, characters in hexadecimal, all of type ON, and their pairs. The stack of openers has 63 places
+/// (UAX #9, BD16).
 const PAIRS: &str = "\
 a closer of another kind stands inside\t0061 0028 0062 005D 0063 0029\t[(1, 5)]
 as many openers as are kept\t0028 0029 0028*63 0029\t[(0, 1), (64, 65)]

@@ -1,4 +1,5 @@
-//! Each public call with ample memory, on small bodies.
+//! Each public call with ample memory, on small bodies. The last argument of `face`, `units` and `ruled_unit` is the number
+//! of the window's columns.
 use bx_cells::{
     Face, SimpleCluster, Unit, face, is_printable, is_simple_within, ruled_unit, simple_cluster,
     units,

@@ -45,7 +45,8 @@ fn shown_sequences(alloc: Global, explicit: &Explicit) -> Result<String, Fail> {
 }
 
 /// Each line: what it shows, characters of the classes in hexadecimal, and the sequences in a paragraph of level 0: their
-/// indexes, level and ends.
+/// indexes, level and ends. The largest explicit level is 125 (UAX #9, BD2, max_depth), which 63 embeddings from right to
+/// left reach.
 const SEQUENCES: &str = "\
 an isolate\t0061 2067 05D1 2069 0021 0031\t[0, 1, 3, 4, 5] 0 L L;[2] 1 R R;\n\
 isolates nest\t2068 2066 0061 2069 05D1 2069 0063\t[0, 5, 6] 0 L L;[1, 3, 4] 1 R R;[2] 2 L L;\n\

@@ -16,7 +16,7 @@ const JOINING: &str = "\
 0627; ALEF; R; ALEF\n\
 0640; TATWEEL; C; No_Joining_Group\n";
 
-/// The forms of two of them.
+/// The forms of the first two letters.
 const CHARACTERS: &str = "\
 FE91;NAME;Lo;0;AL;<initial> 0628;;;;N;;;;;\n\
 FE92;NAME;Lo;0;AL;<medial> 0628;;;;N;;;;;\n\

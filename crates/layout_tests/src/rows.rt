@@ -36,6 +36,7 @@ fn add_number(text: &mut String, alloc: Global, number: usize, is_first: bool) -
 }
 
 impl Shown {
+    /// Appends the levels of a row's units.
     fn add_levels(&mut self, alloc: Global, levels: &[u8]) -> Result<(), Fail> {
         for (i, level) in levels.iter().enumerate() {
             add_number(&mut self.levels, alloc, usize::from(*level), i == 0)?;
@@ -43,6 +44,7 @@ impl Shown {
         Ok(())
     }
 
+    /// Appends the order of a row's units.
     fn add_order(&mut self, alloc: Global, order: &[usize]) -> Result<(), Fail> {
         for (i, number) in order.iter().enumerate() {
             add_number(&mut self.orders, alloc, *number, i == 0)?;
@@ -50,6 +52,7 @@ impl Shown {
         Ok(())
     }
 
+    /// Appends a row.
     fn add_row(
         &mut self,
         alloc: Global,

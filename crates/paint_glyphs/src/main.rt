@@ -42,6 +42,7 @@ fn glyph_of(word: &str) -> Result<(bool, &str)> {
     Ok((false, text))
 }
 
+/// Puts the glyph of a word at a cell.
 fn put_glyph(grid: &mut Grid, cell: Cell, word: &str) -> Result<()>
     requires inside { IsWithin grid.old.height grid.old.width cell.line cell.column }
     ensures height { OnOk result (grid.new.height ≡ grid.old.height) }
@@ -102,6 +103,7 @@ fn paintings(alloc: Global, height: u16, width: u16, words: &[String]) -> Result
     Ok(bytes)
 }
 
+/// Carries out the command line.
 fn run<R: Print + Env + AllocGlobal>(rt: &R) -> Result<()> {
     let mut words = Vec::new(rt.alloc());
     for word in env::args(rt)?.skip(1) {

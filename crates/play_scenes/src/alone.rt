@@ -14,6 +14,7 @@ use std::alloc::{AllocError, Global};
 pub struct Alone<D: BidiData + Drop> {
     pub alloc: Global,
     pub session: Session<D>,
+    /// Has the scene's failing call, if it has one.
     pub store: MemoryStore,
     /// Whether the scene has a call of the store fail.
     pub may_fail: bool,
@@ -67,6 +68,7 @@ impl<D: BidiData + Drop> Alone<D> {
                 Err(refused) => letter_of_refusal(refused),
             },
             Step::Send(count) => self.send(count, &mut answers.queued)?,
+            // a scene of this mode has no such steps
             Step::Window(_, _) | Step::Read(_) => '?',
         };
         answers.letters.push(letter)?;
@@ -83,6 +85,7 @@ impl<D: BidiData + Drop> Alone<D> {
         Ok(())
     }
 
+    /// Has the session read a byte of input. The letter of its answer.
     fn type_byte(&mut self, byte: u8) -> char {
         let failures = self.store.failures();
         let answer = self.session.feed(byte, &mut self.store);

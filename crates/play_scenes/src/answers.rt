@@ -10,9 +10,10 @@ use std::alloc::{AllocError, AllocFailed, Global};
 /// A text longer than this, in bytes, that equals the file is abbreviated.
 const LONG: usize = 4096;
 
-/// Capacity for each kind of answer, in bytes.
+/// Capacity for each kind of answer, in bytes: more than the scenes need, so that no buffer grows while a world runs.
 const CAPACITY: usize = 65_536;
 
+/// Capacity for the bytes sent, in bytes.
 const QUEUE_CAPACITY: usize = 1_048_576;
 
 /// Notes of a scene played in one mode.
@@ -30,7 +31,7 @@ pub struct Answers {
     pub text: String,
     /// The store's content, the place, and whether there are unsaved changes.
     pub ending: String,
-    /// The bytes on the line and pending, and whether the last size was told and the picture is shown.
+    /// The bytes on the line and those pending, and whether the last size was told and the picture is shown.
     pub on_way: String,
     /// All bytes sent, and at the end those pending.
     pub queued: Vec<u8>,

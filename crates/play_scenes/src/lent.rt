@@ -1,4 +1,4 @@
-//! Tables that consecutive worlds share.
+//! Tables that consecutive worlds share: a world owns its tables, so each gets these, borrowed.
 
 use bx_ucd::{BidiData, Class, Form, Joining, Side};
 

@@ -147,6 +147,7 @@ fn play_lines<R: Print + AllocGlobal>(
     Ok(agree)
 }
 
+/// Reads the tables and the scenes, and plays them. Returns whether `step` and `play` agree in all of them.
 fn run<R: Print + Input + Env + Files + AllocGlobal>(rt: &R) -> Result<bool, Fault> {
     let mut paths = Vec::new(rt.alloc());
     for path in env::args(rt)?.skip(1) {

@@ -12,7 +12,7 @@ use bx_ucd::Tables;
 use bx_world::{Step, World};
 use std::alloc::{AllocError, Global};
 
-/// Capacity of a line of answers, in bytes.
+/// Capacity of a line of answers, in bytes: for all buffers of `Answers`, written in hexadecimal.
 const CAPACITY: usize = 4_194_304;
 
 /// The outcome of a scene.
@@ -30,9 +30,11 @@ pub enum Outcome {
 #[derive(Drop)]
 pub struct Player {
     alloc: Global,
+    /// The answers of the scene's MODE; of `step` if that is `both`.
     answers: Answers,
-    // the answers of `play`, for comparison
+    // The answers of `play`, for comparison.
     play: Answers,
+    /// The line of answers.
     line: String,
 }
 
@@ -146,6 +148,7 @@ fn first_steps(steps: &[Step], count: usize) -> &[Step] {
 }
 
 impl Player {
+    /// Allocates the buffers.
     pub fn new(alloc: Global) -> Result<Player, AllocError> {
         Ok(Player {
             alloc,

@@ -52,9 +52,10 @@ struct Pen {
     negative: bool,
 }
 
-/// Puts a glyph, `_` for a blank, and moves the pen behind it.
+/// Puts a glyph, `_` for a blank, and moves the pen past it.
 fn put_glyph(grid: &mut Grid, pen: &mut Pen, glyph: &str) -> Result<(), RowFault> {
     let text = if glyph == "_" { " " } else { glyph };
+    // no row has more columns
     let columns = run_width(text).min(500) as u16;
     if pen.negative || text != " " {
         put(grid, pen.cell, text, pen.negative)?;

@@ -19,23 +19,30 @@ pub enum Mode {
     Alone,
 }
 
-/// A word that looks.
+/// A word that looks, as `main.rt` lists them.
 #[derive(Clone, Copy)]
 pub enum Look<'a> {
+    /// The cursor's place.
     Place,
     /// The mark's place.
     Mark,
     /// What was copied or cut last.
     Held,
+    /// The text that is sought.
     Query,
+    /// How far a search is.
     Seek,
     /// What the search is for.
     Aim,
     /// The text that replaces matches.
     Other,
+    /// Which question is asked.
     Ask,
+    /// The answer to it so far.
     Answer,
+    /// Whether there are changes that are not saved.
     Changed,
+    /// Whether the session has ended.
     Ended,
     /// Whether the session was told the window's last size.
     Told,
@@ -47,6 +54,7 @@ pub enum Look<'a> {
     Line,
     /// Whether the terminal shows the picture last painted.
     Shown,
+    /// The session's text.
     Text,
     /// Whether the terminal shows these rows, with the cursor at this cell.
     Rows {
@@ -59,9 +67,11 @@ pub enum Look<'a> {
 /// A step or a look.
 #[derive(Clone, Copy)]
 pub enum Act<'a> {
+    /// A step of the world, or of the session.
     Take(Step),
     /// A byte of a journal, which is replayed.
     Replay(u8),
+    /// The end of a journal.
     EndReplay,
     Look(Look<'a>),
 }
@@ -69,11 +79,17 @@ pub enum Act<'a> {
 /// A scene: the fields of a line but its name.
 #[derive(Drop)]
 pub struct Scene<'a> {
+    /// DIRECTION
     pub base: Base,
+    /// ROWS
     pub height: u16,
+    /// COLUMNS
     pub width: u16,
+    /// CALL: the number of the store's call that fails, from 1; None if none does.
     pub failing: Option<u64>,
+    /// FILE
     pub file: Vec<u8>,
+    /// STEPS
     pub acts: Vec<Act<'a>>,
     pub mode: Mode,
     /// The field TABLES; None if letters are not joined.

@@ -23,8 +23,9 @@ fn first_bytes(bytes: &[u8], count: usize) -> &[u8] {
 pub struct Stage<D: BidiData + Drop> {
     pub alloc: Global,
     pub world: World<D>,
+    /// Has the scene's failing call, if it has one.
     pub store: MemoryStore,
-    /// A copy of the terminal, to look at rows.
+    /// A copy of the terminal, to look at rows; None if the scene looks at none.
     pub terminal: Option<Terminal>,
     /// Number of steps taken.
     pub taken: usize,

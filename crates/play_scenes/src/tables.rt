@@ -1,4 +1,4 @@
-//! The tables of scenes.
+//! The tables of scenes: the program's files, with the lines that a scene adds to them.
 
 use crate::fault::Fault;
 use crate::words::WordFault;
@@ -49,6 +49,7 @@ impl TableFiles {
         Ok(files)
     }
 
+    /// Another copy of the bytes.
     fn copy(&self, alloc: Global) -> Result<TableFiles, AllocError> {
         Ok(TableFiles {
             classes: Vec::from_slice(alloc, &self.classes)?,

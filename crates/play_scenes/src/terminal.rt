@@ -12,7 +12,9 @@ use std::alloc::{AllocError, Global};
 pub struct Terminal {
     alloc: Global,
     screen: Screen,
+    /// Number of rows.
     height: u16,
+    /// Number of columns.
     width: u16,
 }
 
@@ -40,6 +42,7 @@ impl Terminal {
         }
     }
 
+    /// Changes the size, unless it is out of range.
     fn resize(&mut self, height: u16, width: u16) -> Result<(), GridError> {
         self.screen.window(height, width)?;
         (self.height, self.width) = (height, width);

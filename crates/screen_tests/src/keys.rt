@@ -135,7 +135,7 @@ fn random_inputs_have_the_model_s_keys(rt: HostRuntime) -> Result<(), Fail> {
     Ok(())
 }
 
-/// Asserts the keys of each input, in words.
+/// Asserts that each input has these keys, in words.
 fn keys_are(rt: &impl Abort, alloc: Global, rows: &[(&[u8], &str)]) -> Result<(), Fail> {
     for (input, keys) in rows {
         let (words, _) = decoding(alloc, input)?;

@@ -35,6 +35,7 @@ fn put_glyphs(grid: &mut Grid, glyphs: &str) -> Result<(), Fail> {
         if glyph != "_" {
             put(grid, Cell { line: 1, column }, text, text != glyph)?;
         }
+        // no glyph of the scenes takes more than two columns
         column = column.saturating_add(run_width(text).min(2) as u16);
     }
     Ok(())
@@ -47,7 +48,7 @@ fn row_of(alloc: Global, columns: u16, glyphs: &str) -> Result<Grid, Fail> {
     Ok(grid)
 }
 
-/// The picture of such a row, with the cursor at a column.
+/// The picture of such a row of `columns` columns, with the cursor at `column`, from 1.
 pub(crate) fn picture_of(
     alloc: Global,
     columns: u16,

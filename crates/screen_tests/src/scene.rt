@@ -1,4 +1,4 @@
-//! Two pictures, and a screen.
+//! Two pictures, and a screen, and what the lines of `steps.rt` do to them and ask of them.
 
 use crate::pictures::picture_of;
 use bx_grid::{GridError, Picture};
@@ -12,8 +12,11 @@ use std::test::Fail;
 #[derive(Drop)]
 pub(crate) struct Scene {
     alloc: Global,
+    /// The picture before the last.
     before: Picture,
+    /// The last picture.
     picture: Picture,
+    /// What reads the paintings.
     screen: Screen,
 }
 

@@ -1,4 +1,5 @@
-//! The lines of a scene. The first says what the scene shows. Each other line is a word and its arguments:
+//! Plays scenes: lines of a picture, its painting and a screen. The first line says what the scene shows. Each other line is
+//! a word and its arguments:
 //!
 //!     open COLUMNS COLUMN GLYPH|GLYPH|..    a picture of one row, with the cursor at COLUMN, and a screen of its size;
 //!                                           `-` precedes a negative glyph, and `_` is a blank

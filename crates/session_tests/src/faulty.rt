@@ -2,9 +2,10 @@
 
 use std::io::{self, ErrorKind, Read, Write};
 
-/// Gives one `x` at each of `left` reads, then fails.
+/// Gives one letter `x` at each of `left` reads, then fails.
 #[derive(Drop)]
 pub(crate) struct Letters {
+    /// Number of reads until it fails.
     pub(crate) left: usize,
 }
 
@@ -22,6 +23,7 @@ impl Read for Letters {
 /// How a write fails.
 #[derive(Clone, Copy, PartialEq, Eq, Debug)]
 pub(crate) enum Refusal {
+    /// The write fails.
     Error,
     /// The write succeeds with no byte.
     Nothing,
@@ -30,9 +32,13 @@ pub(crate) enum Refusal {
 /// Takes one byte a write, up to `room` bytes, and flushes `flushes` times; then it fails.
 #[derive(Drop)]
 pub(crate) struct Narrow {
+    /// What was taken.
     pub(crate) written: Vec<u8>,
+    /// Number of bytes that it still takes.
     pub(crate) room: usize,
+    /// Number of flushes until they fail.
     pub(crate) flushes: usize,
+    /// How a write fails.
     pub(crate) refusal: Refusal,
 }
 

@@ -35,6 +35,7 @@ fn actions_of(alloc: Global, input: &[u8]) -> Result<String, AllocError> {
     };
     let mut store = MemoryStore::new(alloc, None);
     let mut device = MemoryDevice::new(alloc, Vec::from_slice(alloc, input)?);
+    // 10 reads are more than this run makes
     let _ = run_device(10, &mut device, &mut store, &mut session);
     if let Some(actions) = device.log() {
         write_actions(actions, &mut text);

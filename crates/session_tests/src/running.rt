@@ -93,6 +93,7 @@ fn a_write_that_fails_is_a_fault(rt: HostRuntime) -> Result<(), Fail> {
             let mut writer = Narrow {
                 written: Vec::new(rt.alloc()),
                 room,
+                // more than a run makes
                 flushes: 9,
                 refusal,
             };
@@ -110,6 +111,7 @@ fn a_flush_that_fails_is_a_fault(rt: HostRuntime) -> Result<(), Fail> {
     for (flushes, count) in [(0, OPENED), (1, OPENED_AND_ENDED.len())] {
         let mut writer = Narrow {
             written: Vec::new(rt.alloc()),
+            // more than the output has bytes
             room: 99,
             flushes,
             refusal: Refusal::Error,
@@ -160,6 +162,7 @@ fn a_read_that_fails_is_a_fault(rt: HostRuntime) -> Result<(), Fail> {
             breaks_at_read(
                 rt.alloc(),
                 left,
+                // more reads than it makes
                 99,
                 RunFault::ReadFault,
                 written,
@@ -246,6 +249,7 @@ fn fails_at_call(alloc: Global, call: u64) -> Result<Option<bool>, Fail> {
 #[test]
 fn a_save_fails_at_each_call_of_the_store(rt: HostRuntime) -> Result<(), Fail> {
     let mut failed = 0;
+    // more calls than a Save makes
     for call in 1..99 {
         let Some(is_right) = fails_at_call(rt.alloc(), call)? else {
             break;

@@ -11,7 +11,9 @@ use std::test::Fail;
 /// A writer that publishes the number of bytes flushed.
 #[derive(Drop)]
 struct Flushed<'a> {
+    /// Number of bytes written so far.
     written: usize,
+    /// Number of bytes written before the last flush.
     flushed: &'a Cell<usize>,
 }
 
@@ -30,8 +32,11 @@ impl Write for Flushed<'_> {
 /// A reader that gives one byte a read, and notes at each read the number of bytes flushed so far.
 #[derive(Drop)]
 struct Watcher<'a> {
+    /// The bytes to give.
     keys: &'a [u8],
+    /// What `Flushed` publishes.
     flushed: &'a Cell<usize>,
+    /// The number of bytes flushed, at each read.
     seen: Vec<usize>,
 }
 
@@ -49,8 +54,8 @@ impl Read for Watcher<'_> {
     }
 }
 
-/// Painting `ab` whole in a row of five columns takes 22 bytes, and an `x` before it 15 more. A Quit with unsaved changes shows nothing
-/// in a window of one row, and the next one ends the run.
+/// Painting `ab` whole in a row of five columns takes 22 bytes, and an `x` before it 15 more. A Quit with unsaved changes
+/// shows nothing in a window of one row, and the next one ends the run.
 #[test]
 fn what_a_turn_queued_is_flushed_before_the_next_read(rt: HostRuntime) -> Result<(), Fail> {
     let alloc = rt.alloc();
@@ -67,6 +72,7 @@ fn what_a_turn_queued_is_flushed_before_the_next_read(rt: HostRuntime) -> Result
         flushed: &flushed,
         seen: Vec::new(alloc),
     };
+    // 9 reads are more than this run makes
     let _ = run(9, &mut reader, &mut writer, &mut store, &mut session);
     assert_eq!(rt; reader.seen.as_slice(), [22, 37, 37].as_slice());
     assert_eq!(rt;

@@ -7,11 +7,14 @@ use std::cell::Cell;
 /// The small tables without mirrors and forms, with a count of the questions for a class.
 #[derive(Drop)]
 pub struct Counting {
+    /// The tables that answer.
     tables: Tables,
+    /// Number of questions since it was last read.
     asked: Cell<u32>,
 }
 
 impl Counting {
+    /// The tables, with no question asked.
     pub fn new(alloc: Global) -> Result<Counting, UcdError> {
         Ok(Counting {
             tables: sample_tables(alloc)?,

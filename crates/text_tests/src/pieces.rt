@@ -7,6 +7,7 @@ use std::alloc::AllocError;
 use std::mem;
 use std::test::Fail;
 
+/// A piece of the added bytes.
 fn piece(start: usize, len: usize) -> Piece
     ensures start { result.start ≡ start }
     ensures len { result.len ≡ len }

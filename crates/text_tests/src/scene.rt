@@ -1,4 +1,4 @@
-//! A text with its paragraphs.
+//! A text with its paragraphs, and what the lines of `steps.rt` do to it and ask of it.
 
 ghost use Rattle.std.specs.Prelude.{◌≡◌, ℕ, List, Some, IsUtf8};
 ghost use Rattle.bx_index.specs.Paragraphs.{lengths};
@@ -17,8 +17,10 @@ use std::test::Fail;
 #[derive(Drop)]
 pub(crate) struct Scene {
     alloc: Global,
+    /// What the edits change.
     text: Text,
     index: Index,
+    /// Counts the questions for a class.
     tables: Counting,
     // the result of the last edit
     answer: Result<Option<Change>, TextError>,

@@ -1,4 +1,5 @@
-//! The lines of a scene. The first says what the scene shows. Each other line is a word and its arguments:
+//! Plays scenes of a text and its paragraphs. The first line says what the scene shows. Each other line is a word and its
+//! arguments:
 //!
 //!     open COUNT TEXT                         opens TEXT repeated COUNT times; ␍ is CR, ␊ is LF
 //!     insert OFFSET BEFORE AFTER TEXT         inserts TEXT; BEFORE and AFTER are the cursor's places

@@ -86,6 +86,7 @@ uncopied 3 1",
     )
 }
 
+/// 8,388,608 letters of two bytes are the longest text.
 #[test]
 fn a_text_as_long_as_may_be(rt: HostRuntime) -> Result<(), Fail> {
     play(

@@ -19,11 +19,14 @@ use std::{env, fs, io};
 /// The bytes of the two files by which letters are joined.
 #[derive(Drop)]
 struct JoiningBytes {
+    /// Of ArabicShaping.txt.
     joining: Vec<u8>,
+    /// Of UnicodeData.txt.
     characters: Vec<u8>,
 }
 
 impl JoiningBytes {
+    /// Borrows the bytes.
     fn lend(&self) -> JoiningFiles<'_> {
         JoiningFiles {
             joining: self.joining.as_slice(),
@@ -35,9 +38,13 @@ impl JoiningBytes {
 /// The bytes of Unicode's files.
 #[derive(Drop)]
 struct DataFiles {
+    /// Of DerivedBidiClass.txt.
     classes: Vec<u8>,
+    /// Of BidiBrackets.txt.
     brackets: Vec<u8>,
+    /// Of BidiMirroring.txt.
     mirroring: Vec<u8>,
+    /// None if letters are not joined.
     joining: Option<JoiningBytes>,
 }
 
@@ -170,6 +177,7 @@ fn asked<R: Print + Files + CpuClock + AllocGlobal>(
     }
 }
 
+/// Carries out the command line.
 fn run<R: Print + Env + Files + CpuClock + AllocGlobal>(rt: &R) -> Result<()> {
     let mut words = Vec::new(rt.alloc());
     for word in env::args(rt)?.skip(1) {

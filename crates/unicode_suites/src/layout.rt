@@ -1,4 +1,4 @@
-//! The layout that the code finds for a paragraph of one row.
+//! The layout that the code finds for a paragraph of one row, in the suites' notation.
 ghost use Rattle.std.specs.Prelude.{All, IfOk};
 ghost use Rattle.bx_cells.specs.Units.{StandsIn};
 

@@ -78,6 +78,7 @@ fn run_suites<R: Print + Files + AllocGlobal>(
     Ok(characters_agree && sequences_agree && clusters_agree)
 }
 
+/// Carries out the command line.
 fn run<R: Print + Env + Files + AllocGlobal>(rt: &R) -> Result<ExitCode> {
     let mut words = Vec::new(rt.alloc());
     for word in env::args(rt)?.skip(1) {

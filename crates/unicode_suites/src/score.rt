@@ -4,14 +4,17 @@ use anyhow::{Context, Result};
 use std::alloc::{AllocError, Global};
 use std::{fmt, io};
 
-/// Number of differing cases kept.
+/// Number of differing cases that are printed, so that a broken table does not fill the screen.
 const KEPT: usize = 5;
 
 /// The number of cases, the number that agree, and the first that differ.
 #[derive(Drop)]
 pub struct Score {
+    /// Number of cases.
     cases: u64,
+    /// Number of those that agree.
     agreeing: u64,
+    /// The first that differ, as they are printed.
     differing: Vec<String>,
 }
 

@@ -39,6 +39,7 @@ fn row_of(alloc: Global, w: u16, text: &str, query: Option<&str>) -> Result<Stri
     glyphs_of(alloc, &row)
 }
 
+/// Each case: columns of the window, text, query, and the glyphs of the row.
 #[test]
 fn rows_of_a_text_and_a_query(rt: HostRuntime) -> Result<(), Fail> {
     for (w, text, query, glyphs) in [

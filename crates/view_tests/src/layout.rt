@@ -7,7 +7,7 @@ use bx_ucd::{BidiData, sample_tables};
 use std::alloc::Global;
 use std::test::Fail;
 
-/// Stands for no place.
+/// Printed where there is no place: these texts are shorter.
 const NONE: usize = 99;
 
 /// Appends the slots of a row, each as its offset and its column.
@@ -40,7 +40,8 @@ fn add_places<D: BidiData>(
     Ok(())
 }
 
-/// Appends the places left and right of a row's first place, its column, and the place at which column 2 is entered.
+/// Appends the places left and right of a row's first place, that place's column, and the place at which column 2 is
+/// entered.
 fn add_steps<D: BidiData>(
     line: &mut String,
     alloc: Global,
@@ -55,7 +56,8 @@ fn add_steps<D: BidiData>(
     Ok(())
 }
 
-/// The slots, places and steps of each row.
+/// The rows of a layout, each with its slots; its first and last place, number of places, reading start and end; and the
+/// places left and right of its first place, the column of that, and the place at column 2.
 fn rows_in<D: BidiData>(alloc: Global, layout: &ParagraphLayout, source: &D) -> Result<String, Fail>
     requires { IsLayoutBy (D.data source.now) layout.now }
 {
@@ -74,7 +76,7 @@ fn rows_in<D: BidiData>(alloc: Global, layout: &ParagraphLayout, source: &D) -> 
     Ok(line)
 }
 
-/// The slots, places and steps of a text's rows.
+/// The rows of a text in `w` columns, in the notation of `rows_in`.
 fn account_of_rows<D: BidiData>(
     alloc: Global,
     text: &str,
@@ -118,8 +120,8 @@ fn hebrew_and_a_number(rt: HostRuntime) -> Result<(), Fail> {
     Ok(())
 }
 
-/// The layout's width, level, body length and base, and the glyphs of the row that has an offset: all of them, and those of its
-/// units alone.
+/// The layout's width, level, body length and whether its base is right to left; and the glyphs of the row that has an
+/// offset: all of them, and those of its units alone.
 fn picture_in<D: BidiData>(
     alloc: Global,
     layout: &ParagraphLayout,
@@ -161,6 +163,7 @@ fn account_of_picture<D: BidiData>(
 #[test]
 fn a_picture_of_a_row(rt: HostRuntime) -> Result<(), Fail> {
     let tables = sample_tables(rt.alloc())?;
+    // an offset past the text is in its last row
     let line = account_of_picture(rt.alloc(), &tables, 99)?;
     assert_eq!(rt; line.as_str(), "9 1 5 true:     b) \u{5d0}|b) \u{5d0}");
     Ok(())

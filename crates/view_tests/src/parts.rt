@@ -5,8 +5,8 @@ use bx_terms::Base;
 use std::alloc::Global;
 use std::test::Fail;
 
-/// The slots of a place's row in a part of a text in sixteen columns, from left to right: the offset in the paragraph, the leftmost
-/// column and the number of columns of each.
+/// The slots of a place's row in a part of a text (from an offset up to another) in sixteen columns, from left to right: the
+/// offset in the paragraph, the leftmost column and the number of columns of each.
 fn slots_of(alloc: Global, text: &str, place: usize, part: (usize, usize)) -> Result<String, Fail> {
     let text = String::from_str(alloc, text)?;
     let whole = Whole::of(alloc, text, 16, Base::Auto)?;

@@ -68,7 +68,8 @@ fn has_rows_of_line(alloc: Global, line: &str) -> Result<bool, Fail> {
     has_rows(&mut scene, rows)
 }
 
-/// Whether a row starts at the least place of its slots, is the row of each of them, and has them in these columns.
+/// Whether the row of this number, from 0, starts at the least place of its slots, is the row of each of them, and has them
+/// in these columns.
 fn is_row(whole: &Whole, number: usize, slots: &str) -> Result<bool, Fail> {
     let mut places = Vec::new(whole.allocator());
     for word in slots.split(' ') {

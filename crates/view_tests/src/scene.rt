@@ -1,4 +1,4 @@
-//! A text in a window, and the moves of its cursor.
+//! A text in a window, and the moves of its cursor, for the other modules.
 ghost use Rattle.std.specs.Prelude.{◌≡◌, IfOk};
 
 use bx_document::Document;
@@ -34,10 +34,12 @@ pub(crate) struct Scene<'a> {
 }
 
 impl<'a> Scene<'a> {
+    /// A text in `w` columns, with the sample tables.
     pub(crate) fn of(alloc: Global, text: &'a str, w: u16, base: Base) -> Result<Scene<'a>, Fail> {
         Scene::with_tables(alloc, text, sample_tables(alloc)?, w, base)
     }
 
+    /// A text in `w` columns, with these tables.
     pub(crate) fn with_tables(
         alloc: Global,
         text: &'a str,
@@ -51,6 +53,7 @@ impl<'a> Scene<'a> {
 }
 
 impl Scene<'_> {
+    /// The place to which a move leads from a place.
     pub(crate) fn moved(&mut self, way: Move, place: usize) -> Result<usize, Fail> {
         if !self.text.is_char_boundary(place) {
             return Err(Fail::new("within a character"));

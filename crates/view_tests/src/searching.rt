@@ -20,12 +20,13 @@ fn with_place(document: &mut Document<Tables>, offset: Option<usize>) -> Result<
     }
 }
 
-/// The first offset of a query, closely read, from a place on, and the last one before it.
+/// The first offset of a query, closely read, from a place on, and the last one before it; none for a query without letters.
 fn nearest(
     document: &mut Document<Tables>,
     query: &str,
     place: usize,
 ) -> Result<(Found, Found), Fail> {
+    // the most characters of a query
     if char_count(query) > 64 {
         return Err(Fail::new("a long query"));
     }

@@ -59,7 +59,7 @@ impl Live {
         }
     }
 
-    /// Reads the first sequence, text or byte, and returns its length in bytes.
+    /// Reads the first sequence or text, or else one byte, and returns its length in bytes.
     fn read_front(&mut self, bytes: &[u8]) -> Result<usize, AllocError>
         requires { 0 < length bytes.now }
         ensures read { IfOk result (λ count. reads self.new (drop count bytes.now) ≡ reads self.old bytes.now) }
@@ -88,6 +88,7 @@ impl Live {
         Ok(1)
     }
 
+    /// Reads all bytes, in order.
     pub fn read(&mut self, bytes: &[u8]) -> Result<(), AllocError>
         ensures { OnOk result (self.new ≡ reads self.old bytes.now) }
     {

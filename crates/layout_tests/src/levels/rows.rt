@@ -1,7 +1,9 @@
 //! Worked examples of the rules.
 
-/// Each line: what it shows, the characters in hexadecimal, the base, the paragraph level, and each character's level. A count
-/// after `*` repeats the word before it; after `..` only the last levels are given.
+/// Each line: what it shows, the characters in hexadecimal, the base, the paragraph level, and each character's level. A
+/// count after `*` repeats the word before it; after `..` only the last levels are given. 63 embeddings from right to left
+/// reach level 125, the largest explicit one (UAX #9, BD2), in which I2 raises a Latin letter to 126; the stack of openers
+/// has 63 places (BD16).
 pub const ROWS: &str = "\
 right to left in left to right\t0061 0020 05D0 05D1 0020 0062\tauto\t0\t0 0 1 1 0 0\n\
 the same from right to left\t0061 0020 05D0 05D1 0020 0062\trtl\t1\t2 1 1 1 1 2\n\

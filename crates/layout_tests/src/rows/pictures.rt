@@ -161,7 +161,7 @@ fn in_brackets(alloc: Global, times: usize, closer: &str) -> Result<String, Allo
     Ok(text)
 }
 
-/// The picture in 140 columns of nested pairs of brackets.
+/// The picture of nested pairs of brackets in 140 columns, enough for the three letters and 64 pairs.
 fn shown_in_brackets(alloc: Global, tables: &Tables, times: usize) -> Result<String, Fail> {
     let body = in_brackets(alloc, times, ")")?;
     pictures(alloc, tables, body.as_str(), Base::Auto, 140, true)
@@ -170,6 +170,7 @@ fn shown_in_brackets(alloc: Global, tables: &Tables, times: usize) -> Result<Str
 /// Whether nested pairs of brackets, with the letters and the blanks, have this picture in 140 columns.
 fn brackets_show(alloc: Global, tables: &Tables, times: usize, closer: &str) -> Result<bool, Fail> {
     let mut wanted = in_brackets(alloc, times, closer)?;
+    // 140 columns without the three letters
     let blanks = 137usize.saturating_sub(times.saturating_mul(2));
     push_times(&mut wanted, "_", blanks)?;
     Ok(shown_in_brackets(alloc, tables, times)?.as_str() == wanted.as_str())
@@ -192,7 +193,7 @@ fn embeddings(alloc: Global, times: usize) -> Result<String, AllocError> {
     Ok(text)
 }
 
-/// The picture in 70 columns of `times` embeddings, each shown as a glyph, and a letter.
+/// The picture of `times` embeddings, each shown as a glyph, and a letter in 70 columns, enough for 63 of them.
 fn marks(alloc: Global, times: usize) -> Result<String, AllocError> {
     let mut text = String::new(alloc);
     push_times(&mut text, "E*", times)?;

@@ -1,4 +1,5 @@
-//! Every byte, alone and after each of nine beginnings.
+//! Every byte, alone and after each of nine beginnings, by tables that say the grammar of input (ECMA-35, ECMA-48, UTF-8)
+//! once more.
 
 use bx_keys::{Decoder, Key};
 use std::test::Fail;
@@ -6,12 +7,15 @@ use std::test::Fail;
 /// The effect of a byte, by the grammar of input bytes.
 #[derive(Clone, Copy)]
 enum Effect {
+    /// It begins an item, or goes on with one.
     Waits,
+    /// It ends an item, which has this key.
     Ends(Option<Key>),
     /// It drops the bytes before it, and is read as if alone.
     ReadAfresh,
 }
 
+/// The beginnings of items that come before the byte.
 #[derive(Clone, Copy, Debug)]
 enum Beginning {
     Escape,
@@ -37,6 +41,7 @@ const BEGINNINGS: [Beginning; 9] = [
     Beginning::ThreeOfFourBytes,
 ];
 
+/// The bytes of a beginning.
 fn bytes_of(beginning: Beginning) -> &'static [u8] {
     match beginning {
         Beginning::Escape => b"\x1B",
@@ -51,6 +56,7 @@ fn bytes_of(beginning: Beginning) -> &'static [u8] {
     }
 }
 
+/// The effect of a byte where none waits. One that begins no item is dropped, which counts as an item without a key.
 fn effect_alone(byte: u8) -> Effect {
     match byte {
         0x02 => Effect::Ends(Some(Key::Back)),
@@ -74,6 +80,7 @@ fn effect_alone(byte: u8) -> Effect {
     }
 }
 
+/// The effect of a byte after ESC.
 fn effect_after_escape(byte: u8) -> Effect {
     match byte {
         0x20..=0x2F => Effect::Waits,
@@ -86,6 +93,7 @@ fn effect_after_escape(byte: u8) -> Effect {
     }
 }
 
+/// The effect of a byte after CSI.
 fn effect_after_csi(byte: u8) -> Effect {
     match byte {
         0x20..=0x3F => Effect::Waits,
@@ -100,6 +108,7 @@ fn effect_after_csi(byte: u8) -> Effect {
     }
 }
 
+/// The effect of a byte after a beginning.
 fn effect_after(beginning: Beginning, byte: u8) -> Effect {
     match beginning {
         Beginning::Escape => effect_after_escape(byte),
@@ -139,6 +148,7 @@ fn effect_after(beginning: Beginning, byte: u8) -> Effect {
     }
 }
 
+/// The effect of a byte that ends the character of this code.
 fn inserts(code: u32) -> Effect {
     Effect::Ends(char::from_u32(code).map(Key::Insert))
 }
