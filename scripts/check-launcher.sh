@@ -25,9 +25,10 @@ folder=$(mktemp -d)
 export XDG_STATE_HOME="$folder/state"
 socket="bx$$"
 passed=0 failed=0 skipped=0
-# Settings of a check for its own sessions: the tables, lines before and after the host, redirections, a paste that goes on.
+# Settings of a check for its own sessions; see scripts/launcher/person.sh, and for `lines_told` refusals.sh.
 # shellcheck disable=SC2034
 tables='' setup='' cleanup='' redirection='' is_flooded='' lines_told=1
+# The words of the process that reads keys, the filter; see ends.sh.
 # shellcheck disable=SC2034
 key_reader='.*bidi_input'
 trap 'tmux -L "$socket" kill-server 2>/dev/null; rm -rf "$folder"' EXIT
@@ -49,6 +50,7 @@ for part in person recorder joining refusals printing ends modes editor input ke
     . "$top/scripts/launcher/$part.sh"
 done
 
+# -f: without the user's settings; the session keeps the tmux server alive between two checks
 terminal -f /dev/null new-session -d -s keep -x 80 -y 24 'sleep 3600'
 check_recorder
 check_joining
