@@ -22,6 +22,7 @@ command -v tmux >/dev/null || {
     exit 77
 }
 
+# Reports whether a line is as a pattern of grep says.
 like() { # NAME FOUND PATTERN
     printf '%s\n' "$2" | grep -q -x -e "$3"
     report "$1" $? "'$2', and not like '$3'"
@@ -29,6 +30,7 @@ like() { # NAME FOUND PATTERN
 
 # ---- a small repository: a and b have no dependencies, c uses a, and the program d uses b and c
 
+# The crate `other` is not below d, and `thiserror` is no crate of the repository. `told` is the folder TOLD of the command below.
 make_tree() {
     rm -rf "$folder/tree" "$folder/told"
     mkdir -p "$folder/told"
@@ -40,8 +42,9 @@ make_tree() {
 }
 
 # Writes the command in place of rt. A crate has ten functions, proved in a tenth of a second each and stored one by one. It
-# logs when it starts and ends, and the number of proofs; its child lives as long as it does, as the toolchain's do. The crate
-# named in the file `bad` fails.
+# logs when it starts and ends, and the number of proofs; its child lives as long as it does, as the toolchain's do. In the folder
+# TOLD are `log`, and as others wish `slow`, with which a proof takes a second more, and `bad`, the name of a crate that fails. The
+# status 2 is that of a program which rt runs, and must not matter.
 make_rt() {
     mkdir -p "$folder/bin"
     cat >"$folder/bin/rt" <<'END'
@@ -85,8 +88,8 @@ run() {
     status=$?
 }
 
-# Runs it in a terminal of 100 columns.
-start() {
+# Runs it in a terminal, wide enough for a whole line of progress.
+start() { # PROGRAM
     rm -f "$folder/status"
     cat >"$folder/run" <<END
 trap : INT
@@ -97,6 +100,7 @@ END
     tmux -u -L "$socket" -f /dev/null new-session -d -s person -x 100 -y 12 "sh '$folder/run'"
 }
 
+# Prints the rows of the terminal that are not empty.
 screen() {
     tmux -L "$socket" capture-pane -p -t person | grep .
 }
@@ -114,6 +118,7 @@ at() { # LINE
     grep -n -x -e "$1" "$folder/told/log" | head -n 1 | cut -d : -f 1
 }
 
+# Reports whether a line of the log is before another.
 before() { # NAME LINE LINE
     [ "$(at "$2")" -lt "$(at "$3")" ] 2>/dev/null
     report "$1" $? "$(paste -s -d '|' "$folder/told/log")"
@@ -139,6 +144,7 @@ check_order() {
     same 'order, status' "$status" 0
     before 'order, a crate waits for what it stands on' 'end a' 'begin c lib 0'
     before 'order, the program waits for all' 'end c' 'begin d run 0'
+    # as many crates at once as `find_lanes` of prove.sh allows: 4 GB of memory for each
     if [ "$(nproc)" -gt 1 ] && [ "$(awk '/^MemAvailable:/ { print int($2 / 4000000) }' /proc/meminfo)" -gt 1 ]; then
         before 'order, two at once' 'begin b lib 0' 'end a'
     else
@@ -270,7 +276,7 @@ check_script() {
     make_rt
 }
 
-# Runs the script of the checkout without a terminal, with standard output and errors in `said`.
+# Runs the script bidi-edit of the checkout without a terminal, with standard output and errors in `said`.
 run_script() { # WORD..
     PATH=$folder/bin:$PATH TOLD=$folder/told "$shell" "$folder/tree/bidi-edit" "$@" >"$folder/said" 2>&1 </dev/null
     status=$?
@@ -316,6 +322,7 @@ check_needed() {
     same 'needed, no host to be had' "$status $(cat "$folder/said")" '1 bidi-edit: there is no C compiler cc'
 }
 
+# Runs it in a terminal, as `start` does prove.sh.
 start_script() { # WORD
     rm -f "$folder/status"
     cat >"$folder/run" <<END

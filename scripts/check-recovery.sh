@@ -12,6 +12,7 @@ set -u
 sessions=${1:-200}
 seed=${2:-1}
 top=$(CDPATH='' cd -- "$(dirname "$0")/.." && pwd)
+# for `wait_for`; here all waits are of fifteen seconds at most, since four sessions run at once
 # shellcheck source=scripts/report.sh
 . "$top/scripts/report.sh"
 editor=$top/crates/bidi_edit/out/bidi_edit
@@ -37,6 +38,7 @@ clean_up() {
 trap clean_up EXIT
 trap 'exit 1' HUP INT TERM
 
+# Results go to a file, since sessions run in processes of their own.
 passes() { # NAME
     echo "ok $1" >>"$folder/results"
 }
@@ -58,7 +60,8 @@ terminal() {
     tmux -u -L "$socket" -f /dev/null "$@"
 }
 
-# tmux would take a number as the index of a window
+# Opens the editor in a window of 24 rows, in a session of tmux of this NAME, which is no number: tmux would take that as the index of
+# a window.
 open_editor() { # NAME STATE FILE
     # letters apart, since the last row is compared with the letters of the query
     terminal new-session -d -s "$1" -x 80 -y 24 -e "XDG_STATE_HOME=$2" "exec '$top/bidi-edit' --no-joining '$3'"
@@ -70,6 +73,7 @@ type_keys() { # NAME FILE
     terminal paste-buffer -r -d -b "$1" -t "$1"
 }
 
+# Whether this is the last row.
 has_row() { # NAME ROW
     [ "$(terminal capture-pane -p -t "$1" 2>/dev/null | sed -n '24s/ *$//p')" = "$2" ]
 }
@@ -81,11 +85,12 @@ has_ended() { # PROCESS..
     done
 }
 
+# Prints the process of the host's child bidi_edit.
 program_of() { # HOST
     ps -o pid=,comm= --ppid "$1" | sed -n 's/^ *\([0-9]*\) bidi_edit$/\1/p'
 }
 
-# Sends the signal and waits for both processes to end.
+# Sends the signal and waits for both processes to end. HOW is a file with the signal, its target and the seconds before it.
 end_session() { # HOW HOST PROGRAM
     read -r signal target delay <"$1"
     sleep "$delay"
@@ -116,6 +121,8 @@ run_session() { # NUMBER
     recover_session "$1"
 }
 
+# Recovers the text into another file, and judges it. Without a journal all was saved, and FILE has it. A session without keys2 may
+# go on.
 recover_session() { # NUMBER
     cp "$work"/state/bidi_edit/*/journal "$work/journal" 2>/dev/null
     [ -s "$work/journal" ] || rm -f "$work/journal"
@@ -181,6 +188,7 @@ asks() { # NAME
     terminal capture-pane -p -t "$1" | grep -qF '[d]elete for good'
 }
 
+# Runs each STEP-th session from FIRST on.
 run_share() { # FIRST STEP
     number=$1
     while [ "$number" -lt "$sessions" ]; do
@@ -203,7 +211,7 @@ check_sessions() {
 
 # ---- messages and questions
 
-# Types a line into a shell whose state folder is its own.
+# Types a line into the shell of `open_shell`, whose state folder is its own.
 say() { # WORD..
     terminal send-keys -t shell -l "$*"
     terminal send-keys -t shell Enter
@@ -267,12 +275,14 @@ program_under() { # SHELL
     for host in $(ps -o pid= --ppid "$1"); do program_of "$host"; done
 }
 
+# A scene is a chain of steps, of which the first that fails tells it; `scene` is its name.
 scene_recover_asks() {
     break_off '* 1:2' "$kept" x && say bidi-edit text && expect "$scene" 'an unfinished session of' && expect "$scene" 'keys typed: 1' && say what &&
         wait_for 150 is_asked_again && terminal send-keys -t shell C-d && say 'echo status $?' && expect "$scene" 'status 2' && say clear && say bidi-edit text && expect "$scene" '[d]elete for good' && say delete &&
         wait_for 150 has_row shell '- 1:1' && end_by_keys C-q && say 'ls state/bidi_edit | wc -l' && expect "$scene" 0
 }
 
+# Whether the question is on the screen twice.
 is_asked_again() {
     [ "$(terminal capture-pane -p -J -t shell | grep -oF '[l]ater?' | wc -l)" = 2 ]
 }
@@ -322,6 +332,7 @@ scene_two_editors() {
 }
 
 check_scenes() {
+    # what a host says whose program was killed
     kept='what was typed is kept'
     for scene in recover_asks all_is_saved all_was_saved changed_by_another dropped two_editors; do
         if "scene_$scene"; then passes "$scene"; else fails "$scene" "at last: $(terminal capture-pane -p -J -t shell | tr '\n' '|' | sed 's/|*$//')"; fi
@@ -341,6 +352,7 @@ many_keys() { # COUNT
 # On a full disk the journal is given up, and the save succeeds.
 check_full_disk() {
     mkdir "$folder/small"
+    # the keys' journal has more than 100,000 bytes
     if ! mount -t tmpfs -o size=64k none "$folder/small" 2>/dev/null; then
         echo 'full disk: not checked, since no small one could be mounted'
         return
@@ -382,4 +394,5 @@ check_sessions
 passed=$(grep -c '^ok' "$folder/results")
 failed=$(grep -c '^FAILS' "$folder/results")
 echo "$passed passed, $failed failed"
+# each session, and more, must have been checked
 [ "$failed" = 0 ] && [ "$passed" -gt "$sessions" ]

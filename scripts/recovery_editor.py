@@ -33,6 +33,7 @@ class Editor(Search):
     def __init__(self, text):
         super().__init__()
         self.text, self.place, self.changed = text, 0, False
+        # edits to undo and to redo, the latest last, each as text and place before it, and text and place after it
         self.past, self.future = [], []
         # the lengths of the past at which runs begin, and at which the text is the stored one
         self.runs, self.stored = set(), 0
@@ -42,11 +43,13 @@ class Editor(Search):
         self.mark, self.soft, self.held = None, "no", ""
         # a question is None, or for a line, a name or a code; what Tell told stands until the next key
         self.ask, self.answer, self.told = None, "", ""
-        # the direction of all paragraphs: auto, ltr and rtl, one after another
+        # the direction of all paragraphs: 0 is auto, 1 ltr, 2 rtl
         self.direction = 0
+        # the bytes so far, and for each number of them that ends a key the text then
         self.keys, self.ends = b"", {0: text}
 
     def edit(self, text, place, goes_on=False):
+        """An edit that makes this text and place; `goes_on` where it is of the run before it."""
         length = len(self.past)
         self.runs = {run for run in self.runs if run < length} | (set() if goes_on else {length})
         if self.stored is not None and length < self.stored:
@@ -69,6 +72,7 @@ class Editor(Search):
         self.edit(self.text[:self.place] + new + self.text[self.place:], self.place + len(new), goes_on)
 
     def insert(self, letter, byte=None):
+        """A letter that is typed, by `byte` where its own bytes are not those that the editor gets."""
         was, self.typing = self.typing, "no"
         is_paste = was in ("paste", "pasting")
         if self.ask:
@@ -85,6 +89,7 @@ class Editor(Search):
         self.typed(byte or letter.encode())
 
     def age(self):
+        """What each key does at its end: a selection goes on only where Select comes before the next move."""
         if self.soft == "fresh":
             self.soft = "old"
 
@@ -199,7 +204,7 @@ class Editor(Search):
             self.typing = typing
 
     def step_run(self, from_steps, to_steps, side):
-        """Takes edits back, or makes them again, up to where a run begins."""
+        """Takes edits back, or makes them again, up to where a run begins. `side` is 0 for the text before an edit, 2 for that after it."""
         while from_steps:
             step = from_steps.pop()
             to_steps.append(step)
@@ -262,6 +267,7 @@ class Editor(Search):
             self.put_in(self.held)
 
     def key(self, name):
+        """A key of BYTES. `was` is how the key before it could go on."""
         if name in ("paste start", "paste end"):
             self.typing = "paste" if name == "paste start" else "no"
         else:
@@ -286,6 +292,7 @@ class Editor(Search):
         self.typed(b"\x11")
 
     def row(self):
+        """The last row: * or - (changed or not), line and letter of the place from 1, and what is asked or told."""
         lines = self.text[:self.place].split("\n")
         row = "%s %d:%d" % ("*" if self.changed else "-", len(lines), len(lines[-1]) + 1)
         if self.search:

@@ -12,7 +12,8 @@ class Search:
     def __init__(self):
         # a search is None, begun or typed, or asks for the other text with begun or with typed, or is at a match, replacing
         self.search, self.query, self.origin = None, "", 0
-        # what a search is for, find or replace; the text that takes a match's place, the match, and the number of those replaced
+        # what a search is for, find or replace; the text that takes a match's place, the place of the match that is shown, and the
+        # number of those replaced
         self.aim, self.other, self.at, self.count = "find", "", 0, 0
 
     def begin_search(self, aim):
@@ -45,6 +46,7 @@ class Search:
         elif is_query:
             self.look_for(self.kept(self.query) + letter)
         else:
+            # as long as the editor's, as is the query in `look_for`
             self.search, self.other = "with typed", (self.kept(self.other) + letter)[:64]
 
     def answer_by_enter(self):
@@ -56,7 +58,7 @@ class Search:
             self.show_match()
 
     def kept(self, text):
-        """What a letter is added to: where a search is begun or another text just asked for, the latest one gives way."""
+        """What a letter is added to: where a search is begun or the other text just asked for, the query or text of before gives way."""
         return "" if self.search in ("begun", "with begun") else text
 
     def look_for(self, query):
@@ -167,7 +169,7 @@ class Search:
                 break
 
     def exchange(self, stop, new, count):
-        """Puts a text in the place of matches from the one that is shown on: as at most two edits, which are of one run."""
+        """Puts a text in the place of `count` matches, from the one that is shown up to `stop`: as at most two edits of one run."""
         at = self.at
         self.remove(at, stop)
         if new:

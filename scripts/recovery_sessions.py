@@ -177,12 +177,15 @@ class Session(Editor):
 
 def files_of(number):
     """The files of a session."""
+    # two LF, so that lines end more often than any letter occurs
     session = Session("".join(random.choice(LETTERS + "\n\n") for _ in range(random.randint(0, 120))))
     files = {"file": session.text}
     for _ in range(random.randint(1, 60)):
         session.press()
+    # each end with each way
     end = ENDS[number // len(WAYS) % len(ENDS)]
     session.end_by(end)
+    # keys1 are up to here
     cut = len(session.keys)
     files["torn"] = random.choice(TORN)
     recovered = session.recovered()

@@ -39,10 +39,12 @@ hide_kept() { # WORD..
 
 # ---- a start
 
+# Runs a command of tmux.
 in_terminal() { # WORD..
     tmux -u -L "$socket" -f /dev/null "$@"
 }
 
+# Whether the editor has the screen.
 has_screen() {
     [ "$(in_terminal display-message -p -t person '#{alternate_on}')" = 1 ]
 }
@@ -57,6 +59,7 @@ make_clone() { # COMMIT NAME
     git -C "$clone" checkout -q "$1"
 }
 
+# Starts the building, alone or with the editor after it, and notes the time in `begun`.
 begin() {
     begun=$(date +%s)
     : >"$folder/copies"
@@ -69,11 +72,13 @@ begin() {
     fi
 }
 
+# Whether the building or the start is at its end; proving.log is there only after a failure.
 is_over() {
     if [ -n "$crates" ]; then [ ! -d "/proc/$child" ]; else has_screen || [ -e "$clone/out/proving.log" ]; fi
 }
 
-# Notes the copies that the prover made of itself and that are at work: the crate, the process, its start and the time.
+# Notes the copies that the prover (antt-kernel) made of itself and that are at work: the crate, the process, its start in ticks since
+# the machine's (field 22 of proc's `stat`) and the time now.
 note_copies() {
     for process in $(pgrep -x antt-kernel); do
         place=$(readlink "/proc/$process/cwd") || continue
@@ -85,6 +90,7 @@ note_copies() {
 # Stops the building as Ctrl-C does, and lets it store its work.
 stop() {
     if [ -n "$crates" ]; then kill "$child" 2>/dev/null || :; else in_terminal send-keys -t person C-c; fi
+    # ten seconds, until its folder is gone
     for _ in 1 2 3 4 5 6 7 8 9 10; do
         sleep 1
         [ -e "$clone/out/proving" ] || break
