@@ -24,8 +24,8 @@ run() {
     status=$?
 }
 
-# NAME STATUS LINE: checks the last run's status and the start of its standard error.
-ended() {
+# Checks the last run's `status` and the start of its standard error; LINE is empty where nothing may be told.
+ended() { # NAME STATUS LINE
     line=$(head -n 1 told)
     case $line in
     "$3"*) is_told=1 ;;
@@ -59,6 +59,7 @@ ended input_ends_changed 1 'bidi_edit: input ended before saving'
 printf 'a\377' >bad
 run bad
 ended not_utf8 1 'bidi_edit: not UTF-8 at byte 1'
+# a byte more than a text may have
 head -c 16777217 /dev/zero >long
 run long
 ended too_long 1 'bidi_edit: file too long'

@@ -57,6 +57,7 @@ known_clusters() { # VERSION
     esac
 }
 
+# a case of BidiTest counts once for each of the directions in its bitset: 1 auto, 2 left to right, 4 right to left
 characters=$(grep -c '^[0-9A-F]' BidiCharacterTest.txt)
 sequences=$(awk -F';' '/^[A-Z]/ { n += $2 % 2 + int($2 / 2) % 2 + int($2 / 4) % 2 } END { print n }' BidiTest.txt)
 clusters=$(grep -c '^÷' GraphemeBreakTest.txt)

@@ -94,7 +94,7 @@ def check(count):
         keys += change + REPAINT + DIRECTIONS + REPAINT
     with open("text", "wb") as file:
         file.write(text.encode())
-    # Save, Quit, and Quit once more, as the first ends a search where one is open
+    # Save, Quit, and Quit once more, in case the first only ends a search or a question
     run = subprocess.run([editor, f"--rows={rows}", f"--cols={columns}", *TABLES, "text"], input=keys + b"\x13\x11\x11", capture_output=True)
     if run.returncode != 0:
         return f"status {run.returncode}: {run.stderr[:200]!r}"

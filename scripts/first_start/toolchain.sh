@@ -24,6 +24,7 @@ make_real_tree() {
     printf '%s: %s %s\n%s: %s\n%s:\n%s:\n' "$d" "$b" "$c" "$c" "$a" "$b" "$a" >"$folder/tree/crates.txt"
 }
 
+# Prints the number of processes of the toolchain that are at these crates.
 rattle_runs() {
     pgrep -f "rattle.* --crate-name ($a|$b|$c|$d) " | wc -l
 }

@@ -99,7 +99,7 @@ has_ended() {
 #   ended    there once the editor has ended and `status` and `after` are written
 #   line     the line that the shell reads afterwards: `finish` types it
 #   record words   what recorder.sh records
-#   state    XDG_STATE_HOME in check-launcher.sh: what the last session kept is removed too
+#   state    XDG_STATE_HOME of the callers: what the last session kept is removed too
 start() { # ROWS COLS EDITOR WORD..
     rows=$1 cols=$2
     shift 2

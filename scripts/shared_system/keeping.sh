@@ -2,6 +2,7 @@
 # shellcheck disable=SC2034,SC2154 # variables shared with other parts
 # The files kept of sessions, their places, and the list of sessions.
 
+# --recover alone lists sessions: with time, FILE, number of keys and size, and whether one is open or was dropped.
 check_list() {
     leave_session note
     as_user "$host" --recover >"$folder/output" 2>&1 </dev/null
@@ -20,6 +21,7 @@ check_list() {
     rm -rf "$folder/state" note
 }
 
+# With -n nothing is kept.
 check_no_session() {
     rm -rf "$folder/state"
     open_editor first '' -n note
@@ -63,7 +65,7 @@ check_memory() {
     rmdir "$folder/memory"
 }
 
-# A FILE in a folder for temporary files, with a permanent state folder.
+# A FILE in a folder for temporary files, with a permanent state folder: its session is in a folder for temporary files too.
 check_passing_file() {
     if [ "$(id -u)" != 0 ] || ! lasting=$(mktemp -d /var/lib/bidi-edit-check.XXXXXX 2>/dev/null); then
         skip 'keeping, of a temporary FILE' 'no folder that lasts can be made'
@@ -105,6 +107,7 @@ check_syncs() {
     wait_for 20 grep -q '/journal>' "$folder/synced"
     report 'keeping, on the disk when typing pauses' $? 'the journal is not put there'
     : >"$folder/synced"
+    # longer than the pause after which the journal is put there
     sleep 2
     same 'keeping, nothing is put there twice' "$(cat "$folder/synced")" ''
     close_editors first
