@@ -16,9 +16,10 @@
 #include "signals.h"
 #include "writing.h"
 
-/* How long tmux may take to answer, and the terminal to take what it is sent. */
+/* How many milliseconds tmux may take to answer, and the terminal to take what it is sent; the most rows that are told. */
 enum { PATIENCE = 2000, TELLING = 500, MOST_ROWS = 500 };
 
+/* The device of the terminal around tmux; empty without one. */
 static struct path outer;
 
 static _Noreturn void become_tmux(int out) {
@@ -59,6 +60,7 @@ static void ask_tmux(char *answer, size_t room) {
     kill_child(&child);
 }
 
+/* Whether this is a device that the user may write. */
 static bool can_be_told(const char *path) {
     struct stat look;
     return stat(path, &look) == 0 && S_ISCHR(look.st_mode) && faccessat(AT_FDCWD, path, W_OK, AT_EACCESS) == 0;

@@ -1,4 +1,7 @@
-"""Single cases of the host. Each function takes the installation and gives pairs of a name and what is wrong, empty if nothing."""
+"""Single cases of the host. Each function takes the installation and gives pairs of a name and what is wrong, empty if nothing.
+
+The words behind `edit` and the like are for fake_keeper.py, names of files for fake_editor.c. Statuses are as waitpid gives them: a
+signal's number, or an exit status in the second byte."""
 import os, signal, subprocess, termios, time
 from ends import TAIL, restored
 from terminals import Run
@@ -15,11 +18,12 @@ def holds(name, is_so, detail=''):
 
 
 def start(tree, *words, **variables):
+    """A run of the host with these words."""
     return Run(tree.words(*words), HOME=f'{tree.top}/home', **variables)
 
 
 def finish(run, name, status, seconds=6):
-    """Waits for the end, and gives what holds after each."""
+    """Waits some seconds for the end, and gives what holds after each."""
     run.pump(seconds)
     run.drain()
     yield same(f'{name}: status', run.status, status)
@@ -54,6 +58,7 @@ def edits(tree):
 
 
 def sizes(tree):
+    """The size at the start: the terminal's, or 24 by 80 where it has none, at most 500 each; the keeper's; one behind a replay."""
     for rows, columns, shown in ((0, 0, b'24 x 80'), (600, 700, b'500 x 500'), (1, 1, b'1 x 1')):
         run = Run(tree.words('edit', 'plain', tree.file('sizes')), rows, columns, HOME=f'{tree.top}/home')
         yield holds(f'sizes: {rows} {columns}', run.pump(5, b'- ' + shown), run.output)
@@ -94,6 +99,8 @@ def notices(tree):
     """A notice goes between keys: the first before all keys, a later one not into a paste nor a key, unless that stays unfinished.
     An Escape that nothing follows becomes a sequence."""
     first, later = b'\x1b[>9~', b'\x1b[>1~'
+    # what is typed, with rests in seconds between. The later notice comes at the first second, so 0.8 and 0.4 seconds are before and
+    # behind it; a key that is not whole for a second is given up.
     cases = (('at once', [b'ab'], b'ab' + later),
              ('a paste', [b'\x1b[200~ab', 2.2, b'cd\x1b[201~e'], b'\x1b[200~abcd\x1b[201~' + later + b'e'),
              ('the end of a paste', [b'\x1b[200~ab\x1b[201', 2.2, b'~'], b'\x1b[200~ab\x1b[201~' + later),
@@ -143,6 +150,7 @@ def erases(tree):
 
 
 def standard_files(tree):
+    """Closed and redirected standard files: the host takes its controlling terminal."""
     plain = f"'{tree.host}' edit plain '{tree.file('files')}'"
     for how in ('<&- >&- 2>&-', '</dev/null >/dev/null', '2>&-', '<&-', '| cat', '>/dev/full 2>/dev/full'):
         run = Run(['sh', '-c', f'{plain} {how}'], HOME=f'{tree.top}/home')
@@ -178,6 +186,7 @@ def questions(tree):
 
 
 def refusals(tree):
+    """Refused by the keeper before the program, and by the program before the screen."""
     run = start(tree, 'refuse')
     run.pump(5)
     yield same('refusals: text', run.output, b'bidi-edit: it is refused\r\n')
@@ -191,6 +200,7 @@ def refusals(tree):
 
 
 def statuses(tree):
+    """The statuses that the keeper gives, from 0 to 255, and what is none."""
     for status in (0, 1, 7, 255):
         yield from finish(start(tree, 'status', str(status)), f'statuses: {status}', status << 8)
     for status in ('256', '-1', 'x', ''):
@@ -209,6 +219,7 @@ def statuses(tree):
 
 
 def printing(tree):
+    """The printing program, and texts that are longer than a pipe holds."""
     told = subprocess.run([tree.host, 'print', 'a b', '--cols', '40'], stdout=subprocess.PIPE, stdin=subprocess.DEVNULL)
     yield same('printing: words', (told.returncode, told.stdout), (0, b'printed <a b> <--cols> <40>\n'))
     with subprocess.Popen([tree.host, 'long'], stdout=subprocess.PIPE, start_new_session=True) as told:
@@ -227,6 +238,7 @@ def printing(tree):
 
 
 def without_terminal(tree):
+    """No terminal, a dumb one, and ways to find the host's own folder."""
     tree.start_log()
     told = subprocess.run([tree.host, 'status', '3'], stdin=subprocess.DEVNULL, stdout=subprocess.PIPE, start_new_session=True)
     yield same('without a terminal: status', told.returncode, 3)
@@ -335,6 +347,7 @@ def late_signals(tree):
 
 
 def deaf_programs(tree):
+    """A program that does not end is killed; a signal that the caller ignores ends nothing."""
     for name in ('deaf', 'flood'):
         run = start(tree, 'edit', 'plain', tree.file(name))
         run.pump(5, b'1049h')
@@ -363,6 +376,7 @@ def limits(tree):
 
 
 def missing_programs(tree):
+    """Without keeper or program nothing is edited; without a filter keys go straight to the program."""
     lib = f'{tree.top}/lib/bidi_edit'
     for name, status, text in (('bidi_keep', 1, b'cannot be started'), ('bidi_edit', 127, b'bidi_edit cannot be started: No such file')):
         os.rename(f'{lib}/{name}', f'{lib}/{name}.away')

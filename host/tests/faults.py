@@ -24,6 +24,7 @@ def session(tree, strace):
 def try_session(tree, strace):
     """One try. strace is a grandchild (-D), so that the process that is signalled and waited for is the host. The keeper sends a title
     and a bell each second (the kind `titles`), so that the host writes in idle times too."""
+    # all waits are limits: a failed call may make the host wait, and strace makes it slow
     run = Run(['strace', '-D', *strace, *tree.words('edit', 'titles', tree.file('faults'))], HOME=f'{tree.top}/home')
     if run.pump(4, b'hello'):
         run.resize(30, 90)
@@ -40,7 +41,7 @@ def try_session(tree, strace):
 
 
 def calls(tree):
-    """The system calls of a session, and how often each is made."""
+    """The system calls of the host in a session without a fault, and how often each is to be failed."""
     trace = tree.file('trace')
     session(tree, ['-o', trace]).close()
     counts = {}
@@ -51,7 +52,7 @@ def calls(tree):
 
 
 def fail_once(tree, call, number):
-    """What is wrong where one call of the host fails."""
+    """What is wrong where the call with this number, from 1 among those of its name, fails."""
     error = ERRORS.get(call, 'EIO')
     run = session(tree, ['-o', '/dev/null', '-e', f'trace={call}', '-e', f'inject={call}:error={error}:when={number}'])
     wrong = [] if run.status is not None else ['the host did not end']
