@@ -4,8 +4,8 @@
 
 #include "command.h"
 
-/* How the start goes on: the program runs, the printing program takes the host's place, the host exits, the keeper can say no more,
- * or a signal ends the host. */
+/* How the start goes on: the program runs, the printing program takes the host's place, the host exits, the keeper can say no
+ * more, or a signal ends the host. */
 enum outcome { GO, PRINT, EXIT, KEEPER_GONE, SIGNALLED };
 
 /* What the keeper has asked for. */

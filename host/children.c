@@ -134,8 +134,8 @@ void send_size(void) {
     }
 }
 
-/* Hands on each word that has its end, and keeps the rest. One that fills all the room is not a word: half of it goes, so that the host
- * hears on. */
+/* Hands on each word that has its end, and keeps the rest. One that fills all the room is not a word: half of it goes, so that
+ * the host hears on. */
 static void hand_on_words(void) {
     size_t from = 0;
     char *end = NULL;

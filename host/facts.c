@@ -75,8 +75,9 @@ static bool is_held_by_folder(struct path path, const struct stat *look) {
     return user != 0 && user != look->st_uid && user != folder.st_uid;
 }
 
-/* r, w and x: the user may read, write, and run or enter it; l: it has an access list; s: a label, as has_label says; m: it is a mount;
- * k: its folder keeps the user from replacing it; ?: one of l, s and m is not known. add_facts adds t: it is, or would be, in memory. */
+/* r, w and x: the user may read, write, and run or enter it; l: it has an access list; s: a label, as has_label says; m: it is a
+ * mount; k: its folder keeps the user from replacing it; ?: one of l, s and m is not known. add_facts adds t: it is, or would be,
+ * in memory. */
 static void put_own_letters(struct letters *letters, const char *path, const struct path *real, const struct stat *look) {
     struct path above = *real;
     go_up(&above);

@@ -40,7 +40,8 @@ void lose_keeper(void);
 /* Reads and writes as far as the files are ready. */
 void mind_keeper(short from_events, short to_events);
 
-/* Ends the keeper's input, and waits until it has ended or the time `end` has come; then kills it. Returns whether it ended itself. */
+/* Ends the keeper's input, and waits until it has ended or the time `end` has come; then kills it. Returns whether it ended
+ * itself. */
 bool end_keeper(int64_t end);
 
 #endif

@@ -22,8 +22,8 @@
 #include "terminal.h"
 #include "writing.h"
 
-/* How long the keeper has to end itself, in milliseconds: at an end without a session, and before printing, where it has no more to
- * do. */
+/* How long the keeper has to end itself, in milliseconds: at an end without a session, and before printing, where it has no more
+ * to do. */
 enum { LEAVING = 3000, PRINTING = 1000 };
 
 static struct programs programs;

@@ -11,8 +11,8 @@ struct programs {
     struct path keeper, filter, editor, printer, tables, kit;
 };
 
-/* Finds them by the host's own place, where `own_word`, the word that it was started with, may help. Returns false where that cannot be
- * found. That the files are there is not checked. */
+/* Finds them by the host's own place, where `own_word`, the word that it was started with, may help. Returns false where that
+ * cannot be found. That the files are there is not checked. */
 bool find_programs(const char *own_word, struct programs *programs);
 
 #endif

@@ -20,9 +20,9 @@
 #include "watcher.h"
 #include "writing.h"
 
-/* Milliseconds. GRACE: the program's for its end, of which the first FILTERING are the filter's, to hand on what was typed. START: the
- * terminal's to take the first sequences. PATIENCE: the terminal's to take what restores it; SHORT_PATIENCE: the same after a signal,
- * and a killed program's for its end. */
+/* Milliseconds. GRACE: the program's for its end, of which the first FILTERING are the filter's, to hand on what was typed.
+ * START: the terminal's to take the first sequences. PATIENCE: the terminal's to take what restores it; SHORT_PATIENCE: the same
+ * after a signal, and a killed program's for its end. */
 enum { GRACE = 3000, START = 3000, PATIENCE = 10000, SHORT_PATIENCE = 1000, SECOND = 1000, FILTERING = 500 };
 
 /* Whether the keeper has dealt with the last second. */
@@ -68,8 +68,8 @@ static void mind_terminal(void) {
 }
 
 /* Ends the program's input where the session is to end, once the filter has handed on what was typed, and kills a program that
- * does not end in time. Returns false where it does not even then. `end` is when the program has to have ended, 0 before the session is
- * to end. */
+ * does not end in time. Returns false where it does not even then. `end` is when the program has to have ended, 0 before the
+ * session is to end. */
 static bool mind_end(int64_t *end, bool *is_killed) {
     bool is_over = end_signal || filter == 0 || keeper.state != KEEPER_SPEAKS;
     if (is_over && *end == 0) {

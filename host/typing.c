@@ -11,14 +11,14 @@
 #include "terminal.h"
 #include "writing.h"
 
-/* PIECE: the bytes of one read. MOST_WAITING: the bytes that wait here at most, and as many in the pipe: few, since the end of the host
- * loses them. Milliseconds: PATIENCE, for which a key that is not whole holds up a notice; ALONE, after which an Escape is a key of its
- * own. MOST_NOTICES wait at most. A notice's number has two digits at most. */
+/* PIECE: the bytes of one read. MOST_WAITING: the bytes that wait here at most, and as many in the pipe: few, since the end of
+ * the host loses them. Milliseconds: PATIENCE, for which a key that is not whole holds up a notice; ALONE, after which an Escape
+ * is a key of its own. MOST_NOTICES wait at most. A notice's number has two digits at most. */
 enum { PIECE = 1024, MOST_WAITING = 4096, PATIENCE = 1000, MOST_NOTICES = 8, LARGEST_NOTICE = 99, ALONE = 50 };
 
-/* What the last byte is. BETWEEN: the end of a key. ESCAPED: an Escape. SHIFTED: what one more byte follows (ESC O, or ESC [ [ of the
- * Linux console). SEQUENCE: a part of what begins with ESC [. LONG_ESCAPE: a part of an escape sequence with bytes between. CHARACTER: a
- * part of a UTF-8 character. */
+/* What the last byte is. BETWEEN: the end of a key. ESCAPED: an Escape. SHIFTED: what one more byte follows (ESC O, or ESC [ [ of
+ * the Linux console). SEQUENCE: a part of what begins with ESC [. LONG_ESCAPE: a part of an escape sequence with bytes between.
+ * CHARACTER: a part of a UTF-8 character. */
 enum place { BETWEEN, ESCAPED, SHIFTED, SEQUENCE, LONG_ESCAPE, CHARACTER };
 
 /* A marked paste begins with CSI 200~ and ends with CSI 201~. */
@@ -65,8 +65,8 @@ static enum place place_behind_first(unsigned char byte) {
     return byte >= 0xc2 && byte <= 0xf4 ? CHARACTER : BETWEEN;
 }
 
-/* What a byte behind ESC [ is. By ECMA-48 (5.4) 20 to 3F go on with the sequence, and 40 to 7E end it. A paste's mark has three digits
- * and a tilde, so that `number` needs no more. */
+/* What a byte behind ESC [ is. By ECMA-48 (5.4) 20 to 3F go on with the sequence, and 40 to 7E end it. A paste's mark has three
+ * digits and a tilde, so that `number` needs no more. */
 static enum place place_in_sequence(unsigned char byte) {
     bool is_first = length == 0;
     length++;

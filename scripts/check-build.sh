@@ -41,9 +41,9 @@ make_tree() {
     printf '# NAME: what it stands on\nd: b c thiserror\nc: a\nb:\na:\nother: a\n' >"$folder/tree/crates.txt"
 }
 
-# Writes the command in place of rt. A crate has ten functions, proved in a tenth of a second each and stored one by one. It
-# logs when it starts and ends, and the number of proofs; its child lives as long as it does, as the toolchain's do. In the folder
-# TOLD are `log`, and as others wish `slow`, with which a proof takes a second more, and `bad`, the name of a crate that fails. The
+# Writes the command in place of rt. A crate has ten functions, proved in a tenth of a second each and stored one by one. It logs
+# when it starts and ends, and the number of proofs; its child lives as long as it does, as the toolchain's do. In the folder TOLD
+# are `log`, and as others wish `slow`, with which a proof takes a second more, and `bad`, the name of a crate that fails. The
 # status 2 is that of a program which rt runs, and must not matter.
 make_rt() {
     mkdir -p "$folder/bin"

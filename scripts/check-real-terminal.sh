@@ -27,8 +27,8 @@ passed=0 failed=0
 trap 'tmux -L "$socket" kill-server 2> /dev/null; rm -rf "$folder"' EXIT
 
 # Compares the pane after these pictures. ROWS are joined by | and have no blanks at their ends; < and > enclose negative parts.
-# CURSOR is its column and row from 0. PICTURES are words of paint_glyphs: the line and column of the cursor, then line, column and
-# glyph (+ or, in negative image, -) of each glyph, all from 1, and `then` before another picture.
+# CURSOR is its column and row from 0. PICTURES are words of paint_glyphs: the line and column of the cursor, then line, column
+# and glyph (+ or, in negative image, -) of each glyph, all from 1, and `then` before another picture.
 check() { # NAME HEIGHT WIDTH ROWS CURSOR PICTURES..
     name=$1 height=$2 width=$3 rows=$4 cursor=$5
     shift 5

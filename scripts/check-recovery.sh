@@ -60,8 +60,8 @@ terminal() {
     tmux -u -L "$socket" -f /dev/null "$@"
 }
 
-# Opens the editor in a window of 24 rows, in a session of tmux of this NAME, which is no number: tmux would take that as the index of
-# a window.
+# Opens the editor in a window of 24 rows, in a session of tmux of this NAME, which is no number: tmux would take that as the
+# index of a window.
 open_editor() { # NAME STATE FILE
     # letters apart, since the last row is compared with the letters of the query
     terminal new-session -d -s "$1" -x 80 -y 24 -e "XDG_STATE_HOME=$2" "exec '$top/bidi-edit' --no-joining '$3'"
@@ -121,8 +121,8 @@ run_session() { # NUMBER
     recover_session "$1"
 }
 
-# Recovers the text into another file, and judges it. Without a journal all was saved, and FILE has it. A session without keys2 may
-# go on.
+# Recovers the text into another file, and judges it. Without a journal all was saved, and FILE has it. A session without keys2
+# may go on.
 recover_session() { # NUMBER
     cp "$work"/state/bidi_edit/*/journal "$work/journal" 2>/dev/null
     [ -s "$work/journal" ] || rm -f "$work/journal"

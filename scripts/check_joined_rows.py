@@ -119,7 +119,7 @@ def read_letters():
 
 
 def check_tables():
-    """Compares each letter alone, between two of itself, and beside BEH, which joins on both sides, at its left, right and both."""
+    """Compares each letter alone, between two of itself, and before, after and between BEH, which joins on both sides."""
     letters = sorted(types.keys() | forms.keys())
     lines = [line for c in letters for line in (c, c + c + c, c + BEH, BEH + c, BEH + c + BEH)]
     compare("letters by data/ and by Unicode's files", lines, printed(lines), printed(lines, UNICODE))
@@ -171,7 +171,7 @@ def random_lines(lists):
 
 
 def taken_apart(match):
-    """The final form of an alef with its points, and the lam before it, at its right: initial of an isolated ligature, medial of a final."""
+    """The final form of an alef with its points, and the lam before it: initial of an isolated ligature, medial of a final one."""
     code = ord(match[1]) - 0xFEF5
     return ALEFS[code // 2] + match[2] + "\ufedf\ufee0"[code % 2]
 

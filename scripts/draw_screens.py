@@ -41,8 +41,8 @@ class Look(Enum):
 def look_after(parameters, look):
     """The look after an SGR sequence with these parameters (ECMA-48). Of colours only the presence of a background matters.
 
-    7 is negative, 0, 27 and 49 end it or a background; 40 to 47, 100 to 107 and 48 set one. After 38 and 48 a colour follows, as 5 and
-    one number, or as 2 and three.
+    7 is negative, 0, 27 and 49 end it or a background; 40 to 47, 100 to 107 and 48 set one. After 38 and 48 a colour follows, as
+    5 and one number, or as 2 and three.
     """
     numbers = [int(number or 0) for number in parameters.split(';')]
     while numbers:

@@ -113,7 +113,7 @@ class Terminal:
         return part
 
     def await_screen(self, wanted=b'', quiet=QUIET, limit=60):
-        """The time of a screen's last byte: after the wanted bytes, followed by a pause of `quiet` seconds. Late after `limit` seconds."""
+        """The time of a screen's last byte: after the wanted bytes, before a pause of `quiet` seconds; `Late` after `limit` of them."""
         end = time.perf_counter() + limit
         seen, last, is_there = b'', None, False
         while True:

@@ -53,8 +53,8 @@ find_programs() {
     done
 }
 
-# Copies a file into the new tree, in the folder `beside` of `put_there`, with these permissions, whatever its source's and the umask
-# are.
+# Copies a file into the new tree, in the folder `beside` of `put_there`, with these permissions, whatever its source's and the
+# umask are.
 take() { # MODE SOURCE PATH
     mkdir -p -- "$beside/tree/${3%/*}"
     cp -- "$2" "$beside/tree/$3"

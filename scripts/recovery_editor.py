@@ -204,7 +204,7 @@ class Editor(Search):
             self.typing = typing
 
     def step_run(self, from_steps, to_steps, side):
-        """Takes edits back, or makes them again, up to where a run begins. `side` is 0 for the text before an edit, 2 for that after it."""
+        """Takes edits back (`side` 0, the text before an edit) or makes them again (2, the text after it), up to a run's beginning."""
         while from_steps:
             step = from_steps.pop()
             to_steps.append(step)

@@ -12,8 +12,8 @@ class Search:
     def __init__(self):
         # a search is None, begun or typed, or asks for the other text with begun or with typed, or is at a match, replacing
         self.search, self.query, self.origin = None, "", 0
-        # what a search is for, find or replace; the text that takes a match's place, the place of the match that is shown, and the
-        # number of those replaced
+        # what a search is for, find or replace; the text that takes a match's place, the place of the match that is shown, and
+        # the number of those replaced
         self.aim, self.other, self.at, self.count = "find", "", 0, 0
 
     def begin_search(self, aim):
@@ -58,7 +58,7 @@ class Search:
             self.show_match()
 
     def kept(self, text):
-        """What a letter is added to: where a search is begun or the other text just asked for, the query or text of before gives way."""
+        """What a letter is added to: nothing where a search was begun or the other text just asked for, as what was there gives way."""
         return "" if self.search in ("begun", "with begun") else text
 
     def look_for(self, query):
@@ -169,7 +169,7 @@ class Search:
                 break
 
     def exchange(self, stop, new, count):
-        """Puts a text in the place of `count` matches, from the one that is shown up to `stop`: as at most two edits of one run."""
+        """Puts a text in the place of `count` matches, from the one shown up to `stop`: as at most two edits of one run."""
         at = self.at
         self.remove(at, stop)
         if new:

@@ -77,8 +77,8 @@ is_over() {
     if [ -n "$crates" ]; then [ ! -d "/proc/$child" ]; else has_screen || [ -e "$clone/out/proving.log" ]; fi
 }
 
-# Notes the copies that the prover (antt-kernel) made of itself and that are at work: the crate, the process, its start in ticks since
-# the machine's (field 22 of proc's `stat`) and the time now.
+# Notes the copies that the prover (antt-kernel) made of itself and that are at work: the crate, the process, its start in ticks
+# since the machine's (field 22 of proc's `stat`) and the time now.
 note_copies() {
     for process in $(pgrep -x antt-kernel); do
         place=$(readlink "/proc/$process/cwd") || continue

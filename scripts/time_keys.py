@@ -54,7 +54,7 @@ def into_word(lead, period):
 
 
 def leads(length, period):
-    """The keys to each place (first rows, middle, end) in a paragraph of `length` characters: rows have nearly 80, and a page has 23 rows.
+    """The keys to each place (first rows, middle, end) of `length` characters: rows have nearly 80, and a page has 23 rows.
 
     So 23 * 77 characters are about a page, and 1500 are less than one, for more pages than there are.
     """

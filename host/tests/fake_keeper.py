@@ -2,15 +2,16 @@
 """A keeper for tests, in place of bidi_keep. What it does is told by the first word of the host's command line:
 
 edit KIND FILE: has the program edit FILE. KIND: plain; slow (answers no second, and the end after 2 s); mute (never answers the
-    end); stuck (reads nothing any more); dies (at the first second); errs (says nonsense at the first second); titles (a title and a
-    bell each second); told (asks for the journal each second); noticed (a mask and a notice before the start, and a notice at the first
-    second); sized (gives a size of its own); resumed (with a replay); curious (asks for facts each second and at the end)
-ask [FILE]: asks a question first, and tells the answer, or edits FILE then; facts PATH..: tells the facts, a line a path that ends in
-1E; print WORD..: has the printer print; refuse: refuses; long: tells 300,001 bytes; status N: ends with this status; dies, errs, hangs:
-before the program. What hangs does so for a minute, longer than any case waits.
+    end); stuck (reads nothing any more); dies (at the first second); errs (says nonsense at the first second); titles (a title
+    and a bell each second); told (asks for the journal each second); noticed (a mask and a notice before the start, and a notice
+    at the first second); sized (gives a size of its own); resumed (with a replay); curious (asks for facts each second and at the
+    end)
+ask [FILE]: asks a question first, and tells the answer, or edits FILE then; facts PATH..: tells the facts, a line a path that
+ends in 1E; print WORD..: has the printer print; refuse: refuses; long: tells 300,001 bytes; status N: ends with this status;
+dies, errs, hangs: before the program. What hangs does so for a minute, longer than any case waits.
 
-All that it hears is appended to the file whose path the file `log` beside this program has, if that is there: the keeper has no words
-of its own. docs/ARCHITECTURE.md has the messages."""
+All that it hears is appended to the file whose path the file `log` beside this program has, if that is there: the keeper has no
+words of its own. docs/ARCHITECTURE.md has the messages."""
 import os, signal, sys, time
 
 TOP = os.path.dirname(os.path.abspath(sys.argv[0]))

@@ -80,7 +80,7 @@ def notes(tree):
 
 
 def in_tmux(tree):
-    """The terminal around tmux, by a command in place of tmux, which answers with the name of a terminal (here `slave`) and its kind."""
+    """The terminal around tmux, by a command in place of tmux that answers with a terminal's name, here that of `slave`, and kind."""
     master, slave = pty.openpty()
     termios.tcsetwinsize(slave, (3, 80))
     settings = termios.tcgetattr(slave)
@@ -90,7 +90,7 @@ def in_tmux(tree):
     tmux = {'TERM': 'tmux-256color', 'TMUX': '/no/such/socket,1,0', 'PATH': f"{tree.file('bin')}:{os.environ['PATH']}"}
 
     def outside(answer, **variables):
-        """What a session writes in tmux, and what it writes to the terminal around, where the command in place of tmux is `answer`."""
+        """What a session writes in tmux, and to the terminal around it, where the command in place of tmux is `answer`."""
         write(f"{tree.file('bin')}/tmux", f'#!/bin/sh\n{answer}\n')
         output, told = see(tree, **tmux, **variables), b''
         while select.select([master], [], [], 0)[0]:

@@ -1,4 +1,4 @@
-"""A start of the editor with a host that is played, and what cases need of it. docs/ARCHITECTURE.md has the messages of both sides."""
+"""A start of the editor with a host that is played, and what cases need of it. docs/ARCHITECTURE.md has the messages."""
 import os, subprocess, sys
 
 KEEPER, TABLES = (os.path.abspath(path) for path in sys.argv[1:3])
@@ -7,13 +7,13 @@ KEEPER, TABLES = (os.path.abspath(path) for path in sys.argv[1:3])
 class Start:
     """One start of the editor: its keeper, and a host that is played, with a program that is played too.
 
-    `words` are the command line's, `answers` what the user answers to questions, one after another; then the input ends. `terminal` and
-    `window` are what the host tells of these; `folder` is the working folder, else `top`, the case's own. With `can_read` False the facts
-    say that no file can be read. `room`, where it is set, is told as the free bytes of each disk.
+    `words` are the command line's, `answers` what the user answers to questions, one after another; then the input ends.
+    `terminal` and `window` are what the host tells of these; `folder` is the working folder, else `top`, the case's own. With
+    `can_read` False the facts say that no file can be read. `room`, where it is set, is told as the free bytes of each disk.
 
-    Kept is what the keeper said: `out` and `err`, texts for the user; `titles`; `words` and `printer`, of the program's and the printing
-    program's command line; `asked`, questions; `notices`, by their numbers; `mask`; and `end`, the letter and text of the message that
-    says how to go on: g (go), P (print) or x with the exit status.
+    Kept is what the keeper said: `out` and `err`, texts for the user; `titles`; `words` and `printer`, of the program's and the
+    printing program's command line; `asked`, questions; `notices`, by their numbers; `mask`; and `end`, the letter and text of
+    the message that says how to go on: g (go), P (print) or x with the exit status.
     """
 
     def __init__(self, top, *words, answers=(), terminal='yes', window='24 80', folder=None, can_read=True, **variables):
@@ -110,7 +110,7 @@ class Start:
             journal.write(keys)
 
     def second(self):
-        """A second goes. Returns the letters of what the keeper says of it (`!` bell, `r` try the journal, `.` done), without titles and notices."""
+        """A second goes. Returns the letters of what the keeper says of it, as `!.`, without titles and notices."""
         self.say('s')
         said = ''
         while not said.endswith('.'):

@@ -40,7 +40,7 @@ def reap(keep):
 def lead(words, env, slave, ends):
     """The session's leader: starts the job, puts it into the foreground again after each stop, and tells its status.
 
-    `ends` are ends of pipes: to tell each status of the job by, to wait by for the end of the test, and to tell the job's number by.
+    `ends` are ends of pipes: to tell each status of the job, to wait for the test's end, and to tell the job's number.
     """
     tell, go, job_tell = ends
     os.setsid()
@@ -72,9 +72,10 @@ def lead(words, env, slave, ends):
 class Run:
     """A command on a terminal of its own, whose erase character is `erase`. `variables` are added to its environment.
 
-    `master` and `slave` are the two ends of the terminal, `settings` its settings before the command. `leader` is the session's leader,
-    `job` its only job, `mark` a variable that all processes of the run have. `output` is what was read of the terminal, which is not read
-    where `is_read` is False. `status` is the job's, as waitpid gives it, None before its end; `stops` is how often it stopped.
+    `master` and `slave` are the two ends of the terminal, `settings` its settings before the command. `leader` is the session's
+    leader, `job` its only job, `mark` a variable that all processes of the run have. `output` is what was read of the terminal,
+    which is not read where `is_read` is False. `status` is the job's, as waitpid gives it, None before its end; `stops` is how
+    often it stopped.
     """
     count = 0  # of runs in this process, for marks
 

@@ -13,8 +13,10 @@ def write(path, text, mode=0o755):
 
 
 class Tree:
-    """An installation in a folder `top`, with fake_keeper.py, fake_editor.c and a printing program that prints its words. Without a built
-    filter the host copies the keys itself. `log` is the file of what the keeper hears, from `start_log` on."""
+    """An installation in a folder `top`, with fake_keeper.py, fake_editor.c and a printing program that prints its words.
+
+    Without a built filter the host copies the keys itself. `log` is the file of what the keeper hears, from `start_log` on.
+    """
 
     def __init__(self, folder, host):
         self.top = folder

@@ -1,10 +1,10 @@
 # shellcheck shell=sh
 # shellcheck disable=SC2034,SC2154 # variables shared with other parts
-# check-build.sh with the real toolchain. Uses its functions and its variables `folder`, `shell`, `prove` and `socket`. The crates a,
-# b, c and d are as there, with names of this run in the variables `a` to `d`.
+# check-build.sh with the real toolchain. Uses its functions and its variables `folder`, `shell`, `prove` and `socket`. The crates
+# a, b, c and d are as there, with names of this run in the variables `a` to `d`.
 
-# Makes a crate of forty functions unique to this run, by the comment at its head and its name, so that no stored proof fits. WORDS is
-# code at its beginning.
+# Makes a crate of forty functions unique to this run, by the comment at its head and its name, so that no stored proof fits.
+# WORDS is code at its beginning.
 small_crate() { # NAME WORDS
     mkdir -p "$folder/tree/crates/$1/src"
     {

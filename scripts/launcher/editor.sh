@@ -12,8 +12,9 @@ has_editor() {
     }
 }
 
-# Prints the screen that the program alone, without host and filter, makes of a file and keys, in a window of this size, in the form
-# of `settled_screen`. KEYS has the editor's own bytes, in the notation of printf; a FILE that is not there is opened as a new one.
+# Prints the screen that the program alone, without host and filter, makes of a file and keys, in a window of this size, in the
+# form of `settled_screen`. KEYS has the editor's own bytes, in the notation of printf; a FILE that is not there is opened as a
+# new one.
 alone() { # ROWS COLS FILE KEYS
     cp "$3" "$folder/files/alone" 2>/dev/null || rm -f "$folder/files/alone"
     # shellcheck disable=SC2059 # the keys have escapes

@@ -4,7 +4,7 @@
 # `key_reader`, a pattern for the words of the filter, which the callers set.
 
 # After a signal to the host, or the terminal's end, the program ends by its input's end, so typed text is kept: the record then
-# has ` end` at its end.
+# has `end` at its end.
 check_input_end() {
     for signal in TERM HUP INT QUIT; do
         start 24 80 "$recorder" f
@@ -32,8 +32,8 @@ has_no_recorder() {
     [ -z "$(pgrep -f "$folder/recorder")" ]
 }
 
-# A program that hangs is killed three seconds after its input's end, so those checks wait six. The recorder of `still` is a sleep,
-# and it ends with status 9 by its input's end.
+# A program that hangs is killed three seconds after its input's end, so those checks wait six. The recorder of `still` is a
+# sleep; that of another FILE ends with status 9 by its input's end.
 check_hard_ends() {
     for signal in TERM HUP; do
         start 24 80 "$recorder" still
@@ -74,8 +74,8 @@ is_raw() {
     case $(stty -a -F "$tty") in *-icanon*) return 0 ;; *) return 1 ;; esac
 }
 
-# Starts in the terminal an interactive shell, the one that `job_shell` names, in which a job can be stopped and continued, and in it
-# the editor as such a job. In place of `start`; `finish_shell` is its end.
+# Starts in the terminal an interactive shell, the one that `job_shell` names, in which a job can be stopped and continued, and in
+# it the editor as such a job. In place of `start`; `finish_shell` is its end.
 start_shell() { # ROWS COLS EDITOR WORD..
     for file in ended status before after record words output state; do rm -rf "${folder:?}/$file"; done
     command="env -u BASH_ENV ENV= PS1='ready> ' TMPDIR='$folder/private' BX_RECORD='$folder/record' BX_WORDS='$folder/words'"

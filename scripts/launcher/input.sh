@@ -1,7 +1,8 @@
 # shellcheck shell=sh
 # shellcheck disable=SC2034,SC2154 # variables shared with other parts
-# Input from various terminals, and pastes, as the recorder and the editor get them from the filter. Uses person.sh, recorder.sh and
-# editor.sh. The editor's own sequences, as CSI 96~, are those of crates/bx_input/specs/Table.antt and crates/bx_keys/specs/Keys.antt.
+# Input from various terminals, and pastes, as the recorder and the editor get them from the filter. Uses person.sh, recorder.sh
+# and editor.sh. The editor's own sequences, as CSI 96~, are those of crates/bx_input/specs/Table.antt and
+# crates/bx_keys/specs/Keys.antt.
 
 # Whether the filter is built; else that is reported as skipped.
 has_filter() {
@@ -17,7 +18,8 @@ type_bytes() { # FILE
     terminal paste-buffer -d -r -b bytes -t person
 }
 
-# Lists keys of terminals: a name, the bytes that the terminal sends, and the bytes that the editor gets, in the notation of printf.
+# Lists keys of terminals: a name, the bytes that the terminal sends, and the bytes that the editor gets, in the notation of
+# printf.
 terminal_keys() {
     cat <<'TEXT'
 xterm, Home and End:\033[H\033[F:\033[H\033[F
@@ -98,8 +100,8 @@ check_cut_keys() {
     same 'input, keys that come byte by byte' "$(cat -v "$folder/record")" 'a^[[96~^[[81~^[[Db^[[93~c'
 }
 
-# The byte 08 is Backspace with Control where the terminal's own erase character is 7F, as in tmux, and else Backspace (CSI 94~; with
-# Control or Alt CSI 88~).
+# The byte 08 is Backspace with Control where the terminal's own erase character is 7F, as in tmux, and else Backspace (CSI 94~;
+# with Control or Alt CSI 88~).
 check_erase_character() {
     for erase in '^?' '^H'; do
         setup="stty erase '$erase'" cleanup="stty erase '^?'"
@@ -116,9 +118,9 @@ check_erase_character() {
     setup='' cleanup=''
 }
 
-# Makes `big`, a marked paste of 1 MB with every byte value, and `big_pasted`, what the filter makes of it: between CSI 90~ and CSI 91~
-# the text without control characters but tab and line ends, which all become LF. `cycle` has the 256 values 4,096 times; `tricks`,
-# before it, has bytes that look like keys, a mark or an end of the paste.
+# Makes `big`, a marked paste of 1 MB with every byte value, and `big_pasted`, what the filter makes of it: between CSI 90~ and
+# CSI 91~ the text without control characters but tab and line ends, which all become LF. `cycle` has the 256 values 4,096 times;
+# `tricks`, before it, has bytes that look like keys, a mark or an end of the paste.
 make_big_paste() {
     byte=0
     while [ "$byte" -lt 256 ]; do

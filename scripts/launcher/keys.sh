@@ -3,9 +3,9 @@
 # The keys for words, points, rows, the text's ends, runs, selections, the mark, copies, searches, replacing, questions and help, as
 # terminals send them, and the screens that they make. Uses person.sh, `alone` and `shows` of editor.sh, `type_bytes` of input.sh.
 
-# Types keys of tmux, and compares the screen. ROWS are its rows with | between, and the region or the shown match between < and >;
-# the last is the status row: * or - (changed or not), the cursor's line and letter from 1, a message. CURSOR is the cursor's column
-# and row from 0.
+# Types keys of tmux, and compares the screen. ROWS are its rows with | between, and the region or the shown match between < and
+# >; the last is the status row: * or - (changed or not), the cursor's line and letter from 1, a message. CURSOR is the cursor's
+# column and row from 0.
 press() { # NAME ROWS CURSOR [KEY..]
     name="keys, $1" wanted_screen=$(printf '%s\n%s' "$2" "$3")
     shift 3
@@ -263,8 +263,8 @@ check_new_line() {
     rm -f note
 }
 
-# Lists terminals: a name, what they send for F1, F3 and F4, and for Left, Right, Home, End and Delete with CTRL, in the notation of
-# printf; empty where a terminal sends the same as without CTRL, or nothing.
+# Lists terminals: a name, what they send for F1, F3 and F4, and for Left, Right, Home, End and Delete with CTRL, in the notation
+# of printf; empty where a terminal sends the same as without CTRL, or nothing.
 terminal_sequences() {
     cat <<'TEXT'
 xterm|\033OP|\033OR|\033OS|\033[1;5D|\033[1;5C|\033[1;5H|\033[1;5F|\033[3;5~

@@ -117,8 +117,8 @@ check_title() {
     setup=''
 }
 
-# The terminal around tmux, which the host tells to stop reordering (8l) and to go on with it (8h): a pane `outer` of the same tmux
-# server, in which a client shows the session `keep`, the one that the callers of these parts hold open.
+# The terminal around tmux, which the host tells to stop reordering (8l) and to go on with it (8h): a pane `outer` of the same
+# tmux server, in which a client shows the session `keep`, the one that the callers of these parts hold open.
 check_outer() {
     start 8 50 "$recorder" f
     type_keys C-q

@@ -176,7 +176,8 @@ finish() { # NAME STATUS TENTHS
     terminal kill-session -t person
 }
 
-# Prints insert and origin mode, the first and last row of the scroll region from 0, autowrap, and the cursor's visibility; 1 is on.
+# Prints insert and origin mode, the first and last row of the scroll region from 0, autowrap, and the cursor's visibility; 1 is
+# on.
 modes_of() { # SESSION
     terminal display-message -p -t "$1" '#{insert_flag} #{origin_flag} #{scroll_region_upper} #{scroll_region_lower} #{wrap_flag} #{cursor_flag}'
 }

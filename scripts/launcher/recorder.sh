@@ -15,10 +15,10 @@ make_recorder() {
     cat >"$folder/recorder/lib/bidi_edit/bidi_edit" <<'TEXT'
 #!/bin/sh
 # The recorder. Writes its words to the file BX_WORDS, each on a line, shows the text of --before as the editor does, and appends
-# its input to BX_RECORD. It ends with status 7 when a read ends with the byte 11 (octal 21, Ctrl-Q), and with status 9, and ` end`
-# on the record, when its input ends. Three names of FILE do more: `still` has no record and no end, `at-once` ends at once, `kept`
-# leaves a journal, so that its session is kept. To the host it says (docs/ARCHITECTURE.md): FILE is not there (o -), and that it
-# ends since its output failed (f output).
+# its input to BX_RECORD. It ends with status 7 when a read ends with the byte 11 (octal 21, Ctrl-Q). When its input ends, it
+# appends a blank and `end`, and ends with status 9. Three names of FILE do more: `still` has no record and no end, `at-once` ends
+# at once, `kept` leaves a journal, so that its session is kept. To the host it says (docs/ARCHITECTURE.md) that FILE is not there
+# (o -), and that it ends since its output failed (f output).
 words=''
 while [ $# -gt 0 ]; do
     case $1 in
@@ -204,8 +204,8 @@ is_busy() {
     awk -v processors="$(getconf _NPROCESSORS_ONLN)" '{ exit !($1 > processors) }' /proc/loadavg
 }
 
-# Prints the processor time of each of ten runs, in thousandths of a second, as bash counts its children: `times` writes a line for
-# the shell and one for all children so far.
+# Prints the processor time of each of ten runs, in thousandths of a second, as bash counts its children: `times` writes a line
+# for the shell and one for all children so far.
 times_of_ten() {
     {
         echo "export BX_WORDS='$folder/words' TMPDIR='$folder/private'; cd '$folder/files'"

@@ -3,8 +3,8 @@
 # Refusals before the screen changes: one line each, on standard error alone. Uses person.sh and recorder.sh. `lines_told` is the
 # number of lines that `refused` wants on standard error, mostly 1.
 
-# Runs a command without a controlling terminal, so that it cannot change one, and with a time limit, twenty seconds, since what is
-# not refused might wait for keys. Its output goes to `folder/output`, its standard error to `folder/errors`.
+# Runs a command without a controlling terminal, so that it cannot change one, and with a time limit, twenty seconds, since what
+# is not refused might wait for keys. Its output goes to `folder/output`, its standard error to `folder/errors`.
 alone_in_session() { # WORD..
     timeout -s KILL 20 setsid -w "$@" </dev/null >"$folder/output" 2>"$folder/errors"
 }
@@ -52,8 +52,8 @@ version_of_sources() {
     grep -rhoE '"[0-9]+\.[0-9]+\.[0-9]+"' "$top/crates/bx_launch/src" | head -n 1 | tr -d '"'
 }
 
-# --help fits a screen of 24 rows with the shell's next line. --version tells the kit that make_recorder notes, and the tables' own
-# version, by their first lines.
+# --help fits a screen of 24 rows with the shell's next line. --version tells the kit that make_recorder notes, and the tables'
+# own version, by their first lines.
 check_told_words() {
     "$top/bidi-edit" --help >"$folder/output" 2>&1
     same 'refused, not help' "$? $(head -c 6 "$folder/output")" '0 usage:'
@@ -174,8 +174,8 @@ check_refused_access() {
     rm -rf closed locked open
 }
 
-# Runs the host in a terminal (of `script`, without tmux), with a FILE that the program refuses, so that the screen does not change.
-# WANTED is the status and the first of two lines on standard error; the second is the program's refusal.
+# Runs the host in a terminal (of `script`, without tmux), with a FILE that the program refuses, so that the screen does not
+# change. WANTED is the status and the first of two lines on standard error; the second is the program's refusal.
 refused_in_terminal() { # NAME WANTED FILE
     HOST=$top/bidi-edit FILE=$3 timeout -s KILL 20 setsid -w script -qec '"$HOST" "$FILE" 2>&3' /dev/null </dev/null >"$folder/output" 3>"$folder/errors"
     same "$1" "$? $(head -n 1 "$folder/errors")" "$2"

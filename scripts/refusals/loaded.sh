@@ -2,8 +2,8 @@
 # shellcheck disable=SC2154 # variables that check-refusals.sh sets
 # Refusal of memory growth, for check-refusals.sh: a library in C, loaded into a program. It refuses the growth with the number
 # REFUSED, gives the program its input one byte a read, and reports how many bytes were read at the refusal. It can also discard
-# the output after byte MUTED, and refuse renames after byte FAILING, until the next byte is read; 0 is before the first byte. A variable
-# that is not set refuses nothing. Uses `scratch`, the working folder, and `fail` of check-refusals.sh.
+# the output after byte MUTED, and refuse renames after byte FAILING, until the next byte is read; 0 is before the first byte. A
+# variable that is not set refuses nothing. Uses `scratch`, the working folder, and `fail` of check-refusals.sh.
 
 # Writes the file in C, and builds the library from it.
 build_refuse() {
@@ -83,8 +83,8 @@ END
     cc -O2 -Wall -shared -fPIC -o refuse.so refuse.c
 }
 
-# Runs a command with the library and these variables, a minute at most. The file `told` gets the number of input bytes read at the
-# refusal; -1 without a refusal; nothing if the command did not end by itself.
+# Runs a command with the library and these variables, a minute at most. The file `told` gets the number of input bytes read at
+# the refusal; -1 without a refusal; nothing if the command did not end by itself.
 loaded() { # VARIABLE.. COMMAND..
     : >"$scratch/told"
     # timeout itself is not refused memory

@@ -1,10 +1,10 @@
 # shellcheck shell=sh
 # shellcheck disable=SC2154 # variables that check-refusals.sh sets
-# The recorded sessions of check-refusals.sh. A run NAME has its output in NAME.out, and its end in NAME.end; `whole` is the one without
-# a refusal, `found` the one that is judged. `session` is the session's folder, `place` the folder where it runs.
+# The recorded sessions of check-refusals.sh. A run NAME has its output in NAME.out, and its end in NAME.end; `whole` is the one
+# without a refusal, `found` the one that is judged. `session` is the session's folder, `place` the folder where it runs.
 
-# Runs the session `session` with the input in the file KEYS and these variables of the library. Its end is the status, standard error
-# and the resulting FILE. Sets `refused_at` to the content of `told`.
+# Runs the session `session` with the input in the file KEYS and these variables of the library. Its end is the status, standard
+# error and the resulting FILE. Sets `refused_at` to the content of `told`.
 run_session() { # NAME KEYS VARIABLE..
     name=$1 keys=$2 status=0
     shift 2

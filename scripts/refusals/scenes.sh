@@ -1,7 +1,7 @@
 # shellcheck shell=sh
 # shellcheck disable=SC2154 # variables that check-refusals.sh sets
-# The scenes and the tables of check-refusals.sh. crates/play_scenes/src/main.rt tells what the fields of a scene and of its answer are,
-# and what the steps do. FILE is in hexadecimal; a WAY is `step`, `play` or `alone`.
+# The scenes and the tables of check-refusals.sh. crates/play_scenes/src/main.rt tells what the fields of a scene and of its
+# answer are, and what the steps do. FILE is in hexadecimal; a WAY is `step`, `play` or `alone`.
 
 # Plays scenes without refusals.
 play() {

@@ -1,7 +1,7 @@
 # shellcheck shell=sh
 # shellcheck disable=SC2034,SC2154 # variables shared with other parts
-# Sessions in which another program changes FILE before or during a save. Uses scenes.sh and kinds.sh. A first save then fails, and the
-# second goes through.
+# Sessions in which another program changes FILE before or during a save. Uses scenes.sh and kinds.sh. A first save then fails,
+# and the second goes through.
 
 # ---- sessions with events during a save
 
@@ -243,8 +243,8 @@ check_no_file() { # NAME COMMAND..
     close_session 1
 }
 
-# Checks a text copied from FILE before or after another program changed it, with or without replayed KEYS. WANTED is `told` where the
-# first save fails, as FILE has other bytes than the session knows, else `stored`.
+# Checks a text copied from FILE before or after another program changed it, with or without replayed KEYS. WANTED is `told` where
+# the first save fails, as FILE has other bytes than the session knows, else `stored`.
 check_before_start() { # NAME CHANGE KEYS WANTED
     begin_point "$1"
     prepare plain

@@ -187,8 +187,8 @@ check_made_elsewhere() {
     close_session 1
 }
 
-# The limit of a file's size, in blocks of 512 bytes or of 1,024, below the 80,000 bytes of the text; the host has the program ignore
-# the signal.
+# The limit of a file's size, in blocks of 512 bytes or of 1,024, below the 80,000 bytes of the text; the host has the program
+# ignore the signal.
 check_limit() {
     prepare long
     check_save 'a limit of the size of files' old sh -c 'trap "" XFSZ; ulimit -f 60; exec "$@"' sh

@@ -1,7 +1,7 @@
 # shellcheck shell=sh
 # shellcheck disable=SC2034,SC2154 # variables shared with other parts
-# Counts of checks, the scenes of a save, and runs of the program, for check-saves.sh, which sets `folder`, `place` (the scene's folder,
-# with FILE), `own` (the program's private folder) and `editor`.
+# Counts of checks, the scenes of a save, and runs of the program, for check-saves.sh, which sets `folder`, `place` (the scene's
+# folder, with FILE), `own` (the program's private folder) and `editor`.
 #
 # A point is one checked run: `point` is its name, `kind` that of the checks that it belongs to.
 
@@ -71,8 +71,8 @@ put_old() { # PATH MODE
 }
 
 # Makes a scene's files: `file` is the program's argument, `kept` the file it leads to, and `mode` and `owner` are expected after
-# each save; `others` are the names in the scene's folder, but for a FILE that is made. The files `old` and `new` in `folder` are FILE's
-# bytes before and after the save. Users and groups are numbers that no user of the system should have.
+# each save; `others` are the names in the scene's folder, but for a FILE that is made. The files `old` and `new` in `folder` are
+# FILE's bytes before and after the save. Users and groups are numbers that no user of the system should have.
 prepare() { # SCENE
     scene=$1
     cp "$folder/lines" "$folder/old"
@@ -216,8 +216,8 @@ edit() { # COMMAND..
         --mirroring "$folder/BidiMirroring.txt" ${copy:+--text "$copy"} ${replay:+--replay "$replay"} "$file"
 }
 
-# Lists the system calls of a scene's save in the file `calls`, from the first read of keys to the program's end: the name, its number
-# among the calls of this name, and `screen` for a write to the terminal, else `save`.
+# Lists the system calls of a scene's save in the file `calls`, from the first read of keys to the program's end: the name, its
+# number among the calls of this name, and `screen` for a write to the terminal, else `save`.
 list_calls() {
     edit strace -o "$folder/log" <"$folder/keys" >/dev/null 2>&1
     awk '

@@ -1,7 +1,7 @@
 # shellcheck shell=sh
 # shellcheck disable=SC2034,SC2154 # variables shared with other parts
-# Faults that users met: each check shows one from outside, by FILE, screen, status, processes and what is left. Uses the other parts:
-# lists.sh, disk.sh, places.sh, in_place.sh.
+# Faults that users met: each check shows one from outside, by FILE, screen, status, processes and what is left. Uses the other
+# parts: lists.sh, disk.sh, places.sh, in_place.sh.
 
 # Opens an editor on `note` with one letter typed, and not saved.
 open_typed() { # PREFIX WORD..
@@ -49,7 +49,8 @@ check_link_in_its_place() {
     leave_files
 }
 
-# FILE gets a second name while it is edited: the first save fails, the next one goes into FILE itself, so that both names have it.
+# FILE gets a second name while it is edited: the first save fails, the next one goes into FILE itself, so that both names have
+# it.
 check_second_name() {
     put_note note
     open_typed '' note
@@ -107,7 +108,8 @@ check_gone() {
     done
 }
 
-# A limit of the size of files, which twenty letters exceed, and a disk of four pages, of which FILE has three, so that no draft fits.
+# A limit of the size of files, which twenty letters exceed, and a disk of four pages, of which FILE has three, so that no draft
+# fits.
 check_causes() {
     head -c 19990 /dev/zero | tr '\0' a | as_user tee note >/dev/null
     open_editor first 'prlimit --fsize=20000' note
@@ -230,7 +232,8 @@ check_state_taken_away() {
     leave_files
 }
 
-# A disk with room for a few files only, of which its top folder is one: a session begins and finds no room for the next of its files.
+# A disk with room for a few files only, of which its top folder is one: a session begins and finds no room for the next of its
+# files.
 check_no_inodes() {
     for inodes in 1 2 4 6; do
         mount_small "nr_inodes=$inodes,mode=777" || return 0

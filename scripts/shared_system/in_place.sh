@@ -1,8 +1,8 @@
 # shellcheck shell=sh
 # shellcheck disable=SC2034,SC2154 # variables shared with other parts
-# Saves into FILE itself, where a rename must not replace it, and FILE after an interrupted save. Interrupted saves are of a session of
-# `note`, which has a second name, so that saves go into it: its text is `ab`, the one that is saved `xab`, which the session's mark
-# has meanwhile.
+# Saves into FILE itself, where a rename must not replace it, and FILE after an interrupted save. Interrupted saves are of a
+# session of `note`, which has a second name, so that saves go into it: its text is `ab`, the one that is saved `xab`, which the
+# session's mark has meanwhile.
 
 # ---- complete saves
 
@@ -79,8 +79,8 @@ program_of_check() {
     pgrep -f "bidi_edit/bidi_edit .*$folder/state/" | head -n 1
 }
 
-# Has strace inject WHAT (its words) into the program of the editor `first` at its next system calls on `note`, of these names. Sets
-# `tracer`, its process.
+# Has strace inject WHAT (its words) into the program of the editor `first` at its next system calls on `note`, of these names.
+# Sets `tracer`, its process.
 inject() { # CALLS WHAT
     strace -qq -f -p "$(program_of_check)" -P "$folder/files/note" -e "trace=$1" -e "inject=$1:$2" -o "$folder/trace" 2>/dev/null &
     tracer=$!
@@ -130,8 +130,8 @@ cut_off_save() { # CALLS
     kill_editor first
 }
 
-# Checks the next start's message about an interrupted save, and that FILE is complete. WORDS is how often it says that the text is put
-# back, TEXT what FILE then has: `ab` if the save had not begun to write FILE.
+# Checks the next start's message about an interrupted save, and that FILE is complete. WORDS is how often it says that the text
+# is put back, TEXT what FILE then has: `ab` if the save had not begun to write FILE.
 check_cut_off() { # CALLS WORDS TEXT
     cut_off_save "$1"
     test -e "$(session_of_check)/mark"

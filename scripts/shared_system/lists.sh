@@ -29,7 +29,8 @@ rights_of() { # FILE
     rights_of_others "$1"
 }
 
-# Types a letter into a file, with the options given, saves and ends. The terminal `first` stays open, with what is told at the end.
+# Types a letter into a file, with the options given, saves and ends. The terminal `first` stays open, with what is told at the
+# end.
 save_a_letter() { # FILE WORD..
     name=$1
     shift
@@ -41,8 +42,8 @@ save_a_letter() { # FILE WORD..
     wait_for 60 shows_in first status
 }
 
-# FILE has a list, or its folder passes one on: a folder `common` of the user's. The lists are words of setfacl, empty for none. FILE
-# must keep its inode.
+# FILE has a list, or its folder passes one on: a folder `common` of the user's. The lists are words of setfacl, empty for none.
+# FILE must keep its inode.
 check_listed_file() { # NAME LIST FOLDER'S-LIST REASON
     as_user mkdir -p common
     chmod 755 common

@@ -2,8 +2,8 @@
 # shellcheck disable=SC2016,SC2034,SC2154 # code for another shell; variables shared with other parts
 # Names of files in messages and titles: quoted for a shell, without bytes that a terminal obeys or that hide the name.
 
-# Lists bytes that no terminal should get in a name: a word for each, and the bytes in the notation of printf and a shell. Those whose
-# word begins with lone, cut, long, surrogate or past are not UTF-8.
+# Lists bytes that no terminal should get in a name: a word for each, and the bytes in the notation of printf and a shell. Those
+# whose word begins with lone, cut, long, surrogate or past are not UTF-8.
 hidden_bytes() {
     cat <<'END'
 escape \033[31m
@@ -46,8 +46,8 @@ is_harmless() { # FILE
     ' "$folder/letters"
 }
 
-# Checks the message without a terminal, in the file `told`: it has the text TOLD, mostly the name quoted for a shell, and no hidden
-# byte.
+# Checks the message without a terminal, in the file `told`: it has the text TOLD, mostly the name quoted for a shell, and no
+# hidden byte.
 tells() { # CHECK TOLD WORD..
     checked=$1 told_as=$2
     shift 2

@@ -28,8 +28,8 @@ check_killed_host() {
     terminal kill-session -t person
 }
 
-# Stops tmux, and fills the terminal until it blocks. After a signal the host waits three seconds for the program's end and one for the
-# terminal, so it ends all the same.
+# Stops tmux, and fills the terminal until it blocks. After a signal the host waits three seconds for the program's end and one
+# for the terminal, so it ends all the same.
 check_full_terminal() { # SIGNAL
     open_recorder
     server=$(terminal display-message -p '#{pid}')

@@ -3,8 +3,9 @@
 # Installation over existing files, under any umask and while others start the editor, and packaging without the tools of its
 # checks.
 
-# Makes a repository `source` of the user's own, with stand-ins for the built host and programs, for installations in `prefix`. The
-# host tells a version. The comment GLIBC is for make-deb.sh, which looks for the C library's version, the stamp for its `is_proved`.
+# Makes a repository `source` of the user's own, with stand-ins for the built host and programs, for installations in `prefix`.
+# The host tells a version. The comment GLIBC is for make-deb.sh, which looks for the C library's version, the stamp for its
+# `is_proved`.
 make_source() {
     source=$folder/source prefix=$folder/prefix
     mkdir -p "$source/host/out" "$source/crates/bx_launch/src"

@@ -82,8 +82,9 @@ check_state_home() {
 
 # ---- the first start
 
-# Makes a repository `clone` of three programs of a few lines, with a host that does nothing, and in a folder `kit` a command in place
-# of rt: it runs until there is no file `slow` beside it, fails if there is a file `bad`, and writes its TMPDIR to `temporary`.
+# Makes a repository `clone` of three programs of a few lines, with a host that does nothing, and in a folder `kit` a command in
+# place of rt: it runs until there is no file `slow` beside it, fails if there is a file `bad`, and writes its TMPDIR to
+# `temporary`.
 make_clone() {
     clone=$folder/clone kit=$folder/kit
     mkdir -p "$clone/host/out" "$kit"
@@ -125,8 +126,8 @@ last_said() {
     tail -n 1 "$folder/said"
 }
 
-# In TMPDIR stands a link with the name of a log, which leads to a file of the user. Nothing is written through it: the log is in the
-# repository, until the next start.
+# In TMPDIR stands a link with the name of a log, which leads to a file of the user. Nothing is written through it: the log is in
+# the repository, until the next start.
 check_log() {
     make_clone
     echo mine >"$folder/victim"

@@ -2,8 +2,8 @@
 # shellcheck disable=SC2034,SC2154 # variables shared with other parts
 # Sessions that cannot be replayed, and sessions recovered beside FILE.
 
-# Makes the opened text of a session invalid, so that no replay starts, and gives this answer to the question what to do then. Sets
-# `session`.
+# Makes the opened text of a session invalid, so that no replay starts, and gives this answer to the question what to do then.
+# Sets `session`.
 spoil_session() { # ANSWER
     leave_session note
     session=$(session_of_check)

@@ -1,7 +1,7 @@
 # shellcheck shell=sh
 # shellcheck disable=SC2034,SC2154 # variables shared with other parts
-# A round is all parts as one user, for check-shared-system.sh. A part is a file of this folder, NAME.sh, with a function check_NAME; a
-# check in it runs only if `asked NAME` says that it is selected. Parts use one another's functions.
+# A round is all parts as one user, for check-shared-system.sh. A part is a file of this folder, NAME.sh, with a function
+# check_NAME; a check in it runs only if `asked NAME` says that it is selected. Parts use one another's functions.
 #
 # Variables for parts: `who`, root or plain; `user`, the number of the editing user, and `stranger`, the
 # number of another plain user, empty if this script cannot become one; `folder`, new for the round and owned by the user, with
@@ -10,8 +10,8 @@
 # from 1, for checks that are the same in each. A part appends its mounts to `mounted`. open_editor opens several editors that
 # share a state folder.
 #
-# Waits are in tenths of a second. Of a session the last row tells: `- 1:1` that the editor is open and nothing is changed, `* 1:2` that
-# one letter was typed in the first line.
+# Waits are in tenths of a second. Of a session the last row tells: `- 1:1` that the editor is open and nothing is changed, `*
+# 1:2` that one letter was typed in the first line.
 
 # Installs the copy, once, before any round. Sets `installed`, its folder, and `host`.
 install_copy() {
@@ -67,8 +67,9 @@ run_round() { # USER STRANGER
 
 # ---- several editors
 
-# Opens an editor with these words in a terminal of its own, a session of tmux of this NAME; the shell words PREFIX precede it. Its
-# messages stay visible, and behind them a row `status N` with its exit status. The window is wide enough for a message in one row.
+# Opens an editor with these words in a terminal of its own, a session of tmux of this NAME; the shell words PREFIX precede it.
+# Its messages stay visible, and behind them a row `status N` with its exit status. The window is wide enough for a message in one
+# row.
 open_editor() { # NAME PREFIX WORD..
     name=$1 prefix=$2
     shift 2

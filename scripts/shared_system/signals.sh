@@ -28,8 +28,8 @@ open_recorder() {
     group=$(ps -o pgid= -p "$process" | tr -d ' ')
 }
 
-# Ends RUNS sessions by a signal that arrives with others at the whole job, as terminals and shells send them. Which arrives first is
-# chance, so there are several runs.
+# Ends RUNS sessions by a signal that arrives with others at the whole job, as terminals and shells send them. Which arrives first
+# is chance, so there are several runs.
 end_with_others() { # NAME RUNS SIGNAL OTHER..
     name=$1 runs=$2 signal=$3 lost=0
     shift 3

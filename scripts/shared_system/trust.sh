@@ -2,8 +2,8 @@
 # shellcheck disable=SC2034,SC2154 # variables shared with other parts
 # Folders and sessions that another user made or may write: they are not used, and nothing is written through a link.
 
-# Creates a session of `note` with one recorded key, `planted`, laid out as the editor does. A file in it links to a file of the user,
-# `victim`.
+# Creates a session of `note` with one recorded key, `planted`, laid out as the editor does. A file in it links to a file of the
+# user, `victim`.
 plant_session() { # FOLDER
     mkdir -p "$1/bidi_edit/20200101000000.AAAAAA"
     planted=$1/bidi_edit/20200101000000.AAAAAA

@@ -1,7 +1,7 @@
 # shellcheck shell=sh
 # shellcheck disable=SC2154 # variables shared with other parts
-# The checks in one terminal. Uses window.sh and kinds.sh. A picture is named KIND-WHAT. Half a second behind the last keys, which end in
-# a save, lets the editor take them before it is left.
+# The checks in one terminal. Uses window.sh and kinds.sh. A picture is named KIND-WHAT. Half a second behind the last keys, which
+# end in a save, lets the editor take them before it is left.
 
 skip() { # NAME WHY
     skipped=$((skipped + 1))

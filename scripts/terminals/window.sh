@@ -2,10 +2,10 @@
 # shellcheck disable=SC2154 # variables shared with other parts
 # A display without a screen, and the one terminal on it: its shell obeys a pipe, and its window has pictures, keys and a name.
 #
-# For check-terminals.sh, which sets `room`, its own folder, and `pictures`, the folder of pictures. Here are set `server`, `bus` and
-# `terminal`, the processes of display, bus and terminal, and `window`, the number of the terminal's window. In `room` are `files`,
-# where the shell is, `orders`, the pipe for its lines, `ready`, which is there when it has obeyed the last one, `tty`, the name of its
-# terminal, and `errors`, what the editor writes on standard error. Waits are in tenths of a second.
+# For check-terminals.sh, which sets `room`, its own folder, and `pictures`, the folder of pictures. Here are set `server`, `bus`
+# and `terminal`, the processes of display, bus and terminal, and `window`, the number of the terminal's window. In `room` are
+# `files`, where the shell is, `orders`, the pipe for its lines, `ready`, which is there when it has obeyed the last one, `tty`,
+# the name of its terminal, and `errors`, what the editor writes on standard error. Waits are in tenths of a second.
 
 # Opens a free display with a bus of its own, and hides the terminal around the check.
 open_display() {
