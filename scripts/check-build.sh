@@ -124,10 +124,12 @@ before() { # NAME LINE LINE
     report "$1" $? "$(paste -s -d '|' "$folder/told/log")"
 }
 
+# Reports whether the working folder of prove.sh and the crates' trees are gone.
 nothing_left() { # NAME
     same "$1, nothing stays beside the work" "$(find "$folder/tree" -name '*.tree' -o -path "$folder/tree/out/proving")" ''
 }
 
+# Prints the number of processes of the command in place of rt.
 processes() {
     pgrep -f "$folder/bin/rt" | wc -l
 }
@@ -138,6 +140,7 @@ none_runs() {
 
 # ---- the checks
 
+# A crate waits for what it stands on, others are proved beside it, and what was built is in its place afterwards.
 check_order() {
     make_tree
     run
@@ -162,6 +165,7 @@ check_order() {
     same 'lines, no line is written over' "$(tr -d -c '\r' <"$folder/said" | wc -c)" 0
 }
 
+# One line on a terminal, which changes each second; Ctrl-C, after which nothing runs, and the next start goes on from there.
 check_terminal() {
     make_tree
     : >"$folder/told/slow"
@@ -190,6 +194,7 @@ check_terminal() {
     report 'going on, with what was kept' $? "$(paste -s -d '|' "$folder/told/log")"
 }
 
+# A crate that fails: its log is named, the others are kept, and the next start goes on from there.
 check_failure() {
     make_tree
     echo c >"$folder/told/bad"
@@ -210,6 +215,7 @@ check_failure() {
     same 'failure, a program that is not there' "$? $(grep -c 'names no crate e' "$folder/said")" '1 1'
 }
 
+# A second start meanwhile is refused, and the work of a killed start is taken up.
 check_killed() {
     make_tree
     : >"$folder/told/slow"
@@ -248,6 +254,7 @@ END
     printf 'bidi_edit: c b\nbidi_input: b\nbidi_keep: b\nbidi_print: b\n' >>"$folder/tree/crates.txt"
 }
 
+# The script bidi-edit builds, is stopped, goes on and becomes the host; where a program cannot be built it ends.
 check_script() {
     make_checkout
     : >"$folder/told/slow"

@@ -184,6 +184,7 @@ go_on() { # NUMBER
     passes "$1 goes on"
 }
 
+# Whether the editor asks what is to be done with a session.
 asks() { # NAME
     terminal capture-pane -p -t "$1" | grep -qF '[d]elete for good'
 }
@@ -217,6 +218,7 @@ say() { # WORD..
     terminal send-keys -t shell Enter
 }
 
+# Opens a shell in a folder of its own, in the session `shell` of tmux, with bidi-edit in PATH.
 open_shell() {
     shell=$folder/shell
     mkdir -p "$shell"
@@ -225,6 +227,7 @@ open_shell() {
     say "PATH='$top':\$PATH; PS1='\\$ '; clear"
 }
 
+# Whether the shell's screen has a text; rows that wrap count as one.
 shows() { # TEXT
     terminal capture-pane -p -J -t shell | grep -qF -e "$1"
 }
@@ -243,6 +246,7 @@ end_by_keys() { # KEY..
     wait_for 150 shows_shell
 }
 
+# Whether the editor's screen is gone, and no process runs under the shell.
 shows_shell() {
     [ "$(terminal display-message -p -t shell '#{alternate_on}')" = 0 ] && [ -z "$(ps -o pid= --ppid "$(terminal display-message -p -t shell '#{pane_pid}')")" ]
 }
@@ -271,6 +275,7 @@ break_off() { # ROW WORDS KEY..
     say clear
 }
 
+# Prints the process of the program of the editor that runs under a shell.
 program_under() { # SHELL
     for host in $(ps -o pid= --ppid "$1"); do program_of "$host"; done
 }
@@ -370,6 +375,7 @@ check_full_disk() {
     fi
 }
 
+# The program tells how many keys of the journal it knew: `known 100000`.
 check_replay_time() {
     many_keys 100000 >"$folder/keys"
     start=$(date +%s%N)

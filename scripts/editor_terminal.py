@@ -113,7 +113,7 @@ class Terminal:
         return part
 
     def await_screen(self, wanted=b'', quiet=QUIET, limit=60):
-        """The time of a screen's last byte: after the wanted bytes, before a pause of `quiet` seconds; `Late` after `limit` of them."""
+        """The time of a screen's last byte: behind the wanted bytes, before `quiet` seconds without any; `Late` after `limit`."""
         end = time.perf_counter() + limit
         seen, last, is_there = b'', None, False
         while True:

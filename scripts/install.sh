@@ -97,6 +97,7 @@ new_folders() {
     [ -z "$is_new" ] || echo .
 }
 
+# Writes the lists `folders` and `files` of the new tree, and the new record, all in `beside`.
 write_record() {
     (cd "$beside/tree" && find . -mindepth 1 -type d) | sed 's|^\./||' | sort >"$beside/folders"
     (cd "$beside/tree" && find . -type f) | sed 's|^\./||' | sort >"$beside/files"
@@ -136,6 +137,7 @@ clean_up() {
     [ -z "$is_new" ] || rmdir -- "$prefix" 2>/dev/null || :
 }
 
+# Installs. `beside` is a folder in PREFIX, so that files can be renamed from there.
 put_there() {
     find_programs
     # is_old: there is an installation from before there were records; is_new: PREFIX is created
@@ -155,6 +157,7 @@ put_there() {
 
 # ---- removal
 
+# Removes what the record has, and last the folders that are then empty.
 take_away() {
     [ -f "$record" ] || refuse "there is no record of an installation in $(shown "$prefix"); where there is an old one, installing anew makes one"
     recorded_files | while read -r path; do

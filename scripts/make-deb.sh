@@ -123,6 +123,7 @@ fi
 END
 }
 
+# Makes the package from `package`, its tree. The maintainer is the author of the last commit.
 make_package() {
     package=$folder/package
     maintainer=$(git -C "$top" log -1 --format='%an <%ae>' 2>/dev/null) || maintainer='bidi_edit maintainers <root@localhost>'

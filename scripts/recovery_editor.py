@@ -59,6 +59,7 @@ class Editor(Search):
         self.now(text, place, True)
 
     def now(self, text, place, changed):
+        """Takes a text and place; an edit and a step of the history take the mark off."""
         self.text, self.place, self.changed, self.mark, self.soft = text, place, changed, None, "no"
 
     def remove(self, start, end, goes_on=False):
@@ -94,6 +95,7 @@ class Editor(Search):
             self.soft = "old"
 
     def unselect(self):
+        """Takes off the mark of a selection, unless Select came just before."""
         if self.soft == "old":
             self.mark, self.soft = None, "no"
 
@@ -104,6 +106,7 @@ class Editor(Search):
         return self.soft != "no" and self.mark != self.place
 
     def typed(self, keys):
+        """Notes the bytes of a key that was obeyed, and the text then."""
         self.told = ""
         self.keys += keys
         self.ends[len(self.keys)] = self.text
@@ -154,6 +157,7 @@ class Editor(Search):
         self.edit(self.text[:start] + NAMED[letter] + self.text[start:], place, True)
 
     def put_code(self):
+        """Puts in the character of the answer, unless it is none: nothing typed, a surrogate or beyond Unicode."""
         code = int(self.answer or "110000", 16)
         if code < 0xd800 or 0xdfff < code < 0x110000:
             self.put_character(chr(code))
@@ -204,7 +208,7 @@ class Editor(Search):
             self.typing = typing
 
     def step_run(self, from_steps, to_steps, side):
-        """Takes edits back (`side` 0, the text before an edit) or makes them again (2, the text after it), up to a run's beginning."""
+        """Takes edits back (`side` 0, the text before one) or makes them again (2, the text after it), up to a run's beginning."""
         while from_steps:
             step = from_steps.pop()
             to_steps.append(step)
@@ -218,6 +222,7 @@ class Editor(Search):
         self.place = {"back": max(0, self.place - 1), "forward": min(end, self.place + 1), "text start": 0, "text end": end}[name]
 
     def take(self, name):
+        """Copy and Cut. Where there is nothing to take, what was held stays."""
         start, end = self.taken()
         self.held, self.mark, self.soft = self.text[start:end] or self.held, None, "no"
         if name == "cut" and start < end:
@@ -235,6 +240,7 @@ class Editor(Search):
             self.soft = "fresh"
 
     def apply(self, name, was):
+        """What a key does. `was` is `typing` before it."""
         if self.search and self.takes(name) or self.ask and self.answers(name):
             return
         if name in ("erase", "delete", "erase word", "delete word"):

@@ -58,7 +58,7 @@ class Search:
             self.show_match()
 
     def kept(self, text):
-        """What a letter is added to: nothing where a search was begun or the other text just asked for, as what was there gives way."""
+        """What a letter is added to: nothing where a search was begun or the other text just asked for: what was there gives way."""
         return "" if self.search in ("begun", "with begun") else text
 
     def look_for(self, query):
@@ -81,9 +81,11 @@ class Search:
         self.place = next((at for at in found if at >= place), found[0] if found else self.place)
 
     def look_on(self):
+        """Goes to the next match, from the last one to the first."""
         self.look_from(self.place + 1 if self.place < len(self.text) else 0)
 
     def look_back(self):
+        """Goes to the match before, from the first one to the last."""
         found = self.matches()
         self.place = next((at for at in reversed(found) if at < self.place), found[-1] if found else self.place)
 
@@ -108,6 +110,7 @@ class Search:
         return True
 
     def query_takes(self, name):
+        """What a key does while the query is typed. Returns False for one that ends the search and is then obeyed without it."""
         if name in ("erase", "delete"):
             self.place = self.origin
             self.look_for(self.kept(self.query)[:-1])
@@ -125,6 +128,7 @@ class Search:
         return True
 
     def other_takes(self, name):
+        """The same while the other text is typed."""
         if name in ("erase", "delete"):
             self.search, self.other = "with typed", self.kept(self.other)[:-1]
         elif name in ("find", "find next", "find back"):
@@ -137,6 +141,7 @@ class Search:
         return True
 
     def match_takes(self, name):
+        """The same while a match is shown."""
         if name in ("find", "find next"):
             self.go_on_from(self.at + 1)
         elif name == "find back":

@@ -27,6 +27,7 @@ add() { # NAME COMMAND..
     fi
 }
 
+# Counts a command that told no failure of its own.
 count_fault() { # CAUSE
     echo "$name: $1"
     failed=$((failed + 1))

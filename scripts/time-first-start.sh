@@ -53,6 +53,7 @@ show_last() {
     in_terminal capture-pane -p -t person | grep . | tail -n 1
 }
 
+# Makes a clean clone of a commit, in `clone`.
 make_clone() { # COMMIT NAME
     clone=$folder/$2
     git clone -q "$top" "$clone"
@@ -166,11 +167,13 @@ find_parts() {
     done <"$folder/times"
 }
 
+# Tells where the time of the last start went; crates.awk says how.
 tell_parts() {
     find_parts
     awk -v cores="$(nproc)" -f "$parts/crates.awk" "$clone/crates.txt" "$folder/times" "$folder/parts"
 }
 
+# Measures `rt selftest`, by the clock and in processor time: `times` tells that of shell and children in a line each.
 tell_selftest() {
     begun=$(date +%s)
     (rt selftest >/dev/null && times) >"$folder/selftest"
@@ -200,6 +203,7 @@ run_gate() { # WHAT
     grep -e '^rt: ok' -e '^[0-9]* passed, ' "$folder/said" | sed 's/^/    /'
 }
 
+# Measures what is proved anew: in a second clone, by the gate after a start, and by a start after the gate in a third clone.
 time_again() { # COMMIT
     make_clone "$1" first
     start_again "$1, a first start" || return 1

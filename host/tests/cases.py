@@ -160,6 +160,7 @@ def standard_files(tree):
 
 
 def questions(tree):
+    """A question that is answered, not answered at the input's end, ended by Ctrl-C, and one before a session."""
     question = b'recover it, discard it, or leave it as it is? '
     run = start(tree, 'ask')
     yield holds('questions: asked', run.pump(5, question))

@@ -37,6 +37,7 @@ PLAIN = access_list((OWNER, 6, ANY), (GROUP, 4, ANY), (OTHER, 0, ANY))
 
 
 def make(path, mode=0o644):
+    """Makes a file with these permissions. Returns its path."""
     with open(path, 'w') as file:
         file.write('text\n')
     os.chmod(path, mode)

@@ -8,6 +8,7 @@ from played_host import Start, TABLES, edit, leave_keys, put, sessions
 
 
 def other_names(top):
+    """Saves of a FILE with two names go into it: with a mark in the session, and without a session only by --force."""
     put(f'{top}/a.txt', b'text\n')
     os.link(f'{top}/a.txt', f'{top}/b.txt')
     start = edit(top, 'a.txt')

@@ -82,6 +82,7 @@ def dropped(top):
 
 
 def refused_by_the_program(top):
+    """What the program refuses leaves no session, and the keeper tells what helps."""
     put(f'{top}/a.txt', b'\xe9\n')
     put(f'{top}/elf', b'\x7fELF\0\xe9')
     for name, told in (('a.txt', 'CP1255'), ('elf', 'is a binary file')):

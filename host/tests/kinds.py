@@ -80,7 +80,7 @@ def notes(tree):
 
 
 def in_tmux(tree):
-    """The terminal around tmux, by a command in place of tmux that answers with a terminal's name, here that of `slave`, and kind."""
+    """The terminal around tmux, by a command in place of tmux, which answers with the name of a terminal (`slave`) and its kind."""
     master, slave = pty.openpty()
     termios.tcsetwinsize(slave, (3, 80))
     settings = termios.tcgetattr(slave)

@@ -117,6 +117,7 @@ class Run:
         os.write(self.master, keys)
 
     def take_status(self):
+        """Takes a status that the session's leader tells."""
         said = os.read(self.told, 4)
         status = struct.unpack('i', said)[0] if said else 0
         if os.WIFSTOPPED(status):

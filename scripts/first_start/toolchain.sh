@@ -13,6 +13,7 @@ small_crate() { # NAME WORDS
     } >"$folder/tree/crates/$1/src/lib.rt"
 }
 
+# Makes the repository of these crates; the program d prints 3.
 make_real_tree() {
     rm -rf "$folder/tree"
     mkdir -p "$folder/tree/crates/$d/src"
@@ -33,6 +34,7 @@ no_rattle_runs() {
     [ "$(rattle_runs)" -eq 0 ]
 }
 
+# Ctrl-C amid a proof, and a start that goes on. 3000 and 1800 are limits for a busy machine.
 check_toolchain() {
     number=$(basename "$folder" | tr -d -c '[:alnum:]' | tr '[:upper:]' '[:lower:]')$shell
     a=pa_$number b=pb_$number c=pc_$number d=pd_$number

@@ -38,6 +38,7 @@ make_note() {
     cp note "$folder/opened"
 }
 
+# Opened, typed into, moved in, resized and saved: the screens are those of the program alone.
 check_edit() {
     make_note
     start 8 40 "$top/bidi-edit" note
@@ -94,6 +95,7 @@ check_line_ends() {
     rm -f note
 }
 
+# Quit asks once where the text is changed.
 check_quit() {
     make_note
     start 8 60 "$top/bidi-edit" note
@@ -181,6 +183,7 @@ check_editor_stop() {
     finish_shell 'stop, the editor' 0
 }
 
+# An installed editor shows the same, and is taken away again.
 check_install() {
     sh "$top/scripts/install.sh" "$folder/prefix" >/dev/null
     printf 'ab' >note

@@ -31,6 +31,7 @@ printed_by() { # NAME WANTED WORD..
     same "$name" "$? $(joining_words "$folder/output")" "0 $wanted_files"
 }
 
+# Letters join unless --no-joining is said, and the tables are of the folder of the others.
 check_joined_start() {
     tables=$top/data
     joined_by 'joining, by itself' "$joined" f

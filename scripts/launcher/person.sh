@@ -29,6 +29,7 @@ has() { # NAME TEXT PART
     esac
 }
 
+# Counts and tells a check that cannot be made.
 skip() { # NAME WHY
     skipped=$((skipped + 1))
     echo "skipped ${who:+$who }$1: $2"

@@ -105,6 +105,7 @@ check_lines() {
     line_of 'lines, a FILE with a plus' ' ./+7' -- +7
 }
 
+# The folder of tables that BIDI_EDIT_DATA names; one without tables is refused.
 check_tables() {
     tables=$top/data
     start 24 80 "$recorder" f

@@ -18,6 +18,7 @@ check_kill() { # CALL NUMBER
     states="$states $now"
 }
 
+# Kills the save of each scene at each of its calls.
 check_kills() { # KIND SCENE..
     begin_kind "$1"
     shift
@@ -89,6 +90,7 @@ check_next_save() { # CALL NUMBER ERROR
     check_nothing_left
 }
 
+# Makes each call of each scene's save fail, by each of three errors; after EIO a second save is tried.
 check_errors() { # KIND SCENE..
     begin_kind "$1"
     shift

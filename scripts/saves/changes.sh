@@ -64,6 +64,7 @@ change_unseen() {
     cp "$kept" "$folder/theirs"
 }
 
+# Another program changes FILE, by a function CHANGE, after it was opened.
 check_foreign() { # NAME SCENE CHANGE
     begin_point "$1"
     prepare "$2"
@@ -80,6 +81,7 @@ check_foreign() { # NAME SCENE CHANGE
     close_session 0
 }
 
+# FILE is changed after a first save. The second fails, and the third replaces it.
 check_between_saves() {
     begin_point 'between two saves'
     prepare plain
@@ -108,6 +110,7 @@ save_and_meanwhile() { # COMMAND..
     wait_for_more "$(stat -c %s "$folder/out")"
 }
 
+# FILE is changed while its new text is in the draft.
 check_amid_save() {
     begin_point 'amid a save'
     prepare plain
@@ -145,6 +148,7 @@ check_exchanged() {
     close_session 0
 }
 
+# The link that was opened leads to another file: a second save goes there.
 check_retargeted() {
     begin_point 'a link that leads elsewhere by now'
     prepare linked
@@ -273,6 +277,7 @@ check_before_start() { # NAME CHANGE KEYS WANTED
 }
 
 remove_file() { rm "$kept"; }
+# Both change FILE as the Save of a letter at its beginning does.
 save_first_letter() { sed -i '1s/^/x/' "$kept"; }
 save_other_letter() { sed -i '1s/^/w/' "$kept"; }
 

@@ -90,6 +90,7 @@ give_list() {
     setfacl -m u:54322:rw "$kept" 2>/dev/null && list_of | grep -q '^group::---'
 }
 
+# FILE gets an access list during a session, or has one at its start (`itself`). A rename would lose it.
 check_access_list() {
     begin_point 'an access list, during a session'
     prepare secret

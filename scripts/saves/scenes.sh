@@ -7,6 +7,7 @@
 
 # ---- counts
 
+# Begins the checks of a kind, and tells the number of those of the kind before.
 begin_kind() { # NAME
     end_kind
     kind=$1 kind_points=0
@@ -65,6 +66,7 @@ scenes_itself='plain doubled'
 # opened file, if it is not FILE; the replayed journal.
 way=beside copy='' replay=''
 
+# Makes a file with FILE's old bytes.
 put_old() { # PATH MODE
     cat "$folder/old" >"$1"
     chmod "$2" "$1"

@@ -58,6 +58,7 @@ open_on_full_disk() { # CHECK
     wait_for 60 shows_in first '* 1:2'
 }
 
+# No session is begun: told before the screen changes, and nothing false at the end, by two Quits or a signal.
 check_not_begun() {
     open_on_full_disk 'full' || return 0
     case $(tr '\n\033' '  ' <"$folder/output.first") in
@@ -147,6 +148,7 @@ bells_of() { # NAME
     cat -v "$folder/output.$1" | sed 's/\^\[]2;[^^]*^S save ^Q quit[^^]*\^G//g' | grep -o '\^G' | wc -l
 }
 
+# The journal has what there was room for: the text up to there is recovered, and the cut is told.
 check_filled_up() {
     fill_under_editor 'filled up' || return 0
     same 'disk, filled up: told by a bell' "$(bells_of first)" 1

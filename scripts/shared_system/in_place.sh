@@ -23,6 +23,7 @@ check_links() {
     rm -f note 'other name' link
 }
 
+# A file that is mounted by itself, which no rename can replace, at a name with a blank.
 check_mounted_file() {
     printf 'of the host\n' >"$folder/host"
     chown "$user" "$folder/host"

@@ -97,6 +97,7 @@ check_syncs() {
     rm -rf "$folder/state"
     open_editor first "strace -f -qq -y -A -o '$folder/synced' -e trace=fsync,fdatasync" note
     wait_for 60 shows_in first '- 1:1'
+    # the folder of sessions, and last the session's `path`
     wait_for 30 grep -q bidi_edit "$folder/synced"
     wait_for 30 grep -q '/path>' "$folder/synced"
     report 'keeping, on the disk before the first key' $? "$(cat "$folder/synced")"

@@ -16,6 +16,7 @@ spoil_session() { # ANSWER
     say_in first "$1"
 }
 
+# The answers open and keep; any other, as drop, is asked again, since the keys would be lost.
 check_unreplayed() {
     spoil_session open
     expect_in first 'recovered, open: FILE is opened' '- 1:1'

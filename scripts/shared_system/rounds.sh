@@ -46,6 +46,7 @@ has_stranger() { # NAME
     return 1
 }
 
+# Runs all parts as one user; STRANGER is empty where there is no other.
 run_round() { # USER STRANGER
     user=$1 stranger=$2 who=plain round=$((round + 1))
     [ "$user" != 0 ] || who=root
@@ -84,6 +85,7 @@ open_editor() { # NAME PREFIX WORD..
     terminal new-session -d -s "$name" -x 150 -y 12 "sh '$folder/run.$name'" \; set -g status off
 }
 
+# Closes the terminals of these editors, and waits four seconds at most for the end of all.
 close_editors() { # NAME..
     for name; do terminal kill-session -t "$name" 2>/dev/null; done
     wait_for 40 has_no_editor

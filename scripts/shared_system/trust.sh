@@ -22,6 +22,7 @@ victim_stays() { # CHECK
     same "$1: a file of the user's stays" "$(cat "$folder/victim")" 'of the user'
 }
 
+# XDG_STATE_HOME belongs to another user, with a session of FILE in it. FILE is opened without a question, as in the next checks.
 check_state_of_stranger() {
     has_stranger 'trust, a state folder of another user' || return 0
     state=$XDG_STATE_HOME

@@ -23,6 +23,7 @@ write_texts() {
     done
 }
 
+# All checks of one kind of terminal.
 check_terminal() { # KIND
     if [ "$1" = variables ]; then
         check_variables
@@ -69,6 +70,7 @@ open_editor() { # FILE PICTURE
     take_picture "$2"
 }
 
+# Leaves the editor, and waits for the shell.
 leave_editor() { # NAME
     press ctrl+q
     wait_for 200 has_obeyed
@@ -192,6 +194,7 @@ check_keys() { # KIND
     same "$1, keys" "$(cat "$room/files/typed")" bXcde
 }
 
+# The checks that type into a file and look at what is saved.
 check_changes() { # KIND
     check_runs "$1"
     check_questions "$1"

@@ -45,6 +45,7 @@ exec_kitty() {
 start_vte_tmux() { start_vte; }
 start_konsole_tmux() { start_konsole; }
 
+# Prints the name of the terminal's program.
 program_of() { # KIND
     case $1 in
     vte*) echo xfce4-terminal ;;
