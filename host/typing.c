@@ -65,7 +65,7 @@ static enum place place_behind_first(unsigned char byte) {
     return byte >= 0xc2 && byte <= 0xf4 ? CHARACTER : BETWEEN;
 }
 
-/* What a byte behind ESC [ is. By ECMA-48 (5.4) 20 to 3F go on with the sequence, and 40 to 7E end it. A paste's mark has three
+/* What a byte after ESC [ is. By ECMA-48 (5.4) 20 to 3F go on with the sequence, and 40 to 7E end it. A paste's mark has three
  * digits and a tilde, so that `number` needs no more. */
 static enum place place_in_sequence(unsigned char byte) {
     bool is_first = length == 0;
@@ -79,7 +79,7 @@ static enum place place_in_sequence(unsigned char byte) {
     return byte >= 0x40 && byte < 0x7f ? BETWEEN : place_behind_first(byte);
 }
 
-/* What a byte behind an Escape is. By ECMA-35 20 to 2F go on with an escape sequence. */
+/* What a byte after an Escape is. By ECMA-35 20 to 2F go on with an escape sequence. */
 static enum place place_behind_escape(unsigned char byte) {
     number = length = 0;
     if (byte == '[') return SEQUENCE;

@@ -33,7 +33,7 @@ has_newer_source() { # CRATE STAMP
 find_built() { # CRATE
     program=$top/crates/$1/out/$1
     if is_proved "$program" && ! has_newer_source "$1" "$program.stamp"; then return; fi
-    # its time is that of the beginning
+    # a file whose time is the moment before rt runs
     begun=$(mktemp)
     # rt runs the program, whose status and output say nothing here, once it is proved or nothing has changed
     is_run=$({ cd "$top/crates/$1" && rt run </dev/null 2>&1; } | grep -a -c "^rt: running $1;" || :)

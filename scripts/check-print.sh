@@ -152,7 +152,7 @@ plain_letters() {
     '
 }
 
-# Compares paragraph by paragraph, each behind its line @NUMBER. One with several lines was wrapped. The comparison fails, too,
+# Compares paragraph by paragraph, each after its line @NUMBER. One with several lines was wrapped. The comparison fails, too,
 # where no wrapped one differs or none is alike, since then it compares something else.
 compare_paragraphs() { # OURS THEIRS
     awk '

@@ -1,7 +1,7 @@
 #!/bin/sh
 # Kills sessions in tmux at a random key, by KILL, HUP and TERM to the host, to the program or to both, and recovers each: all
-# bytes that the program had read must be there. Most sessions end in a search or just behind one, while matches are replaced, in a
-# question, behind what it put in or told, in a paste, with a selection or between runs of changes, and what is typed after the
+# bytes that the program had read must be there. Most sessions end in a search or just after one, while matches are replaced, in a
+# question, after what it put in or told, in a paste, with a selection or between runs of changes, and what is typed after the
 # recovery goes into the text, also if the session is killed and recovered once more. recovery_sessions.py makes the keys, and the
 # text after each by a plain model. The script also checks the messages and questions, a full disk under the journal, a replay of
 # 100,000 keys, and the journal's cost for a key. It is not part of `rt ci`. Its words are the number of sessions (200) and the seed

@@ -11,7 +11,7 @@ set -u
 export LC_ALL=C.UTF-8
 top=$(cd "$(dirname "$0")/.." && pwd)
 editor=$(readlink -f "${1:-$top/crates/bidi_edit/out/bidi_edit}") || editor=''
-# So many points there must be: about a quarter of those of a whole run, so that a run that interrupts hardly anything fails.
+# The least number of points, about a quarter of those of a whole run: a run that interrupts hardly anything fails.
 least=500
 # Counted by scenes.sh: points, failures and skipped checks, and the points of this kind.
 points=0 failures=0 skipped=0 kind='' kind_points=0

@@ -207,7 +207,7 @@ class Task:
         self.measured(what, terminal, count, lambda: terminal.do(letter, self.shown_letter(), limit=LIMIT))
 
     def leave_typing(self, terminal):
-        """Ends an editor's mode for typing. vim waits a second behind an Escape, for the rest of a key."""
+        """Ends an editor's mode for typing. vim waits a second after an Escape, for the rest of a key."""
         terminal.send(self.editor.command)
         terminal.settle(1.2 if self.editor.command else 0.1)
 

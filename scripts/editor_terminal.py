@@ -28,7 +28,7 @@ def processes_of(session):
                 fields = file.read().rpartition(b')')[2].split()
         except OSError:
             continue
-        # behind the name in parentheses: state, parent, group, session
+        # after the name in parentheses: state, parent, group, session
         if int(fields[3]) == session:
             found.append(int(name))
     return found
@@ -113,7 +113,7 @@ class Terminal:
         return part
 
     def await_screen(self, wanted=b'', quiet=QUIET, limit=60):
-        """The time of a screen's last byte: behind the wanted bytes, before `quiet` seconds without any; `Late` after `limit`."""
+        """The time of a screen's last byte: after the wanted bytes, before `quiet` seconds without any; `Late` after `limit`."""
         end = time.perf_counter() + limit
         seen, last, is_there = b'', None, False
         while True:

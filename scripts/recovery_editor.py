@@ -14,7 +14,7 @@ BYTES = {"erase": b"\x1b[94~", "delete": b"\x1b[3~", "back": b"\x02", "forward":
          "find next": b"\x1b[92~", "cancel": b"\x1b[93~", "go to": b"\x1b[84~", "replace": b"\x1b[85~",
          "name": b"\x1b[86~", "tell": b"\x1b[87~"}
 MOVES = ["back", "forward", "text start", "text end"]
-# the characters of letters behind Name, each a unit of its own; without the joiners, which are none
+# the characters of letters after Name, each a unit of its own; without the joiners, which are none
 NAMED = dict(zip("eEoOpiIfPlra", CONTROLS))
 # what ends those that are put round a region
 CLOSERS = dict.fromkeys("eEoO", NAMED["p"]) | dict.fromkeys("iIf", NAMED["P"])
@@ -23,7 +23,7 @@ GOES_ON = [("word", "word"), ("word", "blanks"), ("blanks", "blanks")]
 
 
 def kind_of(character):
-    """How the next edit goes on behind a character that is put in."""
+    """How the next edit goes on after a character that is put in."""
     return "no" if character == "\n" else "blanks" if character in " \t" else "word"
 
 
@@ -191,7 +191,7 @@ class Editor(Search):
         return max((at for at in starts if at < self.place), default=self.place)
 
     def word_behind(self):
-        """The first start of a word or end of a line behind the place, else the place."""
+        """The first start of a word or end of a line after the place, else the place."""
         stops = [len(self.text), *(m.start() for m in re.finditer("[a-z0-9\u05d0-\u064a]+|\n", self.text))]
         return min((at for at in stops if at > self.place), default=self.place)
 

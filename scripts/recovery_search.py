@@ -58,7 +58,7 @@ class Search:
             self.show_match()
 
     def kept(self, text):
-        """What a letter is added to: nothing where a search was begun or the other text just asked for: what was there gives way."""
+        """What a letter is added to; nothing where a search was begun or the other text just asked for: the old one gives way."""
         return "" if self.search in ("begun", "with begun") else text
 
     def look_for(self, query):
@@ -186,7 +186,7 @@ class Search:
         self.go_on_from(self.at + len(self.other))
 
     def replace_all(self):
-        """Replaces the match that is shown and each behind it that has no part in one before."""
+        """Replaces the match that is shown and each after it that has no part in one before."""
         new, stop, count = "", self.at, 0
         for start, end in self.spans():
             if start >= stop:

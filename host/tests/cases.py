@@ -58,7 +58,7 @@ def edits(tree):
 
 
 def sizes(tree):
-    """The size at the start: the terminal's (24 by 80 where it has none, at most 500 each), the keeper's, one behind a replay."""
+    """The size at the start: the terminal's (24 by 80 where it has none, at most 500 each), the keeper's, one after a replay."""
     for rows, columns, shown in ((0, 0, b'24 x 80'), (600, 700, b'500 x 500'), (1, 1, b'1 x 1')):
         run = Run(tree.words('edit', 'plain', tree.file('sizes')), rows, columns, HOME=f'{tree.top}/home')
         yield holds(f'sizes: {rows} {columns}', run.pump(5, b'- ' + shown), run.output)
@@ -100,7 +100,7 @@ def notices(tree):
     An Escape that nothing follows becomes a sequence."""
     first, later = b'\x1b[>9~', b'\x1b[>1~'
     # what is typed, with rests in seconds between. The later notice comes at the first second, so 0.8 and 0.4 seconds are before
-    # and behind it; a key that is not whole for a second is given up.
+    # and after it; a key that is not whole for a second is given up.
     cases = (('at once', [b'ab'], b'ab' + later),
              ('a paste', [b'\x1b[200~ab', 2.2, b'cd\x1b[201~e'], b'\x1b[200~abcd\x1b[201~' + later + b'e'),
              ('the end of a paste', [b'\x1b[200~ab\x1b[201', 2.2, b'~'], b'\x1b[200~ab\x1b[201~' + later),

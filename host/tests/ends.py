@@ -1,5 +1,5 @@
 """Ends at random moments. After each no process is left within five seconds, the terminal's settings are back, and where it takes
-output the alternate screen, pastes, reordering and the modes of Alt and of arrows are as before, with nothing behind that."""
+output the alternate screen, pastes, reordering and the modes of Alt and of arrows are as before, with nothing after that."""
 import os, random, re, signal, termios, time
 from terminals import Run
 

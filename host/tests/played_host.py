@@ -89,7 +89,7 @@ class Start:
                 return letter, text
 
     def value(self, option):
-        """The word behind an option of the program; None without it."""
+        """The word after an option of the program; None without it."""
         return self.words[self.words.index(option) + 1] if option in self.words else None
 
     def read(self):

@@ -171,7 +171,7 @@ class Run:
         return 0
 
     def left(self, seconds):
-        """The processes of the run that are left after so many seconds; none as soon as there are none."""
+        """Waits this many seconds at most until no process of the run is left. Returns those that are left."""
         end = time.perf_counter() + seconds
         while True:
             reap(self.leader)

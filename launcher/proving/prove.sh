@@ -178,7 +178,7 @@ is_ready() { # CRATE THAT IT STANDS ON ..
     done
 }
 
-# Starts a crate, which takes so many seconds and begins a chain of so many. The next crate of the longest chain gets the most
+# Starts a crate, which takes SECONDS and begins a chain of CHAIN seconds. The next crate of the longest chain gets the most
 # processors, up to the four that a proof can use well. Another crate gets more the less slack it has before that chain needs it.
 start() { # CRATE SECONDS CHAIN
     spare=$((longest - $3)) jobs=1 niceness=10

@@ -122,7 +122,7 @@ check_questions() {
     press 'a character put in taken back' 'ab|cde||f|- 4:2' 1,3 C-z
     press 'a question that another key ends' 'ab|cde||f|- 4:1 find:' 0,3 Home C-k C-w
     type_keys Escape
-    # a key right behind an Escape would belong to it
+    # a key right after an Escape would belong to it
     sleep 0.3
     press 'a question given up by Escape' 'ab|cde||f|- 4:1' 0,3 C-k Escape
     press 'a region' 'ab|<cd>e||f|- 2:3' 2,1 C-g 2 Enter C-@ C-f C-f

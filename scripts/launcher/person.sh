@@ -81,7 +81,7 @@ is_editing_or_over() {
     is_editing || [ -e "$folder/ended" ]
 }
 
-# Whether the session's script is behind the editor.
+# Whether the editor has ended, and its status is written.
 has_ended() {
     [ -e "$folder/ended" ]
 }

@@ -133,7 +133,7 @@ check_refused_texts() {
     start 8 50 "$top/bidi-edit" bytes
     finish 'opening, a program' 1 50
     same 'opening, a program: it is no text in another encoding' "$(cat "$folder/errors")" 'bidi-edit: bytes is a binary file and no text: od -c shows it'
-    # lines of 17 bytes, cut behind a whole letter; with six bytes more it is one byte too long
+    # lines of 17 bytes, cut after a whole letter; with six bytes more it is one byte too long
     awk 'BEGIN { for (n = 0; n < 16777216; n += 17) print "\327\251\327\234\327\225\327\235 \327\234\327\232 ab" }' | head -c 16777211 >bytes
     start 8 50 "$top/bidi-edit" bytes
     has 'opening, 16 MB of Hebrew' "$(settled_screen person)" '- 1:1'

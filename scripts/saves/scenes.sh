@@ -57,7 +57,9 @@ printf 'x\033[B\033[Hy\033[B\033[Hz\023' >"$folder/keys"
 { cat "$folder/keys" && printf '\023'; } >"$folder/keys_twice"
 # for checks that exchange the keys for a while
 cp "$folder/keys" "$folder/keys_of_all"
-# the scenes that `prepare` makes, for each way of a save
+# The scenes that `prepare` makes, for each way of a save. plain: FILE alone; long: more text; secret: for its owner alone;
+# linked: by a link; made: there is no FILE; dangling: a link to no FILE; beset: the user has a file of the draft's name; owned:
+# another user's; doubled: FILE has two names.
 scenes='plain long secret linked made dangling beset'
 scenes_in_place='plain long linked made doubled'
 scenes_itself='plain doubled'

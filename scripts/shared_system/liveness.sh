@@ -57,7 +57,7 @@ check_two_answers() { # ANSWER
     expect_in second "liveness, the second, whose answer is $1, sees it live" 'note is open in another window of yours'
     terminal send-keys -t first y
     wait_for 30 shows_in first '* 1:3'
-    # behind the bytes of sizes and notices, which end in t and ~
+    # after the bytes of sizes and notices, which end in t and ~
     same "liveness, both keys of the first are kept ($1)" "$(sed -e 's/.*[t~]//' "$(session_of_check)/journal")" y
     close_editors first second
 }

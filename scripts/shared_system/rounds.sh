@@ -69,7 +69,7 @@ run_round() { # USER STRANGER
 # ---- several editors
 
 # Opens an editor with these words in a terminal of its own, a session of tmux of this NAME; the shell words PREFIX precede it.
-# Its messages stay visible, and behind them a row `status N` with its exit status. The window is wide enough for a message in one
+# Its messages stay visible, and after them a row `status N` with its exit status. The window is wide enough for a message in one
 # row.
 open_editor() { # NAME PREFIX WORD..
     name=$1 prefix=$2

@@ -44,7 +44,7 @@ end_with_others() { # NAME RUNS SIGNAL OTHER..
     same "$name, of $runs runs those that go on" "$lost" 0
 }
 
-# Closes the terminal right behind a change of its size.
+# Closes the terminal right after a change of its size.
 close_with_size() { # RUNS
     lost=0
     for run in $(seq "$1"); do

@@ -1,6 +1,6 @@
 # shellcheck shell=sh
 # shellcheck disable=SC2154 # variables shared with other parts
-# The checks in one terminal. Uses window.sh and kinds.sh. A picture is named KIND-WHAT. Half a second behind the last keys, which
+# The checks in one terminal. Uses window.sh and kinds.sh. A picture is named KIND-WHAT. Half a second after the last keys, which
 # end in a save, lets the editor take them before it is left.
 
 skip() { # NAME WHY
@@ -229,8 +229,8 @@ check_questions() { # KIND
     other_picture "$1, what is told" "$1-questions-before" "$1-questions-told"
 }
 
-# A match that Enter replaces after F4, and all behind it, which Control and the backslash replace and Control and Z takes back, each
-# followed by what shows it.
+# A match that Enter replaces after F4, and all after it, which Control and the backslash replace and Control and Z takes back,
+# each followed by what shows it.
 check_replacing() { # KIND
     printf 'one two two two\n' >"$room/files/typed"
     open_editor typed "$1-replacing"
