@@ -86,6 +86,7 @@ static void tell_rows(int file, char letter, bool is_last) {
     if (ioctl(file, TIOCGWINSZ, &window) != 0) return;
     unsigned rows = window.ws_row > MOST_ROWS ? MOST_ROWS : window.ws_row;
     int length = snprintf(text, sizeof text, "\033[8%c\0337", letter);
+    /* 32 bytes are more than a row's and the last ones */
     for (unsigned row = 1; row <= rows && length + 32 < (int)sizeof text; row++)
         length += snprintf(text + length, sizeof text - (size_t)length, "\033[%u;1H\033[8%c", row, letter);
     length += snprintf(text + length, sizeof text - (size_t)length, "\0338");

@@ -57,7 +57,9 @@ for file in "$top"/scripts/shared_system/*.sh; do
 done
 
 install_copy
+# keeps the tmux server alive between two checks
 terminal -f /dev/null new-session -d -s keep -x 80 -y 24 'sleep 36000'
+# 61001 and 61002 are users that no system should have
 if [ "$(id -u)" = 0 ]; then
     run_round 0 61001
     run_round 61001 61002

@@ -111,6 +111,7 @@ memory = []
 places = [f"{rows}x{columns}" for rows, columns in WINDOWS] if words.windows else ["first rows", "middle", "end"]
 print("| Key, ms | Text | " + " | ".join(places) + " |\n|---|---|" + "---|" * len(places))
 for name in [words.text] if words.text else TEXTS:
+    # in windows each repetition is a line of its own, else all are one paragraph
     text = (TEXTS[name] + "\n" * words.windows) * (words.bytes // len(TEXTS[name].encode()) + 1)
     with open("text", "w", encoding="utf-8") as file:
         file.write(text)

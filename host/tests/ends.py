@@ -62,7 +62,7 @@ def wait_for_child(run, name):
 
 
 def block(run):
-    """Has the terminal take no output any more."""
+    """Has the terminal take no output any more: nobody reads it, and each key paints until it is full, or it is stopped at once."""
     if random.random() < 0.5:
         termios.tcflow(run.slave, termios.TCOOFF)
     run.is_read = False

@@ -5,6 +5,7 @@ from cases import QUIT
 from ends import restored
 from terminals import Run
 
+# The error that a call fails by, one that the system may give; EIO for all others.
 ERRORS = {'fork': 'EAGAIN', 'clone': 'EAGAIN', 'vfork': 'EAGAIN', 'mmap': 'ENOMEM', 'brk': 'ENOMEM', 'openat': 'EMFILE', 'pipe2': 'EMFILE', 'readlink': 'EACCES'}
 # The end itself, what does not return, what cannot fail, and what fails in the loader or, as no kernel does, in malloc.
 PASSED_OVER = {'brk', 'mmap', 'exit_group', 'execve', 'rt_sigreturn', 'getpid', 'geteuid', 'gettid', 'arch_prctl', 'set_tid_address', 'set_robust_list', 'rseq', '+++', '---'}

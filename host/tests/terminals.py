@@ -74,8 +74,8 @@ class Run:
 
     `master` and `slave` are the two ends of the terminal, `settings` its settings before the command. `leader` is the session's
     leader, `job` its only job, `mark` a variable that all processes of the run have. `output` is what was read of the terminal,
-    which is not read where `is_read` is False. `status` is the job's, as waitpid gives it, None before its end; `stops` is how
-    often it stopped.
+    which is not read where `is_read` is False. `told` is the pipe of statuses, `hold` the one by which the leader waits. `status`
+    is the job's, as waitpid gives it, None before its end; `stops` is how often it stopped.
     """
     count = 0  # of runs in this process, for marks
 

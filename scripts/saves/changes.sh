@@ -281,6 +281,7 @@ remove_file() { rm "$kept"; }
 save_first_letter() { sed -i '1s/^/x/' "$kept"; }
 save_other_letter() { sed -i '1s/^/w/' "$kept"; }
 
+# In keys \023 is Save, and \177 erases the letter before the cursor.
 check_before_starts() {
     begin_kind 'changed before the start'
     check_before_start 'nothing' true '' stored
