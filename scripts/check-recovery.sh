@@ -47,8 +47,6 @@ fails() { # NAME DETAIL
     echo "FAILS $1: $2" | tee -a "$folder/results"
 }
 
-# ---- the texts of the sessions
-
 # Reports the fault of a recovered text.
 judge() { # SESSION TEXT JOURNAL
     python3 "$top/scripts/recovery_judge.py" "$@"
@@ -85,7 +83,6 @@ has_ended() { # PROCESS..
     done
 }
 
-# Prints the process of the host's child bidi_edit.
 program_of() { # HOST
     ps -o pid=,comm= --ppid "$1" | sed -n 's/^ *\([0-9]*\) bidi_edit$/\1/p'
 }
@@ -189,7 +186,6 @@ asks() { # NAME
     terminal capture-pane -p -t "$1" | grep -qF '[d]elete for good'
 }
 
-# Runs each STEP-th session from FIRST on.
 run_share() { # FIRST STEP
     number=$1
     while [ "$number" -lt "$sessions" ]; do
@@ -287,7 +283,6 @@ scene_recover_asks() {
         wait_for 150 has_row shell '- 1:1' && end_by_keys C-q && say 'ls state/bidi_edit | wc -l' && expect "$scene" 0
 }
 
-# Whether the question is on the screen twice.
 is_asked_again() {
     [ "$(terminal capture-pane -p -J -t shell | grep -oF '[l]ater?' | wc -l)" = 2 ]
 }
