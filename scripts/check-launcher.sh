@@ -1,8 +1,9 @@
 #!/bin/sh
-# Runs the host and the keeper in tmux: the input of a program that only records it, refusals and messages, ends, the terminal's
-# state afterwards, and then the editor itself, also as an editor that other programs call. It is not part of `rt ci`. It skips
-# (77) if there is no tmux and none can be installed from Debian's packages, or if the programs are not built. Names after it
-# select the checks whose names begin so. The last line has the totals. Exit status 1: a check failed. The checks are in scripts/launcher.
+# check-launcher.sh [NAME..]: runs the host and the keeper in tmux: the input of a program that only records it, refusals and
+# messages, ends, the terminal's state afterwards, and then the editor itself, also as an editor that other programs call. It is
+# not part of `rt ci`. A NAME selects the checks whose names begin with it. The checks are in scripts/launcher. The last line has
+# the totals. Exit status 1: a check failed; 77: there is no tmux and none can be installed from Debian's packages, or the
+# programs are not built.
 set -u
 
 if ! command -v tmux >/dev/null 2>&1; then

@@ -1,8 +1,8 @@
 #!/bin/sh
-# Checks the model of the terminal against tmux: feeds the painter's bytes to a pane of the picture's size, and reads the pane
-# and its cursor back. crates/paint_glyphs prints the bytes: the first picture of a case whole, each later one by its changes.
-# It is not part of `rt ci`. The last line has the totals. Exit status 1: a case differs; 77: there is no tmux and none can be
-# installed from Debian's packages.
+# check-real-terminal.sh: checks the model of the terminal against tmux: feeds the painter's bytes to a pane of the picture's
+# size, and reads the pane and its cursor back. crates/paint_glyphs prints the bytes: the first picture of a case whole, each
+# later one by its changes. It is not part of `rt ci`. The last line has the totals. Exit status 1: a case differs; 77: there is
+# no tmux and none can be installed from Debian's packages.
 set -u
 
 if ! command -v tmux > /dev/null 2>&1; then

@@ -1,11 +1,11 @@
 #!/bin/sh
-# Interrupts saves of the built program: kills it at each system call of a save, makes each call fail with each of three errors,
-# changes the file from another program meanwhile, and saves to files, links and owners of all kinds. FILE must have its old or
-# its new bytes, complete, with its owner and permissions; a link must stay a link; only the draft of a killed save may be left
-# beside it; and nobody else may read the draft. All this is checked for saves that replace FILE and for saves that overwrite
-# it, where FILE may be torn as long as the mark, in a folder of its own or beside FILE, has the whole new text. It is not part of
-# `rt ci`, and needs strace; some checks need root. Its word is the program. It prints the number of checks of each kind. Exit
-# status 1: a check failed; 77: strace or the program is missing.
+# check-saves.sh [PROGRAM]: interrupts saves of the built program, or of PROGRAM: kills it at each system call of a save, makes
+# each call fail with each of three errors, changes the file from another program meanwhile, and saves to files, links and owners
+# of all kinds. FILE must have its old or its new bytes, complete, with its owner and permissions; a link must stay a link; only
+# the draft of a killed save may be left beside it; and nobody else may read the draft. All this is checked for saves that replace
+# FILE and for saves that overwrite it, where FILE may be torn as long as the mark, in a folder of its own or beside FILE, has the
+# whole new text. It is not part of `rt ci`, and needs strace; some checks need root. It prints the number of checks of each kind.
+# Exit status 1: a check failed; 77: strace or the program is missing.
 set -u
 
 export LC_ALL=C.UTF-8

@@ -1,10 +1,10 @@
 #!/bin/sh
-# Plays random schedules from an independent model of the editor by play_scenes, step by step and by one call, and counts those
-# whose answers all agree with the model. Its first word is their folder, with schedules.tsv, settled.tsv and the small tables
-# test-classes.txt, test-brackets.txt and test-mirroring.txt; a second word is a program built elsewhere. A line has the fields of
-# a scene, 1 to 7, the first of which names the tables, the small ones (test) or Debian's unicode-data (real), and then the fields
-# of its answers, 8 to 14. crates/play_scenes/src/main.rt tells what they are; field 5 is the call of the store that fails, and
-# field 9 has a digit for each step, 1 where the terminal then shows the picture last painted. Exit status 77: there are no
+# check-schedules.sh FOLDER [PROGRAM]: plays random schedules from an independent model of the editor by play_scenes, or by
+# PROGRAM, step by step and by one call, and counts those whose answers all agree with the model. FOLDER has schedules.tsv,
+# settled.tsv and the small tables test-classes.txt, test-brackets.txt and test-mirroring.txt. A line of a schedule has the fields
+# of a scene, 1 to 7, the first of which names the tables, the small ones (test) or Debian's unicode-data (real), and then the
+# fields of its answers, 8 to 14. crates/play_scenes/src/main.rt tells what they are; field 5 is the call of the store that fails,
+# and field 9 has a digit for each step, 1 where the terminal then shows the picture last painted. Exit status 77: there are no
 # schedules or no tables. It is not part of `rt ci`.
 set -eu
 

@@ -1,7 +1,7 @@
 #!/bin/sh
-# Runs the built program to each of its ends, and bidi_input if it is built, and compares the exit status, the line on standard
-# error and the saved file with the manual. It is not part of `rt ci`, whose tests call the functions that `main` calls and not the
-# program. The last line has the totals. Exit status 1: one differs; 77: the program is not built.
+# check-statuses.sh: runs the built program to each of its ends, and bidi_input if it is built, and compares the exit status, the
+# line on standard error and the saved file with the manual. It is not part of `rt ci`, whose tests call the functions that `main`
+# calls and not the program. The last line has the totals. Exit status 1: one differs; 77: the program is not built.
 set -u
 
 cd "$(dirname "$0")/.." || exit 1

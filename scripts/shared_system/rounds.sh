@@ -1,7 +1,7 @@
 # shellcheck shell=sh
 # shellcheck disable=SC2034,SC2154 # variables shared with other parts
 # A round is all parts as one user, for check-shared-system.sh. A part is a file of this folder, NAME.sh, with a function
-# check_NAME; a check in it runs only if `asked NAME` says that it is selected. Parts use one another's functions.
+# check_NAME, which does something only if `asked NAME` says that it is selected. Parts use one another's functions.
 #
 # Variables for parts: `who`, root or plain; `user`, the number of the editing user, and `stranger`, the
 # number of another plain user, empty if this script cannot become one; `folder`, new for the round and owned by the user, with
