@@ -315,5 +315,5 @@ def missing_programs(tree):
         os.rename(f'{lib}/bidi_input.away', f'{lib}/bidi_input')
 
 
-ALL = [edits, sizes, resizes, notices, erases, standard_files, questions, refusals, statuses, printing, without_terminal, deaf_programs, limits,
-       missing_programs]
+ALL = [edits, sizes, resizes, notices, erases, standard_files, questions, refusals, statuses, printing, without_terminal,
+       deaf_programs, limits, missing_programs]

@@ -1,5 +1,6 @@
-"""Cases of the host about its keeper: one that dies, errs or does not answer, and what it says while the program runs. cases.py says
-what a case is and what its words mean."""
+"""Cases of the host about its keeper: one that dies, errs or does not answer, and what it says while the program runs.
+
+cases.py says what a case is and what its words mean."""
 import os, signal, time
 from cases import QUIT, finish, holds, same, start
 from ends import TAIL
