@@ -65,7 +65,7 @@ is_stopped() { # PROCESS
 }
 
 # Whether the recorder got these bytes.
-has_told() { # BYTES
+has_got() { # BYTES
     grep -a -q -F "$1" "$folder/record"
 }
 
@@ -108,7 +108,7 @@ check_stop() { # SHELL
     start_shell 8 50 "$recorder" f
     wait_for 50 test -e "$folder/record"
     stop_and_take_up "stop, in $1"
-    wait_for 50 has_told '[8;8;50t'
+    wait_for 50 has_got '[8;8;50t'
     same "stop, in $1: the size is told again" "$(tr -d '\033' <"$folder/record")" '[8;8;50t'
     has 'stop, the modes are set again' "$(written)" '^[[?1047h^[[?1l^[(B^O^[[4l^[[?6l^[[r^[[?7h^[[?25h^[[8l^[[1 k'
     wait_for 20 is_raw

@@ -3,7 +3,8 @@
 # A disk without room for a session or its journal: the fault is reported in time, waiting text is kept once there is room, and
 # the messages at the end are true.
 
-# Puts the state folder on a small disk of its own, `small`; else the check is skipped. `state` has its other place meanwhile.
+# Puts the state folder on a small disk of its own, `small`; else the check is skipped. `usual_state_home` has its usual place
+# meanwhile.
 open_small_disk() { # SIZE
     mkdir -p "$folder/small"
     if ! mount -t tmpfs -o "size=$1" none "$folder/small" 2>/dev/null; then
@@ -13,7 +14,7 @@ open_small_disk() { # SIZE
     fi
     mounted="$mounted $folder/small"
     chown "$user" "$folder/small"
-    state=$XDG_STATE_HOME
+    usual_state_home=$XDG_STATE_HOME
     export XDG_STATE_HOME="$folder/small"
 }
 
@@ -21,7 +22,7 @@ close_small_disk() {
     umount "$folder/small"
     rmdir "$folder/small"
     mounted=${mounted%" $folder/small"}
-    export XDG_STATE_HOME="$state"
+    export XDG_STATE_HOME="$usual_state_home"
 }
 
 title_of() { # NAME

@@ -196,20 +196,20 @@ check_closed_error() {
 # Root under another's HOME, as by sudo -E.
 check_home_of_another() {
     if [ "$who" != root ] || ! has_stranger 'faults, root under the home of another'; then return 0; fi
-    as_stranger_home=$folder/another
-    mkdir "$as_stranger_home"
-    chown "$stranger" "$as_stranger_home"
+    home_of_stranger=$folder/another
+    mkdir "$home_of_stranger"
+    chown "$stranger" "$home_of_stranger"
     put_note note
-    open_editor first "env -u XDG_STATE_HOME HOME='$as_stranger_home'" note
+    open_editor first "env -u XDG_STATE_HOME HOME='$home_of_stranger'" note
     wait_for 60 shows_in first '- 1:1'
     terminal send-keys -t first x
     wait_for 60 shows_in first '* 1:2'
-    same 'faults, root under the home of another: nothing of root is there' "$(find "$as_stranger_home" -user 0)" ''
+    same 'faults, root under the home of another: nothing of root is there' "$(find "$home_of_stranger" -user 0)" ''
     close_editors first
     # the session is in root's own folder
     same 'faults, root under the home of another: what is kept' \
-        "$(env -u XDG_STATE_HOME HOME="$as_stranger_home" "$host" --forget note 2>&1 | grep -c -F "$folder/files/note")" 1
-    rm -rf "$as_stranger_home"
+        "$(env -u XDG_STATE_HOME HOME="$home_of_stranger" "$host" --forget note 2>&1 | grep -c -F "$folder/files/note")" 1
+    rm -rf "$home_of_stranger"
     leave_files
 }
 
@@ -238,7 +238,7 @@ check_no_inodes() {
     for inodes in 1 2 4 6; do
         mount_small "nr_inodes=$inodes,mode=777" || return 0
         put_note note
-        state=$XDG_STATE_HOME
+        usual_state_home=$XDG_STATE_HOME
         export XDG_STATE_HOME="$folder/small"
         open_editor first '' note
         wait_for 60 shows_in first '- 1:1'
@@ -246,7 +246,7 @@ check_no_inodes() {
         expect_in first "faults, a disk of $inodes files: the end" 'status 0'
         same "faults, a disk of $inodes files: what stays" "$(find "$folder/small" -mindepth 2)" ''
         close_editors first
-        export XDG_STATE_HOME="$state"
+        export XDG_STATE_HOME="$usual_state_home"
         unmount_small
     done
     leave_files

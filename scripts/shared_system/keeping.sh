@@ -72,7 +72,7 @@ check_passing_file() {
         return
     fi
     chown "$user" "$lasting"
-    state=$XDG_STATE_HOME
+    usual_state_home=$XDG_STATE_HOME
     export XDG_STATE_HOME="$lasting"
     open_editor first '' note
     wait_for 60 shows_in first '- 1:1'
@@ -85,7 +85,7 @@ check_passing_file() {
     (cd /tmp && rmdir "bidi_edit.$user") 2>/dev/null
     close_editors first
     rm -rf "$lasting" note
-    export XDG_STATE_HOME="$state"
+    export XDG_STATE_HOME="$usual_state_home"
 }
 
 # Has strace record which files the editor puts on the disk.

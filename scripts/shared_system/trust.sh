@@ -25,7 +25,7 @@ victim_stays() { # CHECK
 # XDG_STATE_HOME belongs to another user, with a session of FILE in it. FILE is opened without a question, as in the next checks.
 check_state_of_stranger() {
     has_stranger 'trust, a state folder of another user' || return 0
-    state=$XDG_STATE_HOME
+    usual_state_home=$XDG_STATE_HOME
     export XDG_STATE_HOME="$folder/theirs"
     plant_session "$XDG_STATE_HOME"
     chown -hR "$stranger" "$XDG_STATE_HOME"
@@ -45,7 +45,7 @@ check_state_of_stranger() {
     same 'trust, a state folder of another user: nothing is made there' "$(find "$folder/theirs" | wc -l)" 9
     close_editors first
     rm -rf "$folder/theirs"
-    export XDG_STATE_HOME="$state"
+    export XDG_STATE_HOME="$usual_state_home"
 }
 
 # A folder of the user's that others may write.
