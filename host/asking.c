@@ -38,6 +38,7 @@ static bool carry_out_one(const struct message *message, struct request *request
     case 'q': ask(message->text); return false;
     case 'n': set_title(request, message->text); return false;
     case 'm': give_notice(message->text); return false;
+    /* in octal */
     case 'u': request->mask = (unsigned)strtoul(message->text, NULL, 8) & 0777; return false;
     case 'g': *outcome = GO; return true;
     case 'P': *outcome = PRINT; return true;

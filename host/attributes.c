@@ -8,7 +8,8 @@
 #include <sys/types.h>
 #include <sys/xattr.h>
 
-/* More than the kernel gives for a list, or for the names of a file's attributes. */
+/* Bytes. MOST: as many as the kernel gives for an attribute, or for the names of a file's. A POSIX list is a header and entries,
+ * of which a mode has three: owner, group and others. */
 enum { MOST = 65536, POSIX_HEADER = 4, POSIX_ENTRY = 8, MODE_ENTRIES = 3 };
 
 static char value[MOST], other[MOST], names[MOST];
@@ -25,7 +26,8 @@ static uint32_t number_at(const char *at) {
 }
 
 /* Whether a list of NFS, version 4, says more than a mode: it has entries other than one for the owner, the group and everyone
- * each to allow and to deny. */
+ * each to allow and to deny. In XDR it is a count, and of each entry four numbers, its type (0 allows, 1 denies), flags,
+ * permissions and the length of a name, and the name, filled up to four bytes. */
 static enum answer is_more_than_mode(const char *list, size_t length) {
     static const char *const whos[] = {"OWNER@", "GROUP@", "EVERYONE@"};
     bool was_there[3][2] = {{false}};
@@ -47,6 +49,7 @@ static enum answer is_more_than_mode(const char *list, size_t length) {
     return NO;
 }
 
+/* Whether a file has this attribute, with more than `least` bytes. */
 static enum answer is_there(const char *path, const char *name, size_t least) {
     ssize_t length = getxattr(path, name, value, sizeof value);
     if (length < 0) return is_none(length) ? NO : UNKNOWN;

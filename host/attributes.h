@@ -2,6 +2,7 @@
 #ifndef ATTRIBUTES_H
 #define ATTRIBUTES_H
 
+/* UNKNOWN where the system did not tell. */
 enum answer { NO, YES, UNKNOWN };
 
 /* Whether a file has an access list that says more than its mode, or a folder one that it gives to new files. */

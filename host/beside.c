@@ -24,6 +24,7 @@ static void close_files(unsigned first) {
 }
 
 int facts_answer = -1;
+/* The child, 0 without one, and what was read of its answer. */
 static pid_t child;
 static struct queue answer;
 

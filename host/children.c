@@ -17,7 +17,7 @@
 #include "watcher.h"
 #include "writing.h"
 
-/* A size waits this long for the room that the filter took before it. */
+/* A size waits SIZE_LIMIT milliseconds for the room that the filter took before it, TRIES times. MOST_WORDS are bytes. */
 enum { SIZE_LIMIT = 100, TRIES = 3, MOST_WORDS = 65536 };
 
 pid_t filter, program;
@@ -49,7 +49,8 @@ static _Noreturn void copy_keys(void) {
     }
 }
 
-/* Becomes the filter, which dies with the host and whose own messages nobody could read. */
+/* Becomes the filter, which dies with the host and whose own messages nobody could read. As in shells, 126 is the status where it
+ * cannot be made ready, 127 where it cannot be started. */
 static _Noreturn void become_filter(char *file, int in, pid_t host) {
     int none = open("/dev/null", O_WRONLY);
     if (prctl(PR_SET_PDEATHSIG, SIGKILL) != 0 || getppid() != host) _exit(1);
@@ -133,7 +134,8 @@ void send_size(void) {
     }
 }
 
-/* Hands on each word that has its end, and keeps the rest. One that fills all the room is not a word. */
+/* Hands on each word that has its end, and keeps the rest. One that fills all the room is not a word: half of it goes, so that
+ * the host hears on. */
 static void hand_on_words(void) {
     size_t from = 0;
     char *end = NULL;

@@ -15,9 +15,11 @@
 #include "waiting.h"
 #include "writing.h"
 
-/* How long the keeper has for the session's end, and to end itself; with a signal, and in all from that on. */
+/* Milliseconds that the keeper has for the session's end: ENDING, or after a signal ENDING_BY_SIGNAL, but not beyond
+ * WHOLE_BY_SIGNAL after it, and LEAST in any case. Then it has LEAVING, or LEAST after a signal, to end itself. So a host that
+ * got a signal is gone after five seconds, which host/tests/ends.py wants. */
 enum { ENDING = 30000, ENDING_BY_SIGNAL = 3000, WHOLE_BY_SIGNAL = 4300, LEAST = 200, LEAVING = 3000 };
-/* How long a text may take. */
+/* How many milliseconds a text may take. */
 enum { TELLING = 10000, TELLING_BY_SIGNAL = 1000 };
 
 void tell_keeper(const char *effect) {

@@ -27,6 +27,7 @@ static const char *word_behind(const struct command *command, const char *name) 
     return NULL;
 }
 
+/* Whether a word of the command line, if it is there, is this side of the window. */
 static bool is_side(const char *word, unsigned size) {
     return !word || strtoul(word, NULL, 10) == size;
 }

@@ -10,7 +10,7 @@
 extern enum kind terminal_kind;
 extern struct reordering terminal_reordering;
 
-/* Restores the screen within this time, as far as the terminal takes it. */
+/* Restores the screen within this many milliseconds, as far as the terminal takes it. */
 void restore_screen(int64_t limit);
 
 #endif

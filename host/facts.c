@@ -53,6 +53,7 @@ static enum answer is_in_mounts(const char *real) {
     return found;
 }
 
+/* Whether something is mounted at a path: by the kernel's word, else by its list. */
 static enum answer is_mount(const char *path, const char *real) {
     struct statx look;
     if (statx(AT_FDCWD, path, AT_STATX_DONT_SYNC, 0, &look) == 0 && (look.stx_attributes_mask & STATX_ATTR_MOUNT_ROOT))
@@ -74,6 +75,9 @@ static bool is_held_by_folder(struct path path, const struct stat *look) {
     return user != 0 && user != look->st_uid && user != folder.st_uid;
 }
 
+/* r, w and x: the user may read, write, and run or enter it; l: it has an access list; s: a label, as has_label says; m: it is a
+ * mount; k: its folder keeps the user from replacing it; ?: one of l, s and m is not known. add_facts adds t: it is, or would be,
+ * in memory. */
 static void put_own_letters(struct letters *letters, const char *path, const struct path *real, const struct stat *look) {
     struct path above = *real;
     go_up(&above);
@@ -88,6 +92,7 @@ static void put_own_letters(struct letters *letters, const char *path, const str
     put_letter(letters, '?', list == UNKNOWN || label == UNKNOWN || mount == UNKNOWN);
 }
 
+/* The bytes that the user may still write there; root may take the reserve too. */
 static uint64_t free_room(const char *folder) {
     struct statvfs look;
     if (statvfs(folder, &look) != 0) return 0;
@@ -112,6 +117,7 @@ void add_facts(struct queue *queue, const char *path) {
     put_letter(&letters, 't', is_in_memory(folder.text));
     long longest = pathconf(folder.text, _PC_NAME_MAX);
     add_message(queue, 'a', letters.text);
+    /* 255 is what most file systems have */
     add_number(queue, 'l', longest > 0 ? (uint64_t)longest : 255);
     add_number(queue, 'm', free_room(folder.text));
     add_message(queue, 'r', real.text);

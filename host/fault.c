@@ -10,6 +10,7 @@
 #include "signals.h"
 #include "writing.h"
 
+/* Milliseconds for standard error to take a text, without and with a signal; the most bytes of a foreign text. */
 enum { LIMIT = 1000, LIMIT_BY_SIGNAL = 200, MOST = 4096 };
 
 static void tell(const char *text, size_t length) {

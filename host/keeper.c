@@ -13,6 +13,7 @@
 
 struct keeper keeper = {.to = -1, .from = -1, .state = KEEPER_ENDED};
 
+/* Becomes the keeper, which only its input's end is to end. */
 static _Noreturn void become_keeper(char *program, int in, int out) {
     static const int ignored[] = {SIGHUP, SIGINT, SIGQUIT, SIGTERM, SIGPIPE, SIGTTOU, SIGTSTP, SIGXFSZ};
     for (size_t i = 0; i < sizeof ignored / sizeof *ignored; i++) signal(ignored[i], SIG_IGN);
@@ -44,6 +45,7 @@ bool start_keeper(char *program) {
     return true;
 }
 
+/* Takes note of the first cause for which the keeper can be spoken with no more. */
 static void leave_in_state(enum keeper_state state) {
     if (keeper.state == KEEPER_SPEAKS) keeper.state = state;
 }

@@ -14,7 +14,7 @@ enum keeper_state { KEEPER_SPEAKS, KEEPER_ENDED, KEEPER_ERRS, KEEPER_LOST };
 
 struct keeper {
     pid_t process; /* 0 once it was waited for */
-    int to, from;
+    int to, from;  /* pipes, -1 once closed */
     int status; /* as waitpid gives it */
     enum keeper_state state;
     struct queue said, heard; /* to it, from it */
@@ -23,6 +23,7 @@ struct keeper {
 
 extern struct keeper keeper;
 
+/* Starts the keeper from this file. */
 bool start_keeper(char *program);
 
 /* Says a message; what is said to a keeper that has ended is dropped. */
@@ -39,7 +40,8 @@ void lose_keeper(void);
 /* Reads and writes as far as the files are ready. */
 void mind_keeper(short from_events, short to_events);
 
-/* Ends the keeper's input, and waits until it has ended or the time is over; then kills it. Returns whether it ended itself. */
+/* Ends the keeper's input, and waits until it has ended or the time `end` has come; then kills it. Returns whether it ended
+ * itself. */
 bool end_keeper(int64_t end);
 
 #endif

@@ -23,6 +23,7 @@ static bool begins(const char *text, const char *beginning) {
     return strncmp(text, beginning, strlen(beginning)) == 0;
 }
 
+/* The kind by the terminal's name, as it told tmux. A VTE that told none may have left its variable. */
 static enum kind by_answer(const char *answer) {
     if (begins(answer, "VTE")) return VTE;
     if (begins(answer, "Konsole")) return KONSOLE;
@@ -30,6 +31,7 @@ static enum kind by_answer(const char *answer) {
     return *answer == 0 && is_set("VTE_VERSION") ? VTE : OTHER_KIND;
 }
 
+/* The kind by TERM_PROGRAM. */
 static enum kind by_name(const char *name) {
     static const struct {
         const char *name;

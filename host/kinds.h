@@ -4,6 +4,7 @@
 
 #include <stdbool.h>
 
+/* OTHER_KIND is another one, or one that is not known. */
 enum kind { OTHER_KIND, VTE, KONSOLE, KITTY, QTERMINAL, MLTERM, TERMINOLOGY };
 
 /* Finds the terminal that draws the rows: by its answer to tmux, by TERM, or by the variable that it sets. A terminal that

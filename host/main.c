@@ -22,7 +22,8 @@
 #include "terminal.h"
 #include "writing.h"
 
-/* How long the keeper has to end itself. */
+/* How long the keeper has to end itself, in milliseconds: at an end without a session, and before printing, where it has no more
+ * to do. */
 enum { LEAVING = 3000, PRINTING = 1000 };
 
 static struct programs programs;
@@ -37,6 +38,7 @@ static void open_standard_files(void) {
     if (file >= 0) close(file);
 }
 
+/* Says a variable, if it is set. */
 static void say_variable(const char *name) {
     const char *value = getenv(name);
     size_t room = strlen(name) + (value ? strlen(value) : 0) + 2;
@@ -74,6 +76,7 @@ static void say_window(struct size size) {
     say('C', text);
 }
 
+/* Says all that the keeper hears at the start. */
 static void say_start(int count, char **own_words, struct size size) {
     static const char *const names[] = {"HOME", "XDG_STATE_HOME", "XDG_RUNTIME_DIR", "TMPDIR", "BIDI_EDIT_DATA"};
     struct winsize window = {0};
@@ -90,6 +93,7 @@ static void say_start(int count, char **own_words, struct size size) {
     say('.', "");
 }
 
+/* Becomes the printing program. */
 static _Noreturn void print(const struct request *request) {
     end_keeper(now() + PRINTING);
     give_back_signals();
@@ -107,6 +111,7 @@ static _Noreturn void leave(enum outcome outcome, const struct request *request)
     exit(1);
 }
 
+/* Runs the session, from the change of the terminal to the keeper's end. */
 static _Noreturn void edit(const struct request *request, struct size size) {
     unsigned long length = 0;
     const char *cause = "";

@@ -16,9 +16,10 @@
 #include "signals.h"
 #include "writing.h"
 
-/* How long tmux may take to answer, and the terminal to take what it is sent. */
+/* How many milliseconds tmux may take to answer, and the terminal to take what it is sent; the most rows that are told. */
 enum { PATIENCE = 2000, TELLING = 500, MOST_ROWS = 500 };
 
+/* The device of the terminal around tmux; empty without one. */
 static struct path outer;
 
 static _Noreturn void become_tmux(int out) {
@@ -59,6 +60,7 @@ static void ask_tmux(char *answer, size_t room) {
     kill_child(&child);
 }
 
+/* Whether this is a device that the user may write. */
 static bool can_be_told(const char *path) {
     struct stat look;
     return stat(path, &look) == 0 && S_ISCHR(look.st_mode) && faccessat(AT_FDCWD, path, W_OK, AT_EACCESS) == 0;
@@ -84,6 +86,7 @@ static void tell_rows(int file, char letter, bool is_last) {
     if (ioctl(file, TIOCGWINSZ, &window) != 0) return;
     unsigned rows = window.ws_row > MOST_ROWS ? MOST_ROWS : window.ws_row;
     int length = snprintf(text, sizeof text, "\033[8%c\0337", letter);
+    /* 32 bytes are more than a row's and the last ones */
     for (unsigned row = 1; row <= rows && length + 32 < (int)sizeof text; row++)
         length += snprintf(text + length, sizeof text - (size_t)length, "\033[%u;1H\033[8%c", row, letter);
     length += snprintf(text + length, sizeof text - (size_t)length, "\0338");

@@ -7,7 +7,8 @@
 #include "signals.h"
 #include "writing.h"
 
-/* A child that is killed has ended within this time, if at all. */
+/* Milliseconds. A child that is killed has ended within DYING, if at all; a wait looks for the child's end after each STEP at
+ * least. */
 enum { DYING = 300, STEP = 50 };
 
 bool wait_for_child(pid_t *child, int *status, int64_t end) {

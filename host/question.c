@@ -12,10 +12,11 @@
 #include "terminal.h"
 #include "writing.h"
 
-/* What was read after the last line. */
+/* What was read after the last line. A terminal takes no longer line than that; one from elsewhere is cut. */
 static char input[4096];
 static size_t held;
 
+/* Writes to the terminal, which has a minute to take it, or to standard output. */
 static void put(const char *text) {
     if (line >= 0) write_ready(line, text, strlen(text), 60000, false);
     else write_within(STDOUT_FILENO, text, strlen(text), 0, false);

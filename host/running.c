@@ -20,9 +20,12 @@
 #include "watcher.h"
 #include "writing.h"
 
-/* How long the program has to end, and the terminal to take what restores it, without and with a signal. */
+/* Milliseconds. GRACE: the program's for its end, of which the first FILTERING are the filter's, to hand on what was typed.
+ * START: the terminal's to take the first sequences. PATIENCE: the terminal's to take what restores it; SHORT_PATIENCE: the same
+ * after a signal, and a killed program's for its end. */
 enum { GRACE = 3000, START = 3000, PATIENCE = 10000, SHORT_PATIENCE = 1000, SECOND = 1000, FILTERING = 500 };
 
+/* Whether the keeper has dealt with the last second. */
 static bool is_answered = true;
 
 /* Carries out what the keeper says while the program runs. */
@@ -33,6 +36,7 @@ static void obey_keeper(void) {
         case '.': is_answered = true; break;
         case 'n': show_title(message.text); break;
         case '!': show("\a"); break;
+        /* a size is input, which has the program try its journal again */
         case 'r': is_size_owed = keys >= 0; break;
         case 'f': start_facts(message.text); break;
         case 'm': give_notice(message.text); break;
@@ -41,7 +45,7 @@ static void obey_keeper(void) {
     }
 }
 
-/* Tells the keeper of each second, but not before it has answered the last one. */
+/* Tells the keeper of each second, but not before it has answered the last one. `next` is when the next one has gone. */
 static void tell_second(int64_t *next) {
     if (now() < *next) return;
     *next = now() + SECOND;
@@ -64,7 +68,8 @@ static void mind_terminal(void) {
 }
 
 /* Ends the program's input where the session is to end, once the filter has handed on what was typed, and kills a program that
- * does not end in time. Returns false where it does not even then. */
+ * does not end in time. Returns false where it does not even then. `end` is when the program has to have ended, 0 before the
+ * session is to end. */
 static bool mind_end(int64_t *end, bool *is_killed) {
     bool is_over = end_signal || filter == 0 || keeper.state != KEEPER_SPEAKS;
     if (is_over && *end == 0) {

@@ -29,6 +29,7 @@ struct sequences sequences;
 
 static bool has_title;
 
+/* Appends a text, where there is room. */
 static void put(char *to, const char *text) {
     size_t held = strlen(to), length = strlen(text);
     if (held + length < MOST_SEQUENCES) memcpy(to + held, text, length + 1);

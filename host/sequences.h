@@ -6,9 +6,11 @@
 
 #include "kinds.h"
 
+/* Bytes of each text below. Half of it is room for a title, the only part that may be long. */
 enum { MOST_SEQUENCES = 8192 };
 
-/* `saving` changes nothing that is seen; the program writes `before` in front of its first painting. */
+/* `saving` is sent first, and changes nothing that is seen; the program writes `before` in front of its first painting; `again`
+ * is sent after a stop, `ending` at the end. */
 struct sequences {
     char saving[MOST_SEQUENCES], before[MOST_SEQUENCES], again[MOST_SEQUENCES], ending[MOST_SEQUENCES];
 };

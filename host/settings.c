@@ -24,6 +24,7 @@ static const char *skip_blanks(const char *at) {
     return at + strspn(at, " ");
 }
 
+/* Whether a line begins with a text but for blanks, before it and around its =. */
 static bool has_entry(const char *at, const char *text) {
     for (at = skip_blanks(at); *text; text++) {
         if (*text == '=') at = skip_blanks(at);
@@ -79,7 +80,7 @@ static size_t read_starter(const char *name, char *bytes, size_t room) {
     if (!stream) return 0;
     look[fread(look, 1, sizeof look - 1, stream)] = 0;
     fclose(stream);
-    /* after the process's name, which may have any letters: its state and its parent */
+    /* after the process's name, which may have any letters, `) S PARENT`: its state and its parent */
     const char *at = strrchr(look, ')');
     if (!at || strlen(at) < 5 || (starter = strtol(at + 4, NULL, 10)) <= 0) return 0;
     snprintf(path, sizeof path, "/proc/%ld/%s", starter, name);
@@ -92,6 +93,7 @@ static size_t read_starter(const char *name, char *bytes, size_t room) {
 
 bool is_started_by(const char *name) {
     char bytes[64];
+    /* the name and a line feed */
     size_t length = read_starter("comm", bytes, sizeof bytes);
     return length == strlen(name) + 1 && memcmp(bytes, name, strlen(name)) == 0;
 }

@@ -10,6 +10,7 @@
 volatile sig_atomic_t end_signal, is_resized, is_continued;
 volatile int64_t end_time;
 
+/* What is blocked as the host was started, and in its waits. */
 static sigset_t first_mask, waiting_mask;
 
 /* What asks for the end. Other signals that end a process do so at once, and the watcher restores the terminal. */
@@ -83,6 +84,7 @@ int wait_for(struct pollfd *files, nfds_t count, int64_t end) {
 }
 
 void listen_once(void) {
+    /* a time that is over: 0 would be for ever */
     wait_for(NULL, 0, 1);
 }
 

@@ -12,6 +12,7 @@ extern volatile sig_atomic_t end_signal, is_resized, is_continued;
 /* When the first signal came that asked for the end. */
 extern volatile int64_t end_time;
 
+/* Blocks the signals, and sets their handlers. */
 void set_signals(void);
 
 /* Gives a child the signals that the host was started with. */

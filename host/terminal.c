@@ -8,10 +8,12 @@
 #include <termios.h>
 #include <unistd.h>
 
+/* The longest side of a window, as in the editor; the bytes that wait for the terminal at most; how often settings are tried. */
 enum { LONGEST = 500, MOST_SHOWN = 16384, TRIES = 3 };
 
 int line = -1, screen = -1;
 struct queue shown;
+/* The settings from before, and the host's own. */
 static struct termios cooked, raw;
 
 bool open_terminal(void) {

@@ -11,12 +11,17 @@
 #include "terminal.h"
 #include "writing.h"
 
-/* What waits here and in the pipe is little, since the end of the host loses it. */
+/* PIECE: the bytes of one read. MOST_WAITING: the bytes that wait here at most, and as many in the pipe: few, since the end of
+ * the host loses them. Milliseconds: PATIENCE, for which a key that is not whole holds up a notice; ALONE, after which an Escape
+ * is a key of its own. MOST_NOTICES wait at most. A notice's number has two digits at most. */
 enum { PIECE = 1024, MOST_WAITING = 4096, PATIENCE = 1000, MOST_NOTICES = 8, LARGEST_NOTICE = 99, ALONE = 50 };
 
-/* What the last byte is: the end of a key, or a part of one. */
+/* What the last byte is. BETWEEN: the end of a key. ESCAPED: an Escape. SHIFTED: what one more byte follows (ESC O, or ESC [ [ of
+ * the Linux console). SEQUENCE: a part of what begins with ESC [. LONG_ESCAPE: a part of an escape sequence with bytes between.
+ * CHARACTER: a part of a UTF-8 character. */
 enum place { BETWEEN, ESCAPED, SHIFTED, SEQUENCE, LONG_ESCAPE, CHARACTER };
 
+/* A marked paste begins with CSI 200~ and ends with CSI 201~. */
 enum { ESCAPE = 0x1b, PASTE_BEGINS = 200, PASTE_ENDS = 201 };
 
 int typed = -1;
@@ -26,7 +31,9 @@ static bool is_over, is_pasting;
 static enum place place;
 /* The bytes of a character that are to come; the number and the length of a sequence so far, after its bracket. */
 static unsigned left, number, length;
+/* When the last byte was read. */
 static int64_t last_byte;
+/* Those that wait. */
 static int notices[MOST_NOTICES];
 static size_t notice_count;
 
@@ -42,6 +49,7 @@ int open_typing(void) {
     return -1;
 }
 
+/* The number of bytes that wait. */
 static size_t waiting(void) {
     return typing.end - typing.start;
 }
@@ -50,13 +58,15 @@ bool takes_typing(void) {
     return typed >= 0 && !is_over && waiting() < MOST_WAITING - PIECE;
 }
 
-/* What a byte is that begins a key. */
+/* What a byte is that begins a key: of a character in UTF-8 the first is C2 to F4. */
 static enum place place_behind_first(unsigned char byte) {
     left = byte >= 0xf0 && byte <= 0xf4 ? 3 : byte >= 0xe0 ? 2 : 1;
     if (byte == ESCAPE) return ESCAPED;
     return byte >= 0xc2 && byte <= 0xf4 ? CHARACTER : BETWEEN;
 }
 
+/* What a byte after ESC [ is. By ECMA-48 (5.4) 20 to 3F go on with the sequence, and 40 to 7E end it. A paste's mark has three
+ * digits and a tilde, so that `number` needs no more. */
 static enum place place_in_sequence(unsigned char byte) {
     bool is_first = length == 0;
     length++;
@@ -69,6 +79,7 @@ static enum place place_in_sequence(unsigned char byte) {
     return byte >= 0x40 && byte < 0x7f ? BETWEEN : place_behind_first(byte);
 }
 
+/* What a byte after an Escape is. By ECMA-35 20 to 2F go on with an escape sequence. */
 static enum place place_behind_escape(unsigned char byte) {
     number = length = 0;
     if (byte == '[') return SEQUENCE;

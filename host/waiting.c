@@ -14,6 +14,8 @@ static bool holds(const struct queue *queue) {
 }
 
 void wait_once(int64_t end) {
+    /* the keeper's messages and its input, the program's words, the answer of the child with the facts, the program's input, the
+     * filter's input, the terminal; FILES is their number */
     enum { FROM, TO, WORDS, FACTS, KEYS, TYPED, LINE, FILES };
     /* poll passes over a file of -1; a size comes after what the terminal is sent before the repainting */
     struct pollfd files[FILES] = {

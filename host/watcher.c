@@ -14,9 +14,11 @@
 #include "terminal.h"
 #include "writing.h"
 
-/* From the host's death on: how long the program has, the screen, and, all in all, the keeper. */
+/* Milliseconds from the host's death on: how long the program has, the screen, and, all in all, the keeper. TOLD is the number of
+ * things to be told. */
 enum { GRACE = 3000, SCREEN = 1000, WHOLE = 4500, TOLD = 3 };
 
+/* Written in one piece, since a pipe does not mix short writes. */
 struct told_message {
     enum told what;
     pid_t process;

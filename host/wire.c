@@ -3,9 +3,10 @@
 #include <stdlib.h>
 #include <string.h>
 
-/* What waits at most: a reader that is as far behind is gone. */
+/* Bytes: what waits at most (a reader that is as far behind is gone), and the first room. */
 enum { LIMIT = 4 << 20, FIRST_ROOM = 4096 };
 
+/* Makes room for `length` more bytes. Returns false without memory or beyond the limit. */
 static bool make_room(struct queue *queue, size_t length) {
     size_t held = queue->end - queue->start;
     if (length > LIMIT || held > LIMIT - length) return false;

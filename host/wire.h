@@ -5,7 +5,7 @@
 #include <stdbool.h>
 #include <stddef.h>
 
-/* Bytes that wait, from `start` to `end`. */
+/* Bytes that wait, from `start` to `end` of `bytes`, which has `room` of them. */
 struct queue {
     char *bytes;
     size_t start, end, room;
@@ -27,7 +27,7 @@ struct message {
     size_t length;
 };
 
-/* Gives the first whole message from `*from` on, and moves `*from` past it. */
+/* Gives the first whole message from the byte `*from` of those that wait on, and moves `*from` past it. */
 bool find_message(const struct queue *queue, size_t *from, struct message *message);
 
 #endif

@@ -8,7 +8,8 @@
 
 #include "signals.h"
 
-/* A pipe that has room takes a piece at once. The timer rings once a step. */
+/* A pipe that has room takes PIECE bytes at once. Milliseconds: a write of a piece has PIECE_LIMIT, and the timer that ends it
+ * rings again after each STEP. A write or wait that fails is tried again, TRIES times in all. */
 enum { PIECE = 4096, PIECE_LIMIT = 100, STEP = 20, TRIES = 3 };
 
 int64_t now(void) {

@@ -1,9 +1,11 @@
 # shellcheck shell=sh
-# Printing of names: quoted for a shell, so that they can be copied, with characters escaped that a terminal obeys or hides.
+# Printing of names: quoted for a shell, so that they can be copied, with characters escaped that a terminal obeys or hides. For
+# the scripts here, host/build.sh and scripts/install.sh; the keeper has the same in Rattle.
 
-# Functions in awk, which work on bytes. `told` returns a text with bytes that are not UTF-8 or hidden as octal escapes, and
-# `has_numbers` says whether there are any. Hidden are control characters, line separators, bidi controls, tags and other
-# invisible format characters, except the two joiners, which Persian and Indic words need. 047 is a quote, 134 a backslash.
+# Functions in awk, which work on bytes. `told` returns a text with bytes that are not UTF-8 or hidden as octal escapes, and those
+# in `others` too; `has_numbers` says whether there are any of the former. Hidden are control characters, line separators, bidi
+# controls, tags and other invisible format characters, except the two joiners, which Persian and Indic words need: `bound` has
+# the first and the last code of each range. 047 is a quote, 134 a backslash.
 # shellcheck disable=SC2016
 telling='
     BEGIN {
@@ -43,10 +45,12 @@ telling='
         return result
     }'
 
+# Whether a shell may take a letter of the name for more than a letter.
 needs_quotes() { # NAME
     case $1 in *[!A-Za-z0-9_./+,@%:=-]*) ;; *) return 1 ;; esac
 }
 
+# Prints a name: as it is, in quotes, or, with hidden bytes, in the form $'..'.
 shown() { # NAME
     if ! needs_quotes "$1"; then
         printf '%s' "$1"

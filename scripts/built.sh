@@ -2,7 +2,7 @@
 # shellcheck disable=SC2034,SC2154 # words that the scripts give and take
 # Built programs, for scripts that run one. `top` is the repository.
 
-# Prints a crate and the repository's crates below it, by crates.txt.
+# Prints a crate and the repository's crates below it, by crates.txt, whose lines are `CRATE [words]: CRATES BELOW`.
 crates_below() { # CRATE
     awk -v crate="$1" '
         !/^#/ && split($0, part, ":") == 2 { split(part[1], name, " "); below[name[1]] = part[2] }
@@ -33,6 +33,7 @@ has_newer_source() { # CRATE STAMP
 find_built() { # CRATE
     program=$top/crates/$1/out/$1
     if is_proved "$program" && ! has_newer_source "$1" "$program.stamp"; then return; fi
+    # a file whose time is the moment before rt runs
     begun=$(mktemp)
     # rt runs the program, whose status and output say nothing here, once it is proved or nothing has changed
     is_run=$({ cd "$top/crates/$1" && rt run </dev/null 2>&1; } | grep -a -c "^rt: running $1;" || :)

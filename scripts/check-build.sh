@@ -22,6 +22,7 @@ command -v tmux >/dev/null || {
     exit 77
 }
 
+# Reports whether a line is as a pattern of grep says.
 like() { # NAME FOUND PATTERN
     printf '%s\n' "$2" | grep -q -x -e "$3"
     report "$1" $? "'$2', and not like '$3'"
@@ -29,6 +30,7 @@ like() { # NAME FOUND PATTERN
 
 # ---- a small repository: a and b have no dependencies, c uses a, and the program d uses b and c
 
+# The crate `other` is not below d, and `thiserror` is no crate of the repository. `told` is the folder TOLD of the command below.
 make_tree() {
     rm -rf "$folder/tree" "$folder/told"
     mkdir -p "$folder/told"
@@ -39,9 +41,10 @@ make_tree() {
     printf '# NAME: what it stands on\nd: b c thiserror\nc: a\nb:\na:\nother: a\n' >"$folder/tree/crates.txt"
 }
 
-# Writes the command in place of rt. A crate has ten functions, proved in a tenth of a second each and stored one by one. It
-# logs when it starts and ends, and the number of proofs; its child lives as long as it does, as the toolchain's do. The crate
-# named in the file `bad` fails.
+# Writes the command in place of rt. A crate has ten functions, proved in a tenth of a second each and stored one by one. It logs
+# when it starts and ends, and the number of proofs; its child lives as long as it does, as the toolchain's do. In the folder TOLD
+# are `log`, and as others wish `slow`, with which a proof takes a second more, and `bad`, the name of a crate that fails. The
+# status 2 is that of a program which rt runs, and must not matter.
 make_rt() {
     mkdir -p "$folder/bin"
     cat >"$folder/bin/rt" <<'END'
@@ -85,8 +88,8 @@ run() {
     status=$?
 }
 
-# Runs it in a terminal of 100 columns.
-start() {
+# Runs it in a terminal, wide enough for a whole line of progress.
+start() { # PROGRAM
     rm -f "$folder/status"
     cat >"$folder/run" <<END
 trap : INT
@@ -97,6 +100,7 @@ END
     tmux -u -L "$socket" -f /dev/null new-session -d -s person -x 100 -y 12 "sh '$folder/run'"
 }
 
+# Prints the rows of the terminal that are not empty.
 screen() {
     tmux -L "$socket" capture-pane -p -t person | grep .
 }
@@ -114,15 +118,18 @@ at() { # LINE
     grep -n -x -e "$1" "$folder/told/log" | head -n 1 | cut -d : -f 1
 }
 
+# Reports whether a line of the log is before another.
 before() { # NAME LINE LINE
     [ "$(at "$2")" -lt "$(at "$3")" ] 2>/dev/null
     report "$1" $? "$(paste -s -d '|' "$folder/told/log")"
 }
 
+# Reports whether the working folder of prove.sh and the crates' trees are gone.
 nothing_left() { # NAME
     same "$1, nothing stays beside the work" "$(find "$folder/tree" -name '*.tree' -o -path "$folder/tree/out/proving")" ''
 }
 
+# Prints the number of processes of the command in place of rt.
 processes() {
     pgrep -f "$folder/bin/rt" | wc -l
 }
@@ -133,12 +140,14 @@ none_runs() {
 
 # ---- the checks
 
+# A crate waits for what it stands on, others are proved beside it, and what was built is in its place afterwards.
 check_order() {
     make_tree
     run
     same 'order, status' "$status" 0
     before 'order, a crate waits for what it stands on' 'end a' 'begin c lib 0'
     before 'order, the program waits for all' 'end c' 'begin d run 0'
+    # as many crates at once as `find_lanes` of prove.sh allows: 4 GB of memory for each
     if [ "$(nproc)" -gt 1 ] && [ "$(awk '/^MemAvailable:/ { print int($2 / 4000000) }' /proc/meminfo)" -gt 1 ]; then
         before 'order, two at once' 'begin b lib 0' 'end a'
     else
@@ -156,6 +165,7 @@ check_order() {
     same 'lines, no line is written over' "$(tr -d -c '\r' <"$folder/said" | wc -c)" 0
 }
 
+# One line on a terminal, which changes each second; Ctrl-C, after which nothing runs, and the next start goes on from there.
 check_terminal() {
     make_tree
     : >"$folder/told/slow"
@@ -184,6 +194,7 @@ check_terminal() {
     report 'going on, with what was kept' $? "$(paste -s -d '|' "$folder/told/log")"
 }
 
+# A crate that fails: its log is named, the others are kept, and the next start goes on from there.
 check_failure() {
     make_tree
     echo c >"$folder/told/bad"
@@ -204,6 +215,7 @@ check_failure() {
     same 'failure, a program that is not there' "$? $(grep -c 'names no crate e' "$folder/said")" '1 1'
 }
 
+# A second start meanwhile is refused, and the work of a killed start is taken up.
 check_killed() {
     make_tree
     : >"$folder/told/slow"
@@ -242,6 +254,7 @@ END
     printf 'bidi_edit: c b\nbidi_input: b\nbidi_keep: b\nbidi_print: b\n' >>"$folder/tree/crates.txt"
 }
 
+# The script bidi-edit builds, is stopped, goes on and becomes the host; where a program cannot be built it ends.
 check_script() {
     make_checkout
     : >"$folder/told/slow"
@@ -270,7 +283,7 @@ check_script() {
     make_rt
 }
 
-# Runs the script of the checkout without a terminal, with standard output and errors in `said`.
+# Runs the script bidi-edit of the checkout without a terminal, with standard output and errors in `said`.
 run_script() { # WORD..
     PATH=$folder/bin:$PATH TOLD=$folder/told "$shell" "$folder/tree/bidi-edit" "$@" >"$folder/said" 2>&1 </dev/null
     status=$?
@@ -316,6 +329,7 @@ check_needed() {
     same 'needed, no host to be had' "$status $(cat "$folder/said")" '1 bidi-edit: there is no C compiler cc'
 }
 
+# Runs it in a terminal, as `start` does prove.sh.
 start_script() { # WORD
     rm -f "$folder/status"
     cat >"$folder/run" <<END

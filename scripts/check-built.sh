@@ -16,13 +16,15 @@ top=$room
 passed=0 failed=0
 app=$room/crates/app
 
+# the program `app` uses `low`, which uses `lowest`; `other` is not below it, and `std_part` is no crate of the repository
 mkdir -p "$room/bin" "$app/src" "$app/specs" "$app/out" "$room/crates/low/src" "$room/crates/low/proofs" "$room/crates/lowest/src" "$room/crates/other/src"
 printf '# a comment: no crate\napp backend=rattle: low std_part\nlow: lowest\nlowest:\nother: lowest\n' >"$room/crates.txt"
 for file in app/src/main.rt app/specs/Lib.antt low/src/lib.rt low/proofs/Lib.antt lowest/src/lib.rt other/src/lib.rt; do
     echo text >"$room/crates/$file"
 done
 
-# The stand-in builds as rt does if the file `builds` is there, and fails else.
+# The stand-in builds as rt does if the file `builds` is there, and fails else. 3 is the status of the program that rt then runs,
+# which must not matter.
 cat >"$room/bin/rt" <<'TEXT'
 #!/bin/sh
 room=$(dirname "$0")/..

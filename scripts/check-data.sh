@@ -44,7 +44,7 @@ if [ ! -x "$lookup" ]; then
     echo "skipped: the editor's reader, since crates/ucd_lookup is not built (cd crates/ucd_lookup && rt run)"
     exit 77
 fi
-# surrogates are not characters
+# surrogates, D800 to DFFF, are not characters: 2,048 of the codes
 awk 'BEGIN { for (code = 0; code <= 1114111; code++) if (code < 55296 || code > 57343) printf "%04X\n", code }' >"$scratch/codes"
 xargs "$lookup" --joining "$folder/ArabicShaping.txt" "$folder/UnicodeData.txt" "$classes" "$folder/BidiBrackets.txt" \
     "$folder/BidiMirroring.txt" <"$scratch/codes" >"$scratch/unicode"

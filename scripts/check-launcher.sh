@@ -1,8 +1,9 @@
 #!/bin/sh
-# Runs the host and the keeper in tmux: the input of a program that only records it, refusals and messages, ends, the terminal's
-# state afterwards, and then the editor itself, also as an editor that other programs call. It is not part of `rt ci`. It skips
-# (77) if there is no tmux and none can be installed from Debian's packages, or if the programs are not built. Names after it
-# select the checks whose names begin so. The last line has the totals. Exit status 1: a check failed. The checks are in scripts/launcher.
+# check-launcher.sh [NAME..]: runs the host and the keeper in tmux: the input of a program that only records it, refusals and
+# messages, ends, the terminal's state afterwards, and then the editor itself, also as an editor that other programs call. It is
+# not part of `rt ci`. A NAME selects the checks whose names begin with it. The checks are in scripts/launcher. The last line has
+# the totals. Exit status 1: a check failed; 77: there is no tmux and none can be installed from Debian's packages, or the
+# programs are not built.
 set -u
 
 if ! command -v tmux >/dev/null 2>&1; then
@@ -25,9 +26,10 @@ folder=$(mktemp -d)
 export XDG_STATE_HOME="$folder/state"
 socket="bx$$"
 passed=0 failed=0 skipped=0
-# Settings of a check for its own sessions: the tables, lines before and after the host, redirections, a paste that goes on.
+# Settings of a check for its own sessions; see scripts/launcher/person.sh, and for `lines_told` refusals.sh.
 # shellcheck disable=SC2034
 tables='' setup='' cleanup='' redirection='' is_flooded='' lines_told=1
+# The words of the process that reads keys, the filter; see ends.sh.
 # shellcheck disable=SC2034
 key_reader='.*bidi_input'
 trap 'tmux -L "$socket" kill-server 2>/dev/null; rm -rf "$folder"' EXIT
@@ -49,6 +51,7 @@ for part in person recorder joining refusals printing ends modes editor input ke
     . "$top/scripts/launcher/$part.sh"
 done
 
+# -f: without the user's settings; the session keeps the tmux server alive between two checks
 terminal -f /dev/null new-session -d -s keep -x 80 -y 24 'sleep 3600'
 check_recorder
 check_joining

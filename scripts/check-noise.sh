@@ -15,6 +15,7 @@ set -eu
 export LC_ALL=C
 
 top=$(cd "$(dirname "$0")/.." && pwd)
+# all sizes are divided by it
 part=1
 if [ "${1:-}" = --quick ]; then
     part=10
@@ -98,15 +99,16 @@ run_editor() { # ROWS COLS COMMAND..
         text 2>told | "$@"
 }
 
-# The beginning of a whole painting, and the move to the first cell, at its end on a blank screen.
+# The beginning of a whole painting, 8 bytes, and the move to the first cell, 6 bytes, at its end on a blank screen.
 cleared=$(printf '\033[0m\033[2J') first_cell=$(printf '\033[1;1H')
 
-# Keeps the first eight bytes and the last fourteen.
+# Keeps the first eight bytes and the last fourteen, as many as those have.
 keep_ends() {
     head -c 8 >beginning
     tail -c 14 >end
 }
 
+# Notes what is wrong with the run, in `wrong`, which `report` tells.
 differ() { # WORDS
     wrong="$wrong, $1"
 }
@@ -195,10 +197,12 @@ for window in 24x80 1x1 100x400; do
     is_asked "$window" || continue
     check_noise "${window%x*}" "${window#*x}" $((4000000 / part))
 done
+# a painting of this window takes the longest
 if is_asked 500x500; then
     check_noise 500 500 $((50000 / part))
 fi
 
+# the greatest length of a text, or a tenth, but even, since brackets are pairs
 bytes=$((16777216 / part / 2 * 2))
 if is_asked line; then
     repeated a "$bytes" >original

@@ -30,8 +30,8 @@ print_file() { # FILE WORD..
 
 # ---- rows from an independent source
 
-# Writes each text of the rows, its lines with and without marks in brackets, and prints a line of number, direction and
-# columns.
+# Writes each text of the rows, its lines with and without marks in brackets, and prints a line of number, direction and columns.
+# Texts with a byte 00 are passed over, which not every awk writes. A new text begins where the first three fields change.
 write_cases() { # ROWS
     awk -F '\t' -v folder="$scratch" '
         function bytes(hex,    text, i) {
@@ -123,8 +123,8 @@ random_text() { # COUNT
     '
 }
 
-# Replaces fribidi's joined forms, which are in the order of the letters, by the letters, and removes blanks at the ends of
-# lines.
+# Replaces fribidi's joined forms (from U+FE80 on), which are in the order of the letters (from U+0621 on), by the letters, and
+# removes blanks at the ends of lines.
 plain_letters() {
     awk '
         function utf8(code) {
@@ -152,7 +152,8 @@ plain_letters() {
     '
 }
 
-# Compares paragraph by paragraph. One with several lines was wrapped.
+# Compares paragraph by paragraph, each after its line @NUMBER. One with several lines was wrapped. The comparison fails, too,
+# where no wrapped one differs or none is alike, since then it compares something else.
 compare_paragraphs() { # OURS THEIRS
     awk '
         FNR == 1 { file++ }
@@ -188,7 +189,7 @@ compare_fribidi() {
 
 # ---- ends
 
-# Runs the program, and checks its status and its line on standard error.
+# Runs the program, and checks its status and its line on standard error. Standard output goes to the file `output`.
 end_by() { # STATUS LINE WORD..
     wanted=$1 line=$2
     shift 2

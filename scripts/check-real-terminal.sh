@@ -1,8 +1,8 @@
 #!/bin/sh
-# Checks the model of the terminal against tmux: feeds the painter's bytes to a pane of the picture's size, and reads the pane
-# and its cursor back. crates/paint_glyphs prints the bytes: the first picture of a case whole, each later one by its changes.
-# It is not part of `rt ci`. The last line has the totals. Exit status 1: a case differs; 77: there is no tmux and none can be
-# installed from Debian's packages.
+# check-real-terminal.sh: checks the model of the terminal against tmux: feeds the painter's bytes to a pane of the picture's
+# size, and reads the pane and its cursor back. crates/paint_glyphs prints the bytes: the first picture of a case whole, each
+# later one by its changes. It is not part of `rt ci`. The last line has the totals. Exit status 1: a case differs; 77: there is
+# no tmux and none can be installed from Debian's packages.
 set -u
 
 if ! command -v tmux > /dev/null 2>&1; then
@@ -26,15 +26,17 @@ export LC_ALL=C.UTF-8
 passed=0 failed=0
 trap 'tmux -L "$socket" kill-server 2> /dev/null; rm -rf "$folder"' EXIT
 
-# NAME HEIGHT WIDTH ROWS CURSOR PICTURES..: compares the pane after these pictures. ROWS are joined by | and have no blanks at
-# their ends; < and > enclose negative parts. CURSOR is its column and row from 0.
-check() {
+# Compares the pane after these pictures. ROWS are joined by | and have no blanks at their ends; < and > enclose negative parts.
+# CURSOR is its column and row from 0. PICTURES are words of paint_glyphs: the line and column of the cursor, then line, column
+# and glyph (+ or, in negative image, -) of each glyph, all from 1, and `then` before another picture.
+check() { # NAME HEIGHT WIDTH ROWS CURSOR PICTURES..
     name=$1 height=$2 width=$3 rows=$4 cursor=$5
     shift 5
     "$program" "$height" "$width" "$@" > "$folder/bytes" || { echo "NOT PAINTED $name"; failed=$((failed + 1)); return; }
     printf 'cat "%s/bytes"; sleep 30\n' "$folder" > "$folder/run"
     tmux -u -f /dev/null -L "$socket" new-session -d -s "$name" -x "$width" -y "$height" "sh $folder/run" \; set -g status off
     tmux -L "$socket" resize-window -t "$name" -x "$width" -y "$height" 2> /dev/null
+    # until tmux has read the bytes; the pane's own sleep keeps it open
     sleep 0.4
     found=$(tmux -u -L "$socket" capture-pane -p -e -t "$name" | sed -e 's/\x1b\[7m/</g' -e 's/\x1b\[\(0\|27\)\?m/>/g' -e 's/\x1b\[[0-9;]*m//g' -e 's/ *$//' | paste -s -d '|' | sed -e 's/|*$//')
     place=$(tmux -L "$socket" display-message -p -t "$name" '#{cursor_x},#{cursor_y}')
@@ -53,6 +55,7 @@ alef=$(printf '\327\220')
 bet=$(printf '\327\221')
 acute=$(printf 'e\314\201')
 
+# keeps the tmux server alive between two checks
 tmux -u -f /dev/null -L "$socket" new-session -d -s keep -x 80 -y 24 'sleep 600'
 
 check ascii 2 10 '|- 1:1' 0,0 1 1 2 1 +- 2 3 +1 2 4 +: 2 5 +1

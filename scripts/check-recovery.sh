@@ -1,17 +1,18 @@
 #!/bin/sh
-# Kills sessions in tmux at a random key, by KILL, HUP and TERM to the host, to the program or to both, and recovers each: all
-# bytes that the program had read must be there. Most sessions end in a search or just behind one, while matches are replaced, in a
-# question, behind what it put in or told, in a paste, with a selection or between runs of changes, and what is typed after the
-# recovery goes into the text, also if the session is killed and recovered once more. recovery_sessions.py makes the keys, and the
-# text after each by a plain model. The script also checks the messages and questions, a full disk under the journal, a replay of
-# 100,000 keys, and the journal's cost for a key. It is not part of `rt ci`. Its words are the number of sessions (200) and the seed
-# of the random keys (1). The last line has the totals. Exit status 1: a check failed; 77: the programs are not built, or there is
-# no tmux or no python3.
+# check-recovery.sh [COUNT [SEED]]: kills sessions in tmux at a random key, by KILL, HUP and TERM to the host, to the program or
+# to both, and recovers each: all bytes that the program had read must be there. Most sessions end in a search or just after one,
+# while matches are replaced, in a question, after what it put in or told, in a paste, with a selection or between runs of
+# changes, and what is typed after the recovery goes into the text, also if the session is killed and recovered once more.
+# recovery_sessions.py makes the keys, and the text after each by a plain model. The script also checks the messages and
+# questions, a full disk under the journal, a replay of 100,000 keys, and the journal's cost for a key. It is not part of `rt ci`.
+# COUNT is the number of sessions, by default 200, and SEED that of the random keys, by default 1. The last line has the totals.
+# Exit status 1: a check failed; 77: the programs are not built, or there is no tmux or no python3.
 set -u
 
 sessions=${1:-200}
 seed=${2:-1}
 top=$(CDPATH='' cd -- "$(dirname "$0")/.." && pwd)
+# for `wait_for`; here all waits are of fifteen seconds at most, since four sessions run at once
 # shellcheck source=scripts/report.sh
 . "$top/scripts/report.sh"
 editor=$top/crates/bidi_edit/out/bidi_edit
@@ -37,6 +38,7 @@ clean_up() {
 trap clean_up EXIT
 trap 'exit 1' HUP INT TERM
 
+# Results go to a file, since sessions run in processes of their own.
 passes() { # NAME
     echo "ok $1" >>"$folder/results"
 }
@@ -44,8 +46,6 @@ passes() { # NAME
 fails() { # NAME DETAIL
     echo "FAILS $1: $2" | tee -a "$folder/results"
 }
-
-# ---- the texts of the sessions
 
 # Reports the fault of a recovered text.
 judge() { # SESSION TEXT JOURNAL
@@ -58,7 +58,8 @@ terminal() {
     tmux -u -L "$socket" -f /dev/null "$@"
 }
 
-# tmux would take a number as the index of a window
+# Opens the editor in a window of 24 rows, in a session of tmux of this NAME, which is no number: tmux would take that as the
+# index of a window.
 open_editor() { # NAME STATE FILE
     # letters apart, since the last row is compared with the letters of the query
     terminal new-session -d -s "$1" -x 80 -y 24 -e "XDG_STATE_HOME=$2" "exec '$top/bidi-edit' --no-joining '$3'"
@@ -70,6 +71,7 @@ type_keys() { # NAME FILE
     terminal paste-buffer -r -d -b "$1" -t "$1"
 }
 
+# Whether this is the last row.
 has_row() { # NAME ROW
     [ "$(terminal capture-pane -p -t "$1" 2>/dev/null | sed -n '24s/ *$//p')" = "$2" ]
 }
@@ -85,7 +87,7 @@ program_of() { # HOST
     ps -o pid=,comm= --ppid "$1" | sed -n 's/^ *\([0-9]*\) bidi_edit$/\1/p'
 }
 
-# Sends the signal and waits for both processes to end.
+# Sends the signal and waits for both processes to end. HOW is a file with the signal, its target and the seconds before it.
 end_session() { # HOW HOST PROGRAM
     read -r signal target delay <"$1"
     sleep "$delay"
@@ -116,6 +118,8 @@ run_session() { # NUMBER
     recover_session "$1"
 }
 
+# Recovers the text into another file, and judges it. Without a journal all was saved, and FILE has it. A session without keys2
+# may go on.
 recover_session() { # NUMBER
     cp "$work"/state/bidi_edit/*/journal "$work/journal" 2>/dev/null
     [ -s "$work/journal" ] || rm -f "$work/journal"
@@ -177,6 +181,7 @@ go_on() { # NUMBER
     passes "$1 goes on"
 }
 
+# Whether the editor asks what is to be done with a session.
 asks() { # NAME
     terminal capture-pane -p -t "$1" | grep -qF '[d]elete for good'
 }
@@ -203,12 +208,13 @@ check_sessions() {
 
 # ---- messages and questions
 
-# Types a line into a shell whose state folder is its own.
+# Types a line into the shell of `open_shell`, whose state folder is its own.
 say() { # WORD..
     terminal send-keys -t shell -l "$*"
     terminal send-keys -t shell Enter
 }
 
+# Opens a shell in a folder of its own, in the session `shell` of tmux, with bidi-edit in PATH.
 open_shell() {
     shell=$folder/shell
     mkdir -p "$shell"
@@ -217,6 +223,7 @@ open_shell() {
     say "PATH='$top':\$PATH; PS1='\\$ '; clear"
 }
 
+# Whether the shell's screen has a text; rows that wrap count as one.
 shows() { # TEXT
     terminal capture-pane -p -J -t shell | grep -qF -e "$1"
 }
@@ -235,6 +242,7 @@ end_by_keys() { # KEY..
     wait_for 150 shows_shell
 }
 
+# Whether the editor's screen is gone, and no process runs under the shell.
 shows_shell() {
     [ "$(terminal display-message -p -t shell '#{alternate_on}')" = 0 ] && [ -z "$(ps -o pid= --ppid "$(terminal display-message -p -t shell '#{pane_pid}')")" ]
 }
@@ -263,10 +271,12 @@ break_off() { # ROW WORDS KEY..
     say clear
 }
 
+# Prints the process of the program of the editor that runs under a shell.
 program_under() { # SHELL
     for host in $(ps -o pid= --ppid "$1"); do program_of "$host"; done
 }
 
+# A scene is a chain of steps, of which the first that fails tells it; `scene` is its name.
 scene_recover_asks() {
     break_off '* 1:2' "$kept" x && say bidi-edit text && expect "$scene" 'an unfinished session of' && expect "$scene" 'keys typed: 1' && say what &&
         wait_for 150 is_asked_again && terminal send-keys -t shell C-d && say 'echo status $?' && expect "$scene" 'status 2' && say clear && say bidi-edit text && expect "$scene" '[d]elete for good' && say delete &&
@@ -322,6 +332,7 @@ scene_two_editors() {
 }
 
 check_scenes() {
+    # what a host says whose program was killed
     kept='what was typed is kept'
     for scene in recover_asks all_is_saved all_was_saved changed_by_another dropped two_editors; do
         if "scene_$scene"; then passes "$scene"; else fails "$scene" "at last: $(terminal capture-pane -p -J -t shell | tr '\n' '|' | sed 's/|*$//')"; fi
@@ -341,6 +352,7 @@ many_keys() { # COUNT
 # On a full disk the journal is given up, and the save succeeds.
 check_full_disk() {
     mkdir "$folder/small"
+    # the keys' journal has more than 100,000 bytes
     if ! mount -t tmpfs -o size=64k none "$folder/small" 2>/dev/null; then
         echo 'full disk: not checked, since no small one could be mounted'
         return
@@ -358,6 +370,7 @@ check_full_disk() {
     fi
 }
 
+# The program tells how many keys of the journal it knew: `known 100000`.
 check_replay_time() {
     many_keys 100000 >"$folder/keys"
     start=$(date +%s%N)
@@ -382,4 +395,5 @@ check_sessions
 passed=$(grep -c '^ok' "$folder/results")
 failed=$(grep -c '^FAILS' "$folder/results")
 echo "$passed passed, $failed failed"
+# each session, and more, must have been checked
 [ "$failed" = 0 ] && [ "$passed" -gt "$sessions" ]

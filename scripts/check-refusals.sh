@@ -53,6 +53,7 @@ trap 'rm -rf "$scratch"' EXIT
 trap 'exit 1' HUP INT TERM
 cd "$scratch"
 failed=0 skipped=0
+# a line for each run that does what it may: its kind
 : >kinds
 
 skip() { # WORDS

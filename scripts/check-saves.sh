@@ -1,17 +1,19 @@
 #!/bin/sh
-# Interrupts saves of the built program: kills it at each system call of a save, makes each call fail with each of three errors,
-# changes the file from another program meanwhile, and saves to files, links and owners of all kinds. FILE must have its old or
-# its new bytes, complete, with its owner and permissions; a link must stay a link; only the draft of a killed save may be left
-# beside it; and nobody else may read the draft. All this is checked for saves that replace FILE and for saves that overwrite
-# it, where FILE may be torn as long as the mark, in a folder of its own or beside FILE, has the whole new text. It is not part of `rt ci`, and needs strace; some
-# checks need root. Its word is the program. It prints the number of checks of each kind. Exit status 1: a check failed; 77:
-# strace or the program is missing.
+# check-saves.sh [PROGRAM]: interrupts saves of the built program, or of PROGRAM: kills it at each system call of a save, makes
+# each call fail with each of three errors, changes the file from another program meanwhile, and saves to files, links and owners
+# of all kinds. FILE must have its old or its new bytes, complete, with its owner and permissions; a link must stay a link; only
+# the draft of a killed save may be left beside it; and nobody else may read the draft. All this is checked for saves that replace
+# FILE and for saves that overwrite it, where FILE may be torn as long as the mark, in a folder of its own or beside FILE, has the
+# whole new text. It is not part of `rt ci`, and needs strace; some checks need root. It prints the number of checks of each kind.
+# Exit status 1: a check failed; 77: strace or the program is missing.
 set -u
 
 export LC_ALL=C.UTF-8
 top=$(cd "$(dirname "$0")/.." && pwd)
 editor=$(readlink -f "${1:-$top/crates/bidi_edit/out/bidi_edit}") || editor=''
+# The least number of points, about a quarter of those of a whole run: a run that interrupts hardly anything fails.
 least=500
+# Counted by scenes.sh: points, failures and skipped checks, and the points of this kind.
 points=0 failures=0 skipped=0 kind='' kind_points=0
 
 if ! [ -x "$editor" ]; then
@@ -45,7 +47,7 @@ trap 'exit 1' HUP INT TERM
 chmod 755 "$folder"
 cp "$editor" "$folder/editor"
 cp "$top/data/DerivedBidiClass.txt" "$top/data/BidiBrackets.txt" "$top/data/BidiMirroring.txt" "$folder"
-# Runs a command as another user, who is in no group of the files.
+# Runs a command as another user, who is in no group of the files: a number that no user of the system should have.
 cat >"$folder/as_other" <<'END'
 #!/bin/sh
 exec setpriv --reuid 54322 --regid 54322 --clear-groups "$@"

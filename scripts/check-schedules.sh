@@ -1,9 +1,11 @@
 #!/bin/sh
-# Plays random schedules from an independent model of the editor by play_scenes, step by step and by one call, and counts those
-# whose answers all agree with the model. Its first word is their folder, with schedules.tsv, settled.tsv and the small tables
-# test-classes.txt, test-brackets.txt and test-mirroring.txt; a second word is a program built elsewhere. A line has the fields
-# of a scene, the first of which names the tables, the small ones (test) or Debian's unicode-data (real), and then the fields of
-# its answers. Exit status 77: there are no schedules or no tables. It is not part of `rt ci`.
+# check-schedules.sh FOLDER [PROGRAM]: plays random schedules from an independent model of the editor by play_scenes, or by
+# PROGRAM, step by step and by one call, and counts those whose answers all agree with the model. FOLDER has schedules.tsv,
+# settled.tsv and the small tables test-classes.txt, test-brackets.txt and test-mirroring.txt. A line of a schedule has the fields
+# of a scene, 1 to 7, the first of which names the tables, the small ones (test) or Debian's unicode-data (real), and then the
+# fields of its answers, 8 to 14. crates/play_scenes/src/main.rt tells what they are; field 5 is the call of the store that fails,
+# and field 9 has a digit for each step, 1 where the terminal then shows the picture last painted. Exit status 77: there are no
+# schedules or no tables. It is not part of `rt ci`.
 set -eu
 
 top=$(cd "$(dirname "$0")/.." && pwd)
@@ -28,7 +30,7 @@ fail() {
 }
 
 # Copies one of Unicode's files, unpacked, to the scratch folder under a name.
-unpack() {
+unpack() { # FILE NAME
     found=$(find "$unicode" -name "$1" -o -name "$1.gz" -o -name "$1.bz2" | sort | head -n 1)
     case $found in
     '') skip "$unicode has no $1 (apt-get install unicode-data)" ;;
@@ -56,22 +58,22 @@ build() {
     find_built play_scenes
 }
 
-# Plays scenes over the tables of this kind.
-play() {
+# Plays scenes over the tables of this kind. A quarter of an hour is enough for all of them.
+play() { # KIND
     timeout 900 "$program" "$scratch/$1-classes.txt" "$scratch/$1-brackets.txt" "$scratch/$1-mirroring.txt"
 }
 
 # Whether the schedule on this line agrees with the model if another call of the store fails. The number of calls in a save is
-# unspecified, so a fault after the third call may hit another one than in the model.
-agrees_otherwise() {
+# unspecified, so a fault after the third call may hit another one than in the model. No schedule makes a hundred calls.
+agrees_otherwise() { # KIND LINE
     sed -n "$2p" "$scratch/$1.in" |
         awk -F '\t' -v OFS='\t' '$5 > 3 { for (k = 4; k < 100; k++) { $5 = k; print } }' >"$scratch/tries"
     sed -n "$2p" "$scratch/$1.want" >"$scratch/wanted"
     play "$1" <"$scratch/tries" >"$scratch/tried" && grep -qxFf "$scratch/wanted" "$scratch/tried"
 }
 
-# Plays the schedules over the tables of this kind, and counts.
-compare() {
+# Plays the schedules over the tables of this kind, and counts in `played`, `otherwise` and `differ`.
+compare() { # KIND
     grep "^$1	" "$scratch/all" >"$scratch/$1.tsv" || fail "no schedule has the tables $1"
     cut -f 1-7 "$scratch/$1.tsv" >"$scratch/$1.in"
     cut -f 8-14 "$scratch/$1.tsv" >"$scratch/$1.want"

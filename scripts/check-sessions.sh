@@ -41,11 +41,13 @@ run_session() { # SESSION
     place=$scratch/place
     lay_out "$1" "$place"
     status=0
+    # a minute, so that one that hangs ends
     (cd "$place" && with_words "$1" timeout 60 "$program" <"$1/keys" >"$scratch/stdout" 2>"$scratch/stderr") || status=$?
     : >"$scratch/differences"
     wanted=$(cat "$1/want.status")
     [ "$status" = "$wanted" ] || differ "status: $status and not $wanted"
     compare 'standard output' "$scratch/stdout" "$1/want.stdout"
+    # a refused command line
     if [ "$wanted" = 2 ]; then
         [ -s "$scratch/stderr" ] || differ 'standard error: nothing is told'
     else

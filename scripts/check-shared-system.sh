@@ -1,9 +1,9 @@
 #!/bin/sh
-# Runs the editor on a shared system: with other users and their files, with a second start, in a second process namespace, on
-# a small disk, and with simultaneous signals. Each part of scripts/shared_system runs as root and as a plain user
-# (setpriv), in tmux. As a plain user it checks only what needs no root. Names after it select parts and checks whose
-# names begin so. The last line has the totals. Exit status 1: a check failed; 77: tmux, setpriv or the built programs are
-# missing.
+# check-shared-system.sh [NAME..]: runs the editor on a shared system: with other users and their files, with a second start, in a
+# second process namespace, on a small disk, and with simultaneous signals. Each part of scripts/shared_system runs as root and as
+# a plain user (setpriv), in tmux; if a plain user starts the script, only as that user, without what needs root. A NAME selects
+# the parts whose names begin with it. The last line has the totals. Exit status 1: a check failed; 77: tmux, setpriv or the built
+# programs are missing.
 set -u
 
 export LC_ALL=C.UTF-8
@@ -57,7 +57,9 @@ for file in "$top"/scripts/shared_system/*.sh; do
 done
 
 install_copy
+# keeps the tmux server alive between two checks
 terminal -f /dev/null new-session -d -s keep -x 80 -y 24 'sleep 36000'
+# 61001 and 61002 are users that no system should have
 if [ "$(id -u)" = 0 ]; then
     run_round 0 61001
     run_round 61001 61002

@@ -1,7 +1,7 @@
 #!/bin/sh
-# Runs the built program to each of its ends, and bidi_input if it is built, and compares the exit status, the line on standard
-# error and the saved file with the manual. It is not part of `rt ci`, whose tests call the functions that `main` calls and not the
-# program. The last line has the totals. Exit status 1: one differs; 77: the program is not built.
+# check-statuses.sh: runs the built program to each of its ends, and bidi_input if it is built, and compares the exit status, the
+# line on standard error and the saved file with the manual. It is not part of `rt ci`, whose tests call the functions that `main`
+# calls and not the program. The last line has the totals. Exit status 1: one differs; 77: the program is not built.
 set -u
 
 cd "$(dirname "$0")/.." || exit 1
@@ -24,8 +24,8 @@ run() {
     status=$?
 }
 
-# NAME STATUS LINE: checks the last run's status and the start of its standard error.
-ended() {
+# Checks the last run's `status` and the start of its standard error; LINE is empty where nothing may be told.
+ended() { # NAME STATUS LINE
     line=$(head -n 1 told)
     case $line in
     "$3"*) is_told=1 ;;
@@ -59,6 +59,7 @@ ended input_ends_changed 1 'bidi_edit: input ended before saving'
 printf 'a\377' >bad
 run bad
 ended not_utf8 1 'bidi_edit: not UTF-8 at byte 1'
+# a byte more than a text may have
 head -c 16777217 /dev/zero >long
 run long
 ended too_long 1 'bidi_edit: file too long'

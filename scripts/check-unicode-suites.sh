@@ -1,7 +1,7 @@
 #!/bin/sh
-# Runs unicode_suites on Unicode's test suites, from Debian's package unicode-data, and compares the number of agreeing cases
-# with the number of cases in the files; for clusters with the number known to agree. A folder after it replaces the package's;
-# files may be packed. Exit status 1: a number differs; 77: a file is missing.
+# check-unicode-suites.sh [FOLDER]: runs unicode_suites on Unicode's test suites, from FOLDER or from Debian's package
+# unicode-data, and compares the number of agreeing cases with the number of cases in the files; for clusters with the number
+# known to agree. The files may be packed. Exit status 1: a number differs; 77: a file is missing.
 set -eu
 export LC_ALL=C
 
@@ -57,6 +57,7 @@ known_clusters() { # VERSION
     esac
 }
 
+# a case of BidiTest counts once for each of the directions in its bitset: 1 auto, 2 left to right, 4 right to left
 characters=$(grep -c '^[0-9A-F]' BidiCharacterTest.txt)
 sequences=$(awk -F';' '/^[A-Z]/ { n += $2 % 2 + int($2 / 2) % 2 + int($2 / 4) % 2 } END { print n }' BidiTest.txt)
 clusters=$(grep -c '^÷' GraphemeBreakTest.txt)

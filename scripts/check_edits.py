@@ -6,37 +6,43 @@ It writes files into the working folder.
 import random, re, shutil, subprocess, sys
 
 editor, data, edits, seed = sys.argv[1], sys.argv[2], int(sys.argv[3]), int(sys.argv[4])
+# named characters and replacements have generators of their own, so that the other choices of a seed do not depend on them
 chance, name_chance, replace_chance = random.Random(seed), random.Random(seed), random.Random(seed)
 FILES = {"classes": "DerivedBidiClass", "brackets": "BidiBrackets", "mirroring": "BidiMirroring", "joining": "ArabicShaping", "characters": "UnicodeData"}
 TABLES = [f"--{word}={data}/{file}.txt" for word, file in FILES.items()]
-PER_TEXT = 200
+PER_TEXT = 200  # edits of one text, in one run
 # the beginning of a whole painting
 WHOLE = b"\x1b[0m\x1b[2J"
 # two Repaints: the first painting ends where the second begins
 REPAINT = b"\x0c\x0c"
 # auto, left to right, right to left, and auto again
 DIRECTIONS = b"\x1b[9~" * 3
-# an edit, or a run of edits, that is undone or redone
+# for Undo and Redo of an edit: those, and the keys that undo and redo a run
 STEPS = {b"\x1a": [b"\x1a", b"\x1b[82~"], b"\x19": [b"\x19", b"\x1b[83~"]}
 SELECT = b"\x1b[81~"
 # characters that begin or end an embedding or isolate, by their names: those that begin one are put round a selection
 NAMED = [b"\x1b[86~" + name.encode() for name in "eEoOiIfpP"]
+# F4, Escape and Delete, as the filter of keys gives them
 REPLACE, CANCEL, DELETE = b"\x1b[85~", b"\x1b[93~", b"\x1b[3~"
+# arrows, a place on and back, Home, End and pages
 MOVES = [b"\x1b[A", b"\x1b[B", b"\x1b[C", b"\x1b[D", b"\x06", b"\x02", b"\x1b[H", b"\x1b[F", b"\x1b[5~", b"\x1b[6~"]
 HEBREW = "של אני הבית ספר ילדה הולכת לים בערב (ירושלים) מחיר שולחן כיסא".split()
 ARABIC = "السلام عليكم كتاب بيت مدرسة في على كبير صغير يوم".split()
 LATIN = "the house of a note: bread, milk (2 litres) and so on www.example.org".split()
 NUMBERS = "12 3,5 17:30 100% $4 ١٢ ٣٤".split()
 # letters of each direction, numbers and their separators, marks, blanks, brackets, joiners, bidi controls
+# each of them as likely as another
 KINDS = [0x61, 0x5A, 0x05D0, 0x05D1, 0x0627, 0x0628, 0x31, 0x38, 0x0661, 0x2B, 0x2D, 0x25, 0x24, 0x2C, 0x3A, 0x2E, 0x0301, 0x05B8,
     0x20, 0x20, 0x09, 0x28, 0x29, 0x5B, 0x5D, 0x3C, 0x3E, 0x21, 0x26, 0x200D, 0x200B, 0x4E2D, 0x1F600, 0x1F468, 0x0915, 0x094D]
 CONTROLS = [0x202A, 0x202B, 0x202C, 0x202D, 0x202E, 0x2066, 0x2067, 0x2068, 0x2069, 0x200E, 0x200F, 0xAD]
 
 
+# the kinds of words of a note
 NOTES = [[HEBREW], [ARABIC], [HEBREW, LATIN, NUMBERS], [ARABIC, LATIN, NUMBERS], [LATIN], [HEBREW, ARABIC, LATIN, NUMBERS]]
 
 
 def words(count, kinds=None):
+    """A note of `count` characters, of words of these kinds."""
     kinds = kinds or chance.choice(NOTES)
     text = ""
     while len(text) < count:
@@ -45,10 +51,12 @@ def words(count, kinds=None):
 
 
 def characters(count, controls):
+    """A text of `count` characters; with `controls` a tenth of them are bidi controls and the like."""
     return "".join(chr(chance.choice(CONTROLS if controls and chance.random() < 0.1 else KINDS)) for _ in range(count))
 
 
 def edit(is_note, kinds=None):
+    """The bytes of an edit: mostly letters put in, else Backspace, Delete, Undo, Redo or Enter."""
     kind = chance.random()
     if kind < 0.6:
         return (words(1 + chance.randrange(9), kinds) if is_note else characters(1, chance.random() < 0.1)).encode()
@@ -65,6 +73,7 @@ def replacement(is_note):
 
 
 def check(count):
+    """Makes edits of one text. Returns what is wrong, or nothing."""
     is_note = chance.random() < 0.5
     size = chance.randrange(1, 2001)
     text = words(size) if is_note else characters(size, chance.random() < 0.3)
@@ -85,6 +94,7 @@ def check(count):
         keys += change + REPAINT + DIRECTIONS + REPAINT
     with open("text", "wb") as file:
         file.write(text.encode())
+    # Save, Quit, and Quit once more, in case the first only ends a search or a question
     run = subprocess.run([editor, f"--rows={rows}", f"--cols={columns}", *TABLES, "text"], input=keys + b"\x13\x11\x11", capture_output=True)
     if run.returncode != 0:
         return f"status {run.returncode}: {run.stderr[:200]!r}"
@@ -113,6 +123,7 @@ def count_ways(count, kinds):
         keys += edit(True, kinds)
     with open("keys", "wb") as file:
         file.write(keys + b"\x11\x11")
+    # gdb counts how often each function begins; the second Quit leaves the changed text
     words_of = " ".join(["--rows=24", "--cols=80", *TABLES])
     commands = ["set pagination off"] + [f"rbreak ^{name}" for name in FUNCTIONS] + ["ignore 1 1000000000", "ignore 2 1000000000"]
     commands += [f"run {words_of} text <keys >/dev/null", "info breakpoints"]

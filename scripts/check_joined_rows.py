@@ -8,10 +8,11 @@ import os, random, re, shutil, subprocess, sys, zipfile
 
 program, data, rows = sys.argv[1:]
 UNICODE = "/usr/share/unicode"
-LINES, SEED = 5000, 1
+LINES, SEED = 5000, 1  # of random words
 ARABIC, PERSIAN = "/usr/share/hunspell/ar.dic", "/usr/share/hunspell/fa.dic"
 URDU = "/usr/lib/firefox-esr/browser/extensions/langpack-ur@firefox-esr.mozilla.org.xpi"
 FILES = {"classes": "DerivedBidiClass", "brackets": "BidiBrackets", "mirroring": "BidiMirroring", "joining": "ArabicShaping", "characters": "UnicodeData"}
+# a mark, as bidi_print prints it with --marks
 MARK = re.compile(r"\[([eEoOpiIfP?~#])\]")
 POINTS = "\u064b\u064c\u064d\u064e\u064f\u0650\u0651\u0652\u0670"
 JOINERS = "\u200c\u200d\u200f"  # also the right-to-left mark, which is transparent
@@ -23,12 +24,14 @@ failed = skipped = False
 
 
 def skip(why):
+    """Tells why a comparison is not made; the script then ends with status 77."""
     global skipped
     skipped = True
     print(f"skipped: {why}")
 
 
 def tell(name, alike, count):
+    """Tells how many of `count` are alike. A comparison of none counts as failed."""
     global failed
     failed = failed or alike < count or not count
     print(f"{name}: {alike} of {count} are alike")
@@ -78,6 +81,7 @@ def ordered(looks, levels):
 
 
 def check_rows():
+    """Compares the rows of ROWS. The fields of a line are told by check-joined-rows.sh."""
     cases, ours = {}, []
     with open(rows, encoding="utf-8") as file:
         for line in file:
@@ -99,6 +103,7 @@ def check_rows():
 
 
 def lines_of(name):
+    """The fields of the lines of a table."""
     with open(f"{data}/{name}.txt", encoding="utf-8") as file:
         return [line.split(";") for line in file.read().split("\n") if line and not line.startswith("#")]
 
@@ -114,6 +119,7 @@ def read_letters():
 
 
 def check_tables():
+    """Compares each letter alone, between two of itself, and before, after and between BEH, which joins on both sides."""
     letters = sorted(types.keys() | forms.keys())
     lines = [line for c in letters for line in (c, c + c + c, c + BEH, BEH + c, BEH + c + BEH)]
     compare("letters by data/ and by Unicode's files", lines, printed(lines), printed(lines, UNICODE))
@@ -123,12 +129,14 @@ def check_tables():
 
 
 def words_of(text):
+    """The words of Arabic letters and non-joiners in a text, without those that have a letter without a form."""
     formless = {c for c, joining in types.items() if joining in "RLD" and c not in forms}
     words = set(re.findall("[\u0620-\u064a\u066e-\u06d3\u06fa-\u06ff\u200c]{2,}", text))
     return sorted(word for word in words if not formless & set(word))
 
 
 def read_words():
+    """The words of each of the three packages."""
     lists = []
     for path in ARABIC, PERSIAN:
         with open(path, encoding="utf-8") as file:
@@ -151,6 +159,7 @@ def changed(chance, word):
 
 
 def random_lines(lists):
+    """Yields lines of words, from one list after another. No line begins with a joiner or point."""
     chance = random.Random(SEED)
     others = "12 3.50 (note) the Latin word, ١٢٣ ۴۵ ! ؟ ، . [a] 7%".split()
     for number in range(LINES):
@@ -162,7 +171,7 @@ def random_lines(lists):
 
 
 def taken_apart(match):
-    """The final form of an alef with its points, and the lam before it, at its right."""
+    """The final form of an alef with its points, and the lam before it: initial of an isolated ligature, medial of a final one."""
     code = ord(match[1]) - 0xFEF5
     return ALEFS[code // 2] + match[2] + "\ufedf\ufee0"[code % 2]
 

@@ -11,6 +11,7 @@ from pathlib import Path
 
 from editor_terminal import Late, Terminal
 
+# how often an action is made: letters one by one, pages, letters in one write, letters in the long paragraph
 LETTERS, PAGES, BURST, LONG_LETTERS = 30, 20, 200, 10
 LIMIT = 20  # seconds to wait for a screen
 
@@ -55,6 +56,7 @@ KINDS = (
     Kind('Arabic', (ARABIC,), 'ظ'),
     Kind('mixed', (HEBREW, ARABIC, LATIN), 'ק'),
 )
+# texts by which a screen is known: the 19th line of a text, its last one, and the beginning of a paragraph
 SHOWN, LAST, FIRST_NUMBER = 'line-nineteen', 'last-line', '314159'
 
 
@@ -205,6 +207,7 @@ class Task:
         self.measured(what, terminal, count, lambda: terminal.do(letter, self.shown_letter(), limit=LIMIT))
 
     def leave_typing(self, terminal):
+        """Ends an editor's mode for typing. vim waits a second after an Escape, for the rest of a key."""
         terminal.send(self.editor.command)
         terminal.settle(1.2 if self.editor.command else 0.1)
 
@@ -269,7 +272,7 @@ def run_task(what, task, action):
 
 
 def measure(found, folder, rounds, part):
-    """Measures all editors on all texts."""
+    """Measures all editors on all texts, whose sizes are divided by `part`."""
     figures = Figures()
     size, long_size = 16_000_000 // part, 1_000_000 // part
     for kind in KINDS:
@@ -331,6 +334,7 @@ def main():
     parser.add_argument('editors', nargs='+')
     words = parser.parse_args()
     part = 16 if words.quick else 1
+    # more pages than a paragraph of 1,000,000 bytes has in rows of 80 columns, 23 a page
     known = editors(words.bidi_edit, 800 // part)
     found = [known[name] for name in words.editors]
     if words.quick:

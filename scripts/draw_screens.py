@@ -12,10 +12,11 @@ from enum import Enum
 from html import escape
 from pathlib import Path
 
+# lengths in pixels
 WIDTH, HEIGHT = 9, 19  # of a cell
 EDGE, CAPTION = 12, 22  # around a screen, and above it
-WIDEST = 720
-BASELINE = 14
+WIDEST = 720  # the picture, where two screens and more are side by side
+BASELINE = 14  # of a letter, below the top of its cell
 INK, PAPER, FRAME = '#1f2328', '#ffffff', '#8c959f'
 FONTS = "'DejaVu Sans Mono','Noto Sans Mono','Noto Sans Hebrew','Noto Naskh Arabic',Menlo,Consolas,monospace"
 
@@ -38,7 +39,11 @@ class Look(Enum):
 
 
 def look_after(parameters, look):
-    """The look after an SGR sequence. Of colours only the presence of a background matters."""
+    """The look after an SGR sequence with these parameters (ECMA-48). Of colours only the presence of a background matters.
+
+    7 is negative, 0, 27 and 49 end it or a background; 40 to 47, 100 to 107 and 48 set one. After 38 and 48 a colour follows, as
+    5 and one number, or as 2 and three.
+    """
     numbers = [int(number or 0) for number in parameters.split(';')]
     while numbers:
         number = numbers.pop(0)

@@ -28,6 +28,7 @@ def processes_of(session):
                 fields = file.read().rpartition(b')')[2].split()
         except OSError:
             continue
+        # after the name in parentheses: state, parent, group, session
         if int(fields[3]) == session:
             found.append(int(name))
     return found
@@ -41,6 +42,7 @@ def thread_seconds(path):
     except OSError:
         with open(f'{path}/stat', 'rb') as file:
             fields = file.read().rpartition(b')')[2].split()
+        # user and system time, in ticks
         return (int(fields[11]) + int(fields[12])) / os.sysconf('SC_CLK_TCK')
 
 
@@ -111,7 +113,7 @@ class Terminal:
         return part
 
     def await_screen(self, wanted=b'', quiet=QUIET, limit=60):
-        """The time of a screen's last byte: after the wanted bytes, followed by a pause."""
+        """The time of a screen's last byte: after the wanted bytes, before `quiet` seconds without any; `Late` after `limit`."""
         end = time.perf_counter() + limit
         seen, last, is_there = b'', None, False
         while True:
@@ -119,6 +121,7 @@ class Terminal:
             now = time.perf_counter()
             if part:
                 last = now
+                # of what was seen only an end can begin the wanted bytes
                 seen = seen[-len(wanted):] + part if wanted else part
                 is_there = is_there or wanted in seen
             elif is_there:

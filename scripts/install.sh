@@ -14,6 +14,7 @@ top=$(CDPATH='' cd -- "$(dirname -- "$0")/.." && pwd)
 # shellcheck source=launcher/names.sh
 . "$top/launcher/names.sh"
 
+# Sets `is_removal`, `prefix`, `lib` and `record`.
 read_words() { # WORD..
     is_removal=''
     if [ "${1:-}" = --uninstall ]; then
@@ -39,7 +40,7 @@ refuse() { # CAUSE
 
 # ---- the installed files
 
-# Finds the built programs, and compiles the host.
+# Sets `programs`, the built ones, and compiles the host.
 find_programs() {
     host=$top/host/out/bidi-edit
     sh "$top/host/build.sh" || refuse "$(shown "$host") is not built"
@@ -52,7 +53,8 @@ find_programs() {
     done
 }
 
-# Copies a file with these permissions, whatever its source's and the umask are.
+# Copies a file into the new tree, in the folder `beside` of `put_there`, with these permissions, whatever its source's and the
+# umask are.
 take() { # MODE SOURCE PATH
     mkdir -p -- "$beside/tree/${3%/*}"
     cp -- "$2" "$beside/tree/$3"
@@ -95,6 +97,7 @@ new_folders() {
     [ -z "$is_new" ] || echo .
 }
 
+# Writes the lists `folders` and `files` of the new tree, and the new record, all in `beside`.
 write_record() {
     (cd "$beside/tree" && find . -mindepth 1 -type d) | sed 's|^\./||' | sort >"$beside/folders"
     (cd "$beside/tree" && find . -type f) | sed 's|^\./||' | sort >"$beside/files"
@@ -134,8 +137,10 @@ clean_up() {
     [ -z "$is_new" ] || rmdir -- "$prefix" 2>/dev/null || :
 }
 
+# Installs. `beside` is a folder in PREFIX, so that files can be renamed from there.
 put_there() {
     find_programs
+    # is_old: there is an installation from before there were records; is_new: PREFIX is created
     is_old='' is_new=''
     [ -f "$record" ] || [ ! -f "$lib/bidi_edit" ] || is_old=1
     [ -d "$prefix" ] || is_new=1
@@ -152,6 +157,7 @@ put_there() {
 
 # ---- removal
 
+# Removes what the record has, and last the folders that are then empty.
 take_away() {
     [ -f "$record" ] || refuse "there is no record of an installation in $(shown "$prefix"); where there is an old one, installing anew makes one"
     recorded_files | while read -r path; do

@@ -1,5 +1,5 @@
 #!/bin/sh
-# Writes data/ from Unicode's five files, from Debian's package unicode-data or from the folder named after it. It keeps facts
+# make-data.sh [FOLDER]: writes data/ from Unicode's five files, from Debian's package unicode-data or from FOLDER. It keeps facts
 # only, in the files' own format: the ranges with their classes, also the @missing ones, the brackets, the mirrors, the joining
 # types, and of UnicodeData.txt the lines that give a letter's form. It joins adjacent ranges of one class, and drops comments
 # and names. scripts/check-data.sh compares the answers.

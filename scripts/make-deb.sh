@@ -35,6 +35,7 @@ has_tool() { # NAME TOOL
     return 1
 }
 
+# Refuses a program that is not built and proved.
 need_proved() { # PROGRAM
     built=$top/crates/$1/out/$1
     if ! [ -x "$built" ] || ! [ -f "$built.stamp" ]; then refuse "$built is not built and proved: launcher/proving/prove.sh . $1 does it"; fi
@@ -122,6 +123,7 @@ fi
 END
 }
 
+# Makes the package from `package`, its tree. The maintainer is the author of the last commit.
 make_package() {
     package=$folder/package
     maintainer=$(git -C "$top" log -1 --format='%an <%ae>' 2>/dev/null) || maintainer='bidi_edit maintainers <root@localhost>'
@@ -146,6 +148,7 @@ make_tar() {
 
 # ---- the checks
 
+# Whether a row of the screen has this text.
 has_line() { # TEXT
     tmux -L "$socket" capture-pane -p -t person | grep -q -F -e "$1"
 }
@@ -172,6 +175,7 @@ exec sleep 600
 END
     tmux -u -L "$socket" -f /dev/null new-session -d -s person -x 60 -y 8 "sh '$folder/run'"
     wait_for 100 has_line '1:1' || :
+    # the forms of the word's letters from left to right: an isolated beh, a final alef, an initial beh
     has_line "$(printf '\357\272\217\357\272\216\357\272\221')" && found=0 || found=1
     report "$1, used: joined letters" "$found" 'the word is not seen joined'
     type_keys א

@@ -1,7 +1,8 @@
 # shellcheck shell=sh
 # shellcheck disable=SC2034,SC2154 # words that the scripts give and take
 # For scripts that run the built editor by Python, in a folder of their own, which is removed at the end. `top` is the repository.
-# Sets `editor` and `folder`. Exit status 77: the program is not built or there is no python3.
+# Sets `editor`, the program's path, and `folder`, where the script is from then on. Exit status 77: the program is not built or
+# there is no python3.
 
 editor=$top/crates/bidi_edit/out/bidi_edit
 if ! [ -x "$editor" ]; then

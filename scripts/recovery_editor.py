@@ -14,7 +14,7 @@ BYTES = {"erase": b"\x1b[94~", "delete": b"\x1b[3~", "back": b"\x02", "forward":
          "find next": b"\x1b[92~", "cancel": b"\x1b[93~", "go to": b"\x1b[84~", "replace": b"\x1b[85~",
          "name": b"\x1b[86~", "tell": b"\x1b[87~"}
 MOVES = ["back", "forward", "text start", "text end"]
-# the characters of letters behind Name, each a unit of its own; without the joiners, which are none
+# the characters of letters after Name, each a unit of its own; without the joiners, which are none
 NAMED = dict(zip("eEoOpiIfPlra", CONTROLS))
 # what ends those that are put round a region
 CLOSERS = dict.fromkeys("eEoO", NAMED["p"]) | dict.fromkeys("iIf", NAMED["P"])
@@ -23,7 +23,7 @@ GOES_ON = [("word", "word"), ("word", "blanks"), ("blanks", "blanks")]
 
 
 def kind_of(character):
-    """How the next edit goes on behind a character that is put in."""
+    """How the next edit goes on after a character that is put in."""
     return "no" if character == "\n" else "blanks" if character in " \t" else "word"
 
 
@@ -33,6 +33,7 @@ class Editor(Search):
     def __init__(self, text):
         super().__init__()
         self.text, self.place, self.changed = text, 0, False
+        # edits to undo and to redo, the latest last, each as text and place before it, and text and place after it
         self.past, self.future = [], []
         # the lengths of the past at which runs begin, and at which the text is the stored one
         self.runs, self.stored = set(), 0
@@ -42,11 +43,13 @@ class Editor(Search):
         self.mark, self.soft, self.held = None, "no", ""
         # a question is None, or for a line, a name or a code; what Tell told stands until the next key
         self.ask, self.answer, self.told = None, "", ""
-        # the direction of all paragraphs: auto, ltr and rtl, one after another
+        # the direction of all paragraphs: 0 is auto, 1 ltr, 2 rtl
         self.direction = 0
+        # the bytes so far, and for each number of them that ends a key the text then
         self.keys, self.ends = b"", {0: text}
 
     def edit(self, text, place, goes_on=False):
+        """An edit that makes this text and place; `goes_on` where it is of the run before it."""
         length = len(self.past)
         self.runs = {run for run in self.runs if run < length} | (set() if goes_on else {length})
         if self.stored is not None and length < self.stored:
@@ -56,6 +59,7 @@ class Editor(Search):
         self.now(text, place, True)
 
     def now(self, text, place, changed):
+        """Takes a text and place; an edit and a step of the history take the mark off."""
         self.text, self.place, self.changed, self.mark, self.soft = text, place, changed, None, "no"
 
     def remove(self, start, end, goes_on=False):
@@ -69,6 +73,7 @@ class Editor(Search):
         self.edit(self.text[:self.place] + new + self.text[self.place:], self.place + len(new), goes_on)
 
     def insert(self, letter, byte=None):
+        """A letter that is typed, by `byte` where its own bytes are not those that the editor gets."""
         was, self.typing = self.typing, "no"
         is_paste = was in ("paste", "pasting")
         if self.ask:
@@ -85,10 +90,12 @@ class Editor(Search):
         self.typed(byte or letter.encode())
 
     def age(self):
+        """What each key does at its end: a selection goes on only where Select comes before the next move."""
         if self.soft == "fresh":
             self.soft = "old"
 
     def unselect(self):
+        """Takes off the mark of a selection, unless Select came just before."""
         if self.soft == "old":
             self.mark, self.soft = None, "no"
 
@@ -99,6 +106,7 @@ class Editor(Search):
         return self.soft != "no" and self.mark != self.place
 
     def typed(self, keys):
+        """Notes the bytes of a key that was obeyed, and the text then."""
         self.told = ""
         self.keys += keys
         self.ends[len(self.keys)] = self.text
@@ -149,6 +157,7 @@ class Editor(Search):
         self.edit(self.text[:start] + NAMED[letter] + self.text[start:], place, True)
 
     def put_code(self):
+        """Puts in the character of the answer, unless it is none: nothing typed, a surrogate or beyond Unicode."""
         code = int(self.answer or "110000", 16)
         if code < 0xd800 or 0xdfff < code < 0x110000:
             self.put_character(chr(code))
@@ -182,7 +191,7 @@ class Editor(Search):
         return max((at for at in starts if at < self.place), default=self.place)
 
     def word_behind(self):
-        """The first start of a word or end of a line behind the place, else the place."""
+        """The first start of a word or end of a line after the place, else the place."""
         stops = [len(self.text), *(m.start() for m in re.finditer("[a-z0-9\u05d0-\u064a]+|\n", self.text))]
         return min((at for at in stops if at > self.place), default=self.place)
 
@@ -199,7 +208,7 @@ class Editor(Search):
             self.typing = typing
 
     def step_run(self, from_steps, to_steps, side):
-        """Takes edits back, or makes them again, up to where a run begins."""
+        """Takes edits back (`side` 0, the text before one) or makes them again (2, the text after it), up to a run's beginning."""
         while from_steps:
             step = from_steps.pop()
             to_steps.append(step)
@@ -213,6 +222,7 @@ class Editor(Search):
         self.place = {"back": max(0, self.place - 1), "forward": min(end, self.place + 1), "text start": 0, "text end": end}[name]
 
     def take(self, name):
+        """Copy and Cut. Where there is nothing to take, what was held stays."""
         start, end = self.taken()
         self.held, self.mark, self.soft = self.text[start:end] or self.held, None, "no"
         if name == "cut" and start < end:
@@ -230,6 +240,7 @@ class Editor(Search):
             self.soft = "fresh"
 
     def apply(self, name, was):
+        """What a key does. `was` is `typing` before it."""
         if self.search and self.takes(name) or self.ask and self.answers(name):
             return
         if name in ("erase", "delete", "erase word", "delete word"):
@@ -262,6 +273,7 @@ class Editor(Search):
             self.put_in(self.held)
 
     def key(self, name):
+        """A key of BYTES. `was` is how the key before it could go on."""
         if name in ("paste start", "paste end"):
             self.typing = "paste" if name == "paste start" else "no"
         else:
@@ -286,6 +298,7 @@ class Editor(Search):
         self.typed(b"\x11")
 
     def row(self):
+        """The last row: * or - (changed or not), line and letter of the place from 1, and what is asked or told."""
         lines = self.text[:self.place].split("\n")
         row = "%s %d:%d" % ("*" if self.changed else "-", len(lines), len(lines[-1]) + 1)
         if self.search:

@@ -14,6 +14,7 @@ def read(*path):
 
 session, text, journal = sys.argv[1:]
 first, second = read(session, "keys1"), read(session, "keys2")
+# for each number of bytes that ends a key, the text then
 ends = {int(n): bytes.fromhex(t) for n, t in (line.split(" ") for line in read(session, "ends").decode().splitlines())}
 found = read(text)
 if not os.path.exists(journal):

@@ -2,6 +2,6 @@
 
 import random, sys
 
-random.seed(2)
+random.seed(2)  # the same keys in each run
 for n in range(int(sys.argv[1])):
     sys.stdout.buffer.write(b"\r" if n % 61 == 60 else random.choice([b"a", b"b", b" ", "\u05d0".encode(), "\u0628".encode(), b"\x1b[D", b"\x7f"]))

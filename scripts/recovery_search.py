@@ -12,7 +12,8 @@ class Search:
     def __init__(self):
         # a search is None, begun or typed, or asks for the other text with begun or with typed, or is at a match, replacing
         self.search, self.query, self.origin = None, "", 0
-        # what a search is for, find or replace; the text that takes a match's place, the match, and the number of those replaced
+        # what a search is for, find or replace; the text that takes a match's place, the place of the match that is shown, and
+        # the number of those replaced
         self.aim, self.other, self.at, self.count = "find", "", 0, 0
 
     def begin_search(self, aim):
@@ -45,6 +46,7 @@ class Search:
         elif is_query:
             self.look_for(self.kept(self.query) + letter)
         else:
+            # as long as the editor's, as is the query in `look_for`
             self.search, self.other = "with typed", (self.kept(self.other) + letter)[:64]
 
     def answer_by_enter(self):
@@ -56,7 +58,7 @@ class Search:
             self.show_match()
 
     def kept(self, text):
-        """What a letter is added to: where a search is begun or another text just asked for, the latest one gives way."""
+        """What a letter is added to; nothing where a search was begun or the other text just asked for: the old one gives way."""
         return "" if self.search in ("begun", "with begun") else text
 
     def look_for(self, query):
@@ -79,9 +81,11 @@ class Search:
         self.place = next((at for at in found if at >= place), found[0] if found else self.place)
 
     def look_on(self):
+        """Goes to the next match, from the last one to the first."""
         self.look_from(self.place + 1 if self.place < len(self.text) else 0)
 
     def look_back(self):
+        """Goes to the match before, from the first one to the last."""
         found = self.matches()
         self.place = next((at for at in reversed(found) if at < self.place), found[-1] if found else self.place)
 
@@ -106,6 +110,7 @@ class Search:
         return True
 
     def query_takes(self, name):
+        """What a key does while the query is typed. Returns False for one that ends the search and is then obeyed without it."""
         if name in ("erase", "delete"):
             self.place = self.origin
             self.look_for(self.kept(self.query)[:-1])
@@ -123,6 +128,7 @@ class Search:
         return True
 
     def other_takes(self, name):
+        """The same while the other text is typed."""
         if name in ("erase", "delete"):
             self.search, self.other = "with typed", self.kept(self.other)[:-1]
         elif name in ("find", "find next", "find back"):
@@ -135,6 +141,7 @@ class Search:
         return True
 
     def match_takes(self, name):
+        """The same while a match is shown."""
         if name in ("find", "find next"):
             self.go_on_from(self.at + 1)
         elif name == "find back":
@@ -167,7 +174,7 @@ class Search:
                 break
 
     def exchange(self, stop, new, count):
-        """Puts a text in the place of matches from the one that is shown on: as at most two edits, which are of one run."""
+        """Puts a text in the place of `count` matches, from the one shown up to `stop`: as at most two edits of one run."""
         at = self.at
         self.remove(at, stop)
         if new:
@@ -179,7 +186,7 @@ class Search:
         self.go_on_from(self.at + len(self.other))
 
     def replace_all(self):
-        """Replaces the match that is shown and each behind it that has no part in one before."""
+        """Replaces the match that is shown and each after it that has no part in one before."""
         new, stop, count = "", self.at, 0
         for start, end in self.spans():
             if start >= stop:

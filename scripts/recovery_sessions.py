@@ -70,7 +70,7 @@ class Session(Editor):
             self.enter() if name == "enter" else self.key(name)
 
     def search_ahead(self, name="find"):
-        """Searches for letters of one direction that stand behind the place, so that no message comes."""
+        """Searches for letters of one direction that stand after the place, so that no message comes."""
         words = "[a-z]+|[\u05d0-\u05ea]+|[\u0623-\u064a]+"
         if not re.search(words, self.text[self.place:]):
             self.key("text start")
@@ -110,7 +110,7 @@ class Session(Editor):
             self.key(random.choice(MOVES))
 
     def type_runs(self):
-        """Types words, and takes some runs of them back, so that some are before the place in the history and some behind it."""
+        """Types words, and takes some runs of them back, so that some are before the place in the history and some after it."""
         for letter in random.sample(LETTERS, 9) + [" ", "x"]:
             self.insert(letter)
         for _ in range(random.randint(0, 2)):
@@ -144,7 +144,7 @@ class Session(Editor):
         self.insert(random.choice([*CLOSERS]))
 
     def ask_for_other(self):
-        """Asks for letters that stand behind the place, and then for those that are to take their place."""
+        """Asks for letters that stand after the place, and then for those that are to take their place."""
         self.search_ahead("replace")
         self.enter()
         for letter in random.choice(["b", "xy", "\u05d0\u05e9\u05dd", "\u0628\u0623"]):
@@ -155,7 +155,7 @@ class Session(Editor):
         self.enter()
 
     def replace_some(self):
-        """Replaces a match, or all behind it too. Where none is left, the number of them is told."""
+        """Replaces a match, or all after it too. Where none is left, the number of them is told."""
         self.show_some_match()
         if random.random() < 0.5:
             self.enter()
@@ -177,12 +177,15 @@ class Session(Editor):
 
 def files_of(number):
     """The files of a session."""
+    # two LF, so that lines end more often than any letter occurs
     session = Session("".join(random.choice(LETTERS + "\n\n") for _ in range(random.randint(0, 120))))
     files = {"file": session.text}
     for _ in range(random.randint(1, 60)):
         session.press()
+    # each end with each way
     end = ENDS[number // len(WAYS) % len(ENDS)]
     session.end_by(end)
+    # keys1 are up to here
     cut = len(session.keys)
     files["torn"] = random.choice(TORN)
     recovered = session.recovered()

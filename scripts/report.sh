@@ -3,6 +3,7 @@
 # Reports of a check, for scripts that count in `passed` and `failed`, and a wait with a limit. Scripts that run as several
 # users name the current one in `who`.
 
+# Counts and prints a check: STATUS 0 is a pass, any other a failure, of which DETAIL tells what was found.
 report() { # NAME STATUS DETAIL
     if [ "$2" = 0 ]; then
         passed=$((passed + 1))
@@ -13,11 +14,12 @@ report() { # NAME STATUS DETAIL
     fi
 }
 
+# Reports whether two texts are equal.
 same() { # NAME FOUND WANTED
     if [ "$2" = "$3" ]; then report "$1" 0 ''; else report "$1" 1 "'$2', and not '$3'"; fi
 }
 
-# Waits for a command to succeed; tries every tenth of a second.
+# Waits for a command to succeed, TENTHS of a second at most; tries every tenth. Its status says whether the command succeeded.
 wait_for() { # TENTHS COMMAND..
     tenths=$1
     shift

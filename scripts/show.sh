@@ -7,6 +7,7 @@
 # these are typed first, as tmux names them: `--keys 'C-w a b'`.
 set -eu
 
+# is_plain: --cells is given
 is_plain='' keys=''
 while :; do
     case ${1:-} in
@@ -46,6 +47,7 @@ process=''
 # Waits for the editor's end, since the host writes its session until then.
 clean_up() {
     tmux -L "$socket" kill-server 2>/dev/null || :
+    # five seconds
     tries=50
     while [ -n "$process" ] && [ "$tries" -gt 0 ] && kill -s 0 "$process" 2>/dev/null; do
         tries=$((tries - 1))

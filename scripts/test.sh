@@ -11,7 +11,7 @@ trap 'rm -rf -- "$room"' EXIT
 trap 'exit 1' HUP INT TERM
 passed=0 failed=0
 
-# Runs a command that tells its numbers in a last line, and adds them. That line is shown behind the command's name, so that one
+# Runs a command that tells its numbers in a last line, and adds them. That line is shown after the command's name, so that one
 # line alone has the totals.
 add() { # NAME COMMAND..
     name=$1
@@ -27,6 +27,7 @@ add() { # NAME COMMAND..
     fi
 }
 
+# Counts a command that told no failure of its own.
 count_fault() { # CAUSE
     echo "$name: $1"
     failed=$((failed + 1))

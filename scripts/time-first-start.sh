@@ -39,10 +39,12 @@ hide_kept() { # WORD..
 
 # ---- a start
 
+# Runs a command of tmux.
 in_terminal() { # WORD..
     tmux -u -L "$socket" -f /dev/null "$@"
 }
 
+# Whether the editor has the screen.
 has_screen() {
     [ "$(in_terminal display-message -p -t person '#{alternate_on}')" = 1 ]
 }
@@ -51,12 +53,14 @@ show_last() {
     in_terminal capture-pane -p -t person | grep . | tail -n 1
 }
 
+# Makes a clean clone of a commit, in `clone`.
 make_clone() { # COMMIT NAME
     clone=$folder/$2
     git clone -q "$top" "$clone"
     git -C "$clone" checkout -q "$1"
 }
 
+# Starts the building, alone or with the editor after it, and notes the time in `begun`.
 begin() {
     begun=$(date +%s)
     : >"$folder/copies"
@@ -69,11 +73,13 @@ begin() {
     fi
 }
 
+# Whether the building or the start is at its end; proving.log is there only after a failure.
 is_over() {
     if [ -n "$crates" ]; then [ ! -d "/proc/$child" ]; else has_screen || [ -e "$clone/out/proving.log" ]; fi
 }
 
-# Notes the copies that the prover made of itself and that are at work: the crate, the process, its start and the time.
+# Notes the copies that the prover (antt-kernel) made of itself and that are at work: the crate, the process, its start in ticks
+# since the machine's (field 22 of proc's `stat`) and the time now.
 note_copies() {
     for process in $(pgrep -x antt-kernel); do
         place=$(readlink "/proc/$process/cwd") || continue
@@ -85,6 +91,7 @@ note_copies() {
 # Stops the building as Ctrl-C does, and lets it store its work.
 stop() {
     if [ -n "$crates" ]; then kill "$child" 2>/dev/null || :; else in_terminal send-keys -t person C-c; fi
+    # ten seconds, until its folder is gone
     for _ in 1 2 3 4 5 6 7 8 9 10; do
         sleep 1
         [ -e "$clone/out/proving" ] || break
@@ -160,11 +167,13 @@ find_parts() {
     done <"$folder/times"
 }
 
+# Tells where the time of the last start went; crates.awk says how.
 tell_parts() {
     find_parts
     awk -v cores="$(nproc)" -f "$parts/crates.awk" "$clone/crates.txt" "$folder/times" "$folder/parts"
 }
 
+# Measures `rt selftest`, by the clock and in processor time: `times` tells that of shell and children in a line each.
 tell_selftest() {
     begun=$(date +%s)
     (rt selftest >/dev/null && times) >"$folder/selftest"
@@ -194,6 +203,7 @@ run_gate() { # WHAT
     grep -e '^rt: ok' -e '^[0-9]* passed, ' "$folder/said" | sed 's/^/    /'
 }
 
+# Measures what is proved anew: in a second clone, by the gate after a start, and by a start after the gate in a third clone.
 time_again() { # COMMIT
     make_clone "$1" first
     start_again "$1, a first start" || return 1

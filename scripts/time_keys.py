@@ -12,7 +12,9 @@ TEXTS = {
     "ascii": "When the old man, who had 12 books (and no more), went to the sea, he came back [as he always did] after 3 days, ",
     "mixed": "שלום לכל the readers of this, והנה עוד 12 ספרים (books) אשר with a word נקראו היום, and then 7 others [not read], ",
 }
+# the keys that are measured, the runs of which the least counts, and the numbers of letters after which the memory is told
 COUNT, RUNS, LETTERS = 200, 5, (0, 1, 200, 1000)
+# rows and columns
 WINDOWS = (24, 80), (60, 200), (100, 400), (500, 500)
 DOWN, PAGE, HOME, END, FORWARD = b"\x1b[B", b"\x1b[6~", b"\x1b[H", b"\x1b[F", b"\x06"
 ERASE, UNDO, REPAINT, QUIT = b"\x7f", b"\x1a", b"\x0c", b"\x11\x11"
@@ -47,12 +49,15 @@ def megabytes(keys):
 def into_word(lead, period):
     """Moves on to after the second letter of the repeated words: near a bracket, each letter resolves the whole paragraph again."""
     shown = subprocess.run(command, input=lead + REPAINT + QUIT, capture_output=True).stdout
-    letter = int(re.findall(rb"1:(\d+)", shown)[-1])  # from the last row
+    letter = int(re.findall(rb"1:(\d+)", shown)[-1])  # from the last row, which counts from 1
     return lead + FORWARD * ((3 - letter) % period)
 
 
 def leads(length, period):
-    """The keys to each place in a paragraph of `length` characters: rows have nearly 80, and a page has 23 rows."""
+    """The keys to each place (first rows, middle, end) of `length` characters: rows have nearly 80, and a page has 23 rows.
+
+    So 23 * 77 characters are about a page, and 1500 are less than one, for more pages than there are.
+    """
     return [into_word(DOWN * 3, period), into_word(PAGE * (length // (2 * 23 * 77)), period), PAGE * (length // 1500 + 2) + END]
 
 
@@ -69,7 +74,7 @@ def series(lead, word):
 
 
 def least_seconds(series):
-    """The least times of runs with the keys before alone, and with the measured ones."""
+    """The least times of runs, by their keys: with the keys before alone, and with the measured ones too."""
     least = {run: math.inf for before, keys in series for run in (before, before + keys)}
     for _ in range(RUNS):
         for run in least:
@@ -106,6 +111,7 @@ memory = []
 places = [f"{rows}x{columns}" for rows, columns in WINDOWS] if words.windows else ["first rows", "middle", "end"]
 print("| Key, ms | Text | " + " | ".join(places) + " |\n|---|---|" + "---|" * len(places))
 for name in [words.text] if words.text else TEXTS:
+    # in windows each repetition is a line of its own, else all are one paragraph
     text = (TEXTS[name] + "\n" * words.windows) * (words.bytes // len(TEXTS[name].encode()) + 1)
     with open("text", "w", encoding="utf-8") as file:
         file.write(text)

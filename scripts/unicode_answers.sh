@@ -1,9 +1,9 @@
 # shellcheck shell=sh
-# unicode_answers.sh: what Unicode's five files say of each code, by awk, for scripts that compare it.
+# unicode_answers.sh: what Unicode's five files say of each code, by awk, for check-data.sh and check-unicode-data.sh.
 
 # Prints a line for each of the 1,114,112 codes: the code, class, bracket, mirror, joining type, and the isolated, initial, medial
-# and final form. A data line takes precedence over @missing, and a later line over an earlier one of its kind; without any the
-# class is L.
+# and final form, all codes in decimal. A data line takes precedence over @missing, and a later line over an earlier one of its
+# kind; without any the class is L. @missing has classes by their long names, as Unicode's file does.
 answers() { # CLASSES BRACKETS MIRRORING JOINING CHARACTERS
     awk -F';' '
         function number(code,  i, n) {

@@ -1,4 +1,7 @@
-"""Single cases of the host. Each function takes the installation and gives pairs of a name and what is wrong, empty if nothing."""
+"""Single cases of the host. Each function takes the installation and gives pairs of a name and what is wrong, empty if nothing.
+
+The words behind `edit` and the like are for fake_keeper.py, names of files for fake_editor.c. Statuses are as waitpid gives them:
+a signal's number, or an exit status in the second byte."""
 import os, signal, subprocess, termios, time
 from ends import TAIL, restored
 from terminals import Run
@@ -15,11 +18,12 @@ def holds(name, is_so, detail=''):
 
 
 def start(tree, *words, **variables):
+    """A run of the host with these words."""
     return Run(tree.words(*words), HOME=f'{tree.top}/home', **variables)
 
 
 def finish(run, name, status, seconds=6):
-    """Waits for the end, and gives what holds after each."""
+    """Waits some seconds for the end, and gives what holds after each."""
     run.pump(seconds)
     run.drain()
     yield same(f'{name}: status', run.status, status)
@@ -54,6 +58,7 @@ def edits(tree):
 
 
 def sizes(tree):
+    """The size at the start: the terminal's (24 by 80 where it has none, at most 500 each), the keeper's, one after a replay."""
     for rows, columns, shown in ((0, 0, b'24 x 80'), (600, 700, b'500 x 500'), (1, 1, b'1 x 1')):
         run = Run(tree.words('edit', 'plain', tree.file('sizes')), rows, columns, HOME=f'{tree.top}/home')
         yield holds(f'sizes: {rows} {columns}', run.pump(5, b'- ' + shown), run.output)
@@ -94,6 +99,8 @@ def notices(tree):
     """A notice goes between keys: the first before all keys, a later one not into a paste nor a key, unless that stays unfinished.
     An Escape that nothing follows becomes a sequence."""
     first, later = b'\x1b[>9~', b'\x1b[>1~'
+    # what is typed, with rests in seconds between. The later notice comes at the first second, so 0.8 and 0.4 seconds are before
+    # and after it; a key that is not whole for a second is given up.
     cases = (('at once', [b'ab'], b'ab' + later),
              ('a paste', [b'\x1b[200~ab', 2.2, b'cd\x1b[201~e'], b'\x1b[200~abcd\x1b[201~' + later + b'e'),
              ('the end of a paste', [b'\x1b[200~ab\x1b[201', 2.2, b'~'], b'\x1b[200~ab\x1b[201~' + later),
@@ -143,6 +150,7 @@ def erases(tree):
 
 
 def standard_files(tree):
+    """Closed and redirected standard files: the host takes its controlling terminal."""
     plain = f"'{tree.host}' edit plain '{tree.file('files')}'"
     for how in ('<&- >&- 2>&-', '</dev/null >/dev/null', '2>&-', '<&-', '| cat', '>/dev/full 2>/dev/full'):
         run = Run(['sh', '-c', f'{plain} {how}'], HOME=f'{tree.top}/home')
@@ -152,6 +160,7 @@ def standard_files(tree):
 
 
 def questions(tree):
+    """A question that is answered, not answered at the input's end, ended by Ctrl-C, and one before a session."""
     question = b'recover it, discard it, or leave it as it is? '
     run = start(tree, 'ask')
     yield holds('questions: asked', run.pump(5, question))
@@ -178,6 +187,7 @@ def questions(tree):
 
 
 def refusals(tree):
+    """Refused by the keeper before the program, and by the program before the screen."""
     run = start(tree, 'refuse')
     run.pump(5)
     yield same('refusals: text', run.output, b'bidi-edit: it is refused\r\n')
@@ -191,6 +201,7 @@ def refusals(tree):
 
 
 def statuses(tree):
+    """The statuses that the keeper gives, from 0 to 255, and what is none."""
     for status in (0, 1, 7, 255):
         yield from finish(start(tree, 'status', str(status)), f'statuses: {status}', status << 8)
     for status in ('256', '-1', 'x', ''):
@@ -209,6 +220,7 @@ def statuses(tree):
 
 
 def printing(tree):
+    """The printing program, and texts that are longer than a pipe holds."""
     told = subprocess.run([tree.host, 'print', 'a b', '--cols', '40'], stdout=subprocess.PIPE, stdin=subprocess.DEVNULL)
     yield same('printing: words', (told.returncode, told.stdout), (0, b'printed <a b> <--cols> <40>\n'))
     with subprocess.Popen([tree.host, 'long'], stdout=subprocess.PIPE, start_new_session=True) as told:
@@ -227,6 +239,7 @@ def printing(tree):
 
 
 def without_terminal(tree):
+    """No terminal, a dumb one, and ways to find the host's own folder."""
     tree.start_log()
     told = subprocess.run([tree.host, 'status', '3'], stdin=subprocess.DEVNULL, stdout=subprocess.PIPE, start_new_session=True)
     yield same('without a terminal: status', told.returncode, 3)
@@ -244,97 +257,8 @@ def without_terminal(tree):
     yield from finish(Run([tree.file('link'), 'status', '5']), 'found through a link', 5 << 8)
 
 
-def keepers(tree):
-    """Keepers that die, say nonsense, or do not answer."""
-    for what, text in (('dies', b'was ended by the signal 11: the editor is not started'), ('errs', b'was not understood: the editor is not started')):
-        run = start(tree, what)
-        run.pump(6)
-        yield holds(f'keepers: {what} before the screen', text in run.output, run.output)
-        yield from finish(run, f'keepers: {what} before the screen', 1 << 8)
-    for what, text in (('dies', b'was ended by the signal 9'), ('errs', b'was not understood')):
-        run = start(tree, 'edit', what, tree.file('kept'))
-        run.pump(5, b'hello')
-        run.type(b'abc')
-        run.pump(6)
-        run.drain()
-        yield holds(f'keepers: {what} in a session', text in run.output.rpartition(TAIL)[2], run.output)
-        yield from finish(run, f'keepers: {what} in a session', 1 << 8)
-    run = start(tree, 'edit', 'slow', tree.file('kept'))
-    run.pump(5, b'hello')
-    run.rest(1.5)
-    run.type(b'abc')
-    yield holds('keepers: slow, keys go on', run.pump(1, b'<abc>'))
-    run.type(QUIT)
-    yield from finish(run, 'keepers: slow', 0)
-    run = start(tree, 'edit', 'mute', tree.file('kept'))
-    run.pump(5, b'hello')
-    before = time.perf_counter()
-    os.kill(run.job, signal.SIGTERM)
-    yield holds('keepers: mute, ended by a signal', run.pump(5) and time.perf_counter() - before < 5)
-    yield from finish(run, 'keepers: mute', signal.SIGTERM)
-    for number, status in ((signal.SIGTERM, signal.SIGTERM), (signal.SIGKILL, signal.SIGKILL)):
-        run = start(tree, 'edit', 'stuck', tree.file('kept'))
-        run.pump(5, b'hello')
-        before = time.perf_counter()
-        os.kill(run.job, number)
-        run.pump(5)
-        yield same(f'keepers: stuck, {number.name}: processes', run.left(before + 5 - time.perf_counter()), {})
-        yield from finish(run, f'keepers: stuck, {number.name}', status)
-    run = start(tree, 'hangs')
-    run.rest(0.5)
-    run.type(b'\x03')
-    yield from finish(run, 'keepers: hangs before the screen', signal.SIGINT)
-
-
-def told_words(tree):
-    """Titles, bells and words while the program runs."""
-    tree.start_log()
-    run = start(tree, 'edit', 'titles', tree.file('chatty'))
-    run.pump(5, b'hello')
-    run.type(b'ab')
-    yield holds('told: a title and a bell', run.pump(5, b'\x1b]2;title 1\x07\x07'), run.output)
-    run.type(QUIT)
-    yield from finish(run, 'told', 0)
-    yield same('told: words', tree.heard().count(b'ij lost'), 2)
-    run = start(tree, 'edit', 'told', tree.file('told'))
-    run.pump(5, b'hello')
-    seen = len(run.output)
-    run.rest(1.5)
-    yield holds('told: the size where the journal is to be tried', b'hello' in run.output[seen:])
-    run.type(QUIT)
-    yield from finish(run, 'told: the size', 0)
-
-
-def facts_meanwhile(tree):
-    """Facts that are asked for while the program runs, and at the end."""
-    tree.start_log()
-    run = start(tree, 'edit', 'curious', tree.file('curious'))
-    run.pump(5, b'hello')
-    run.rest(1.5)
-    run.type(b'abc')
-    yield holds('facts meanwhile: keys', run.pump(5, b'<abc>'))
-    run.type(QUIT)
-    yield from finish(run, 'facts meanwhile', 0)
-    told = [line for line in tree.heard() if line.count(b'|') == 3]
-    yield same('facts meanwhile: told', [line.split(b'|')[3] for line in told[:1] + told[-1:]],
-               [b'r' + os.path.realpath(tree.file(name)).encode() for name in ('', 'curious')])
-
-
-def late_signals(tree):
-    """A signal while the session's end takes long ends the wait."""
-    run = start(tree, 'edit', 'mute', tree.file('late'))
-    run.pump(5, b'hello')
-    run.type(QUIT)
-    yield holds('late signals: the end waits', not run.pump(1) and run.is_restored())
-    before = time.perf_counter()
-    os.kill(run.job, signal.SIGTERM)
-    yield holds('late signals: soon over', run.pump(6) and time.perf_counter() - before < 5)
-    run.drain()
-    yield holds('late signals: told', b'could not be ended in time: bidi-edit --recover lists' in run.output, run.output)
-    yield from finish(run, 'late signals', signal.SIGTERM)
-
-
 def deaf_programs(tree):
+    """A program that does not end is killed; a signal that the caller ignores ends nothing."""
     for name in ('deaf', 'flood'):
         run = start(tree, 'edit', 'plain', tree.file(name))
         run.pump(5, b'1049h')
@@ -363,6 +287,7 @@ def limits(tree):
 
 
 def missing_programs(tree):
+    """Without keeper or program nothing is edited; without a filter keys go straight to the program."""
     lib = f'{tree.top}/lib/bidi_edit'
     for name, status, text in (('bidi_keep', 1, b'cannot be started'), ('bidi_edit', 127, b'bidi_edit cannot be started: No such file')):
         os.rename(f'{lib}/{name}', f'{lib}/{name}.away')
@@ -390,5 +315,5 @@ def missing_programs(tree):
         os.rename(f'{lib}/bidi_input.away', f'{lib}/bidi_input')
 
 
-ALL = [edits, sizes, resizes, notices, erases, standard_files, questions, refusals, statuses, printing, without_terminal, keepers, told_words, facts_meanwhile,
-       late_signals, deaf_programs, limits, missing_programs]
+ALL = [edits, sizes, resizes, notices, erases, standard_files, questions, refusals, statuses, printing, without_terminal,
+       deaf_programs, limits, missing_programs]

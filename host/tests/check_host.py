@@ -1,16 +1,17 @@
 """check_host.py HOST [--runs N] [NAME..]: checks the host with programs for tests around it; see scripts/check-host.sh."""
 import json, os, random, shutil, signal, subprocess, sys, tempfile, time
 sys.path.insert(0, os.path.dirname(os.path.abspath(__file__)))
-import cases, ends, facts, faults, kinds, shells
+import cases, ends, facts, faults, keepers, kinds, shells
 from terminals import become_reaper
 from tree import Tree
 
+# Processes that check side by side: more than there may be processors, since a check mostly waits.
 JOBS = 6
-CASES = {case.__name__: case for case in cases.ALL + facts.ALL + kinds.ALL + shells.ALL + faults.ALL}
+CASES = {case.__name__: case for case in cases.ALL + keepers.ALL + facts.ALL + kinds.ALL + shells.ALL + faults.ALL}
 
 
 def check_ends(tree, kind, runs):
-    """One check: all runs of a kind."""
+    """One check: all runs of a kind. Gives a pair of its name and what is wrong, as the cases do."""
     if kind == 'kill-filter' and not tree.has_filter:
         return [('ends, kill-filter: skipped, since bidi_input is not built', '')]
     wrong, times = [], []
@@ -23,7 +24,7 @@ def check_ends(tree, kind, runs):
 
 
 def worker(host, runs, names):
-    """Does these checks, and prints each result as a line."""
+    """Does these checks in an installation of its own, and prints each result as a line of JSON."""
     become_reaper()
     for number in (signal.SIGPIPE, signal.SIGXFSZ, signal.SIGINT):  # python ignores or handles them until exec, which would lose them
         signal.signal(number, signal.SIG_DFL)

@@ -1,10 +1,13 @@
 """Ends at random moments. After each no process is left within five seconds, the terminal's settings are back, and where it takes
-output the alternate screen, pastes, reordering and the modes of Alt and of arrows are as before, with nothing behind that."""
+output the alternate screen, pastes, reordering and the modes of Alt and of arrows are as before, with nothing after that."""
 import os, random, re, signal, termios, time
 from terminals import Run
 
+# What the host writes last: the title is given back, the alternate screen ends.
 TAIL = b'\x1b[23;0t\x1b[?1049l'
-LIMIT = 5
+LIMIT = 5  # seconds
+
+# Statuses are as waitpid gives them: a signal's number, or an exit status in the second byte.
 
 # What ends the host, each by its signal. The last ones are left to the watcher.
 SIGNALS = {name: getattr(signal, 'SIG' + name.upper()) for name in (
@@ -30,10 +33,12 @@ def restored(output):
 
 
 def moment():
+    """Seconds until an end: mostly within the host's start, sometimes once it edits."""
     return random.choice((random.uniform(0, 0.012), random.uniform(0, 0.05), random.uniform(0.03, 0.3)))
 
 
 def send(process, number):
+    """Sends a signal to a process that may be gone."""
     try:
         os.kill(process, number)
     except ProcessLookupError:
@@ -57,7 +62,7 @@ def wait_for_child(run, name):
 
 
 def block(run):
-    """Has the terminal take no output any more."""
+    """Has the terminal take no output any more: nobody reads it, and each key paints until it is full, or it is stopped at once."""
     if random.random() < 0.5:
         termios.tcflow(run.slave, termios.TCOOFF)
     run.is_read = False
@@ -88,10 +93,12 @@ def stop_and_go_on(run):
 
 
 def is_cooked(run):
+    """Whether the terminal is not in the host's mode: it shows keys, or gives them by lines."""
     return termios.tcgetattr(run.slave)[3] & (termios.ECHO | termios.ICANON)
 
 
 def try_stop(run, wrong):
+    """Stops and continues the host, which must paint and be raw again, and quits. Returns as `act` does."""
     seen = stop_and_go_on(run)
     if not run.pump(LIMIT, b'hello'):
         wrong.append('no screen')
@@ -105,7 +112,7 @@ def try_stop(run, wrong):
     if is_cooked(run):
         wrong.append('not raw after the stop')
     before = time.perf_counter()
-    for _ in range(20):
+    for _ in range(20):  # until it has ended, in case a key is lost
         run.type(b'\x11')
         if run.pump(0.3):
             break
@@ -121,6 +128,7 @@ def act(kind, run, wrong):
     if kind == 'stop':
         run.rest(moment())
         return try_stop(run, wrong)
+    # 137: ended by the signal 9; without the keeper the host ends with 1
     children = {'kill-program': ('bidi_edit', (137 << 8,)), 'kill-filter': ('bidi_input', None), 'kill-keeper': ('bidi_keep', (1 << 8,))}
     if kind in children:
         name, statuses = children[kind]
@@ -174,7 +182,7 @@ def try_once(tree, kind, name):
     before, statuses = kill_watcher(run) if kind == 'kill-watcher' else act(kind, run, wrong)
     if not run.pump(LIMIT):
         wrong.append('the host did not end')
-    elif statuses and run.status not in statuses and run.status & 0x7F not in statuses:
+    elif statuses and run.status not in statuses and run.status & 0x7F not in statuses:  # bit 0x80 tells of a core dump
         wrong.append(f'status {run.status}')
     left = run.left(max(0.0, before + LIMIT - time.perf_counter()))
     took = time.perf_counter() - before

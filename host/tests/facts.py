@@ -1,12 +1,12 @@
-"""What the host tells of paths: letters, the longest name, free bytes, the real path."""
+"""What the host tells of paths: letters, the longest name, free bytes, the real path. host/facts.c says what each letter means."""
 import os, socket, struct, subprocess
 from cases import holds, same
 
-NOBODY = 65534
+NOBODY = 65534  # the usual number of a user without rights
 
 
 def ask(tree, paths, user=None, folder=None):
-    """The facts about paths, as the keeper hears them."""
+    """The facts about paths, as the keeper hears them: of each the letters, two numbers and the real path."""
     def become():
         os.setgroups([])
         os.setresgid(user, user, user)
@@ -26,17 +26,18 @@ def letters_of(tree, path, user=None):
 
 
 def access_list(*entries):
-    """An access list as the kernel has it: of a tag, permissions and a user's number each."""
+    """An access list as the kernel has it (version 2): of a tag, permissions and a user's number each."""
     return struct.pack('<I', 2) + b''.join(struct.pack('<HHI', *entry) for entry in entries)
 
 
-ANY = 0xFFFFFFFF
+ANY = 0xFFFFFFFF  # in place of a user's number
 OWNER, USER, GROUP, MASK, OTHER = 1, 2, 4, 16, 32
 LIST = access_list((OWNER, 6, ANY), (USER, 4, NOBODY), (GROUP, 4, ANY), (MASK, 4, ANY), (OTHER, 0, ANY))
 PLAIN = access_list((OWNER, 6, ANY), (GROUP, 4, ANY), (OTHER, 0, ANY))
 
 
 def make(path, mode=0o644):
+    """Makes a file with these permissions. Returns its path."""
     with open(path, 'w') as file:
         file.write('text\n')
     os.chmod(path, mode)
@@ -69,6 +70,7 @@ def lists(tree):
         os.setxattr(path, 'user.note', b'x')
         yield holds('facts: an attribute of the user is no label', 's' not in letters_of(tree, path))
         if os.geteuid() == 0:
+            # revision 2, with the capability 10 (to bind low ports) permitted
             capability = struct.pack('<IIIII', 0x02000000, 1 << 10, 0, 0, 0)
             os.setxattr(path, 'security.capability', capability)
             yield holds('facts: capabilities', 's' in letters_of(tree, path))
@@ -107,6 +109,7 @@ def places(tree):
     look = os.statvfs(path)
     blocks = look.f_bfree if os.geteuid() == 0 else look.f_bavail
     yield same('facts: the longest name', longest, os.pathconf(os.path.dirname(path), 'PC_NAME_MAX'))
+    # other programs may have written a gigabyte meanwhile
     yield holds('facts: free bytes', abs(free - blocks * look.f_frsize) < 1 << 30, (free, blocks * look.f_frsize))
     yield same('facts: no mount', 'm' in letters, False)
     yield holds('facts: the root of a mount', 'm' in letters_of(tree, '/proc'))

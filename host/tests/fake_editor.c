@@ -1,8 +1,9 @@
 /* A program for tests, in place of bidi_edit: paints, reads keys, and keeps them in FILE's journal.
  *
- * fake_editor [--words] [--before TEXT] [--rows N] [--cols N] [--replay PATH] FILE. FILE's name tells what it does: `refused` is refused; `flood`
- * writes without end and reads nothing; `deaf` reads nothing and does not end; `broken` ends by a fault; `chatty` says words;
- * `raw` is written with all that is read, and FILE.made is made. */
+ * fake_editor [--words] [--before TEXT] [--rows N] [--cols N] [--replay PATH] FILE. What FILE's name has in it tells what the program
+ * does: `refused` is refused; `flood` writes without end and reads nothing; `deaf` reads nothing and does not end; `broken` ends by a
+ * fault; `said` writes a line that is no word on standard error; `chatty` says a word at each key; with `raw` all that is read is
+ * written to FILE.made. It shows `hello <LETTERS> COUNT`, the last letters and the number of all, and in the last row the size. */
 #define _GNU_SOURCE
 #include <errno.h>
 #include <signal.h>
@@ -13,6 +14,7 @@
 #include <unistd.h>
 
 static const char *before = "", *file = "", *rows = "24", *cols = "80";
+/* The letters so far; the sequence that is being read, from its ESC on. */
 static char typed[65536], sequence[64];
 static size_t length, sequence_length;
 static bool has_words;
@@ -30,6 +32,7 @@ static void put(const char *text) {
     }
 }
 
+/* Tells the host a word, as docs/ARCHITECTURE.md has them, if --words asks for that. */
 static void word(const char *text) {
     if (has_words && write(STDERR_FILENO, text, strlen(text) + 1) < 0) exit(1);
 }
@@ -47,6 +50,7 @@ static void take_size(void) {
     cols = second;
 }
 
+/* Takes a byte: Ctrl-Q (17) ends the program, a sequence may be a size, letters are kept. */
 static void take(char key) {
     if (sequence_length > 0 || key == 27) {
         if (sequence_length + 1 < sizeof sequence) sequence[sequence_length++] = key;
@@ -71,6 +75,7 @@ static void act_by_name(void) {
         word("f not-utf8 3");
         exit(1);
     }
+    /* FILE was read: a device, an inode, a size and a time */
     word("o 1 2 3 4 5");
     put(before);
     if (strstr(file, "broken")) raise(SIGSEGV);

@@ -1,17 +1,22 @@
 #!/usr/bin/python3 -SI
-"""A keeper for tests. What it does is told by the first word of the command line:
+"""A keeper for tests, in place of bidi_keep. What it does is told by the first word of the host's command line:
 
 edit KIND FILE: has the program edit FILE. KIND: plain; slow (answers no second, and the end after 2 s); mute (never answers the
-    end); stuck (reads nothing any more); dies (at the first second); errs (says nonsense at the first second); titles (a title and a bell each second); told
-    (asks for the journal each second); noticed (a mask and a notice before the start, and a notice at the first second); sized (gives a size of its own); resumed (with a replay); curious (asks for facts each second and at the end)
-ask FILE: asks a question first, and tells the answer; facts PATH..: tells the facts; print WORD..: has the printer print;
-refuse: refuses; dies, errs, hangs: before the program. All that it hears is written to the file that FAKE_KEEPER_LOG names, which
-is read from the file `log` beside this program, since it has no words."""
+    end); stuck (reads nothing any more); dies (at the first second); errs (says nonsense at the first second); titles (a title
+    and a bell each second); told (asks for the journal each second); noticed (a mask and a notice before the start, and a notice
+    at the first second); sized (gives a size of its own); resumed (with a replay); curious (asks for facts each second and at the
+    end)
+ask [FILE]: asks a question first, and tells the answer, or edits FILE then; facts PATH..: tells the facts, a line a path that
+ends in 1E; print WORD..: has the printer print; refuse: refuses; long: tells 300,001 bytes; status N: ends with this status;
+dies, errs, hangs: before the program. What hangs does so for a minute, longer than any case waits.
+
+All that it hears is appended to the file whose path the file `log` beside this program has, if that is there: the keeper has no
+words of its own. docs/ARCHITECTURE.md has the messages."""
 import os, signal, sys, time
 
 TOP = os.path.dirname(os.path.abspath(sys.argv[0]))
-LOG = None
-buffer = b''
+LOG = None  # the open log, or None
+buffer = b''  # what was read and not heard
 
 
 def say(letter, text=b''):
@@ -19,6 +24,7 @@ def say(letter, text=b''):
 
 
 def hear():
+    """The letter and text of the host's next message; None at its end."""
     global buffer
     while b'\0' not in buffer:
         got = os.read(0, 65536)
@@ -32,11 +38,13 @@ def hear():
 
 
 def note(text):
+    """Appends a line to the log."""
     if LOG is not None:
         os.write(LOG, text + b'\n')
 
 
 def facts(path):
+    """Asks for the facts about a path. Returns the messages of the answer, as letters with texts."""
     say(b'f', path)
     answer = []
     while True:
@@ -47,6 +55,7 @@ def facts(path):
 
 
 def edit(kind, file, more=()):
+    """A session of this kind, to its end; `more` are the program's words before FILE."""
     for word in more:
         say(b'b', word)
     say(b'b', file)

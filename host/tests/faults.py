@@ -5,6 +5,7 @@ from cases import QUIT
 from ends import restored
 from terminals import Run
 
+# The error that a call fails by, one that the system may give; EIO for all others.
 ERRORS = {'fork': 'EAGAIN', 'clone': 'EAGAIN', 'vfork': 'EAGAIN', 'mmap': 'ENOMEM', 'brk': 'ENOMEM', 'openat': 'EMFILE', 'pipe2': 'EMFILE', 'readlink': 'EACCES'}
 # The end itself, what does not return, what cannot fail, and what fails in the loader or, as no kernel does, in malloc.
 PASSED_OVER = {'brk', 'mmap', 'exit_group', 'execve', 'rt_sigreturn', 'getpid', 'geteuid', 'gettid', 'arch_prctl', 'set_tid_address', 'set_robust_list', 'rseq', '+++', '---'}
@@ -24,6 +25,7 @@ def session(tree, strace):
 def try_session(tree, strace):
     """One try. strace is a grandchild (-D), so that the process that is signalled and waited for is the host. The keeper sends a title
     and a bell each second (the kind `titles`), so that the host writes in idle times too."""
+    # all waits are limits: a failed call may make the host wait, and strace makes it slow
     run = Run(['strace', '-D', *strace, *tree.words('edit', 'titles', tree.file('faults'))], HOME=f'{tree.top}/home')
     if run.pump(4, b'hello'):
         run.resize(30, 90)
@@ -40,7 +42,7 @@ def try_session(tree, strace):
 
 
 def calls(tree):
-    """The system calls of a session, and how often each is made."""
+    """The system calls of the host in a session without a fault, and how often each is to be failed."""
     trace = tree.file('trace')
     session(tree, ['-o', trace]).close()
     counts = {}
@@ -51,7 +53,7 @@ def calls(tree):
 
 
 def fail_once(tree, call, number):
-    """What is wrong where one call of the host fails."""
+    """What is wrong where the call with this number, from 1 among those of its name, fails."""
     error = ERRORS.get(call, 'EIO')
     run = session(tree, ['-o', '/dev/null', '-e', f'trace={call}', '-e', f'inject={call}:error={error}:when={number}'])
     wrong = [] if run.status is not None else ['the host did not end']

@@ -1,9 +1,14 @@
-"""Cases of check_keeper.py: kinds of files and of what is left of a session."""
+"""Cases of check_keeper.py: kinds of files and of what is left of a session.
+
+A case gets its folder `top`, and fails by an exception. played_host.py has `Start` and what it keeps of the keeper's messages;
+the numbers of notices are told in docs/ARCHITECTURE.md. A `Start` that only tells something ends with ('x', STATUS), one that
+edits ends by `leave`."""
 import os, re, shutil, stat, subprocess
 from played_host import Start, TABLES, edit, leave_keys, put, sessions
 
 
 def other_names(top):
+    """Saves of a FILE with two names go into it: with a mark in the session, and without a session only by --force."""
     put(f'{top}/a.txt', b'text\n')
     os.link(f'{top}/a.txt', f'{top}/b.txt')
     start = edit(top, 'a.txt')
@@ -206,6 +211,7 @@ def stores_elsewhere(top):
 
 
 def printing(top):
+    """The printing program gets the columns of standard output and the direction."""
     put(f'{top}/a.txt', b'text\n')
     start = Start(top, '--print', 'a.txt')
     assert start.end[0] == 'P' and start.printer[:4] == ['--cols', '80', '--direction', 'auto'] and start.printer[-1] == 'a.txt', start.printer

@@ -1,4 +1,4 @@
-"""Cases of check_keeper.py: sessions from their beginning to their end."""
+"""Cases of check_keeper.py: sessions from their beginning to their end. keeper_files.py says what a case is."""
 import os, re, shutil, stat
 from played_host import Start, edit, leave_keys, put, sessions
 
@@ -23,6 +23,7 @@ def refusals(top):
 
 
 def a_session(top):
+    """What the program is told, what the session's folder has, and that nothing stays where nothing was typed."""
     put(f'{top}/a.txt', b'text\n')
     start = edit(top, 'a.txt')
     assert start.titles == ['a.txt - ^S save ^Q quit'], start.titles
@@ -35,6 +36,7 @@ def a_session(top):
 
 
 def keys_are_kept(top):
+    """Keys that were not saved are told, listed, and stored elsewhere."""
     put(f'{top}/a.txt', b'text\n')
     start = leave_keys(top)
     assert start.err == 'bidi_edit: input ended before saving\nbidi-edit: what was typed is kept: bidi-edit --recover a.txt gets it back\n', start.err
@@ -46,6 +48,7 @@ def keys_are_kept(top):
 
 
 def questions(top):
+    """Answers by a letter or a word, in any case; any other is asked again, and the input's end refuses."""
     put(f'{top}/a.txt', b'text\n')
     leave_keys(top)
     start = Start(top, 'a.txt', answers=['y', '', 'x'])
@@ -62,6 +65,7 @@ def questions(top):
 
 
 def dropped(top):
+    """Keys that the user dropped (status 0) are not asked about, but can be recovered or removed."""
     start = edit(top, 'a.txt')
     start.type(b'abc')
     assert start.leave(0) == 0 and start.err == 'bidi-edit: what was dropped can be had back: bidi-edit --recover a.txt\n', start.err
@@ -78,6 +82,7 @@ def dropped(top):
 
 
 def refused_by_the_program(top):
+    """What the program refuses leaves no session, and the keeper tells what helps."""
     put(f'{top}/a.txt', b'\xe9\n')
     put(f'{top}/elf', b'\x7fELF\0\xe9')
     for name, told in (('a.txt', 'CP1255'), ('elf', 'is a binary file')):
@@ -88,6 +93,7 @@ def refused_by_the_program(top):
 
 
 def live(top):
+    """A second start is told of a session that goes on, and does not recover it."""
     first = edit(top, 'a.txt')
     first.second()
     second = Start(top, 'a.txt', answers=['maybe', 'no'])
@@ -127,6 +133,7 @@ def a_pipe_in_its_place(top):
 
 
 def a_folder_that_goes(top):
+    """The session's folder is removed meanwhile: told once by title, bell and notice, and at the end."""
     start = edit(top, 'a.txt')
     start.type(b'abc')
     start.second()
@@ -165,6 +172,7 @@ def a_save_before_the_copy(top):
 
 
 def no_room(top):
+    """No room for a session, then room, and then a journal that cannot be written and is tried again."""
     put(f'{top}/a.txt', b'text\n')
     Start.room = 0
     try:
@@ -185,6 +193,7 @@ def no_room(top):
 
 
 def another_file_meanwhile(top):
+    """The program read another FILE than the keeper opened (size and time differ), so no session is kept."""
     put(f'{top}/a.txt', b'text\n')
     start = Start(top, 'a.txt')
     look = os.stat(f'{top}/a.txt')
@@ -196,6 +205,7 @@ def another_file_meanwhile(top):
 
 
 def the_host_dies(top):
+    """The keeper's input ends, as by a kill of all the others: the session is there for the next start."""
     put(f'{top}/a.txt', b'text\n')
     start = edit(top, 'a.txt')
     start.type(b'abc')
@@ -207,6 +217,7 @@ def the_host_dies(top):
 
 
 def changed_since(top):
+    """Another program changed FILE after the session: its text is recovered beside it."""
     put(f'{top}/a.txt', b'text\n')
     leave_keys(top)
     put(f'{top}/a.txt', b'other\n')
@@ -218,6 +229,7 @@ def changed_since(top):
 
 
 def mixed_line_ends(top):
+    """A FILE whose line ends were alike at the start, and are not at the end, is told."""
     put(f'{top}/a.txt', b'a\r\nb\r\n')
     start = edit(top, 'a.txt')
     start.second()

@@ -4,13 +4,14 @@ from cases import QUIT, holds, same
 from terminals import Run
 from tree import write
 
+# The beginnings of what sets a title, and turns reordering on or off in two terminals.
 TITLE = b'\x1b]2;'
 KONSOLE = b'\x1b]50;BidiRenderingEnabled='
 MLTERM = b'\x1b]5379;use_ctl='
 
 
 def see(tree, home=None, **variables):
-    """What a session writes in a terminal with these variables."""
+    """What a session writes in a terminal with these variables; where it does not end well, with words before it that say so."""
     variables.setdefault('XTERM_VERSION', '')
     run = Run(tree.words('edit', 'plain', tree.file('kinds')), HOME=home or f'{tree.top}/home', **variables)
     run.pump(5, b'hello')
@@ -23,7 +24,7 @@ def see(tree, home=None, **variables):
 
 
 def titles(tree):
-    """The title is shown where the terminal gives its own back."""
+    """The title is shown where the terminal gives its own back: it is asked to keep that (22) and to give it back (23)."""
     for variables, is_shown in (
             ({'TERM': 'xterm'}, False), ({'TERM': 'xterm', 'XTERM_VERSION': 'XTerm(379)'}, True), ({'TERM': 'xterm-256color', 'VTE_VERSION': '7000'}, True),
             ({'TERM': 'alacritty'}, True), ({'TERM': 'foot-extra'}, True), ({'TERM': 'mlterm'}, True), ({'TERM': 'vte-256color'}, True),
@@ -79,7 +80,7 @@ def notes(tree):
 
 
 def in_tmux(tree):
-    """The terminal around tmux, by a command in place of tmux."""
+    """The terminal around tmux, by a command in place of tmux, which answers with the name of a terminal (`slave`) and its kind."""
     master, slave = pty.openpty()
     termios.tcsetwinsize(slave, (3, 80))
     settings = termios.tcgetattr(slave)
@@ -89,6 +90,7 @@ def in_tmux(tree):
     tmux = {'TERM': 'tmux-256color', 'TMUX': '/no/such/socket,1,0', 'PATH': f"{tree.file('bin')}:{os.environ['PATH']}"}
 
     def outside(answer, **variables):
+        """What a session writes in tmux, and to the terminal around it, where the command in place of tmux is `answer`."""
         write(f"{tree.file('bin')}/tmux", f'#!/bin/sh\n{answer}\n')
         output, told = see(tree, **tmux, **variables), b''
         while select.select([master], [], [], 0)[0]:
@@ -97,6 +99,7 @@ def in_tmux(tree):
 
     name = os.ttyname(slave)
     output, told = outside(f"echo '{name} VTE(0.70.2)'")
+    # VTE keeps this mode by row, so the host goes to each, and the cursor back to where it was
     yield same('tmux in VTE: each row', told, b''.join(
         b'\x1b[8%c\x1b7' % letter + b''.join(b'\x1b[%d;1H\x1b[8%c' % (row, letter) for row in (1, 2, 3)) + b'\x1b8' for letter in b'lh'))
     yield holds('tmux in VTE: the title', TITLE in output, output)

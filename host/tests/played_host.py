@@ -1,11 +1,20 @@
-"""A start of the editor with a host that is played, and what cases need of it."""
+"""A start of the editor with a host that is played, and what cases need of it. docs/ARCHITECTURE.md has the messages."""
 import os, subprocess, sys
 
 KEEPER, TABLES = (os.path.abspath(path) for path in sys.argv[1:3])
 
 
 class Start:
-    """One start of the editor: its keeper, and a host that is played."""
+    """One start of the editor: its keeper, and a host that is played, with a program that is played too.
+
+    `words` are the command line's, `answers` what the user answers to questions, one after another; then the input ends.
+    `terminal` and `window` are what the host tells of these; `folder` is the working folder, else `top`, the case's own. With
+    `can_read` False the facts say that no file can be read. `room`, where it is set, is told as the free bytes of each disk.
+
+    Kept is what the keeper said: `out` and `err`, texts for the user; `titles`; `words` and `printer`, of the program's and the
+    printing program's command line; `asked`, questions; `notices`, by their numbers; `mask`; and `end`, the letter and text of
+    the message that says how to go on: g (go), P (print) or x with the exit status.
+    """
 
     def __init__(self, top, *words, answers=(), terminal='yes', window='24 80', folder=None, can_read=True, **variables):
         self.environment = {'HOME': f'{top}/home', 'TMPDIR': f'{top}/tmp', 'PATH': os.environ['PATH'], **variables}
@@ -27,6 +36,7 @@ class Start:
         self.process.stdin.flush()
 
     def hear(self):
+        """The letter and text of the keeper's next message; None at its end."""
         message = b''
         while not message.endswith(b'\0'):
             byte = self.process.stdout.read(1)
@@ -36,6 +46,7 @@ class Start:
         return message[:1].decode(), os.fsdecode(message[1:-1])
 
     def facts(self, path):
+        """Answers with the facts about a path, as the host finds them: those of them that cases need."""
         path = os.path.join(os.fsencode(self.top), os.fsencode(path))
         letters = ''.join(letter for letter, how in (('r', os.R_OK), ('w', os.W_OK), ('x', os.X_OK)) if os.access(path, how, effective_ids=True))
         real = at = os.path.realpath(path)
@@ -52,7 +63,7 @@ class Start:
         self.say('.')
 
     def go_on(self):
-        """Takes what the keeper says, up to what says how to go on."""
+        """Takes what the keeper says, up to what says how to go on. Returns that message's letter and text."""
         while True:
             letter, text = self.hear()
             if letter == 'o':
@@ -78,6 +89,7 @@ class Start:
                 return letter, text
 
     def value(self, option):
+        """The word after an option of the program; None without it."""
         return self.words[self.words.index(option) + 1] if option in self.words else None
 
     def read(self):
@@ -89,14 +101,16 @@ class Start:
         self.tell_look(os.stat(path))
 
     def tell_look(self, look):
+        """The program tells what it read: FILE's device, inode, size, and time in seconds and nanoseconds."""
         self.say('i', f'o {look.st_dev} {look.st_ino} {look.st_size} {look.st_mtime_ns // 10**9} {look.st_mtime_ns % 10**9}')
 
     def type(self, keys):
+        """The program reads keys, which it appends to its journal."""
         with open(self.value('--journal'), 'ab') as journal:
             journal.write(keys)
 
     def second(self):
-        """A second goes. Returns what the keeper says of it, by letters."""
+        """A second goes. Returns the letters of what the keeper says of it, as `!.`, without titles and notices."""
         self.say('s')
         said = ''
         while not said.endswith('.'):
@@ -107,7 +121,7 @@ class Start:
         return said
 
     def leave(self, status, signal=None):
-        """The program ends. Returns the exit status."""
+        """The program ends with this status, the host maybe by this signal. Returns the exit status that the keeper tells."""
         if signal:
             self.say('y', str(signal))
         self.say('z', str(status))
@@ -121,6 +135,7 @@ class Start:
 
 
 def sessions(top):
+    """The folders of the sessions that are kept."""
     folder = f'{top}/home/.local/state/bidi_edit'
     return sorted(f'{folder}/{name}' for name in os.listdir(folder)) if os.path.isdir(folder) else []
 
@@ -131,6 +146,7 @@ def put(path, text):
 
 
 def edit(top, *words, **more):
+    """A start that comes to edit, and whose program has read FILE."""
     start = Start(top, *words, **more)
     assert start.end[0] == 'g', (start.end, start.out, start.err)
     start.read()
@@ -138,6 +154,7 @@ def edit(top, *words, **more):
 
 
 def leave_keys(top, keys=b'abc'):
+    """Leaves a session of a.txt with keys that are not saved: the program ends with status 1 by its input's end."""
     start = edit(top, 'a.txt')
     start.type(keys)
     start.second()

@@ -8,6 +8,7 @@ SHELLS = (['bash', '--norc', '--noprofile', '--noediting', '-i'], ['bash', '--no
 
 
 def in_shell(tree, words):
+    """The checks in the shell that these words start. Its prompt is `P> `."""
     name = ' '.join(words)
     plain = f"'{tree.host}' edit plain '{tree.file('job')}'".encode()
     run = Run(words, PS1='P> ', HOME=f'{tree.top}/home')

@@ -38,7 +38,10 @@ def reap(keep):
 
 
 def lead(words, env, slave, ends):
-    """The session's leader: starts the job, puts it into the foreground again after each stop, and tells its status."""
+    """The session's leader: starts the job, puts it into the foreground again after each stop, and tells its status.
+
+    `ends` are ends of pipes: to tell each status of the job, to wait for the test's end, and to tell the job's number.
+    """
     tell, go, job_tell = ends
     os.setsid()
     fcntl.ioctl(slave, termios.TIOCSCTTY, 0)
@@ -67,8 +70,14 @@ def lead(words, env, slave, ends):
 
 
 class Run:
-    """A command on a terminal of its own."""
-    count = 0
+    """A command on a terminal of its own, whose erase character is `erase`. `variables` are added to its environment.
+
+    `master` and `slave` are the two ends of the terminal, `settings` its settings before the command. `leader` is the session's
+    leader, `job` its only job, `mark` a variable that all processes of the run have. `output` is what was read of the terminal,
+    which is not read where `is_read` is False. `told` is the pipe of statuses, `hold` the one by which the leader waits. `status`
+    is the job's, as waitpid gives it, None before its end; `stops` is how often it stopped.
+    """
+    count = 0  # of runs in this process, for marks
 
     def __init__(self, words, rows=24, columns=80, erase=b'\x08', **variables):
         Run.count += 1
@@ -108,6 +117,7 @@ class Run:
         os.write(self.master, keys)
 
     def take_status(self):
+        """Takes a status that the session's leader tells."""
         said = os.read(self.told, 4)
         status = struct.unpack('i', said)[0] if said else 0
         if os.WIFSTOPPED(status):
@@ -136,9 +146,11 @@ class Run:
                     self.take_status()
 
     def rest(self, seconds):
+        """Reads for some seconds: no program writes these bytes."""
         self.pump(seconds, b'\0\0\0')
 
     def drain(self):
+        """Reads what is there."""
         while self.is_read and select.select([self.master], [], [], 0)[0]:
             self.output += os.read(self.master, 1 << 16)
 
@@ -159,7 +171,7 @@ class Run:
         return 0
 
     def left(self, seconds):
-        """The processes that are left after so many seconds."""
+        """Waits this many seconds at most until no process of the run is left. Returns those that are left."""
         end = time.perf_counter() + seconds
         while True:
             reap(self.leader)
@@ -170,9 +182,11 @@ class Run:
             time.sleep(0.01)
 
     def is_restored(self):
+        """Whether the terminal's settings are those from before the command."""
         return termios.tcgetattr(self.slave) == self.settings
 
     def close(self):
+        """Kills what is left, and ends the session's leader."""
         for process in marked(self.mark):
             try:
                 os.kill(process, signal.SIGKILL)

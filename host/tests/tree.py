@@ -13,7 +13,10 @@ def write(path, text, mode=0o755):
 
 
 class Tree:
-    """An installation in a folder. Without a built filter the host copies the keys itself."""
+    """An installation in a folder `top`, with fake_keeper.py, fake_editor.c and a printing program that prints its words.
+
+    Without a built filter the host copies the keys itself. `log` is the file of what the keeper hears, from `start_log` on.
+    """
 
     def __init__(self, folder, host):
         self.top = folder
@@ -33,9 +36,11 @@ class Tree:
             shutil.copy2(FILTER, f'{lib}/bidi_input')
 
     def file(self, name):
+        """The path of a file in the folder for FILEs."""
         return f'{self.top}/work/{name}'
 
     def words(self, *words):
+        """The command line of the host with these words, which fake_keeper.py obeys."""
         return [self.host, *words]
 
     def start_log(self):
@@ -49,7 +54,7 @@ class Tree:
             os.unlink(f'{self.top}/lib/bidi_edit/log')
 
     def heard(self):
-        """What the keeper heard, a message a line."""
+        """What the keeper heard, a message a line: its letter and text."""
         try:
             with open(self.log, 'rb') as file:
                 return file.read().split(b'\n')[:-1]

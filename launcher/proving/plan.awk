@@ -33,6 +33,7 @@ function want(name,    n, i, used) {
         }
 }
 
+# Returns the seconds of the longest chain of crates that starts with one: each uses the one before it.
 function chain(name,    n, i, users, longest) {
     if (name in chains) return chains[name]
     n = split(above[name], users, " ")
@@ -41,6 +42,7 @@ function chain(name,    n, i, users, longest) {
     return chains[name] = seconds(name) + longest
 }
 
+# Returns the estimated seconds of a crate; for one that is built rt only looks whether something has changed.
 function seconds(name) {
     return name in built ? 2 : int(15 + 0.17 * lines[name])
 }

@@ -1,6 +1,7 @@
-# Reads the plan, and the logs and results of crates in `room`, and writes one line: the current crate, its proved functions,
-# the minutes since `begun` and the estimated minutes left. With `ended` the line is about that crate, the `number`th to end.
-# Times are in seconds. `kept` lists the running crates, each with the number of functions whose proofs are already stored.
+# Reads the plan, and the logs and results of crates in `room`, and writes one line: the current crate, its proved functions, the
+# minutes since `begun` and the estimated minutes left. With `ended` the line is about that crate, the `number`th to end. Times
+# are in seconds. `kept` lists the running crates, each with the number of functions whose proofs are already stored. `whole` is
+# the estimate of the beginning, for which `asks` is `whole`; `cores` is the number of processors.
 
 BEGIN {
     n = split(kept, word, " ")
@@ -50,14 +51,15 @@ function many(count, what) {
     if ($3 - seconds * part > longest) longest = $3 - seconds * part
 }
 
-# The estimated time left: of the longest chain, whose crates get most processors, or of all work on all processors.
+# The estimated time left: of the longest chain, whose crates get most processors (so it takes 0.7 of its time with one job each),
+# or of all work on all processors (which stand idle a sixth of the time, so it takes 1.2 of that).
 function to_go() {
     left = left / cores * 1.2
     return longest * 0.7 > left ? longest * 0.7 : left
 }
 
 END {
-    # the measured pace gains weight over time
+    # the measured pace gains weight over time: it begins as if a fifth of all had gone as estimated
     rest = to_go()
     passed = now - begun
     if (whole == "") whole = rest

@@ -7,6 +7,10 @@
 # rt locks all crates below the one it proves. So each crate is proved in a tree of its own, which has links to the repository's
 # files, and its folder out is moved there and back. The script also waits for an rt that proves one of these crates in the
 # repository itself, and that rt for the script.
+#
+# `room`, out/proving in TOP, is the working folder: it has `plan`, the lines of plan.awk, and of a crate NAME.tree, NAME.log
+# (what rt says), NAME.times, and NAME.ended with its status, once that is known. Beside it are `proving.lock`, with the number of
+# this process, `proving.log`, the log of a crate that failed, and `proving.times`.
 set -u
 
 parts=$(CDPATH='' cd -- "${0%/*}" && pwd)
@@ -93,6 +97,7 @@ prove_one() { # CRATE JOBS NICENESS
     crate=$1 tree=$room/$1.tree child=''
     trap '' HUP INT QUIT
     trap give_up TERM
+    # 8 is for the lock that rt takes of a crate's folder, 9 is that of the whole start
     exec 8<"$top/crates/$crate" 9>&-
     ! command -v flock >/dev/null || await flock 8
     started=$(date +%s)
@@ -102,6 +107,7 @@ prove_one() { # CRATE JOBS NICENESS
     cd "$top" || exit 1
     bring_back "$tree" "$crate"
     { echo "$crate $started $(date +%s) $2" && times; } >"$room/$crate.times"
+    # a rename, so that it is there whole
     echo "$result" >"$room/$crate.new" && mv "$room/$crate.new" "$room/$crate.ended"
 }
 
@@ -109,11 +115,13 @@ prove_one() { # CRATE JOBS NICENESS
 
 running='' # words NAME:PROCESS
 
+# Prints the number of words.
 count() { # WORD..
     echo $#
 }
 
-# Sets `lanes`, the number of crates to prove at once: at most one for each processor, and one for each 4 GB of free memory.
+# Sets `cores`, the number of processors, and `lanes`, the number of crates to prove at once: at most one for each processor, and
+# one for each 4 GB of free memory.
 find_lanes() {
     cores=$(nproc 2>/dev/null || getconf _NPROCESSORS_ONLN 2>/dev/null || echo 1)
     lanes=$(awk '/^MemAvailable:/ { print int($2 / 4000000) }' /proc/meminfo 2>/dev/null)
@@ -129,6 +137,7 @@ find_already() {
     done
 }
 
+# Writes the plan; plan.awk says what a line has.
 make_plan() {
     find "$top/crates" -path '*/src/*' -name '*.rt' -exec wc -l {} + |
         awk -v programs="$programs" -v already="$(find_already | tr '\n' ' ')" -f "$parts/plan.awk" "$top/crates.txt" - >"$room/plan"
@@ -169,8 +178,8 @@ is_ready() { # CRATE THAT IT STANDS ON ..
     done
 }
 
-# Starts a crate. The next crate of the longest chain gets the most processors, up to the four that a proof can use well.
-# Another crate gets more the less slack it has before that chain needs it.
+# Starts a crate, which takes SECONDS and begins a chain of CHAIN seconds. The next crate of the longest chain gets the most
+# processors, up to the four that a proof can use well. Another crate gets more the less slack it has before that chain needs it.
 start() { # CRATE SECONDS CHAIN
     spare=$((longest - $3)) jobs=1 niceness=10
     if [ "$spare" = 0 ]; then
@@ -185,6 +194,8 @@ start() { # CRATE SECONDS CHAIN
     running="$running $1:$!"
 }
 
+# Starts the crates whose dependencies are there, while there are lanes. `longest` is the chain of the first that has not ended,
+# as the plan has longer ones first.
 start_ready() {
     longest=''
     while read -r crate seconds chain below; do
@@ -215,6 +226,7 @@ collect() {
         elif kill -0 "${each#*:}" 2>/dev/null; then
             still="$still $each"
         else
+            # gone without a result, or with one that came just now and is taken the next time
             [ -f "$room/$name.ended" ] || stop_at "$name"
             still="$still $each"
         fi
@@ -233,12 +245,14 @@ kept_proofs() {
     done
 }
 
+# Prints a line of progress, as progress.awk makes it, with these variables of awk too.
 progress() { # WORD=VALUE..
     for each; do set -- "$@" -v "$each"; shift; done
     awk -v room="$room" -v now="$(date +%s)" -v begun="$begun" -v cores="$cores" -v whole="$whole" -v kept="$(kept_proofs | tr '\n' ' ')" \
         "$@" -f "$parts/progress.awk" "$room/plan"
 }
 
+# Sets `cols`, the terminal's width.
 width() {
     size=$(stty size <&2 2>/dev/null) || size=''
     cols=${size#* }
@@ -251,10 +265,12 @@ show() { # TEXT
     printf '\r%-*.*s' "$((cols - 1))" "$((cols - 1))" "$1" >&2
 }
 
+# Shows the progress on a terminal; elsewhere only `tell_end` does.
 tell() {
     [ -z "$is_terminal" ] || show "$(progress)"
 }
 
+# Counts a crate that has ended, and elsewhere than on a terminal tells it.
 tell_end() { # CRATE
     number=$((number + 1))
     [ -n "$is_terminal" ] || say "$(progress ended="$1" number="$number")"
@@ -266,6 +282,7 @@ clear_line() {
 
 # ---- the end
 
+# Ends all crates that run, each of which moves its work back.
 end_all() {
     trap '' HUP INT QUIT TERM
     for each in $running; do kill "${each#*:}" 2>/dev/null; done
@@ -274,6 +291,7 @@ end_all() {
     clear_line
 }
 
+# Ends the script after a crate failed.
 stop_at() { # CRATE
     end_all
     mv -f "$room/$1.log" "$room.log"
@@ -281,6 +299,7 @@ stop_at() { # CRATE
     fail "$1 could not be proved, and $(shown "$room.log") tells why; what is proved is kept"
 }
 
+# Ends the script by a signal.
 stop_by() { # SIGNAL NUMBER
     end_all
     leave_room
@@ -304,6 +323,7 @@ trap 'stop_by HUP 1' HUP
 trap 'stop_by INT 2' INT
 trap 'stop_by QUIT 3' QUIT
 trap 'stop_by TERM 15' TERM
+# the time of the start, the estimated seconds of all then, and the number of crates that have ended
 begun=$(date +%s) whole='' number=0
 find_lanes
 make_plan

@@ -47,6 +47,7 @@ function owner(module,    path) {
 # Returns the process that most likely stored a module of `of` at this time. 0 is the prover itself, which waits for its copies.
 function process(time, of,    i, best) {
     for (i = 1; i <= copies; i++) {
+        # a copy is looked for once a second, so it may have lived so much longer
         if (from[i] > time || to[i] + 1.5 < time) continue
         if (of != "" && works_at[i] == of) return i
         if (!best || is_free[i] > is_free[best] || (is_free[i] == is_free[best] && last[i] > last[best])) best = i

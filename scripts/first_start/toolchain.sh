@@ -1,8 +1,10 @@
 # shellcheck shell=sh
 # shellcheck disable=SC2034,SC2154 # variables shared with other parts
-# check-build.sh with the real toolchain.
+# check-build.sh with the real toolchain. Uses its functions and its variables `folder`, `shell`, `prove` and `socket`. The crates
+# a, b, c and d are as there, with names of this run in the variables `a` to `d`.
 
-# Makes a crate of twenty functions unique to this run, so that no stored proof fits.
+# Makes a crate of forty functions unique to this run, by the comment at its head and its name, so that no stored proof fits.
+# WORDS is code at its beginning.
 small_crate() { # NAME WORDS
     mkdir -p "$folder/tree/crates/$1/src"
     {
@@ -11,6 +13,7 @@ small_crate() { # NAME WORDS
     } >"$folder/tree/crates/$1/src/lib.rt"
 }
 
+# Makes the repository of these crates; the program d prints 3.
 make_real_tree() {
     rm -rf "$folder/tree"
     mkdir -p "$folder/tree/crates/$d/src"
@@ -22,6 +25,7 @@ make_real_tree() {
     printf '%s: %s %s\n%s: %s\n%s:\n%s:\n' "$d" "$b" "$c" "$c" "$a" "$b" "$a" >"$folder/tree/crates.txt"
 }
 
+# Prints the number of processes of the toolchain that are at these crates.
 rattle_runs() {
     pgrep -f "rattle.* --crate-name ($a|$b|$c|$d) " | wc -l
 }
@@ -30,6 +34,7 @@ no_rattle_runs() {
     [ "$(rattle_runs)" -eq 0 ]
 }
 
+# Ctrl-C amid a proof, and a start that goes on. 3000 and 1800 are limits for a busy machine.
 check_toolchain() {
     number=$(basename "$folder" | tr -d -c '[:alnum:]' | tr '[:upper:]' '[:lower:]')$shell
     a=pa_$number b=pb_$number c=pc_$number d=pd_$number

@@ -1,19 +1,20 @@
 # shellcheck shell=sh
 # shellcheck disable=SC2034,SC2154 # variables shared with other parts
-# Programs that call an editor, each with its own words: git, crontab, visudo and less.
+# Programs that call an editor, each with its own words: git, crontab, visudo and less. Uses person.sh and `shows` of editor.sh.
 
-# Makes a name for the editor without blanks, since some callers take no others.
+# Makes a script `edit` that starts the editor, since some callers take no path with blanks, and has callers find it by `setup`.
 make_wrapper() {
     printf '#!/bin/sh\nexec "%s/bidi-edit" "$@"\n' "$top" >"$folder/edit"
     chmod +x "$folder/edit"
     setup="export EDITOR='$folder/edit' VISUAL='$folder/edit' GIT_EDITOR='$folder/edit' HOME='$folder/home'"
 }
 
-# Runs a caller instead of the editor.
+# Runs a caller in place of the editor, as `start` does. `finish` is the end only of one that writes nothing to the screen itself.
 start_caller() { # COMMAND
     start 12 70 sh -c "$1"
 }
 
+# Whether a caller is installed; else that is reported as skipped.
 has_caller() { # NAME
     command -v "$1" >/dev/null 2>&1 && return
     skip "caller, $1" 'it is not installed'
@@ -34,7 +35,7 @@ check_git() {
     rm -rf repository
 }
 
-# Leaves an existing table of the user alone.
+# A table that the user has already is left alone.
 check_crontab() {
     has_caller crontab || return 0
     if crontab -l >/dev/null 2>&1; then
@@ -74,7 +75,7 @@ check_visudo() {
     rm -f sudoers
 }
 
-# less passes the line in the middle of its screen.
+# less passes the line in the middle of its screen, which is the second here.
 check_less() {
     has_caller less || return 0
     printf 'one\ntwo\n' >page

@@ -1,7 +1,10 @@
 # shellcheck shell=sh
 # shellcheck disable=SC2034,SC2154 # variables shared with other parts
-# The editor under the host. Its screen must be the one that the program alone makes for that size and those keys.
+# The editor under the host. Its screen must be the one that the program alone makes for that size and those keys. Uses person.sh,
+# the file `paste` of recorder.sh, the shell of ends.sh, and `editor`, the path of the built program. `folder/opened` is a copy of
+# the file as it was opened; `folder/files`, the working folder, is empty between two checks.
 
+# Whether the editor is built; else that is reported as skipped.
 has_editor() {
     [ -x "$editor" ] || {
         skip 'the editor' 'it is not built (./bidi-edit FILE builds it)'
@@ -9,7 +12,9 @@ has_editor() {
     }
 }
 
-# Prints the screen that the program alone makes of a file and keys, in a window of this size.
+# Prints the screen that the program alone, without host and filter, makes of a file and keys, in a window of this size, in the
+# form of `settled_screen`. KEYS has the editor's own bytes, in the notation of printf; a FILE that is not there is opened as a
+# new one.
 alone() { # ROWS COLS FILE KEYS
     cp "$3" "$folder/files/alone" 2>/dev/null || rm -f "$folder/files/alone"
     # shellcheck disable=SC2059 # the keys have escapes
@@ -33,6 +38,7 @@ make_note() {
     cp note "$folder/opened"
 }
 
+# Opened, typed into, moved in, resized and saved: the screens are those of the program alone.
 check_edit() {
     make_note
     start 8 40 "$top/bidi-edit" note
@@ -45,8 +51,10 @@ check_edit() {
         resize "${size% *}" "${size#* }"
         same "edit, resized to $size" "$(settled_screen person)" "$(alone "${size% *}" "${size#* }" "$folder/opened" "$typed")"
     done
+    # of the last size
     rows=16
     type_keys C-s
+    # here and below: Save and Quit are two reads
     sleep 0.5
     type_keys C-q
     finish 'edit, saved' 0 50
@@ -57,6 +65,7 @@ check_edit() {
     same 'edit, files beside it' "$(ls)" note
 }
 
+# Enter puts in the line end that the text has. The host tells of a file whose line ends are no longer alike after the session.
 check_line_ends() {
     printf 'ab\r\ncd\r\nef' >note
     start 8 40 "$top/bidi-edit" note
@@ -86,6 +95,7 @@ check_line_ends() {
     rm -f note
 }
 
+# Quit asks once where the text is changed.
 check_quit() {
     make_note
     start 8 60 "$top/bidi-edit" note
@@ -99,6 +109,7 @@ check_quit() {
     report 'quit, the file is as before' $? 'it is not'
 }
 
+# A paste without marks: 100,000 bytes that come as keys. The editor may take minutes for them.
 check_long_paste() {
     rm -f new
     start 24 80 "$top/bidi-edit" new
@@ -113,9 +124,11 @@ check_long_paste() {
     rm -f new
 }
 
+# A signal ends the program at once; one to the host keeps the text for a recovery.
 check_editor_end() {
     make_note
     start 8 60 "$top/bidi-edit" note
+    # the program by its words; the host's have no such path
     send_signal TERM '.*/bidi_edit --'
     finish 'end, the program killed' 143 50
     for signal in TERM HUP; do
@@ -131,6 +144,7 @@ check_editor_end() {
     report 'end, the file is as before' $? 'it is not'
 }
 
+# Whether the session's screen has this text, in one row.
 shows() { # TEXT
     terminal capture-pane -p -t person | grep -q -F -e "$1"
 }
@@ -143,6 +157,7 @@ check_files() {
     report 'file, missing: none is made' $? 'there is one'
 }
 
+# The status row tells the cursor's line and column.
 check_line() {
     awk 'BEGIN { for (i = 1; i <= 100; i++) print "line", i }' >note
     for word in +50 --line=50; do
@@ -168,6 +183,7 @@ check_editor_stop() {
     finish_shell 'stop, the editor' 0
 }
 
+# An installed editor shows the same, and is taken away again.
 check_install() {
     sh "$top/scripts/install.sh" "$folder/prefix" >/dev/null
     printf 'ab' >note

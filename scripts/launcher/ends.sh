@@ -1,8 +1,10 @@
 # shellcheck shell=sh
 # shellcheck disable=SC2034,SC2154 # variables shared with other parts
-# Ends and stops of a session: signals to the host, to its program and to the input filter.
+# Ends and stops of a session: signals to the host, to its program and to the input filter. Uses person.sh and recorder.sh, and
+# `key_reader`, a pattern for the words of the filter, which the callers set.
 
-# The program ends by its input's end, so typed text is kept.
+# After a signal to the host, or the terminal's end, the program ends by its input's end, so typed text is kept: the record then
+# has `end` at its end.
 check_input_end() {
     for signal in TERM HUP INT QUIT; do
         start 24 80 "$recorder" f
@@ -30,6 +32,8 @@ has_no_recorder() {
     [ -z "$(pgrep -f "$folder/recorder")" ]
 }
 
+# A program that hangs is killed three seconds after its input's end, so those checks wait six. The recorder of `still` is a
+# sleep; that of another FILE ends with status 9 by its input's end.
 check_hard_ends() {
     for signal in TERM HUP; do
         start 24 80 "$recorder" still
@@ -48,6 +52,7 @@ check_hard_ends() {
     terminal load-buffer -b text "$folder/paste"
     terminal paste-buffer -r -b text -t person
     resize 20 70
+    # the paste fills the pipe to a program that reads nothing
     sleep 0.3
     send_signal TERM ".*bin/bidi-edit"
     is_flooded=1
@@ -55,19 +60,22 @@ check_hard_ends() {
     is_flooded=''
 }
 
-is_stopped() {
+is_stopped() { # PROCESS
     case $(ps -o stat= -p "$1") in T*) return 0 ;; *) return 1 ;; esac
 }
 
-has_told() { # BYTES
+# Whether the recorder got these bytes.
+has_got() { # BYTES
     grep -a -q -F "$1" "$folder/record"
 }
 
+# Whether the terminal gives each key at once.
 is_raw() {
     case $(stty -a -F "$tty") in *-icanon*) return 0 ;; *) return 1 ;; esac
 }
 
-# Starts an interactive shell, `job_shell`, in which a job can be stopped and continued, and its first line.
+# Starts in the terminal an interactive shell, the one that `job_shell` names, in which a job can be stopped and continued, and in
+# it the editor as such a job. In place of `start`; `finish_shell` is its end.
 start_shell() { # ROWS COLS EDITOR WORD..
     for file in ended status before after record words output state; do rm -rf "${folder:?}/$file"; done
     command="env -u BASH_ENV ENV= PS1='ready> ' TMPDIR='$folder/private' BX_RECORD='$folder/record' BX_WORDS='$folder/words'"
@@ -90,6 +98,7 @@ give_line() { # LINE
     type_keys C-j
 }
 
+# A stopped and continued job gets its size and sets its modes anew.
 check_stop() { # SHELL
     job_shell=$1
     if ! command -v "$1" >/dev/null 2>&1; then
@@ -99,7 +108,7 @@ check_stop() { # SHELL
     start_shell 8 50 "$recorder" f
     wait_for 50 test -e "$folder/record"
     stop_and_take_up "stop, in $1"
-    wait_for 50 has_told '[8;8;50t'
+    wait_for 50 has_got '[8;8;50t'
     same "stop, in $1: the size is told again" "$(tr -d '\033' <"$folder/record")" '[8;8;50t'
     has 'stop, the modes are set again' "$(written)" '^[[?1047h^[[?1l^[(B^O^[[4l^[[?6l^[[r^[[?7h^[[?25h^[[8l^[[1 k'
     wait_for 20 is_raw
@@ -108,20 +117,23 @@ check_stop() { # SHELL
     finish_shell stop 7
 }
 
-# Stops the job as its shell does, gives the shell a line, and continues the job.
+# Stops the job, its whole process group, gives the shell a line, and continues the job.
 stop_and_take_up() { # NAME
     host=$(process_of ".*bidi-edit")
     kill -s STOP -- "-$(ps -o pgid= -p "$host" | tr -d ' ')"
     wait_for 50 is_stopped "$host"
+    # the shell takes the terminal back
     sleep 0.3
     give_line 'echo the shell has it >said'
     wait_for 30 test -s "$folder/files/said"
     report "$1, the shell has the terminal" $? 'it takes no line'
     rm -f "$folder/files/said"
     give_line fg
+    # the host takes the terminal
     sleep 0.3
 }
 
+# What `finish` does, for a session of `start_shell`.
 finish_shell() { # NAME STATUS
     wait_for 50 is_over || report "$1, its end" 1 'it goes on'
     give_line "echo \$? >$folder/status; stty -g >$folder/after; touch $folder/ended"

@@ -1,7 +1,10 @@
 # shellcheck shell=sh
 # shellcheck disable=SC2034,SC2154 # variables shared with other parts
-# Input from various terminals, and pastes, as the recorder and the editor get them.
+# Input from various terminals, and pastes, as the recorder and the editor get them from the filter. Uses person.sh, recorder.sh
+# and editor.sh. The editor's own sequences, as CSI 96~, are those of crates/bx_input/specs/Table.antt and
+# crates/bx_keys/specs/Keys.antt.
 
+# Whether the filter is built; else that is reported as skipped.
 has_filter() {
     [ -x "$top/crates/bidi_input/out/bidi_input" ] || {
         skip 'input' 'its filter is not built (rt run in crates/bidi_input builds it)'
@@ -9,13 +12,14 @@ has_filter() {
     }
 }
 
-# Writes a file's bytes to the session unchanged.
+# Writes a file's bytes to the session unchanged (-r) and without the marks of a paste (no -p), as if keys sent them.
 type_bytes() { # FILE
     terminal load-buffer -b bytes "$1"
     terminal paste-buffer -d -r -b bytes -t person
 }
 
-# Lists keys of terminals: a name, the bytes that the terminal sends, and the bytes for the editor, in the notation of printf.
+# Lists keys of terminals: a name, the bytes that the terminal sends, and the bytes that the editor gets, in the notation of
+# printf.
 terminal_keys() {
     cat <<'TEXT'
 xterm, Home and End:\033[H\033[F:\033[H\033[F
@@ -58,7 +62,7 @@ Escape, and then a digit of the keypad:\033\033Oq:\033\0301
 TEXT
 }
 
-# Compares a line of the record with each line of keys.
+# Sends all keys, each line of the list as a line, and compares each with its line of the record.
 check_terminal_keys() {
     terminal_keys | while IFS=: read -r _ sent _; do
         # shellcheck disable=SC2059
@@ -67,6 +71,7 @@ check_terminal_keys() {
     start 8 50 "$recorder" f
     wait_for 50 test -e "$folder/record"
     type_bytes "$folder/keys"
+    # all is recorded before the key that ends it
     sleep 0.5
     type_keys C-q
     finish 'input, keys' 7 50
@@ -79,7 +84,8 @@ check_terminal_keys() {
     done <"$folder/table"
 }
 
-# Sequences cut in the middle, each part in its own read, and an Escape that nothing follows.
+# Sequences cut in the middle, each part in its own read, and an Escape that nothing follows, which becomes CSI 93~ after 50 ms
+# (host/typing.c); an unfinished sequence waits.
 check_cut_keys() {
     start 8 50 "$recorder" f
     wait_for 50 test -e "$folder/record"
@@ -94,7 +100,8 @@ check_cut_keys() {
     same 'input, keys that come byte by byte' "$(cat -v "$folder/record")" 'a^[[96~^[[81~^[[Db^[[93~c'
 }
 
-# The byte 08 is Backspace with Control where the terminal's own erase character is 7F, as in tmux, and else Backspace.
+# The byte 08 is Backspace with Control where the terminal's own erase character is 7F, as in tmux, and else Backspace (CSI 94~;
+# with Control or Alt CSI 88~).
 check_erase_character() {
     for erase in '^?' '^H'; do
         setup="stty erase '$erase'" cleanup="stty erase '^?'"
@@ -111,7 +118,9 @@ check_erase_character() {
     setup='' cleanup=''
 }
 
-# Makes 1 MB of text with every byte value, and the text expected from it.
+# Makes `big`, a marked paste of 1 MB with every byte value, and `big_pasted`, what the filter makes of it: between CSI 90~ and
+# CSI 91~ the text without control characters but tab and line ends, which all become LF. `cycle` has the 256 values 4,096 times;
+# `tricks`, before it, has bytes that look like keys, a mark or an end of the paste.
 make_big_paste() {
     byte=0
     while [ "$byte" -lt 256 ]; do
@@ -120,6 +129,7 @@ make_big_paste() {
         byte=$((byte + 1))
     done >"$folder/cycle"
     {
+        # 09, 0A and 0D, then 20 to 7E, then 80 to FF
         printf '\t\n\n'
         tail -c +33 "$folder/cycle" | head -c 95
         tail -c +129 "$folder/cycle"
@@ -127,6 +137,7 @@ make_big_paste() {
     printf 'a\r\nb\rc\nd\302\205e\302\251\033[201f\033[A\033[9~\023\021\021' >"$folder/tricks"
     printf 'a\nb\nc\nde\302\251[201f[A[9~' >"$folder/tricks_pasted"
     for name in cycle cycle_pasted; do
+        # doubled twelve times
         cat "$folder/$name" >"$folder/all"
         for _ in 1 2 3 4 5 6 7 8 9 10 11 12; do
             cat "$folder/all" "$folder/all" >"$folder/twice"
@@ -159,17 +170,19 @@ check_big_paste() {
     report 'input, a paste of 1 MB with every byte' $? "$(cat "$folder/differs")"
 }
 
+# Whether the record is as long as a file.
 has_all_of() { # FILE
     [ "$(wc -c <"$folder/record")" -ge "$(wc -c <"$1")" ]
 }
 
-# tmux marks a paste only if the host asked for that.
+# tmux marks a paste (-p) only if the host asked for that (2004).
 check_marks() {
     start 8 50 "$recorder" f
     wait_for 50 test -e "$folder/record"
     printf 'one\ntwo\023\021\021' >"$folder/keys"
     terminal load-buffer -b bytes "$folder/keys"
     terminal paste-buffer -d -p -b bytes -t person
+    # it is recorded before the key that ends all
     sleep 0.3
     type_keys C-q
     finish 'input, marks' 7 50
@@ -178,13 +191,12 @@ check_marks() {
     has 'input, and given back' "$(written)" '^[[?2004l^[[0m'
 }
 
-# Tests the editor itself: Home from rxvt, F2, a lone Escape before a paste of bytes that look like keys, and the paste of 1 MB.
+# Tests the editor itself: Home from rxvt, F2, and a lone Escape before a paste of bytes that look like keys. `none` is not there.
 check_editor_input() {
     rm -f note
     start 8 40 "$top/bidi-edit" note
     printf 'abc\033[7~X\033OQ\033\033[200~[A\023\021\021\033[201~y' >"$folder/keys"
     type_bytes "$folder/keys"
-    : >"$folder/opened"
     same 'input, keys and a paste in the editor' "$(settled_screen person)" "$(alone 8 40 "$folder/none" 'abc\033[HX\033[9~[Ay')"
     same 'input, nothing is saved by a paste' "$(ls)" ''
     type_keys C-s
@@ -201,15 +213,15 @@ check_escape() {
     start 8 40 "$top/bidi-edit" note
     type_keys -l ab
     type_keys Escape
+    # longer than the 50 ms for which an Escape waits
     sleep 0.3
     type_keys -l '[A'
-    : >"$folder/opened"
     same 'input, an Escape that nothing follows, in the editor' "$(settled_screen person)" "$(alone 8 40 "$folder/none" 'ab[A')"
     type_keys C-q C-q
     finish 'input, an Escape' 0 50
 }
 
-# The editor inserts the text, and works on.
+# The editor inserts the text of `big`, and works on: within two minutes the save is there.
 check_big_edit() {
     rm -f note
     start 8 40 "$top/bidi-edit" note

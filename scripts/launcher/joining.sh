@@ -1,16 +1,17 @@
 # shellcheck shell=sh
 # shellcheck disable=SC2034,SC2154 # variables shared with other parts
 # Joined letters: which of their tables the host passes to its programs, which only record them, and what a recovered session
-# gets.
+# gets. Uses person.sh, recorder.sh, and `alone_in_session` of refusals.sh.
 
 # Prints the files of joined letters among the recorded words, without the folder; empty if there are none.
-joining_words() { # FILE WITH WORDS
+joining_words() { # FILE
     grep -A 1 -x -e --joining -e --characters "$1" | sed -n -e '/^--$/d' -e 's|.*/||' -e p | paste -s -d ' '
 }
 
+# What it prints where letters join; the names are Unicode's.
 joined='--joining ArabicShaping.txt --characters UnicodeData.txt'
 
-# Runs the recorder with these words, and compares the files of joined letters.
+# Runs the host and the recorder with these words, and compares the files of joined letters.
 joined_by() { # NAME WANTED WORD..
     name=$1 wanted_files=$2
     shift 2
@@ -22,6 +23,7 @@ joined_by() { # NAME WANTED WORD..
     terminal kill-session -t person
 }
 
+# The same for printing, whose program prints its words.
 printed_by() { # NAME WANTED WORD..
     name=$1 wanted_files=$2
     shift 2
@@ -29,6 +31,7 @@ printed_by() { # NAME WANTED WORD..
     same "$name" "$? $(joining_words "$folder/output")" "0 $wanted_files"
 }
 
+# Letters join unless --no-joining is said, and the tables are of the folder of the others.
 check_joined_start() {
     tables=$top/data
     joined_by 'joining, by itself' "$joined" f
@@ -65,7 +68,7 @@ check_joined_print() {
     rm f
 }
 
-# Starts on the state that the last start left.
+# Does what `joined_by` does, on the sessions that the last start kept, which `start` would remove.
 joined_again() { # NAME WANTED WORD..
     rm -rf "$folder/left"
     mv "$folder/state" "$folder/left"
@@ -74,7 +77,8 @@ joined_again() { # NAME WANTED WORD..
     setup=''
 }
 
-# A recovered session has its letters as it had them, and --no-joining parts them from then on.
+# A recovered session has its letters as it had them, and --no-joining parts them from then on. The recorder leaves a journal of
+# `kept`.
 check_joined_recovery() {
     tables=$top/data
     joined_by 'joining, a session' "$joined" kept

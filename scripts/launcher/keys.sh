@@ -1,9 +1,11 @@
 # shellcheck shell=sh
 # shellcheck disable=SC2034,SC2154 # variables shared with other parts
 # The keys for words, points, rows, the text's ends, runs, selections, the mark, copies, searches, replacing, questions and help, as
-# terminals send them, and the screens that they make.
+# terminals send them, and the screens that they make. Uses person.sh, `alone` and `shows` of editor.sh, `type_bytes` of input.sh.
 
-# Types keys of tmux, and compares the rows of the screen and the cursor's column and row.
+# Types keys of tmux, and compares the screen. ROWS are its rows with | between, and the region or the shown match between < and
+# >; the last is the status row: * or - (changed or not), the cursor's line and letter from 1, a message. CURSOR is the cursor's
+# column and row from 0.
 press() { # NAME ROWS CURSOR [KEY..]
     name="keys, $1" wanted_screen=$(printf '%s\n%s' "$2" "$3")
     shift 3
@@ -120,7 +122,7 @@ check_questions() {
     press 'a character put in taken back' 'ab|cde||f|- 4:2' 1,3 C-z
     press 'a question that another key ends' 'ab|cde||f|- 4:1 find:' 0,3 Home C-k C-w
     type_keys Escape
-    # a key right behind an Escape would belong to it
+    # a key right after an Escape would belong to it
     sleep 0.3
     press 'a question given up by Escape' 'ab|cde||f|- 4:1' 0,3 C-k Escape
     press 'a region' 'ab|<cd>e||f|- 2:3' 2,1 C-g 2 Enter C-@ C-f C-f
@@ -261,8 +263,8 @@ check_new_line() {
     rm -f note
 }
 
-# Lists terminals: a name, and what they send for F1, F3 and F4, for Left and Right, for Home and End, and for Delete with CTRL, in
-# the notation of printf; empty where a terminal sends the same as without CTRL, or nothing.
+# Lists terminals: a name, what they send for F1, F3 and F4, and for Left, Right, Home, End and Delete with CTRL, in the notation
+# of printf; empty where a terminal sends the same as without CTRL, or nothing.
 terminal_sequences() {
     cat <<'TEXT'
 xterm|\033OP|\033OR|\033OS|\033[1;5D|\033[1;5C|\033[1;5H|\033[1;5F|\033[3;5~
@@ -273,7 +275,8 @@ st|\033OP|\033OR|\033OS|\033[1;5D|\033[1;5C|||\033[M
 TEXT
 }
 
-# Types a sequence, and compares the last row and the cursor's column and row. A terminal without the sequence has no check.
+# Types a sequence of the terminal `sender`, and compares the last row and the cursor's column and row. A terminal without the
+# sequence has no check.
 send() { # NAME LAST CURSOR SEQUENCE
     [ -n "$4" ] || return 0
     # shellcheck disable=SC2059
@@ -282,6 +285,7 @@ send() { # NAME LAST CURSOR SEQUENCE
     same "keys, $sender, $1" "$(settled_screen person | sed '1s/.*|//' | paste -s -d ' ')" "$2 $3"
 }
 
+# The second line goes from right to left: it begins in column 79, the last of the window.
 check_sequences() { # TERMINAL F1 F3 F4 LEFT RIGHT HOME END DELETE
     sender=$1
     printf 'one two\nשָׁלוֹם עולם' >note

@@ -1,11 +1,13 @@
 # shellcheck shell=sh
 # shellcheck disable=SC2034,SC2154 # variables shared with other parts
-# The terminal's modes during the session, whatever another program left, and after it.
+# The terminal's modes during the session, whatever another program left, and after it. Uses person.sh, recorder.sh and `alone` of
+# editor.sh.
 
 # Modes that would spoil the picture and persist until reset: insert mode, origin mode, a scroll region, no autowrap, line
 # drawing characters, a hidden cursor.
 bad_modes='\033[4h\033[?6h\033[2;4r\033[?7l\033(0\033[?25l'
 
+# The sequences are those of host/sequences.c.
 check_modes() {
     start 8 50 "$recorder" f
     wait_for 50 test -e "$folder/record"
@@ -16,15 +18,17 @@ check_modes() {
     has 'modes, told at the end' "$(written)" '^[[0m^[[?1r^[[?1036r^[[?25h^[[0 k^[[8h^[[23;0t^[[?1049l'
 }
 
-# Kills a program that writes without end, while it hides the cursor in negative image.
+# Kills the program after it turned on negative image and hid the cursor.
 check_killed_program() {
     start 8 50 "$recorder" still
     wait_for 50 test -s "$folder/words"
     printf '\033[7m\033[?25l' >"$tty"
+    # which the recorder of `still` is
     send_signal KILL 'sleep 1000'
     finish 'modes, the program killed' 137 50
 }
 
+# The screen is that of the program alone, and the modes are those that `modes_of` prints for a fresh terminal of 8 rows.
 check_bad_modes() {
     setup="printf '$bad_modes'"
     printf 'abc שָׁלוֹם def\nsecond line\n\nfourth' >note
@@ -62,6 +66,7 @@ check_no_wait() {
     setup=$set_flag
     start 8 50 "$recorder" f
     wait_for 50 test -e "$folder/record"
+    # a read that does not wait would find nothing meanwhile
     sleep 0.3
     type_keys -l keys
     wait_for 30 has_recorded keys
@@ -90,6 +95,7 @@ title() {
     terminal display-message -p -t person '#{pane_title}'
 }
 
+# A name with control characters (ESC and U+0085) is told with escapes. A terminal that may not give its title back gets none.
 check_title() {
     setup="printf '\033]2;a title of before\007'"
     start 8 50 "$recorder" "$(printf 'x\033]te\302\205x שם')"
@@ -111,7 +117,8 @@ check_title() {
     setup=''
 }
 
-# The terminal around tmux: a pane `outer` of the same tmux server, in which a client shows the session `keep`.
+# The terminal around tmux, which the host tells to stop reordering (8l) and to go on with it (8h): a pane `outer` of the same
+# tmux server, in which a client shows the session `keep`, the one that the callers of these parts hold open.
 check_outer() {
     start 8 50 "$recorder" f
     type_keys C-q
@@ -143,6 +150,7 @@ outer_is_attached() {
     [ -n "$(terminal list-clients)" ]
 }
 
+# Whether that terminal got these bytes, with escapes as ^[.
 outer_has() { # BYTES
     cat -v "$folder/outer" | grep -q -F "$1"
 }

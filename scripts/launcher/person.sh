@@ -1,13 +1,27 @@
 # shellcheck shell=sh
 # shellcheck disable=SC2009,SC2034,SC2154 # processes of one terminal, by their words; words that other parts give and take
-# A user's terminal in tmux: its screen, and reports about it.
+# A user's terminal in tmux: its screen, its sessions, and reports about them. For check-launcher.sh and check-shared-system.sh.
+#
+# Variables that these set:
+#   socket    the name of the tmux server's socket
+#   folder    the check's own folder: `files` in it is the working folder of sessions, `private` their TMPDIR, which must be empty
+#             after each, and the files that `start` names below
+#   wanted    the beginnings of the names of the checks to run, with blanks between; empty for all
+#   tables    BIDI_EDIT_DATA of sessions; empty for none
+#   setup cleanup redirection as   parts of a session's script, see `start`; mostly empty
+#   is_flooded   not empty: the host ends before it has read all that was pasted
+# The functions set `tty`, the device of the session's terminal, and `rows` and `cols`, its size at the start; a check that
+# changes the height sets `rows` for `finish`. They count in `passed`, `failed` and `skipped`. The session of tmux is `person`;
+# only one is there at a time.
 
-terminal() {
+# Runs a command of tmux, or several with \; between.
+terminal() { # WORD..
     tmux -u -L "$socket" "$@"
 }
 
 # ---- the screen
 
+# Reports whether a text has a part.
 has() { # NAME TEXT PART
     case $2 in
     *"$3"*) report "$1" 0 '' ;;
@@ -15,13 +29,14 @@ has() { # NAME TEXT PART
     esac
 }
 
+# Counts and tells a check that cannot be made.
 skip() { # NAME WHY
     skipped=$((skipped + 1))
     echo "skipped ${who:+$who }$1: $2"
 }
 
 # Whether the checks with this name are selected.
-asked() {
+asked() { # NAME
     [ -n "$wanted" ] || return 0
     for prefix in $wanted; do
         case $1 in "$prefix"*) return 0 ;; esac
@@ -35,7 +50,7 @@ screen_of() { # SESSION
     terminal display-message -p -t "$1" '#{cursor_x},#{cursor_y}'
 }
 
-# Prints the screen of a session once it is unchanged for three tenths of a second.
+# Prints the screen of a session once it is unchanged for three tenths of a second, or after three seconds as it is then.
 settled_screen() { # SESSION
     now=$(screen_of "$1") quiet=0
     for _ in 1 2 3 4 5 6 7 8 9 10 11 12 13 14 15 16 17 18 19 20 21 22 23 24 25 26 27 28 29 30; do
@@ -53,6 +68,7 @@ written() {
     cat -v "$folder/output"
 }
 
+# Whether the terminal shows its other screen, which the host asks for at the start (1049).
 is_editing() {
     [ "$(terminal display-message -p -t person '#{alternate_on}')" = 1 ]
 }
@@ -65,15 +81,26 @@ is_editing_or_over() {
     is_editing || [ -e "$folder/ended" ]
 }
 
+# Whether the editor has ended, and its status is written.
 has_ended() {
     [ -e "$folder/ended" ]
 }
 
 # ---- a session
 
-# Starts a session in which an editor runs with these words, after previous sessions are removed; it records the terminal's
-# settings before and after. `setup` and `cleanup` are shell lines before and after it, `redirection` follows its words, and
-# `as` precedes them, to run it as another user.
+# Starts a session in which an editor runs with these words, and returns once the editor has the screen or has ended. The files of
+# the last session are removed first. `setup` and `cleanup` are shell lines before and after the editor, `redirection` follows its
+# words, and `as` precedes them, to run it as another user. The files of a session, in `folder`:
+#   run      the script that the terminal runs
+#   go       made once tmux records the output, so that none is lost; the script waits for it
+#   output   all that is written to the terminal
+#   errors   the editor's standard error
+#   before after   the terminal's settings, as stty tells them
+#   status   the editor's exit status
+#   ended    there once the editor has ended and `status` and `after` are written
+#   line     the line that the shell reads afterwards: `finish` types it
+#   record words   what recorder.sh records
+#   state    XDG_STATE_HOME of the callers: what the last session kept is removed too
 start() { # ROWS COLS EDITOR WORD..
     rows=$1 cols=$2
     shift 2
@@ -95,6 +122,7 @@ start() { # ROWS COLS EDITOR WORD..
         echo "touch '$folder/ended'"
         echo "read -r line"
         echo "echo \"\$line\" >'$folder/line'"
+        # keeps the terminal open until it was looked at
         echo "exec sleep 600"
     } >"$folder/run"
     open_person "$rows" "$cols" "sh $folder/run"
@@ -102,16 +130,18 @@ start() { # ROWS COLS EDITOR WORD..
     wait_for 50 is_editing_or_over
 }
 
-# Opens a window of this size, and records its output.
+# Opens a window of this size, runs a command in it, and records its output. Sets `tty`.
 open_person() { # ROWS COLS COMMAND
     terminal new-session -d -s person -x "$2" -y "$1" "$3" \; set -g status off
+    # where tmux took a row off for its status line
     terminal resize-window -t person -x "$2" -y "$1" 2>/dev/null
     tty=$(terminal display-message -p -t person '#{pane_tty}')
     terminal pipe-pane -t person "cat >'$folder/output'"
     wait_for 20 test -e "$folder/output"
 }
 
-type_keys() {
+# Types keys, by their names in tmux; after -l as they stand.
+type_keys() { # KEY..
     terminal send-keys -t person "$@"
 }
 
@@ -119,12 +149,13 @@ resize() { # ROWS COLS
     terminal resize-window -t person -x "$2" -y "$1"
 }
 
-# Prints the processes of the session's terminal except the test's own. One that has ended and waits for init counts as gone.
+# Prints the processes of the session's terminal except the test's own: the session's script, the sleep that it becomes, and the
+# shell of `start_shell` (ends.sh). One that has ended and waits for init counts as gone.
 processes() {
     ps -t "${tty#/dev/}" -o args= | grep -v -x -e "sh $folder/run" -e 'sleep 600' -e '.*sh.* -i' -e '.*<defunct>' | paste -s -d '|'
 }
 
-# Waits for the end, and checks that all is as before.
+# Waits for the editor's end, TENTHS of a second at most, checks its status and that all is as before, and closes the terminal.
 finish() { # NAME STATUS TENTHS
     wait_for "$3" has_ended || report "$1, its end" 1 'it goes on'
     same "$1, status" "$(cat "$folder/status" 2>/dev/null)" "$2"
@@ -136,6 +167,7 @@ finish() { # NAME STATUS TENTHS
         terminal kill-session -t person
         return
     fi
+    # one row alone, which `start` wrote; then the modes as a fresh terminal has them
     same "$1, the screen before" "$(terminal capture-pane -p -t person | grep -c .) $(terminal capture-pane -p -t person | head -n 1)" '1 as before'
     same "$1, the terminal's modes" "$(modes_of person)" "0 0 0 $((rows - 1)) 1 1"
     type_keys -l 'a line'
@@ -145,24 +177,26 @@ finish() { # NAME STATUS TENTHS
     terminal kill-session -t person
 }
 
-# Prints insert and origin mode, the scroll region, autowrap, and the cursor's visibility.
+# Prints insert and origin mode, the first and last row of the scroll region from 0, autowrap, and the cursor's visibility; 1 is
+# on.
 modes_of() { # SESSION
     terminal display-message -p -t "$1" '#{insert_flag} #{origin_flag} #{scroll_region_upper} #{scroll_region_lower} #{wrap_flag} #{cursor_flag}'
 }
 
 # ---- processes and signals
 
-# Finds the process of this terminal with matching words: of a script and its subshells, which have the same words, the script.
-# Process numbers wrap around, so they give no order.
+# Prints the number of the process of this terminal whose words begin with a pattern of grep: of a script and its subshells, which
+# have the same words, the script. Process numbers wrap around, so they give no order.
 process_of() { # PATTERN
     ps -t "${tty#/dev/}" -o pid=,ppid=,args= | sed 's/^ *\([0-9]*\) *\([0-9]*\) */\1 \2 /' | grep -e "^[0-9]* [0-9]* $1" | first_parent
 }
 
+# Of lines that begin with a process and its parent, prints a process whose parent is in none.
 first_parent() {
     awk '{ parent[$1] = $2 } END { for (each in parent) if (!(parent[each] in parent)) { print each; exit } }'
 }
 
-is_there() {
+is_there() { # PATTERN
     [ -n "$(process_of "$1")" ]
 }
 
@@ -172,6 +206,7 @@ send_signal() { # SIGNAL PATTERN
     kill -s "$1" "$(process_of "$2")"
 }
 
-signal_number() {
+# Prints the number of a signal, of those that the checks send and then find in a status.
+signal_number() { # SIGNAL
     case $1 in HUP) echo 1 ;; INT) echo 2 ;; QUIT) echo 3 ;; TERM) echo 15 ;; esac
 }

@@ -1,8 +1,8 @@
 # shellcheck shell=sh
 # shellcheck disable=SC2034,SC2154 # variables shared with other parts
-# Printing instead of a session, and the words refused there.
+# Printing instead of a session, and the words refused there. Uses `refused` of refusals.sh.
 
-# Compares the lines printed with these words, and the status.
+# Prints with these words of bidi-edit, and compares the lines, WANTED, and the status, 0.
 printed() { # NAME WANTED WORD..
     name=$1 lines=$2
     shift 2
@@ -11,7 +11,7 @@ printed() { # NAME WANTED WORD..
 }
 
 check_refused_prints() {
-    # the cause, and the usage
+    # the cause, and two lines of usage
     lines_told=3
     refused 'printing, no FILE' '2 bidi-edit: one FILE is wanted' --print
     refused 'printing, two' '2 bidi-edit: one FILE is wanted' --print f g
@@ -29,6 +29,7 @@ check_refused_prints() {
 }
 
 check_printed_rows() {
+    # an `a` in an isolate: U+2067 (RLI) and U+2069 (PDI), whose letters are I and P
     printf 'שלום (abc) 12\n\342\201\247a\342\201\251 end\n\nlast' >-text
     printed 'printing, after FILE' '                      12 (abc) םולש
 a end

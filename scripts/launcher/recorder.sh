@@ -1,8 +1,9 @@
 # shellcheck shell=sh
 # shellcheck disable=SC2034,SC2154 # variables shared with other parts
-# The words and the input that the host passes to its program, which only records them.
+# The words and the input that the host passes to its program, which here is the recorder: a script in the editor's place, which
+# only records them. Uses person.sh. Sets `recorder`, the path of a host that runs it, for the other parts.
 
-# Installs the recorder where an installed host looks for its program.
+# Installs host, keeper, filter, tables and recorder as install.sh would, in `folder`, and makes the file `paste`.
 make_recorder() {
     recorder=$folder/recorder/bin/bidi-edit
     mkdir -p "$folder/recorder/bin" "$folder/recorder/lib/bidi_edit" "$folder/recorder/share"
@@ -13,8 +14,11 @@ make_recorder() {
     echo 'a kit' >"$folder/recorder/lib/bidi_edit/kit"
     cat >"$folder/recorder/lib/bidi_edit/bidi_edit" <<'TEXT'
 #!/bin/sh
-# Shows what it is to show before the first painting, and records its words, each on a line, and its input until a read ends with
-# a byte 11. With a file `still` no key ends it, and `at-once` needs no key; of `kept` a journal is left.
+# The recorder. Writes its words to the file BX_WORDS, each on a line, shows the text of --before as the editor does, and appends
+# its input to BX_RECORD. It ends with status 7 when a read ends with the byte 11 (octal 21, Ctrl-Q). When its input ends, it
+# appends a blank and `end`, and ends with status 9. Three names of FILE do more: `still` has no record and no end, `at-once` ends
+# at once, `kept` leaves a journal, so that its session is kept. To the host it says (docs/ARCHITECTURE.md) that FILE is not there
+# (o -), and that it ends since its output failed (f output).
 words=''
 while [ $# -gt 0 ]; do
     case $1 in
@@ -53,10 +57,11 @@ TEXT
 }
 
 # Prints the word after a word of the program's command line.
-word_after() {
+word_after() { # WORD
     grep -A 1 -x -e "$1" "$folder/words" | tail -n 1
 }
 
+# Whether the record has just these bytes beside escapes.
 has_recorded() { # BYTES
     [ "$(tr -d '\033' <"$folder/record" 2>/dev/null)" = "$1" ]
 }
@@ -73,7 +78,7 @@ check_words() {
     same 'words, fault' "$(cat "$folder/errors")" 'bidi_edit: output failed'
 }
 
-# Checks the line that the host's words before FILE select.
+# Checks the line that the host's words before FILE select. WANTED is the value of --line, a blank, and FILE.
 line_of() { # NAME WANTED WORD..
     name=$1 wanted_line=$2
     shift 2
@@ -100,6 +105,7 @@ check_lines() {
     line_of 'lines, a FILE with a plus' ' ./+7' -- +7
 }
 
+# The folder of tables that BIDI_EDIT_DATA names; one without tables is refused.
 check_tables() {
     tables=$top/data
     start 24 80 "$recorder" f
@@ -115,6 +121,7 @@ check_tables() {
     tables=''
 }
 
+# Sizes reach the program as CSI 8;ROWS;COLUMNSt, at most 500 each. Two that come at once are told as one, hence the sleeps.
 check_sizes() {
     start 24 80 "$recorder" f
     resize 30 100
@@ -135,6 +142,7 @@ check_sizes() {
     same 'size, a wide window told' "$(tr -d '\033' <"$folder/record")" '[8;20;500t'
 }
 
+# Pastes with ten sizes between. The sleeps let sizes come while the paste is read, and the last one before the key that ends all.
 check_paste() {
     start 24 80 "$recorder" f
     terminal load-buffer -b text "$folder/paste"
@@ -165,6 +173,7 @@ check_whole_keys() {
         resize "$side" 60
         type_keys Right
     done
+    # the last size is recorded before the end
     sleep 0.5
     type_keys C-q
     rows=25
@@ -174,7 +183,8 @@ check_whole_keys() {
 }
 
 # Measures the cost of host, keeper and filter: the least of ten runs, since other load only adds time. On a machine with more
-# work than processors each run takes up to twice as long, so the figure is reported there but not judged.
+# work than processors each run takes up to twice as long, so the figure is reported there but not judged. The limit is above the
+# 15 ms that docs/PERFORMANCE.md allows with the editor itself.
 check_time() {
     printf 'a\nb\n' >at-once
     times_of_ten >"$folder/times"
@@ -190,11 +200,13 @@ check_time() {
     rm -f at-once
 }
 
+# Whether more processes want to run, by the mean of a minute, than there are processors.
 is_busy() {
     awk -v processors="$(getconf _NPROCESSORS_ONLN)" '{ exit !($1 > processors) }' /proc/loadavg
 }
 
-# Prints the processor time of each of ten runs, in thousandths of a second, as bash counts its children.
+# Prints the processor time of each of ten runs, in thousandths of a second, as bash counts its children: `times` writes a line
+# for the shell and one for all children so far.
 times_of_ten() {
     {
         echo "export BX_WORDS='$folder/words' TMPDIR='$folder/private'; cd '$folder/files'"

@@ -1,12 +1,15 @@
 # shellcheck shell=sh
 # shellcheck disable=SC2016,SC2034,SC2154 # code for another shell; variables shared with other parts
-# Refusals before the screen changes: one line each, on standard error alone.
+# Refusals before the screen changes: one line each, on standard error alone. Uses person.sh and recorder.sh. `lines_told` is the
+# number of lines that `refused` wants on standard error, mostly 1.
 
-# Runs a command without a controlling terminal, so that it cannot change one, and with a time limit.
+# Runs a command without a controlling terminal, so that it cannot change one, and with a time limit, twenty seconds, since what
+# is not refused might wait for keys. Its output goes to `folder/output`, its standard error to `folder/errors`.
 alone_in_session() { # WORD..
     timeout -s KILL 20 setsid -w "$@" </dev/null >"$folder/output" 2>"$folder/errors"
 }
 
+# Checks that bidi-edit refuses these words. WANTED is the status, a blank, and the first line on standard error.
 refused() { # NAME WANTED WORD..
     name=$1 refusal=$2
     shift 2
@@ -15,7 +18,7 @@ refused() { # NAME WANTED WORD..
     same "$name: nothing else" "$(wc -c <"$folder/output") $(grep -c . "$folder/errors")" "0 $lines_told"
 }
 
-# As a user who is not root, so that permissions hold.
+# The same as a user who is not root, so that permissions hold: as 65534 (nobody) where root checks.
 refused_to_user() { # NAME WANTED WORD..
     name=$1 refusal=$2
     shift 2
@@ -27,10 +30,11 @@ refused_to_user() { # NAME WANTED WORD..
     same "$name" "$? $(head -n 1 "$folder/errors")" "$refusal"
 }
 
+# What is told where all else is in order, as no check here has a terminal.
 no_terminal='2 bidi-edit: there is no terminal: start the editor in one (ssh -t gives one to a command)'
 
 check_refused_words() {
-    # the cause, and the usage
+    # the cause, and two lines of usage
     lines_told=3
     refused 'refused, no FILE' '2 bidi-edit: one FILE is wanted'
     refused 'refused, two' '2 bidi-edit: one FILE is wanted' f g
@@ -43,11 +47,13 @@ check_refused_words() {
     TERM=dumb refused 'refused, a dumb terminal' '2 bidi-edit: the terminal is dumb (TERM=dumb) and moves no cursor: start the editor in another, or with TERM=xterm if it is none' f
 }
 
-# The version that the sources name.
+# Prints the version that the sources name.
 version_of_sources() {
     grep -rhoE '"[0-9]+\.[0-9]+\.[0-9]+"' "$top/crates/bx_launch/src" | head -n 1 | tr -d '"'
 }
 
+# --help fits a screen of 24 rows with the shell's next line. --version tells the kit that make_recorder notes, and the tables'
+# own version, by their first lines.
 check_told_words() {
     "$top/bidi-edit" --help >"$folder/output" 2>&1
     same 'refused, not help' "$? $(head -c 6 "$folder/output")" '0 usage:'
@@ -97,7 +103,7 @@ check_refused_names() {
     refused 'checks, a name that is not UTF-8' "1 bidi-edit: \$'f\\377' has a name that is not UTF-8: mv gives it another" "f$(printf '\377')"
 }
 
-# A text that cannot be opened is refused by the program, in a terminal, whose screen stays as it was.
+# A text that cannot be opened is refused by the program, in a terminal, whose screen stays as it was (1049h would change it).
 refused_at_opening() { # NAME WANTED WORD..
     name=$1 refusal=$2
     shift 2
@@ -127,6 +133,7 @@ check_refused_texts() {
     start 8 50 "$top/bidi-edit" bytes
     finish 'opening, a program' 1 50
     same 'opening, a program: it is no text in another encoding' "$(cat "$folder/errors")" 'bidi-edit: bytes is a binary file and no text: od -c shows it'
+    # lines of 17 bytes, cut after a whole letter; with six bytes more it is one byte too long
     awk 'BEGIN { for (n = 0; n < 16777216; n += 17) print "\327\251\327\234\327\225\327\235 \327\234\327\232 ab" }' | head -c 16777211 >bytes
     start 8 50 "$top/bidi-edit" bytes
     has 'opening, 16 MB of Hebrew' "$(settled_screen person)" '- 1:1'
@@ -137,6 +144,7 @@ check_refused_texts() {
     rm bytes
 }
 
+# In `closed` nothing can be named, in `locked` no file can be made, in `open` the files are protected.
 check_refused_access() {
     mkdir closed locked open
     echo text | tee closed/f locked/f locked/g open/f >open/g
@@ -146,6 +154,7 @@ check_refused_access() {
     chmod 666 locked/f
     chmod 444 locked/g
     chmod 555 locked
+    # closed to nobody's own processes, or to this user
     chmod 700 closed
     [ "$(id -u)" = 0 ] || chmod 000 closed
     refused_to_user 'access, a closed folder' '1 bidi-edit: closed is a folder that is closed to you: its owner can open it by chmod a+x' closed/f
@@ -165,13 +174,15 @@ check_refused_access() {
     rm -rf closed locked open
 }
 
-# Runs the host in a terminal, with a FILE that the program refuses, so that the screen does not change.
+# Runs the host in a terminal (of `script`, without tmux), with a FILE that the program refuses, so that the screen does not
+# change. WANTED is the status and the first of two lines on standard error; the second is the program's refusal.
 refused_in_terminal() { # NAME WANTED FILE
     HOST=$top/bidi-edit FILE=$3 timeout -s KILL 20 setsid -w script -qec '"$HOST" "$FILE" 2>&3' /dev/null </dev/null >"$folder/output" 3>"$folder/errors"
     same "$1" "$? $(head -n 1 "$folder/errors")" "$2"
     same "$1: nothing else" "$(grep -a -c '1049h' "$folder/output") $(grep -c . "$folder/errors")" '0 2'
 }
 
+# Drafts of FILE that a killed save left are told: FILE.bx and FILE.bx with digits.
 check_leftovers() {
     printf '\377' >f
     for name in f.bx f.bx9 f.bxx 'g h.bx2'; do : >"$name"; done

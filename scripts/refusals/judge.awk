@@ -1,7 +1,12 @@
 # Prints the kind of each refused run of a scene, or its fault. The first file has the answers of the scene's variants without a
-# refusal (see scenes.sh), and the second the runs (see loaded.sh); `steps` and `way` are the scene's.
+# refusal (see `variants` in scenes.sh), and the second the runs (see loaded.sh); `steps` and `way` are the scene's. An answer
+# begins with a letter for each step and has more fields, all as crates/play_scenes/src/main.rt tells; here field 2 has the shown
+# flags, 3 the text, 7 the queued bytes. answer[1] is that of the scene itself; with `count` steps, answer[1 + k] that with an
+# idle byte in place of step k, answer[1 + count + k] that of the steps before k, answer[1 + 2 * count + c] that with call c of
+# the store failing.
 BEGIN { count = split(steps, step, " ") }
 NR == FNR { answer[FNR] = $0; next }
+# a line with another letter for step k
 function put(line, k, letter) { return substr(line, 1, k - 1) letter substr(line, k + 1) }
 function field(line, number,  part) { split(line, part, "\t"); return part[number] }
 # a line with a field replaced
@@ -21,6 +26,7 @@ function is_painted_next(line, k,  shown, digit) {
     if (way == "step") line = with_field(line, 2, put(shown, k, substr(field(answer[1], 2), k, 1)))
     return line == put(answer[1], k, "P")
 }
+# whether a painting succeeds after step k: of a byte or a told size
 function is_painted_later(line, k,  j) {
     for (j = k + 1; j <= count; j++) if (step[j] ~ /^[BT]/ && substr(line, j, 1) ~ /[oe]/) return 1
     return 0
@@ -30,6 +36,7 @@ function last_shown(line,  shown) {
     shown = field(line, 2)
     return substr(shown, length(shown))
 }
+# whether only the painting of step k failed
 function is_put_off(line, k,  before) {
     if (step[k + 1] == "B00") return is_painted_next(line, k)
     before = field(answer[1 + count + k], 7)
@@ -37,6 +44,7 @@ function is_put_off(line, k,  before) {
         && (way == "play" || before == "-" || index(field(line, 7), before) == 1) \
         && (!is_painted_later(line, k) || last_shown(line) == last_shown(answer[1]))
 }
+# whether the terminal failed at step k, and from then on at each window and each Read of a byte or more
 function has_failed_for_good(line, k,  wanted, shown, j) {
     wanted = field(answer[1], 1)
     shown = field(answer[1], 2)
@@ -47,6 +55,7 @@ function has_failed_for_good(line, k,  wanted, shown, j) {
     if (way == "play") shown = "0"
     return line == with_field(with_field(answer[1], 1, wanted), 2, shown)
 }
+# whether all is as with a failing call of the store; in step k, if not 0, the save tells that by itself
 function is_failed_save(line, k,  call, found) {
     for (call = 1; call <= 12; call++) {
         found = answer[1 + 2 * count + call]
@@ -54,6 +63,7 @@ function is_failed_save(line, k,  call, found) {
     }
     return 0
 }
+# the kind of the run in the fields $1 to $5, whose answer is `line`
 function kind_of(line,  letters, k, letter) {
     if ($3 == "") return "FAILS it ended by a signal or not at all"
     if ($2 == 1 && line == "" && $4 ~ /^play_scenes: (.*: )?out of memory$/) return "scene: the program has no memory"

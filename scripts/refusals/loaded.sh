@@ -2,7 +2,8 @@
 # shellcheck disable=SC2154 # variables that check-refusals.sh sets
 # Refusal of memory growth, for check-refusals.sh: a library in C, loaded into a program. It refuses the growth with the number
 # REFUSED, gives the program its input one byte a read, and reports how many bytes were read at the refusal. It can also discard
-# the output after byte MUTED, and refuse renames after byte FAILING, until the next byte is read; 0 is before the first byte.
+# the output after byte MUTED, and refuse renames after byte FAILING, until the next byte is read; 0 is before the first byte. A
+# variable that is not set refuses nothing. Uses `scratch`, the working folder, and `fail` of check-refusals.sh.
 
 # Writes the file in C, and builds the library from it.
 build_refuse() {
@@ -82,8 +83,8 @@ END
     cc -O2 -Wall -shared -fPIC -o refuse.so refuse.c
 }
 
-# Runs a command with the library and these variables. The file `told` gets the number of input bytes read at the refusal; -1
-# without a refusal; nothing if the command did not end by itself.
+# Runs a command with the library and these variables, a minute at most. The file `told` gets the number of input bytes read at
+# the refusal; -1 without a refusal; nothing if the command did not end by itself.
 loaded() { # VARIABLE.. COMMAND..
     : >"$scratch/told"
     # timeout itself is not refused memory
@@ -104,6 +105,7 @@ sweep() { # INPUT COMMAND..
         line=''
         while IFS= read -r part; do line=$line${line:+|}$part; done <out
         printf '%s\t%s\t%s\t%s\t%s\n' "$number" "$status" "$refused_at" "$error" "$line" >>runs
+        # no run has so many growths
         if [ "$number" -ge 5000 ]; then
             fail "$*: 5000 growths are not all"
             return

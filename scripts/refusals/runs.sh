@@ -1,9 +1,10 @@
 # shellcheck shell=sh
 # shellcheck disable=SC2154 # variables that check-refusals.sh sets
-# The recorded sessions of check-refusals.sh.
+# The recorded sessions of check-refusals.sh. A run NAME has its output in NAME.out, and its end in NAME.end; `whole` is the one
+# without a refusal, `found` the one that is judged. `session` is the session's folder, `place` the folder where it runs.
 
-# Runs the session `session` with other input. Its output goes to a file with this name, and its status, the content of `told`
-# and the resulting FILE to another.
+# Runs the session `session` with the input in the file KEYS and these variables of the library. Its end is the status, standard
+# error and the resulting FILE. Sets `refused_at` to the content of `told`.
 run_session() { # NAME KEYS VARIABLE..
     name=$1 keys=$2 status=0
     shift 2
@@ -13,8 +14,8 @@ run_session() { # NAME KEYS VARIABLE..
     IFS= read -r refused_at <told || refused_at=''
 }
 
-# Prints the end of a run.
-ending() { # STATUS TOLD FILE
+# Prints the end of a run: ERRORS is a file with its standard error.
+ending() { # STATUS ERRORS FILE
     echo "status $1"
     if [ -f "$3" ]; then cat "$2" "$3"; else cat "$2" && echo 'no file'; fi
 }

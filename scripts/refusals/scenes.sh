@@ -1,6 +1,7 @@
 # shellcheck shell=sh
 # shellcheck disable=SC2154 # variables that check-refusals.sh sets
-# The scenes and the tables of check-refusals.sh.
+# The scenes and the tables of check-refusals.sh. crates/play_scenes/src/main.rt tells what the fields of a scene and of its
+# answer are, and what the steps do. FILE is in hexadecimal; a WAY is `step`, `play` or `alone`.
 
 # Plays scenes without refusals.
 play() {
@@ -20,8 +21,8 @@ scene_of() { # ROWS COLS FILE STEPS WAY
 }
 
 # Prints the variants of a scene that its refused runs are compared with: itself; for each step, itself with a byte that ends no
-# key, or with nothing sent, in its place; for each step, the scene before it; and itself with each call of the store failing,
-# and some calls more than it makes.
+# key, or with nothing sent, in its place; for each step, the scene before it; and itself with each call of the store failing:
+# twelve, more than it makes.
 variants() {
     awk -F '\t' -v OFS='\t' '
         { head = $1 OFS $2 OFS $3 OFS $4; file = $6; way = $8; count = split($7, step, " ") }
@@ -96,6 +97,7 @@ check_worked() { # NAME ROWS COLS FILE STEPS WAY WANTED [BEFORE]
 }
 
 check_all_scenes() {
+    # all is sent and read
     rest='S1000 R1000'
     check_scenes 'quit' 1 5 6162 "B11 $rest"
     check_scenes 'windows and sizes' 4 20 6162 'S38 R11 W2,5 R27 T4,20 T2,5 S1000 R1000'

@@ -1,9 +1,10 @@
 # shellcheck shell=sh
 # shellcheck disable=SC2034,SC2154 # variables shared with other parts
-# Saves that are killed at each call, and calls that fail.
+# Saves that are killed at each call, and calls that fail. Uses scenes.sh and `says` of kinds.sh.
 
 # ---- kills at each call
 
+# Kills the save at this call. `states` gets what FILE then is.
 check_kill() { # CALL NUMBER
     begin_point "$scene, $1 $2"
     prepare "$scene"
@@ -17,6 +18,7 @@ check_kill() { # CALL NUMBER
     states="$states $now"
 }
 
+# Kills the save of each scene at each of its calls.
 check_kills() { # KIND SCENE..
     begin_kind "$1"
     shift
@@ -37,6 +39,7 @@ check_kills() { # KIND SCENE..
 
 # ---- errors at each call
 
+# Makes this call of the save fail: the status, FILE, the mark and the cause in the last row must agree.
 check_error() { # CALL NUMBER ERROR
     begin_point "$scene, $3 at $1 $2"
     prepare "$scene"
@@ -87,6 +90,7 @@ check_next_save() { # CALL NUMBER ERROR
     check_nothing_left
 }
 
+# Makes each call of each scene's save fail, by each of three errors; after EIO a second save is tried.
 check_errors() { # KIND SCENE..
     begin_kind "$1"
     shift
@@ -94,6 +98,7 @@ check_errors() { # KIND SCENE..
         prepare "$scene"
         list_calls
         while read -r call number what; do
+            # those of input, memory, end and screen are not the save's
             case $call,$what in
             read,* | brk,* | mmap,* | munmap,* | exit_group,* | *,screen) continue ;;
             esac

@@ -1,10 +1,11 @@
 # shellcheck shell=sh
 # shellcheck disable=SC2034,SC2154 # variables shared with other parts
-# Sessions in which another program changes FILE during a save.
+# Sessions in which another program changes FILE before or during a save. Uses scenes.sh and kinds.sh. A first save then fails,
+# and the second goes through.
 
 # ---- sessions with events during a save
 
-# Starts the program, and waits for its first picture.
+# Starts the program, with a pipe for its keys at descriptor 3, and waits for its first picture. Sets `program`, its process.
 open_session() { # COMMAND..
     rm -f "$folder/pipe"
     mkfifo "$folder/pipe"
@@ -15,6 +16,7 @@ open_session() { # COMMAND..
     wait_for_more 0
 }
 
+# Waits for more output than SIZE bytes, five seconds at most.
 wait_for_more() { # SIZE
     for _ in $(seq 100); do
         [ "$(stat -c %s "$folder/out")" -le "$1" ] || return 0
@@ -31,6 +33,7 @@ press() { # KEYS
     wait_for_more "$before"
 }
 
+# Ends the program's input, and checks its status: 1 where something is not saved.
 close_session() { # STATUS
     exec 3>&-
     wait "$program"
@@ -38,6 +41,7 @@ close_session() { # STATUS
     program=''
 }
 
+# Types the scene's keys, which end in Save.
 save_all() {
     before=$(stat -c %s "$folder/out")
     cat "$folder/keys" >&3
@@ -60,6 +64,7 @@ change_unseen() {
     cp "$kept" "$folder/theirs"
 }
 
+# Another program changes FILE, by a function CHANGE, after it was opened.
 check_foreign() { # NAME SCENE CHANGE
     begin_point "$1"
     prepare "$2"
@@ -76,6 +81,7 @@ check_foreign() { # NAME SCENE CHANGE
     close_session 0
 }
 
+# FILE is changed after a first save. The second fails, and the third replaces it.
 check_between_saves() {
     begin_point 'between two saves'
     prepare plain
@@ -90,7 +96,7 @@ check_between_saves() {
     close_session 0
 }
 
-# Runs a command while the program waits half a second before it syncs the draft.
+# Runs a command while the program waits half a second before it syncs the draft: once this is there.
 save_and_meanwhile() { # COMMAND..
     open_session strace -o "$folder/log" -e trace=fsync -e inject=fsync:delay_enter=500000:when=1
     draft=$kept.bx
@@ -104,6 +110,7 @@ save_and_meanwhile() { # COMMAND..
     wait_for_more "$(stat -c %s "$folder/out")"
 }
 
+# FILE is changed while its new text is in the draft.
 check_amid_save() {
     begin_point 'amid a save'
     prepare plain
@@ -141,6 +148,7 @@ check_exchanged() {
     close_session 0
 }
 
+# The link that was opened leads to another file: a second save goes there.
 check_retargeted() {
     begin_point 'a link that leads elsewhere by now'
     prepare linked
@@ -191,6 +199,7 @@ check_changes_in_place() {
 check_gone_when_torn() {
     begin_point 'a file that was torn and is gone'
     prepare plain
+    # the first two syncs are of the mark's draft and its folder, the third is of FILE
     open_session strace -o "$folder/log" -e trace=fsync -e inject=fsync:error=EIO:when=3
     save_all
     grep -q INJECTED "$folder/log" || fails "the call was not met"
@@ -220,6 +229,7 @@ check_mark_of_before() {
     check_nothing_left
 }
 
+# A command has put something else in FILE's place, which no save replaces.
 check_no_file() { # NAME COMMAND..
     begin_point "$1"
     shift
@@ -237,7 +247,8 @@ check_no_file() { # NAME COMMAND..
     close_session 1
 }
 
-# Checks a text copied from FILE before or after another program changed it, with or without replayed keys.
+# Checks a text copied from FILE before or after another program changed it, with or without replayed KEYS. WANTED is `told` where
+# the first save fails, as FILE has other bytes than the session knows, else `stored`.
 check_before_start() { # NAME CHANGE KEYS WANTED
     begin_point "$1"
     prepare plain
@@ -266,9 +277,11 @@ check_before_start() { # NAME CHANGE KEYS WANTED
 }
 
 remove_file() { rm "$kept"; }
+# Both change FILE as the Save of a letter at its beginning does.
 save_first_letter() { sed -i '1s/^/x/' "$kept"; }
 save_other_letter() { sed -i '1s/^/w/' "$kept"; }
 
+# In keys \023 is Save, and \177 erases the letter before the cursor.
 check_before_starts() {
     begin_kind 'changed before the start'
     check_before_start 'nothing' true '' stored

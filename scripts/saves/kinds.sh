@@ -1,6 +1,6 @@
 # shellcheck shell=sh
 # shellcheck disable=SC2034,SC2154 # variables shared with other parts
-# Files beside FILE, kinds of places, and what a rename would lose.
+# Files beside FILE, kinds of places, and what a rename would lose. Uses scenes.sh and changes.sh.
 
 # ---- files beside FILE, and kinds of places
 
@@ -20,6 +20,7 @@ check_save() { # NAME STATE COMMAND..
     same "FILE" "$(state)" "$wanted_state"
 }
 
+# Drafts are FILE.bx, and FILE.bx1 to FILE.bx9 where that is taken.
 check_drafts() {
     begin_kind 'what is beside FILE'
     prepare plain
@@ -43,6 +44,7 @@ check_drafts() {
     same "what is there" "$(names)" 'links text'
 }
 
+# A name has 255 bytes at most, of which a draft needs three.
 check_names() {
     begin_kind 'long names'
     long=$(printf '%0252d' 7)
@@ -78,6 +80,7 @@ check_second_name() {
     close_session 0
 }
 
+# Prints FILE's access list.
 list_of() {
     getfacl -c -p "$kept" 2>/dev/null
 }
@@ -87,6 +90,7 @@ give_list() {
     setfacl -m u:54322:rw "$kept" 2>/dev/null && list_of | grep -q '^group::---'
 }
 
+# FILE gets an access list during a session, or has one at its start (`itself`). A rename would lose it.
 check_access_list() {
     begin_point 'an access list, during a session'
     prepare secret
@@ -184,7 +188,8 @@ check_made_elsewhere() {
     close_session 1
 }
 
-# The limit of a file's size; the host has the program ignore the signal.
+# The limit of a file's size, in blocks of 512 bytes or of 1,024, below the 80,000 bytes of the text; the host has the program
+# ignore the signal.
 check_limit() {
     prepare long
     check_save 'a limit of the size of files' old sh -c 'trap "" XFSZ; ulimit -f 60; exec "$@"' sh

@@ -1,6 +1,7 @@
 # shellcheck shell=sh
 # shellcheck disable=SC2034,SC2154 # variables shared with other parts
-# Files of other users, and full disks.
+# Files of other users, and full disks. Uses scenes.sh and kinds.sh. 54322 is the user of `as_other`, who edits, and the group of
+# this user alone; 54323 is a group without this user.
 
 # ---- files of other users
 

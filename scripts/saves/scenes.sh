@@ -1,9 +1,13 @@
 # shellcheck shell=sh
 # shellcheck disable=SC2034,SC2154 # variables shared with other parts
-# Counts of checks, the scenes of a save, and runs of the program.
+# Counts of checks, the scenes of a save, and runs of the program, for check-saves.sh, which sets `folder`, `place` (the scene's
+# folder, with FILE), `own` (the program's private folder) and `editor`.
+#
+# A point is one checked run: `point` is its name, `kind` that of the checks that it belongs to.
 
 # ---- counts
 
+# Begins the checks of a kind, and tells the number of those of the kind before.
 begin_kind() { # NAME
     end_kind
     kind=$1 kind_points=0
@@ -24,6 +28,7 @@ begin_point() { # NAME
     kind_points=$((kind_points + 1))
 }
 
+# Fails if two texts differ.
 same() { # WHAT FOUND WANTED
     [ "$2" = "$3" ] || fails "$1 is '$2', and not '$3'"
 }
@@ -46,10 +51,15 @@ head -c 80000 /dev/zero | tr '\0' a >"$folder/rest"
 # the text that the same keys make of an empty one
 printf 'zyx' >"$folder/typed"
 printf 'theirs\n' >"$folder/theirs"
+# Down and Home between the letters, and Save
 printf 'x\033[B\033[Hy\033[B\033[Hz\023' >"$folder/keys"
 # the keys with a second Save, for a failed first one
 { cat "$folder/keys" && printf '\023'; } >"$folder/keys_twice"
+# for checks that exchange the keys for a while
 cp "$folder/keys" "$folder/keys_of_all"
+# The scenes that `prepare` makes, for each way of a save. plain: FILE alone; long: more text; secret: for its owner alone;
+# linked: by a link; made: there is no FILE; dangling: a link to no FILE; beset: the user has a file of the draft's name; owned:
+# another user's; doubled: FILE has two names.
 scenes='plain long secret linked made dangling beset'
 scenes_in_place='plain long linked made doubled'
 scenes_itself='plain doubled'
@@ -58,13 +68,15 @@ scenes_itself='plain doubled'
 # opened file, if it is not FILE; the replayed journal.
 way=beside copy='' replay=''
 
+# Makes a file with FILE's old bytes.
 put_old() { # PATH MODE
     cat "$folder/old" >"$1"
     chmod "$2" "$1"
 }
 
 # Makes a scene's files: `file` is the program's argument, `kept` the file it leads to, and `mode` and `owner` are expected after
-# each save.
+# each save; `others` are the names in the scene's folder, but for a FILE that is made. The files `old` and `new` in `folder` are
+# FILE's bytes before and after the save. Users and groups are numbers that no user of the system should have.
 prepare() { # SCENE
     scene=$1
     cp "$folder/lines" "$folder/old"
@@ -129,6 +141,7 @@ state() {
     echo torn
 }
 
+# Prints the state of FILE before the save.
 had_before() {
     case $scene in
     made | dangling) echo none ;;
@@ -164,6 +177,7 @@ check_no_mark() {
     [ ! -e "$mark" ] || fails "the mark is left"
 }
 
+# Prints the names in the scene's folder.
 names() {
     find "$place" -mindepth 1 -maxdepth 1 -printf '%f\n' | sort | paste -s -d ' '
 }
@@ -195,7 +209,7 @@ check_draft() {
 
 # ---- the program
 
-# Runs the program under the given command: strace, or a change of user.
+# Runs the program under the given command: strace, a change of user, or `env` for none. One that hangs ends after half a minute.
 edit() { # COMMAND..
     set -- "$@" "$folder/editor"
     case $way in
@@ -206,8 +220,8 @@ edit() { # COMMAND..
         --mirroring "$folder/BidiMirroring.txt" ${copy:+--text "$copy"} ${replay:+--replay "$replay"} "$file"
 }
 
-# Lists the system calls of a scene's save, from its key to the program's end, with the number of each among the calls of its
-# name.
+# Lists the system calls of a scene's save in the file `calls`, from the first read of keys to the program's end: the name, its
+# number among the calls of this name, and `screen` for a write to the terminal, else `save`.
 list_calls() {
     edit strace -o "$folder/log" <"$folder/keys" >/dev/null 2>&1
     awk '

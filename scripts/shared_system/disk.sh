@@ -3,7 +3,8 @@
 # A disk without room for a session or its journal: the fault is reported in time, waiting text is kept once there is room, and
 # the messages at the end are true.
 
-# Puts the state folder on a small disk of its own.
+# Puts the state folder on a small disk of its own, `small`; else the check is skipped. `usual_state_home` has its usual place
+# meanwhile.
 open_small_disk() { # SIZE
     mkdir -p "$folder/small"
     if ! mount -t tmpfs -o "size=$1" none "$folder/small" 2>/dev/null; then
@@ -13,7 +14,7 @@ open_small_disk() { # SIZE
     fi
     mounted="$mounted $folder/small"
     chown "$user" "$folder/small"
-    state=$XDG_STATE_HOME
+    usual_state_home=$XDG_STATE_HOME
     export XDG_STATE_HOME="$folder/small"
 }
 
@@ -21,7 +22,7 @@ close_small_disk() {
     umount "$folder/small"
     rmdir "$folder/small"
     mounted=${mounted%" $folder/small"}
-    export XDG_STATE_HOME="$state"
+    export XDG_STATE_HOME="$usual_state_home"
 }
 
 title_of() { # NAME
@@ -37,17 +38,18 @@ record_editor() { # NAME
     terminal pipe-pane -t "$1" "cat >'$folder/output.$1'"
 }
 
-# Fills the rest of the small disk.
+# Fills the rest of the small disk with a file `other`; where that is removed, there is room again.
 fill_small_disk() {
     as_user dd if=/dev/zero of="$folder/small/other" bs=4096 2>/dev/null
 }
 
-# Opens an editor on a full disk and types a letter; its title reports the fault.
-open_on_full_disk() {
+# Opens an editor on a full disk and types a letter; its title reports the fault. 256 KB hold a short session.
+open_on_full_disk() { # CHECK
     open_small_disk 256k || return 1
     rm -f note
     printf 'ab\n' | as_user tee note >/dev/null
     fill_small_disk
+    # a second for the recording to begin before the editor
     open_editor first 'sleep 1;' note
     record_editor first
     wait_for 60 shows_in first '- 1:1'
@@ -57,6 +59,7 @@ open_on_full_disk() {
     wait_for 60 shows_in first '* 1:2'
 }
 
+# No session is begun: told before the screen changes, and nothing false at the end, by two Quits or a signal.
 check_not_begun() {
     open_on_full_disk 'full' || return 0
     case $(tr '\n\033' '  ' <"$folder/output.first") in
@@ -133,6 +136,7 @@ fill_under_editor() { # CHECK
     wait_for 60 shows_in first '* 1:2'
     record_editor first
     fill_small_disk
+    # a hundred lines of 60 bytes, so that the cursor is in line 101 then
     awk 'BEGIN { for (i = 0; i < 100; i++) printf "%59s\n", "line " i }' >"$folder/letters"
     terminal load-buffer -b letters "$folder/letters"
     terminal paste-buffer -d -r -b letters -t first
@@ -140,11 +144,12 @@ fill_under_editor() { # CHECK
     report "disk, $1: told in the title" $? "$(title_of first)"
 }
 
-# Counts bells. The bell that ends a title does not ring.
+# Counts bells in the recorded output. The byte that ends a title is a bell's too, and does not ring.
 bells_of() { # NAME
     cat -v "$folder/output.$1" | sed 's/\^\[]2;[^^]*^S save ^Q quit[^^]*\^G//g' | grep -o '\^G' | wc -l
 }
 
+# The journal has what there was room for: the text up to there is recovered, and the cut is told.
 check_filled_up() {
     fill_under_editor 'filled up' || return 0
     same 'disk, filled up: told by a bell' "$(bells_of first)" 1

@@ -1,6 +1,7 @@
 # shellcheck shell=sh
 # shellcheck disable=SC2034,SC2154 # variables shared with other parts
-# Faults that users met: each check shows one from outside, by FILE, screen, status, processes and what is left.
+# Faults that users met: each check shows one from outside, by FILE, screen, status, processes and what is left. Uses the other
+# parts: lists.sh, disk.sh, places.sh, in_place.sh.
 
 # Opens an editor on `note` with one letter typed, and not saved.
 open_typed() { # PREFIX WORD..
@@ -12,6 +13,7 @@ open_typed() { # PREFIX WORD..
     wait_for 60 shows_in first '* 1:2'
 }
 
+# Makes a file of the user's with the text `ab`; with one letter typed it is `xab`.
 put_note() { # FILE
     printf 'ab\n' | as_user tee "$1" >/dev/null
 }
@@ -20,6 +22,7 @@ save_in() { # NAME
     terminal send-keys -t "$1" C-s
 }
 
+# Removes what a check leaves.
 leave_files() {
     close_editors first second
     rm -rf "$folder/state" note* theirs closed
@@ -46,6 +49,8 @@ check_link_in_its_place() {
     leave_files
 }
 
+# FILE gets a second name while it is edited: the first save fails, the next one goes into FILE itself, so that both names have
+# it.
 check_second_name() {
     put_note note
     open_typed '' note
@@ -89,6 +94,7 @@ check_list_meanwhile() {
     leave_files
 }
 
+# FILE is removed while it is edited: a save makes it anew, with its permissions.
 check_gone() {
     for mode in 755 600; do
         put_note note
@@ -102,7 +108,8 @@ check_gone() {
     done
 }
 
-# A limit of the size of files, and a disk of four pages.
+# A limit of the size of files, which twenty letters exceed, and a disk of four pages, of which FILE has three, so that no draft
+# fits.
 check_causes() {
     head -c 19990 /dev/zero | tr '\0' a | as_user tee note >/dev/null
     open_editor first 'prlimit --fsize=20000' note
@@ -125,6 +132,7 @@ check_causes() {
 
 # ---- ends
 
+# No end waits for a reader of the pipe.
 check_pipe_in_its_place() {
     put_note note
     open_typed '' note
@@ -158,6 +166,7 @@ check_signals_of_all_kinds() {
     leave_files
 }
 
+# Prints the number of a signal on Linux.
 number_of() { # SIGNAL
     case $1 in
     USR1) echo 10 ;; USR2) echo 12 ;; ALRM) echo 14 ;; PIPE) echo 13 ;; XCPU) echo 24 ;; XFSZ) echo 25 ;; VTALRM) echo 26 ;;
@@ -187,20 +196,20 @@ check_closed_error() {
 # Root under another's HOME, as by sudo -E.
 check_home_of_another() {
     if [ "$who" != root ] || ! has_stranger 'faults, root under the home of another'; then return 0; fi
-    as_stranger_home=$folder/another
-    mkdir "$as_stranger_home"
-    chown "$stranger" "$as_stranger_home"
+    home_of_stranger=$folder/another
+    mkdir "$home_of_stranger"
+    chown "$stranger" "$home_of_stranger"
     put_note note
-    open_editor first "env -u XDG_STATE_HOME HOME='$as_stranger_home'" note
+    open_editor first "env -u XDG_STATE_HOME HOME='$home_of_stranger'" note
     wait_for 60 shows_in first '- 1:1'
     terminal send-keys -t first x
     wait_for 60 shows_in first '* 1:2'
-    same 'faults, root under the home of another: nothing of root is there' "$(find "$as_stranger_home" -user 0)" ''
+    same 'faults, root under the home of another: nothing of root is there' "$(find "$home_of_stranger" -user 0)" ''
     close_editors first
     # the session is in root's own folder
     same 'faults, root under the home of another: what is kept' \
-        "$(env -u XDG_STATE_HOME HOME="$as_stranger_home" "$host" --forget note 2>&1 | grep -c -F "$folder/files/note")" 1
-    rm -rf "$as_stranger_home"
+        "$(env -u XDG_STATE_HOME HOME="$home_of_stranger" "$host" --forget note 2>&1 | grep -c -F "$folder/files/note")" 1
+    rm -rf "$home_of_stranger"
     leave_files
 }
 
@@ -223,12 +232,13 @@ check_state_taken_away() {
     leave_files
 }
 
-# A disk without room for another file.
+# A disk with room for a few files only, of which its top folder is one: a session begins and finds no room for the next of its
+# files.
 check_no_inodes() {
     for inodes in 1 2 4 6; do
         mount_small "nr_inodes=$inodes,mode=777" || return 0
         put_note note
-        state=$XDG_STATE_HOME
+        usual_state_home=$XDG_STATE_HOME
         export XDG_STATE_HOME="$folder/small"
         open_editor first '' note
         wait_for 60 shows_in first '- 1:1'
@@ -236,7 +246,7 @@ check_no_inodes() {
         expect_in first "faults, a disk of $inodes files: the end" 'status 0'
         same "faults, a disk of $inodes files: what stays" "$(find "$folder/small" -mindepth 2)" ''
         close_editors first
-        export XDG_STATE_HOME="$state"
+        export XDG_STATE_HOME="$usual_state_home"
         unmount_small
     done
     leave_files
@@ -267,6 +277,7 @@ check_full_recovery() {
     leave_files
 }
 
+# Any of three messages will do.
 check_second_start_by_other_name() {
     put_note note
     as_user ln note note.too
@@ -289,7 +300,7 @@ check_many_sessions() {
     open_editor first "strace -f -qq -o '$folder/trace' -e trace=execve" other
     wait_for 60 shows_in first '- 1:1'
     started=$(grep -c 'execve(.* = 0' "$folder/trace")
-    # setpriv is one of them
+    # setpriv, host, keeper, filter, program, and one to spare
     [ "$started" -le 6 ]
     report 'faults, left sessions of other files: programs that a start runs' $? "$started"
     rm -f other "$folder/trace"

@@ -1,7 +1,7 @@
 # shellcheck shell=sh
 # shellcheck disable=SC2034,SC2154 # variables shared with other parts
 # Another program changes FILE between two looks of the editor: the first save reports a failure, and only the second replaces
-# the file.
+# the file. Uses in_place.sh and disk.sh.
 
 # Prints what runs the editor so that each opening of `note` takes this long, in microseconds.
 slow_opening() { # TIME
@@ -17,8 +17,8 @@ change_note() {
     echo of another | as_user tee note >/dev/null
 }
 
-# Requires that the typed letter is on the screen and FILE still has the foreign text, and saves again.
-save_twice() { # NAME
+# Requires that FILE still has the foreign text, also after a first save, and WANTED after a second.
+save_twice() { # NAME WANTED
     same "foreign, $1: it is another's" "$(cat note)" 'of another'
     terminal send-keys -t first C-s
     expect_in first "foreign, $1: the first save" 'save failed'
@@ -100,6 +100,7 @@ check_exchanged_folder() {
     wait_for 60 shows_in first '- 1:1'
     terminal send-keys -t first x
     wait_for 60 shows_in first '* 1:2'
+    # two seconds for the exchange
     strace -qq -f -p "$(program_of_check)" -e trace=fsync,fdatasync -P "$folder/files/inner/note.bx" -e inject=fsync,fdatasync:delay_enter=2000000 \
         -o "$folder/trace" 2>/dev/null &
     tracer=$!

@@ -1,9 +1,12 @@
 # shellcheck shell=sh
 # shellcheck disable=SC2034,SC2154 # variables shared with other parts
-# Saves into FILE itself, where a rename must not replace it, and FILE after an interrupted save.
+# Saves into FILE itself, where a rename must not replace it, and FILE after an interrupted save. Interrupted saves are of a
+# session of `note`, which has a second name, so that saves go into it: its text is `ab`, the one that is saved `xab`, which the
+# session's mark has meanwhile.
 
 # ---- complete saves
 
+# Files with two names, and a link to one. `%h` is the number of names.
 check_links() {
     printf 'ab\n' | as_user tee note >/dev/null
     as_user ln note 'other name'
@@ -20,6 +23,7 @@ check_links() {
     rm -f note 'other name' link
 }
 
+# A file that is mounted by itself, which no rename can replace, at a name with a blank.
 check_mounted_file() {
     printf 'of the host\n' >"$folder/host"
     chown "$user" "$folder/host"
@@ -71,21 +75,25 @@ check_closed_folder() {
 
 # ---- interrupted saves
 
+# Prints the process of the program whose session is in the round's state folder.
 program_of_check() {
     pgrep -f "bidi_edit/bidi_edit .*$folder/state/" | head -n 1
 }
 
-# Has strace inject WHAT into the program of the editor `first` at its next CALLS on FILE.
+# Has strace inject WHAT (its words) into the program of the editor `first` at its next system calls on `note`, of these names.
+# Sets `tracer`, its process.
 inject() { # CALLS WHAT
     strace -qq -f -p "$(program_of_check)" -P "$folder/files/note" -e "trace=$1" -e "inject=$1:$2" -o "$folder/trace" 2>/dev/null &
     tracer=$!
     wait_for 30 is_traced
 }
 
+# Whether strace has attached itself to the program.
 is_traced() {
     [ "$(awk '/^TracerPid/ { print $2 }' "/proc/$(program_of_check)/status" 2>/dev/null)" != 0 ]
 }
 
+# Whether there is an strace that may attach itself to a process, here to a short sleep.
 can_trace() {
     command -v strace >/dev/null || return 1
     sleep 0.3 &
@@ -107,6 +115,7 @@ has_no_program() {
     [ -z "$(program_of_check)" ]
 }
 
+# Prints the process of the keeper of an installed editor.
 keeper_of_check() {
     pgrep -f "$installed/.*bidi_keep$" | head -n 1
 }
@@ -122,7 +131,8 @@ cut_off_save() { # CALLS
     kill_editor first
 }
 
-# Checks the next start's message about an interrupted save, and that FILE is complete.
+# Checks the next start's message about an interrupted save, and that FILE is complete. WORDS is how often it says that the text
+# is put back, TEXT what FILE then has: `ab` if the save had not begun to write FILE.
 check_cut_off() { # CALLS WORDS TEXT
     cut_off_save "$1"
     test -e "$(session_of_check)/mark"
@@ -186,6 +196,7 @@ check_cut_off_elsewhere() {
 # While an editor saves, another start sees a part of FILE.
 check_save_that_goes_on() {
     open_linked
+    # the write to FILE, which is empty by then, takes eight seconds
     inject write,pwrite64,writev delay_enter=8000000:when=1
     terminal send-keys -t first C-s
     wait_for 30 is_empty note
@@ -226,6 +237,7 @@ check_failed_save() {
     inject write,pwrite64,writev error=ENOSPC:when=1
     terminal send-keys -t first C-s
     expect_in first 'in place, no room in the middle' 'save failed'
+    # only the first call fails
     terminal send-keys -t first y C-s
     expect_in first 'in place, the next save' 'saved'
     same 'in place, the next save: FILE' "$(cat note note.link | tr '\n' ' ')" 'xyab xyab '

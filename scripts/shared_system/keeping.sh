@@ -2,6 +2,7 @@
 # shellcheck disable=SC2034,SC2154 # variables shared with other parts
 # The files kept of sessions, their places, and the list of sessions.
 
+# --recover alone lists sessions: with time, FILE, number of keys and size, and whether one is open or was dropped.
 check_list() {
     leave_session note
     as_user "$host" --recover >"$folder/output" 2>&1 </dev/null
@@ -20,6 +21,7 @@ check_list() {
     rm -rf "$folder/state" note
 }
 
+# With -n nothing is kept.
 check_no_session() {
     rm -rf "$folder/state"
     open_editor first '' -n note
@@ -63,14 +65,14 @@ check_memory() {
     rmdir "$folder/memory"
 }
 
-# A FILE in a folder for temporary files, with a permanent state folder.
+# A FILE in a folder for temporary files, with a permanent state folder: its session is in a folder for temporary files too.
 check_passing_file() {
     if [ "$(id -u)" != 0 ] || ! lasting=$(mktemp -d /var/lib/bidi-edit-check.XXXXXX 2>/dev/null); then
         skip 'keeping, of a temporary FILE' 'no folder that lasts can be made'
         return
     fi
     chown "$user" "$lasting"
-    state=$XDG_STATE_HOME
+    usual_state_home=$XDG_STATE_HOME
     export XDG_STATE_HOME="$lasting"
     open_editor first '' note
     wait_for 60 shows_in first '- 1:1'
@@ -83,7 +85,7 @@ check_passing_file() {
     (cd /tmp && rmdir "bidi_edit.$user") 2>/dev/null
     close_editors first
     rm -rf "$lasting" note
-    export XDG_STATE_HOME="$state"
+    export XDG_STATE_HOME="$usual_state_home"
 }
 
 # Has strace record which files the editor puts on the disk.
@@ -95,6 +97,7 @@ check_syncs() {
     rm -rf "$folder/state"
     open_editor first "strace -f -qq -y -A -o '$folder/synced' -e trace=fsync,fdatasync" note
     wait_for 60 shows_in first '- 1:1'
+    # the folder of sessions, and last the session's `path`
     wait_for 30 grep -q bidi_edit "$folder/synced"
     wait_for 30 grep -q '/path>' "$folder/synced"
     report 'keeping, on the disk before the first key' $? "$(cat "$folder/synced")"
@@ -105,6 +108,7 @@ check_syncs() {
     wait_for 20 grep -q '/journal>' "$folder/synced"
     report 'keeping, on the disk when typing pauses' $? 'the journal is not put there'
     : >"$folder/synced"
+    # longer than the pause after which the journal is put there
     sleep 2
     same 'keeping, nothing is put there twice' "$(cat "$folder/synced")" ''
     close_editors first

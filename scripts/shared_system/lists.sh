@@ -2,7 +2,7 @@
 # shellcheck disable=SC2034,SC2154 # variables shared with other parts
 # Access lists: after a save the same users can read and write FILE as before.
 
-# A user in the group of the editor's user, and a user named only in lists.
+# A user in the group of the editor's user, and a user named only in lists: numbers that no user of the system should have.
 member=61011
 listed=61012
 
@@ -22,13 +22,15 @@ rights_of_others() { # FILE
     done
 }
 
+# Prints a file's access list, owner, group and permissions, and the rights of the others.
 rights_of() { # FILE
     getfacl -cnp "$1" | tr '\n' ' '
     stat -c '%u:%g %a' "$1"
     rights_of_others "$1"
 }
 
-# Types a letter into a file, with the options given, saves and ends.
+# Types a letter into a file, with the options given, saves and ends. The terminal `first` stays open, with what is told at the
+# end.
 save_a_letter() { # FILE WORD..
     name=$1
     shift
@@ -40,8 +42,9 @@ save_a_letter() { # FILE WORD..
     wait_for 60 shows_in first status
 }
 
-# FILE has a list, or its folder passes one on: a folder `common` of the user's.
-check_listed_file() { # NAME LIST FOLDER'S LIST REASON
+# FILE has a list, or its folder passes one on: a folder `common` of the user's. The lists are words of setfacl, empty for none.
+# FILE must keep its inode.
+check_listed_file() { # NAME LIST FOLDER'S-LIST REASON
     as_user mkdir -p common
     chmod 755 common
     printf 'ab\n' | as_user tee common/note >/dev/null

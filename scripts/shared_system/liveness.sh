@@ -3,6 +3,7 @@
 # Whether a session is live, and who may take it: a live one is neither recovered nor discarded, and only one of two starts gets
 # it.
 
+# In a process namespace of its own the first editor's numbers say nothing to the second; the lock does.
 check_other_namespace() {
     if ! unshare -p -f --mount-proc true 2>/dev/null; then
         skip 'liveness, another namespace' 'no process namespace can be made'
@@ -25,6 +26,7 @@ check_other_namespace() {
     rm -f note
 }
 
+# The session's file `process` names another machine, where locks and processes cannot be seen.
 check_other_host() {
     leave_session note
     session=$(session_of_check)
@@ -41,8 +43,8 @@ check_other_host() {
     close_editors second
 }
 
-# Both starts ask before either gets an answer.
-check_two_answers() { # SECOND ANSWER
+# Both starts ask before either gets an answer. ANSWER is the second's.
+check_two_answers() { # ANSWER
     leave_session note
     open_editor first '' note
     open_editor second '' note
@@ -55,6 +57,7 @@ check_two_answers() { # SECOND ANSWER
     expect_in second "liveness, the second, whose answer is $1, sees it live" 'note is open in another window of yours'
     terminal send-keys -t first y
     wait_for 30 shows_in first '* 1:3'
+    # after the bytes of sizes and notices, which end in t and ~
     same "liveness, both keys of the first are kept ($1)" "$(sed -e 's/.*[t~]//' "$(session_of_check)/journal")" y
     close_editors first second
 }
@@ -69,12 +72,14 @@ check_unreaped() {
     terminal send-keys -t first x
     wait_for 60 shows_in first '* 1:2'
     kill -s KILL "$(editor_process)"
+    # its watcher and keeper end
     sleep 1
     open_editor second '' note
     expect_in second 'liveness, a dead host that nobody reaped' 'an unfinished session of'
     close_editors first second
 }
 
+# FILE changes between the question and its answer: the text is recovered beside it.
 check_changed_meanwhile() {
     leave_session note
     open_editor second '' note

@@ -2,7 +2,8 @@
 # shellcheck disable=SC2016,SC2034,SC2154 # code for another shell; variables shared with other parts
 # Names of files in messages and titles: quoted for a shell, without bytes that a terminal obeys or that hide the name.
 
-# Lists bytes that no terminal should get in a name: a word for each, and the bytes in the notation of printf and a shell.
+# Lists bytes that no terminal should get in a name: a word for each, and the bytes in the notation of printf and a shell. Those
+# whose word begins with lone, cut, long, surrogate or past are not UTF-8.
 hidden_bytes() {
     cat <<'END'
 escape \033[31m
@@ -31,20 +32,22 @@ all_hidden() {
     hidden_bytes | sed 's/.* //' | paste -s -d ''
 }
 
-# Sets `name` to the name whose quoted form is $'TOLD'.
+# Sets `name` to the name whose quoted form is $'TOLD'. The x keeps a line end at its end.
 name_of_told() { # TOLD
     # shellcheck disable=SC2059 # the name has escapes
     name=$(printf "$1" && echo x)
     name=${name%x}
 }
 
+# Whether a file is UTF-8 without the characters that launcher/names.sh calls hidden; only the line end is let through.
 is_harmless() { # FILE
     iconv -f UTF-8 -t UTF-8 <"$1" >"$folder/letters" 2>/dev/null && perl -CSD -ne '
         exit 1 if /[\x00-\x09\x0b-\x1f\x7f-\x9f\x{ad}\x{61c}\x{200b}\x{200e}\x{200f}\x{2028}-\x{202e}\x{2060}-\x{206f}\x{feff}\x{e0000}-\x{e0fff}]/
     ' "$folder/letters"
 }
 
-# Checks the message without a terminal, in `told`: it has the name quoted for a shell, and no other hidden byte.
+# Checks the message without a terminal, in the file `told`: it has the text TOLD, mostly the name quoted for a shell, and no
+# hidden byte.
 tells() { # CHECK TOLD WORD..
     checked=$1 told_as=$2
     shift 2
@@ -62,7 +65,7 @@ tells_in_terminal() { # CHECK TOLD FILE
     has "names, $1: the name" "$(cat "$folder/told")" "$2"
 }
 
-# Prints the message about a FILE: the cause, but of a name that is not UTF-8 only that.
+# Prints the message about a FILE, by `word` of hidden_bytes: the cause, but of a name that is not UTF-8 only that.
 cause_of() { # TOLD CAUSE
     case $word in
     lone-* | cut-* | long-* | surrogate | past-*) printf '%s' "$1 has a name that is not UTF-8: mv gives it another" ;;
@@ -119,7 +122,7 @@ check_printing_messages() { # WORD TOLD
     as_user rm -f "$name"
 }
 
-# Runs the editor itself in a folder with that name, without its tables.
+# Runs the editor itself in a folder with that name, without its tables. Those of Debian would be taken in their place.
 check_own_tables() { # TOLD
     [ ! -r /usr/share/unicode/BidiBrackets.txt ] || {
         skip 'names, its own tables' "Debian's are there"
@@ -139,6 +142,7 @@ check_own_tables() { # TOLD
 check_building_names() { # TOLD
     name_of_told "$1"
     mkdir "$folder/$name"
+    # the check, the message, and the repository, with colons between
     for each in "a folder that is not there:\$'$folder/$1/none' is no folder:$folder/$name/none" \
         "no crates:\$'$folder/$1/crates.txt' names no crate x:$folder/$name"; do
         : >"$folder/$name/crates.txt"
@@ -152,7 +156,7 @@ check_building_names() { # TOLD
     rm -rf "${folder:?}/$name"
 }
 
-# Checks the title, and the message about a fault of the program's about the name.
+# Checks the title, and the message about a fault that the program tells (f unreadable), which names FILE.
 check_title_and_fault() { # TOLD
     name_of_told "$1"
     program=$folder/recorder/lib/bidi_edit/bidi_edit
@@ -208,6 +212,7 @@ check_program_names() { # TOLD
 
 check_names() {
     asked names || return 0
+    # is_harmless needs it
     command -v perl >/dev/null || {
         skip names 'there is no perl'
         return

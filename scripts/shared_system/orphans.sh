@@ -1,6 +1,6 @@
 # shellcheck shell=sh
 # shellcheck disable=SC2034,SC2154 # variables shared with other parts
-# The remains of a killed host, and a host whose terminal is blocked.
+# The remains of a killed host, and a host whose terminal is blocked. Uses signals.sh.
 
 has_settings_before() {
     [ "$(stty -g -F "$tty")" = "$(cat "$folder/before")" ]
@@ -28,7 +28,8 @@ check_killed_host() {
     terminal kill-session -t person
 }
 
-# Stops tmux, and fills the terminal until it blocks.
+# Stops tmux, and fills the terminal until it blocks. After a signal the host waits three seconds for the program's end and one
+# for the terminal, so it ends all the same.
 check_full_terminal() { # SIGNAL
     open_recorder
     server=$(terminal display-message -p '#{pid}')

@@ -3,7 +3,9 @@
 # Installation over existing files, under any umask and while others start the editor, and packaging without the tools of its
 # checks.
 
-# Makes a repository of the user's own, with stand-ins for the built host and programs. The host tells a version.
+# Makes a repository `source` of the user's own, with stand-ins for the built host and programs, for installations in `prefix`.
+# The host tells a version. The comment GLIBC is for make-deb.sh, which looks for the C library's version, the stamp for its
+# `is_proved`.
 make_source() {
     source=$folder/source prefix=$folder/prefix
     mkdir -p "$source/host/out" "$source/crates/bx_launch/src"
@@ -34,6 +36,7 @@ tree_of() { # FOLDER
     (cd "$1" && find . -mindepth 1 -type f -exec sha256sum {} + && find . -mindepth 1 -printf '%y %m %p %l\n') | sort
 }
 
+# Whatever the umask and the sources' permissions are.
 check_modes_there() {
     as_user chmod 600 "$source/data/BidiBrackets.txt" "$source/docs/bidi_edit.1"
     as_user chmod 777 "$source/data/BidiMirroring.txt"
@@ -88,6 +91,7 @@ check_starts_meanwhile() {
     done
     wait "$job"
     same 'packages, starts while it is installed: refused' "$refused" 0
+    # else too few fell into an installation
     test "$starts" -gt 5
     report 'packages, starts while it is installed: some' $? "$starts"
     rm -rf "$prefix"
@@ -119,6 +123,7 @@ check_removal() {
     rm -rf "$prefix"
 }
 
+# A newer version takes away what it no longer has, and takes over an installation that has no record.
 check_newer_version() {
     installs "$prefix"
     same 'packages, the printing program' "$(ls "$prefix/lib/bidi_edit/bidi_print")" "$prefix/lib/bidi_edit/bidi_print"

@@ -4,13 +4,14 @@
 
 # ---- folders from the environment
 
-# Makes folders for a check, before its own setup.
+# Prints a shell line for `setup` with folders of the round for home and state.
 own_folders() {
     echo "export HOME='$folder/home' XDG_STATE_HOME='$folder/state'"
 }
 
 # A session with this TMPDIR goes on as others do: nothing is said, nothing is made there or in /tmp, and what is typed is kept.
 passes_over() { # NAME TMPDIR
+    # the recorder leaves a journal `x` of a FILE of this name
     setup="$(own_folders) TMPDIR='$2'"
     before=$(things_in /tmp "$2")
     start 8 60 "$recorder" kept
@@ -47,6 +48,7 @@ check_temporary() {
     fi
 }
 
+# Mounts a disk in memory with these options of tmpfs at `small` in the round's folder; else the check is skipped.
 mount_small() { # OPTIONS
     mkdir "$folder/small"
     if [ "$(id -u)" = 0 ] && mount -t tmpfs -o "$1" tmpfs "$folder/small" 2>/dev/null; then
@@ -80,8 +82,9 @@ check_state_home() {
 
 # ---- the first start
 
-# Makes a repository of three programs of a few lines, with a host that does nothing, and a command in place of rt: it runs until
-# there is no file `slow`, and fails if there is a file `bad`.
+# Makes a repository `clone` of three programs of a few lines, with a host that does nothing, and in a folder `kit` a command in
+# place of rt: it runs until there is no file `slow` beside it, fails if there is a file `bad`, and writes its TMPDIR to
+# `temporary`.
 make_clone() {
     clone=$folder/clone kit=$folder/kit
     mkdir -p "$clone/host/out" "$kit"
@@ -123,7 +126,8 @@ last_said() {
     tail -n 1 "$folder/said"
 }
 
-# Another user has put a file at the log's place.
+# In TMPDIR stands a link with the name of a log, which leads to a file of the user. Nothing is written through it: the log is in
+# the repository, until the next start.
 check_log() {
     make_clone
     echo mine >"$folder/victim"
@@ -167,6 +171,7 @@ check_lock() {
     rm -rf "$clone" "$kit"
 }
 
+# Whether a process namespace can be made. Sets `unshared`, the words that do it: as root, else in a user namespace.
 can_unshare() {
     for unshared in 'unshare --pid --fork --mount-proc' 'unshare --map-root-user --pid --fork --mount-proc'; do
         # shellcheck disable=SC2086 # split into words
@@ -189,6 +194,7 @@ check_first_start_elsewhere() {
 check_stale_number() {
     make_clone
     as_user mkdir -p "$clone/out/proving"
+    # this process has written its number
     # shellcheck disable=SC2016
     as_user sh -c 'for file; do echo $$ >"$file"; done; exec sleep 60' sh "$clone/out/proving/process" "$clone/out/proving.lock" 2>/dev/null &
     job=$!

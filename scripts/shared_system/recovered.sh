@@ -2,8 +2,9 @@
 # shellcheck disable=SC2034,SC2154 # variables shared with other parts
 # Sessions that cannot be replayed, and sessions recovered beside FILE.
 
-# Makes the opened text invalid, so that no replay starts.
-spoil_session() {
+# Makes the opened text of a session invalid, so that no replay starts, and gives this answer to the question what to do then.
+# Sets `session`.
+spoil_session() { # ANSWER
     leave_session note
     session=$(session_of_check)
     printf 'a\377\n' | as_user tee "$session/text" >/dev/null
@@ -15,6 +16,7 @@ spoil_session() {
     say_in first "$1"
 }
 
+# The answers open and keep; any other, as drop, is asked again, since the keys would be lost.
 check_unreplayed() {
     spoil_session open
     expect_in first 'recovered, open: FILE is opened' '- 1:1'
@@ -37,6 +39,7 @@ check_unreplayed() {
     close_editors first
 }
 
+# Whether two rows have this text.
 shows_twice() { # TEXT
     [ "$(terminal capture-pane -p -J -t first | grep -cF -e "$1")" = 2 ]
 }
@@ -100,7 +103,7 @@ check_mode() {
     rm -f other
 }
 
-# A later start removes the unfinished sessions of killed starts, and keeps recent ones.
+# A later start removes the unfinished sessions of killed starts, and keeps recent ones, which may be of a start that goes on.
 check_swept() {
     rm -rf "$folder/state"
     as_user mkdir -p -m 700 "$folder/state/bidi_edit"

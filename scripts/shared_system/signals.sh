@@ -1,6 +1,6 @@
 # shellcheck shell=sh
 # shellcheck disable=SC2034,SC2154 # variables shared with other parts
-# Simultaneous signals, such as a resize and the end of the terminal, and a blocked terminal.
+# Simultaneous signals, such as a resize and the end of the terminal. A run that goes on after them is `lost`, and is killed.
 
 host_of_person() {
     process_of ".*bin/bidi-edit"
@@ -20,6 +20,7 @@ kill_what_stays() {
     rm -rf "$folder"/private/*
 }
 
+# Starts a session of the recorder. Sets `process`, its host, and `group`, the job's process group.
 open_recorder() {
     start 24 80 "$recorder" f
     wait_for 50 test -e "$folder/record"
@@ -27,7 +28,8 @@ open_recorder() {
     group=$(ps -o pgid= -p "$process" | tr -d ' ')
 }
 
-# Ends RUNS sessions by a signal that arrives with others at the whole job, as terminals and shells send them.
+# Ends RUNS sessions by a signal that arrives with others at the whole job, as terminals and shells send them. Which arrives first
+# is chance, so there are several runs.
 end_with_others() { # NAME RUNS SIGNAL OTHER..
     name=$1 runs=$2 signal=$3 lost=0
     shift 3
@@ -42,6 +44,7 @@ end_with_others() { # NAME RUNS SIGNAL OTHER..
     same "$name, of $runs runs those that go on" "$lost" 0
 }
 
+# Closes the terminal right after a change of its size.
 close_with_size() { # RUNS
     lost=0
     for run in $(seq "$1"); do
@@ -57,6 +60,7 @@ close_with_size() { # RUNS
 check_burst() {
     open_recorder
     for side in 31 32 33 34 35 36 37 38 39 40; do resize "$side" "1$side"; done
+    # the last one is told before the end
     sleep 0.5
     type_keys C-q
     wait_for 30 has_ended
@@ -64,9 +68,11 @@ check_burst() {
     terminal kill-session -t person
 }
 
+# Each size differs from the one before; the last one is told, and all ends as ever.
 check_many_sizes() { # COUNT
     open_recorder
     for side in $(seq "$1"); do resize $((20 + side % 9)) $((70 + side % 31)); done
+    # as above
     sleep 0.5
     type_keys C-q
     wait_for 50 has_ended
@@ -94,6 +100,7 @@ end_young_program() { # RUNS
     same "signals, a young program, of $1 runs those that go on" "$lost" 0
 }
 
+# Prints the process of the recorder's program.
 program_process() {
     pgrep -f "$folder/recorder/.*/bidi_edit/bidi_edit " | head -n 1
 }

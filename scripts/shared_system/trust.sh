@@ -2,7 +2,8 @@
 # shellcheck disable=SC2034,SC2154 # variables shared with other parts
 # Folders and sessions that another user made or may write: they are not used, and nothing is written through a link.
 
-# Creates a session of `note` with one recorded key, laid out as the editor does. Its files link to a file of the user.
+# Creates a session of `note` with one recorded key, `planted`, laid out as the editor does. A file in it links to a file of the
+# user, `victim`.
 plant_session() { # FOLDER
     mkdir -p "$1/bidi_edit/20200101000000.AAAAAA"
     planted=$1/bidi_edit/20200101000000.AAAAAA
@@ -21,9 +22,10 @@ victim_stays() { # CHECK
     same "$1: a file of the user's stays" "$(cat "$folder/victim")" 'of the user'
 }
 
+# XDG_STATE_HOME belongs to another user, with a session of FILE in it. FILE is opened without a question, as in the next checks.
 check_state_of_stranger() {
     has_stranger 'trust, a state folder of another user' || return 0
-    state=$XDG_STATE_HOME
+    usual_state_home=$XDG_STATE_HOME
     export XDG_STATE_HOME="$folder/theirs"
     plant_session "$XDG_STATE_HOME"
     chown -hR "$stranger" "$XDG_STATE_HOME"
@@ -39,10 +41,11 @@ check_state_of_stranger() {
     open_editor first '' --recover note
     expect_in first 'trust, a state folder of another user: recovery' "$told_then"
     victim_stays 'trust, a state folder of another user: recovery'
+    # the folders theirs, bidi_edit and the session, and its six files
     same 'trust, a state folder of another user: nothing is made there' "$(find "$folder/theirs" | wc -l)" 9
     close_editors first
     rm -rf "$folder/theirs"
-    export XDG_STATE_HOME="$state"
+    export XDG_STATE_HOME="$usual_state_home"
 }
 
 # A folder of the user's that others may write.
@@ -65,7 +68,6 @@ check_state_below_stranger() {
     rm -rf "$folder/state"
     mkdir "$folder/state"
     chown "$stranger" "$folder/state"
-    as_user true
     mkdir -m 700 "$folder/state/bidi_edit"
     chown "$user" "$folder/state/bidi_edit"
     printf 'ab\n' | as_user tee note >/dev/null
@@ -78,7 +80,7 @@ check_state_below_stranger() {
     rm -rf "$folder/state"
 }
 
-# A session of another user, and one with a link in it, in a folder that belongs to the user alone by now.
+# A session of this owner, with a link in it, in a folder that belongs to the user alone by now.
 check_planted_session() { # CHECK OWNER
     rm -rf "$folder/state"
     plant_session "$folder/state"

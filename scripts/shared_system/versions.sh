@@ -2,7 +2,8 @@
 # shellcheck disable=SC2034,SC2154 # variables shared with other parts
 # Sessions of another version of the editor or its tables: recovered from the snapshot, or with a warning.
 
-# Kills the program, so that the keeper leaves the session, and replaces its versions.
+# Kills the program, so that the keeper leaves the session with its text, `snapshot`, and replaces its `versions` by those of
+# another editor. Sets `session`, its folder.
 leave_other_version() {
     rm -rf "$folder/state" note*
     printf 'ab\n' | as_user tee note >/dev/null
@@ -17,6 +18,7 @@ leave_other_version() {
     echo 'bidi-edit of another time' | as_user tee "$session/versions" >/dev/null
 }
 
+# The text is recovered without its keys, as one that is not saved.
 check_snapshot() {
     leave_other_version
     as_user "$host" --recover --to other note >/dev/null
@@ -59,6 +61,7 @@ check_untouched() {
     expect_in first 'versions, without a key, at the end: it goes on' 'xyab'
 }
 
+# Without that text only the keys are left, which may make another one.
 check_no_snapshot() {
     leave_other_version
     rm -f "$session/snapshot"

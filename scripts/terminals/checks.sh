@@ -1,6 +1,7 @@
 # shellcheck shell=sh
 # shellcheck disable=SC2154 # variables shared with other parts
-# The checks in one terminal.
+# The checks in one terminal. Uses window.sh and kinds.sh. A picture is named KIND-WHAT. Half a second after the last keys, which
+# end in a save, lets the editor take them before it is left.
 
 skip() { # NAME WHY
     skipped=$((skipped + 1))
@@ -22,6 +23,7 @@ write_texts() {
     done
 }
 
+# All checks of one kind of terminal.
 check_terminal() { # KIND
     if [ "$1" = variables ]; then
         check_variables
@@ -59,7 +61,7 @@ check_terminal() { # KIND
     close_terminal
 }
 
-# Starts the editor, and waits for its picture.
+# Starts the editor with this FILE, or words and a FILE, and keeps its first picture under this name.
 open_editor() { # FILE PICTURE
     give "'$top/bidi-edit' $1 2>../errors"
     wait_for 200 is_raw
@@ -68,16 +70,19 @@ open_editor() { # FILE PICTURE
     take_picture "$2"
 }
 
+# Leaves the editor, and waits for the shell.
 leave_editor() { # NAME
     press ctrl+q
     wait_for 200 has_obeyed
     report "$1, its end" $? 'the editor goes on'
 }
 
+# Reports whether two pictures are equal.
 same_picture() { # NAME PICTURE PICTURE
     same "$1" "$(different "$2" "$3") different pixels" '0 different pixels'
 }
 
+# Reports whether two pictures differ.
 other_picture() { # NAME PICTURE PICTURE
     [ "$(different "$2" "$3")" != 0 ]
     report "$1" $? 'no pixel is different'
@@ -97,6 +102,7 @@ check_rows() { # KIND
     take_picture "$1-after"
     order 'cat text'
     take_picture "$1-again"
+    # the editor's status row, and its cursor
     last="printf '\033[10;1H- 1:1\033[1;1H'"
     order "clear; cat $right; $last"
     take_picture "$1-right"
@@ -119,6 +125,7 @@ check_joined() { # KIND
     for rows in joined apart; do
         wanted=$rows
         keeps_joiners "$1" || wanted=$rows-without-joiner
+        # the cursor is in the last column, where the first row, from right to left, begins
         order "clear; printf '$(reordering_off "$1")'; cat $wanted; printf '\033[10;1H- 1:1\033[1;60H'"
         take_picture "$1-$rows-right"
         count=$(different "$1-$rows" "$1-$rows-right")
@@ -133,7 +140,7 @@ check_joined() { # KIND
 # it onto the next row, in the place of a letter that the editor does not paint, since it has not changed; Ctrl-L brings the letter
 # back.
 check_mark() { # KIND
-    # 59 columns, and a dot below the last letter
+    # 59 columns, and a dot below the last letter: another letter before them fills the row
     printf '%58se\314\243\nnext\n' '' | tr ' ' a >"$room/files/typed"
     open_editor typed "$1-mark"
     press X
@@ -177,6 +184,7 @@ check_text() { # KIND
     same "$1, the screen's text" "$(sed -e 's/[[:space:]]*$//' -e 2q "$room/read")" "$(cat "$room/files/rows")"
 }
 
+# End, Home, Delete and Right, each followed by what shows it.
 check_keys() { # KIND
     cp "$room/opened" "$room/files/typed"
     open_editor typed "$1-keys"
@@ -186,6 +194,7 @@ check_keys() { # KIND
     same "$1, keys" "$(cat "$room/files/typed")" bXcde
 }
 
+# The checks that type into a file and look at what is saved.
 check_changes() { # KIND
     check_runs "$1"
     check_questions "$1"
@@ -220,8 +229,8 @@ check_questions() { # KIND
     other_picture "$1, what is told" "$1-questions-before" "$1-questions-told"
 }
 
-# A match that Enter replaces after F4, and all behind it, which Control and the backslash replace and Control and Z takes back, each
-# followed by what shows it.
+# A match that Enter replaces after F4, and all after it, which Control and the backslash replace and Control and Z takes back,
+# each followed by what shows it.
 check_replacing() { # KIND
     printf 'one two two two\n' >"$room/files/typed"
     open_editor typed "$1-replacing"
@@ -325,6 +334,7 @@ check_control_keys() { # KIND
     same "$1, keys with Control" "$(paste -s -d '|' "$room/files/typed")" 'ZcdaXb |YZcdaXb '
 }
 
+# The editor's title is there meanwhile only where the terminal gives the old one back; the shell's is there afterwards.
 check_title() { # KIND
     order "printf '\033]2;before\007'"
     wait_for 50 has_title '*before*' || report "$1, a title of before" 1 "$(title)"
@@ -356,6 +366,7 @@ check_note() { # KIND LINE FILE
     same "$1, set, no note" "$(cat "$room/errors")" ''
 }
 
+# In tmux the shell of window.sh runs once more, in a window of the terminal's size.
 check_in_tmux() { # KIND
     if ! command -v tmux >/dev/null; then
         skip "$1" 'there is no tmux'

@@ -1,6 +1,7 @@
 # shellcheck shell=sh
 # shellcheck disable=SC2154 # variables shared with other parts
-# How each terminal is started, with 60 columns and 10 rows in one font, and what it is known for.
+# How each terminal is started, with 60 columns and 10 rows in one font, and what it is known for. `start_KIND` becomes the
+# terminal, with the shell of window.sh; `room` is its folder.
 
 start_xterm() {
     exec xterm -fa FreeMono -fs 12 -geometry 60x10+0+0 -xrm "XTerm*printerCommand: cat >'$room/read'" -xrm 'XTerm*printAttributes: 0' \
@@ -44,6 +45,7 @@ exec_kitty() {
 start_vte_tmux() { start_vte; }
 start_konsole_tmux() { start_konsole; }
 
+# Prints the name of the terminal's program.
 program_of() { # KIND
     case $1 in
     vte*) echo xfce4-terminal ;;

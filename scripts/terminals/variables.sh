@@ -2,13 +2,15 @@
 # shellcheck disable=SC2154 # variables shared with other parts
 # What the host tells a terminal that it knows by its variables, and that it tells no other one, without a window.
 
-# Prints the sequences for the operating system (OSC) that the host writes under these variables, without the title.
+# Prints the sequences for the operating system (OSC) that the host writes under these variables, without the title. Ctrl-Q is
+# typed until the editor has ended.
 sequences() { # NAME=VALUE..
     while sleep 0.3; do printf '\021'; done |
         env SHELL=/bin/sh "$@" script -q -c "cd '$room/files' && '$top/bidi-edit' text" "$room/bytes" >/dev/null 2>&1
     tr '\033\007' '[\n*]' <"$room/bytes" | sed -n -e '/^]2;/d' -e 's/^]//p' | paste -s -d ' '
 }
 
+# Checks those sequences.
 told() { # NAME SEQUENCES NAME=VALUE..
     name="variables, $1" wanted=$2
     shift 2

@@ -1,6 +1,11 @@
 # shellcheck shell=sh
 # shellcheck disable=SC2154 # variables shared with other parts
 # A display without a screen, and the one terminal on it: its shell obeys a pipe, and its window has pictures, keys and a name.
+#
+# For check-terminals.sh, which sets `room`, its own folder, and `pictures`, the folder of pictures. Here are set `server`, `bus`
+# and `terminal`, the processes of display, bus and terminal, and `window`, the number of the terminal's window. In `room` are
+# `files`, where the shell is, `orders`, the pipe for its lines, `ready`, which is there when it has obeyed the last one, `tty`,
+# the name of its terminal, and `errors`, what the editor writes on standard error. Waits are in tenths of a second.
 
 # Opens a free display with a bus of its own, and hides the terminal around the check.
 open_display() {
@@ -43,10 +48,12 @@ open_terminal() { # KIND
     terminal=$!
     wait_for 600 test -e "$room/ready" || return 1
     wait_for 200 has_window || return 1
+    # the pointer is in the window too, as some wish for keys; half a second for the focus
     xdotool mousemove 100 60 windowfocus "$window"
     sleep 0.5
 }
 
+# Whether there is a window. Sets `window`.
 has_window() {
     window=$(xdotool search --onlyvisible --maxdepth 1 --class . 2>/dev/null | tail -n 1)
     [ -n "$window" ]
@@ -72,6 +79,7 @@ has_obeyed() {
     [ -e "$room/ready" ]
 }
 
+# Gives the shell a line, and waits for its end.
 order() { # LINE
     give "$1"
     wait_for 200 has_obeyed
@@ -84,7 +92,7 @@ is_raw() {
 
 # ---- the window
 
-# Keeps the picture of the window under a name, once three in a row are the same.
+# Keeps the picture of the window under a name, once three in a row are the same, or after nine seconds.
 take_picture() { # NAME
     import -silent -window root "$pictures/$1.png"
     quiet=0 tries=30
@@ -103,7 +111,7 @@ different() { # PICTURE PICTURE
 }
 
 # Whether the left end of the window's last row, some way off the border, has more than one colour, as it has once the editor has
-# painted its status row.
+# painted its status row. A twelfth of the height is within the last of ten rows.
 has_status() {
     # sets X, Y, WIDTH and HEIGHT
     eval "$(xdotool getwindowgeometry --shell "$window")"
@@ -111,6 +119,7 @@ has_status() {
     [ "$(import -silent -window root png:- | convert png:- -crop "$part" -format %k info:)" -gt 1 ]
 }
 
+# Types keys, by their names in X.
 press() { # KEY..
     for key in "$@"; do
         xdotool key --clearmodifiers "$key"
@@ -118,6 +127,7 @@ press() { # KEY..
     done
 }
 
+# Prints the window's title.
 title() {
     xdotool getwindowname "$window"
 }
