@@ -124,7 +124,12 @@ impl Begun {
                 return Ok(());
             }
         }
-        self.look_for_room(around, host, edited.path(), sessions.path())
+        self.look_for_room(
+            around,
+            host,
+            edited.destination.path.as_str(),
+            sessions.path(),
+        )
     }
 
     /// Has the session wait where its folder has no room for FILE's text.

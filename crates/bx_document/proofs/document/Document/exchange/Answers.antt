@@ -1,4 +1,4 @@
-use Rattle.std.proofs.Common.{rules, ◌≡◌, ◌<◌, ◌∙◌, length, true, ap, arith, subst, sym, refl}
+use Rattle.std.proofs.Common.{rules, ◌≡◌, ◌<◌, ◌≤◌, ◌∙◌, length, true, ap, arith, subst, sym, refl}
 use Rattle.std.proofs.lemmas.Bool.{eqb-false}
 use Rattle.std.proofs.lemmas.Bool.Decides.{nat_tests}
 use Rattle.bx_text.specs.Edits.{fits, splice}
@@ -47,3 +47,16 @@ returns-clause-ok g c =
           c.in_ok-between.ensures.place place,
       place,
     )
+
+pub returns-clause-text_place : goal.returns-clause-text_place
+returns-clause-text_place g c =
+    let own = c.self-2.inside.own in
+    let start = c.args.start in
+    let new = c.args.new.now in
+    let after = c.in_ok-after-2.after in
+    let same = c.self-2.view_is ∙ c.place_after.ensures.same in
+    let one = subst (λ s. IsTextPlace (g.D.BidiData.data s.tables) (splice s.document.content.text start c.args.stop new) after)
+    (sym same) c.in_ok-after-2.ensures.text_place in
+    let bound = subst (λ s. start ≤ length s.document.content.text) (sym (same ∙ c.place_after_removal.ensures.same)) c.requires.range.start_bounds.0 in
+    let is = subst (λ bs. IsTextPlace (g.D.BidiData.data own.tables) bs after) (sym (exchanged_text own.content.text start c.args.stop new bound)) one in
+    subst (λ o. IsTextPlace (g.D.BidiData.data o.tables) o.content.text after) (sym c.in_ok-exchange.ensures.ok) is
