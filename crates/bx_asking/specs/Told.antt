@@ -1,4 +1,5 @@
 -- What is told of a unit in the status row: its first four characters with their classes, and its level.
+-- `says` is Unicode's data.
 use Rattle.std.specs.Prelude.{ℕ, ◌+◌, ◌/◌, ◌%◌, nat_lt, List, [], ◌∷◌, ◌++◌, length, take, codes, decimal, Option, Some, None, if◌then◌else◌}
 use Rattle.std.specs.List.{flat_map}
 use Rattle.bx_ucd.specs.Data.{Data}

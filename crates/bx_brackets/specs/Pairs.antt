@@ -1,4 +1,4 @@
--- Bracket pairs, BD14 to BD16, over the characters and types of one sequence.
+-- Bracket pairs, BD14 to BD16, over the characters and types of one sequence. `says` is Unicode's data.
 use Rattle.std.specs.Prelude.{◌==◌, ℕ, ◌+◌, nat_lt, nat_le, ◌&&◌, not, Bool, true, false, List, [], ◌∷◌, Option, Some, None, length, filter, find}
 use Rattle.std.specs.Prelude.{if◌then◌else◌}
 use Rattle.std.specs.List.{list_any}

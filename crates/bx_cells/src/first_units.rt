@@ -11,7 +11,7 @@ use crate::unit::{Unit, UnitRange};
 use bx_ucd::BidiData;
 use std::alloc::{AllocError, Global};
 
-/// The largest initial capacity, in units; a longer list reallocates while the body is read.
+/// The largest initial capacity, in units, a chosen number; a longer list reallocates while the body is read.
 const FIRST_ROOM: usize = 256;
 
 /// The unit that begins at byte offset `at`: by simple characters if possible, else by the rules on breaks.

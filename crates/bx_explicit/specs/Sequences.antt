@@ -1,4 +1,5 @@
--- Isolating run sequences and the types at their ends, BD13 and X10.
+-- Isolating run sequences and the types at their ends, BD13 and X10. `paragraph` is the paragraph level, `cs` are the classes of the
+-- paragraph's characters and `kept` their results of the explicit rules; `r` and `q` are level runs.
 pub use Rattle.bx_ucd.specs.Class.{direction}
 use Rattle.std.specs.Prelude.{◌==◌, ℕ, ◌+◌, Bool, true, false, List, [], ◌∷◌, ◌++◌, Option, Some, None, take, drop, reverse, max}
 use Rattle.std.specs.List.{list_any}

@@ -1,4 +1,5 @@
 -- The sequences of a paragraph body, in the order in which their chains end while its level runs are met in order.
+-- `paragraph`, `cs` and `kept` are as in `Sequences`; chains are listed the newest first, each with its newest run first.
 use Rattle.std.specs.Prelude.{◌≡◌, ◌<◌, ◌≤◌, ◌+◌, ◌⊎◌, ℕ, Bool, true, false, List, [], ◌∷◌, ◌++◌, Option, Some, None, All, drop, length, reverse}
 use Rattle.bx_ucd.specs.declared.class.Class.{Class}
 use Rattle.bx_explicit.specs.declared.entry.Explicit.{Explicit}

@@ -14,7 +14,7 @@ use smallvec::SmallVec;
 use std::alloc::{AllocError, Global};
 use std::marker::Model;
 
-/// The indexes of a sequence. Up to 8 need no allocation.
+/// The indexes of a sequence. Up to 8, a chosen number, need no allocation.
 type Indexes = SmallVec<usize, 8>;
 
 /// An isolating run sequence.

@@ -30,7 +30,7 @@ pub fn first_from<H: Haystack, D: BidiData>(
     first_match(haystack, &sought, x)
 }
 
-/// The same, where the query, the tables and the reading are one.
+/// `first_from`, with the query, the tables and the reading in one value.
 pub(crate) fn first_match<H: Haystack, D: BidiData>(
     haystack: &H,
     sought: &Sought<'_, D>,

@@ -20,6 +20,7 @@ impl<'t> Haystack for Cut<'t> {
     }
 
     fn piece_at(&self, offset: usize) -> &str {
+        // A character has four bytes at most.
         for len in 1..5 {
             if offset + len <= self.0.len() && self.0.is_char_boundary(offset + len) {
                 return &self.0[offset..offset + len];

@@ -1,4 +1,5 @@
 -- The part of a text that a scan for paragraphs reads, and the rest of a paragraph after it, whose lengths are known.
+-- `says` is Unicode's data.
 use Rattle.std.specs.Prelude.{◌≡◌, ◌≤◌, ℕ, ◌-◌, min, List, drop, IsCharBoundary}
 use Rattle.bx_ucd.specs.Data.{Data}
 use Rattle.bx_index.specs.declared.lengths.Lengths.{Lengths}

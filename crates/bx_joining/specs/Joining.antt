@@ -1,4 +1,5 @@
 -- The forms of a body's letters. Which letters join is decided by the joining types and levels of neighbours, and of what is between them.
+-- `says` is Unicode's data.
 use Rattle.std.specs.Prelude.{ℕ, zero, suc, ◌%◌, ◌==◌, ◌&&◌, ◌||◌, not, nat_lt, Bool, true, false, List, [], ◌∷◌, map, length, drop, Option, Some, None, chars}
 use Rattle.std.specs.List.{list_any, zip}
 use Rattle.bx_ucd.specs.Data.{Data}

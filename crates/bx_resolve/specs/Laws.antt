@@ -1,4 +1,5 @@
 -- Laws of the isolating run sequences of every text, of the levels of a text of class L, and of the directions of all levels.
+-- `says` is Unicode's data.
 use Rattle.std.specs.Prelude.{◌≡◌, ◌<◌, ◌≤◌, ℕ, ◌+◌, ◌%◌, Bool, true, false, List, [], ◌∷◌, ◌++◌, All, Option, Some, None, length, map, replicate}
 use Rattle.std.specs.Prelude.{slice_index_or}
 use Rattle.std.specs.List.{list_any}

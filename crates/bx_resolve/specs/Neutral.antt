@@ -23,7 +23,8 @@ agreed t L L = L
 agreed t R R = R
 agreed t _ _ = t
 
--- N1: a neutral takes the direction of both sides of its run, if they agree
+-- N1: a neutral takes the direction of both sides of its run, if they agree; the types `before` and `after` it are listed from the
+-- nearest on
 abbrev pub n1_at : Class → Class → List Class → Class → List Class → Class
 n1_at sos eos before t after = elim (is_neutral t) [ true ↦ agreed t (side sos before) (side eos after) | false ↦ t ]
 
