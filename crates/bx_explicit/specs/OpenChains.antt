@@ -10,11 +10,12 @@ use Rattle.bx_explicit.specs.declared.runs.Run.{Run}
 use Rattle.bx_explicit.specs.Runs.{run, runs_from}
 use Rattle.bx_explicit.specs.Sequences.{RunSequence, starts_with_initiator, sequence_of}
 
--- the run at index `p`: the first of the runs from there on, or `run 0 0 0` if there is none
+-- the first of some runs, or `run 0 0 0` if there is none
 abbrev pub first_run_of : List Run → Run
 first_run_of [] = run 0 0 0
 first_run_of (r ∷ rs) = r
 
+-- the first of the level runs of the characters from index `p` on; where a run begins at `p`, this run
 abbrev pub run_at : List (Option ExplicitChar) → ℕ → Run
 run_at kept p = first_run_of (runs_from p (drop p kept))
 

@@ -30,10 +30,11 @@ ending paragraph cs kept chains [] = sequences_of paragraph cs kept chains
 ending paragraph cs kept chains (q ∷ rest) = sequences_of paragraph cs kept (over_before cs chains q)
     ++ ending paragraph cs kept (with_run (still_open cs chains q) q) rest
 
--- an index lies within `low..high`, or outside
+-- an index lies within `low..high`
 abbrev pub IsIn : ℕ → ℕ → ℕ → Type 0
 IsIn low high p = (low ≤ p) × (p < high)
 
+-- an index lies outside `low..high`
 abbrev pub IsOut : ℕ → ℕ → ℕ → Type 0
 IsOut low high p = (p < low) ⊎ (high ≤ p)
 

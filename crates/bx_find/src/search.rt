@@ -54,8 +54,8 @@ pub(crate) fn first_match<H: Haystack, D: BidiData>(
     None
 }
 
-/// The byte offset of the first match before `x`. Reads the text from its start to `x`, and on while a match that begins before
-/// `x` may end there.
+/// The byte offset of the first match before `x`. Reads the text from its start to `x`, and beyond while a match that begins before
+/// `x` may go on.
 pub fn first_before<H: Haystack, D: BidiData>(
     haystack: &H,
     tables: &D,

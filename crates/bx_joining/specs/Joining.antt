@@ -35,7 +35,7 @@ abbrev pub neighbour : List Joiner → Option Joiner
 neighbour [] = None
 neighbour (x ∷ xs) = elim (is_transparent x.0) [ true ↦ neighbour xs | false ↦ Some x ]
 
--- the transparent characters nearer than that one
+-- the transparent characters nearer than the one that `neighbour` gives, or all if it gives none
 abbrev pub passed_over : List Joiner → List Joiner
 passed_over [] = []
 passed_over (x ∷ xs) = elim (is_transparent x.0) [ true ↦ x ∷ passed_over xs | false ↦ [] ]

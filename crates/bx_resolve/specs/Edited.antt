@@ -20,9 +20,11 @@ pub record Edit : Type 0 where
   pub inserted : List ℕ
   pub behind : List ℕ
 
+-- the whole text before the edit
 abbrev pub old_text : Edit → List ℕ
 old_text e = e.before ++ (e.removed ++ e.behind)
 
+-- the whole text after the edit
 abbrev pub new_text : Edit → List ℕ
 new_text e = e.before ++ (e.inserted ++ e.behind)
 

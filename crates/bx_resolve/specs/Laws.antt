@@ -65,6 +65,7 @@ level_at says base chars i = slice_index_or (levels_under says base chars) i Non
 abbrev pub TypesKeepDirection : Type 0
 TypesKeepDirection = (says : Data) (base : Base) (chars : List ℕ) (i : ℕ) → HasDirection (type_at says base chars i) (level_at says base chars i)
 
+-- a class that begins an override (UAX #9, X4 and X5)
 abbrev pub is_override : Class → Bool
 is_override LRO = true
 is_override RLO = true

@@ -1,4 +1,4 @@
--- N1, N2, I1 and I2, over the types of a sequence.
+-- N1, N2, I1 and I2, over the types of a sequence. `n1_at`, `n2_at` and `implicit_at` are of one type, `n1`, `n2` and `implicit` of all.
 use Rattle.std.specs.Prelude.{ℕ, ◌+◌, ◌%◌, true, false, List, [], ◌∷◌, map, Option, Some, None}
 use Rattle.std.proofs.Common.{zero, suc}
 use Rattle.bx_ucd.specs.declared.class.Class.{Class}

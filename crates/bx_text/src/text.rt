@@ -146,7 +146,7 @@ impl Text {
         }
     }
 
-    /// Replaces `len` bytes from the offset `start` on by text, as one edit. `before` and `after` are the places before and
+    /// Replaces `len` bytes from the offset `start` on by text, as one edit. `before` and `after` are the cursor's places before and
     /// after it.
     fn replace(
         &mut self,
