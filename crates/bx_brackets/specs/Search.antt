@@ -1,5 +1,5 @@
 -- The search for bracket pairs by a stack of unmatched openers, the last one first, as the code does it. It finds the pairs of `Pairs`.
--- `says` is Unicode's data.
+-- An opener is its index in the sequence and the canonical closer that it waits for. `says` is Unicode's data.
 use Rattle.std.specs.Prelude.{◌≡◌, ℕ, ◌+◌, ◌%◌, ◌==◌, ◌<◌, ◌≤◌, ◌⊎◌, nat_lt, not, find}
 use Rattle.std.specs.Prelude.{Bool, true, false, List, [], ◌∷◌, Option, Some, None, length, slice_set, All}
 use Rattle.std.specs.Prelude.{slice_index_or}
@@ -38,8 +38,7 @@ abbrev pub left_by : Option (ℕ × ℕ) → ℕ → List (ℕ × ℕ) → List 
 left_by None c os = os
 left_by (Some o) c os = below_first (is_for c) os
 
--- the unmatched openers, each its index and the canonical closer that it waits for; the pairs found so far; and whether the search has
--- ended at a full stack
+-- the unmatched openers, the last one first; the pairs found so far, sorted by opener; and whether the search has ended at a full stack
 pub record Progress : Type 0 where
   pub openers : List (ℕ × ℕ)
   pub pairs : List (ℕ × ℕ)

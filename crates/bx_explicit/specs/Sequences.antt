@@ -75,7 +75,7 @@ sequence_of paragraph cs kept r rs = record {
   eos = end_class paragraph cs kept (last_run r rs);
 }
 
--- one sequence for each run to which no earlier run is joined
+-- one sequence for each of the runs `r ∷ rs` to which no earlier run is joined; `before` are the runs before `r`
 abbrev pub sequences_from : ℕ → List Class → List (Option ExplicitChar) → List Run → List Run → List RunSequence
 sequences_from paragraph cs kept before [] = []
 sequences_from paragraph cs kept before (r ∷ rs) = elim (follows cs before r) [

@@ -37,7 +37,8 @@ fn count(text: &str) -> usize
     text.chars().count()
 }
 
-/// The nearest offsets of a query in a text: from `x` on, and before it. None for a query without letters.
+/// The nearest offsets of a query in a text: from `x` on, and before it. None for a query without letters, and where the call may not be
+/// made: more characters than `Query::new` takes, 64, or an offset inside one.
 fn nearest(tables: &Tables, text: &str, query: &str, x: usize) -> (Option<usize>, Option<usize>) {
     if count(query) > 64 || !text.is_char_boundary(x) {
         return (None, None);
@@ -98,7 +99,8 @@ fn finds_the_nearest(rt: HostRuntime) -> Result<(), Fail> {
     Ok(())
 }
 
-/// The offsets of a query in a text, widely read: the first from `x` on, the first before it, and the last from it on.
+/// The offsets of a query in a text, widely read: the first from `x` on, the first before it, and the last from it on. None as in
+/// `nearest`.
 fn wide(
     tables: &Tables,
     text: &str,
@@ -177,7 +179,7 @@ fn finds_by_letters(rt: HostRuntime) -> Result<(), Fail> {
     Ok(())
 }
 
-/// The first match of a query from `x` on, closely read, with its end.
+/// The first match of a query from `x` on, closely read, with its end. None also as in `nearest`.
 fn span(tables: &Tables, text: &str, query: &str, x: usize) -> Option<(usize, usize)> {
     if count(query) > 64 || !text.is_char_boundary(x) {
         return None;

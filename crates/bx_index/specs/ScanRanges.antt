@@ -12,7 +12,7 @@ use Rattle.bx_index.specs.Ended.{first, further}
 abbrev pub rest_of : ℕ → Lengths → Lengths
 rest_of n p = record { body = p.body - n; separator = min p.separator (bytes_of p - n) }
 
--- The range is one to scan for the paragraph that begins at the offset `at`: no separator is between the offset and the range,
+-- The range `w` is one to scan for the paragraph that begins at the offset `at`: no separator is between the offset and the range,
 -- and the range is followed by the rest of a paragraph, a body of `w.body` bytes and a separator of `w.separator`.
 pub record IsScanRange (says : Data) (text : List ℕ) (at : ℕ) (w : ScanRange) : Type 0 where
   pub start_bounds : IsCharBoundary text w.start

@@ -11,7 +11,7 @@ use std::mem;
 /// A tree, or `None` for the tree without pieces.
 pub type Link = Option<Box<Tree>>;
 
-/// Pieces in order. Contracts see the pieces and the depth.
+/// Pieces in order. Contracts see the pieces and the height, as `depth`.
 #[cycle(tree)]
 #[derive(Drop)]
 pub struct Tree {
