@@ -17,7 +17,7 @@ use std::marker::Model;
 /// The indexes of a sequence. Up to 8, a chosen number, need no allocation.
 type Indexes = SmallVec<usize, 8>;
 
-/// An isolating run sequence.
+/// An isolating run sequence: the indexes and the level of its characters, and the types before and after them (X10).
 #[derive(Drop)]
 pub struct Sequence {
     indexes: Indexes,
