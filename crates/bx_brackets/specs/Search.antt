@@ -57,8 +57,8 @@ found_by (Some o) j ps = insert_pair (o.0, j) ps
 abbrev pub opened : ℕ → ℕ → List (ℕ × ℕ) → List (ℕ × ℕ)
 opened j m os = elim (nat_lt (length os) bracket_room) [ true ↦ (j, canonical m) ∷ os | false ↦ os ]
 
--- the progress after the character `c` at index `j`, which is no bracket, or one of a side with its counterpart `m`, of a search that
--- has not ended
+-- the progress after the character `c` at index `j`, which is not a bracket, or one of a side with its counterpart `m`, of a search
+-- that has not ended
 abbrev pub turn : ℕ → ℕ → Option (Side × ℕ) → Progress → Progress
 turn j c None p = p
 turn j c (Some (Opener, m)) p = record p { openers = opened j m p.openers; is_over = not (nat_lt (length p.openers) bracket_room) }

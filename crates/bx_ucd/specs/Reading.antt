@@ -35,7 +35,7 @@ abbrev pub joining_refusal : JoiningTexts → Option UcdError
 joining_refusal texts =
     option_or (first_refusal OfJoining (joining_lines texts.0)) (first_refusal Characters (character_lines texts.1))
 
--- the same, if the two files are given
+-- that refusal, if the two files are given
 abbrev pub joining_refusal_if_any : Option JoiningTexts → Option UcdError
 joining_refusal_if_any None = None
 joining_refusal_if_any (Some texts) = joining_refusal texts
