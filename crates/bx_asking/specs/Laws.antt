@@ -1,4 +1,4 @@
--- What is told can be shown.
+-- What is told can be shown. `says` is Unicode's data.
 use Rattle.std.specs.Prelude.{◌≡◌, ℕ, ◌<◌, true, List, Option, IfSome}
 use Rattle.bx_terms.specs.Characters.{are_ascii_printable}
 use Rattle.bx_ucd.specs.Data.{Data}

@@ -1,4 +1,5 @@
 -- What is told of a unit in the status row: its first four characters with their classes, and its level.
+-- `says` is Unicode's data.
 use Rattle.std.specs.Prelude.{ℕ, ◌+◌, ◌/◌, ◌%◌, nat_lt, List, [], ◌∷◌, ◌++◌, length, take, codes, decimal, Option, Some, None, if◌then◌else◌}
 use Rattle.std.specs.List.{flat_map}
 use Rattle.bx_ucd.specs.Data.{Data}
@@ -63,7 +64,7 @@ abbrev pub behind : Data → Option ℕ → List ℕ
 behind says None = []
 behind says (Some c) = codes " " ++ character_text says c
 
--- the characters after the first: three at most, and a sign if there are more
+-- the characters after the first: three at most, and `...` if there are more
 abbrev pub others_text : Data → List ℕ → List ℕ
 others_text says cs = flat_map (λ c. behind says (Some c)) (take 3 cs) ++ (if nat_lt 3 (length cs) then codes " ..." else [])
 

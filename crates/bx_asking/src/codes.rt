@@ -10,7 +10,7 @@ pub fn is_code_letter(c: char) -> bool
     c.is_digit(16)
 }
 
-/// Whether a text has no characters but such digits.
+/// Whether all bytes of a text are hexadecimal digits.
 fn are_code_letters(text: &str) -> bool
     ensures { result ≡ list_all is_code_letter text.now }
 {

@@ -97,7 +97,8 @@ fn from_one(number: Option<usize>) -> Option<usize>
     }
 }
 
-/// Where an answer leads; none if it has no digit. A second divider and all after it are ignored.
+/// Where an answer leads; none if it has no digit. A second divider and all after it are ignored. 16 characters are the most that
+/// `bx_editor` takes (`longest_line`), a chosen limit.
 pub fn asked(answer: &str) -> Option<Target>
     requires few { length (chars answer.now) ≤ 16 }
     ensures { result ≡ asked (chars answer.now) }

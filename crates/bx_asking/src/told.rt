@@ -118,7 +118,7 @@ fn push_behind<D: BidiData>(
     }
 }
 
-/// The first character, if there is one, and the others.
+/// The first character of a text, if it has one, and the text after it.
 fn next_char(text: &str) -> (Option<char>, &str)
     ensures first { result.0 ≡ slice_get (chars text.now) 0 }
     ensures others { chars result.1.now ≡ drop 1 (chars text.now) }
@@ -129,7 +129,7 @@ fn next_char(text: &str) -> (Option<char>, &str)
     }
 }
 
-/// Writes the rest of a unit after its first character: three more at most, and a sign if there are others.
+/// Writes the rest of a unit after its first character: three more at most, and `...` if there are others.
 fn push_others<D: BidiData>(line: &mut String, tables: &D, others: &str) -> Result<(), AllocError>
     ensures { IfOk result (λ _. string_bytes line.new ≡ string_bytes line.old ++ others_text (D.data tables.now) (chars others.now)) }
 {

@@ -1,5 +1,5 @@
 -- The ranges of indexes that a walk over the pairs knows to be clear of a direction, so that it skips them. A direction is L or R;
--- `embedding` is that of the sequence's level.
+-- `embedding` is the direction of the sequence's level.
 use Rattle.std.specs.Prelude.{◌≡◌, ◌≤◌, ◌<◌, ℕ, false, true, List, slice_index_or, max, min, length}
 use Rattle.bx_ucd.specs.declared.class.Class.{Class}
 use Rattle.bx_ucd.specs.declared.class.Class.TheVariants.{L}
@@ -32,7 +32,7 @@ clear_after embedding d c from to = elim (counts_as embedding d) [
   | false ↦ record c { other = between c.other from to }
 ]
 
--- the state of a walk over the pairs is right: its context is that of its index, and its ranges are clear
+-- the state of a walk over the pairs is right: its context is the nearest direction before its index, and its ranges are clear
 pub record IsKnown (embedding sos : Class) (ts : List Class) (k : Known) : Type 0 where
   pub within : k.index ≤ length ts
   pub context_is : k.context ≡ context_of sos ts k.index

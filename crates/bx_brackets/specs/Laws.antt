@@ -1,4 +1,4 @@
--- Laws of the bracket pairs of every sequence.
+-- Laws of the bracket pairs of every sequence. `says` is Unicode's data.
 use Rattle.std.specs.Prelude.{◌≡◌, ◌<◌, ◌⊎◌, ℕ, ◌+◌, List, ◌∷◌, ◌++◌, length, Some, All, AllPairs, Contains}
 use Rattle.bx_ucd.specs.Data.{Data}
 use Rattle.bx_ucd.specs.declared.class.Class.{Class}
@@ -28,7 +28,8 @@ pub record AreNested (ps : List (ℕ × ℕ)) : Type 0 where
 abbrev pub PairsAreNested : Type 0
 PairsAreNested = (says : Data) (cs : List ℕ) (ts : List Class) → AreNested (pairs says cs ts)
 
--- an opener and its closer side by side, both of type ON, are a pair if fewer than 63 characters come before them
+-- an opener and its closer side by side, both of type ON, are a pair if fewer than 63 characters come before them. `paired` and `back`
+-- are their counterparts, `us` the types of the characters before them, `ts` the types of those after
 abbrev pub NeighboursArePaired : Type 0
 NeighboursArePaired = (says : Data) (before after : List ℕ) (opener closer paired back : ℕ) (us ts : List Class)
     → length us ≡ length before → length before < bracket_room

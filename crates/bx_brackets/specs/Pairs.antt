@@ -1,4 +1,4 @@
--- Bracket pairs, BD14 to BD16, over the characters and types of one sequence.
+-- Bracket pairs, BD14 to BD16, over the characters and types of one sequence. `says` is Unicode's data.
 use Rattle.std.specs.Prelude.{◌==◌, ℕ, ◌+◌, nat_lt, nat_le, ◌&&◌, not, Bool, true, false, List, [], ◌∷◌, Option, Some, None, length, filter, find}
 use Rattle.std.specs.Prelude.{if◌then◌else◌}
 use Rattle.std.specs.List.{list_any}
@@ -54,7 +54,7 @@ meet_closer s j c = elim (find (λ o. o.1 == canonical c) (open_openers s)) [
   | Some o ↦ record s { pairs = insert_pair (o.0, j) s.pairs }
 ]
 
--- the search after the character `c` at index `j`, which is no bracket, or one of a side with its counterpart `m`
+-- the search after the character `c` at index `j`, which is not a bracket, or one of a side with its counterpart `m`
 abbrev pub meet : Search → ℕ → ℕ → Option (Side × ℕ) → Search
 meet s j c None = s
 meet s j c (Some (Opener, m)) = meet_opener s j m

@@ -67,7 +67,7 @@ resolve_in embedding context was pq ts = elim (pair_direction embedding context 
 abbrev pub context_of : Class → List Class → ℕ → Class
 context_of sos ts p = nearest sos (reverse (take p ts))
 
--- the same in the context of its opener
+-- the types after a pair is resolved in the context of its opener
 abbrev pub resolve_pair : Class → Class → List Bool → ℕ × ℕ → List Class → List Class
 resolve_pair embedding sos was pq ts = resolve_in embedding (context_of sos ts pq.0) was pq ts
 

@@ -1,4 +1,5 @@
 -- The search for bracket pairs by a stack of unmatched openers, the last one first, as the code does it. It finds the pairs of `Pairs`.
+-- An opener is its index in the sequence and the canonical closer that it waits for. `says` is Unicode's data.
 use Rattle.std.specs.Prelude.{◌≡◌, ℕ, ◌+◌, ◌%◌, ◌==◌, ◌<◌, ◌≤◌, ◌⊎◌, nat_lt, not, find}
 use Rattle.std.specs.Prelude.{Bool, true, false, List, [], ◌∷◌, Option, Some, None, length, slice_set, All}
 use Rattle.std.specs.Prelude.{slice_index_or}
@@ -37,13 +38,13 @@ abbrev pub left_by : Option (ℕ × ℕ) → ℕ → List (ℕ × ℕ) → List 
 left_by None c os = os
 left_by (Some o) c os = below_first (is_for c) os
 
--- the unmatched openers, each its index and the canonical closer that it waits for; the pairs found so far; and whether the search has
--- ended at a full stack
+-- the unmatched openers, the last one first; the pairs found so far, sorted by opener; and whether the search has ended at a full stack
 pub record Progress : Type 0 where
   pub openers : List (ℕ × ℕ)
   pub pairs : List (ℕ × ℕ)
   pub is_over : Bool
 
+-- the progress of these values
 abbrev pub progress : List (ℕ × ℕ) → List (ℕ × ℕ) → Bool → Progress
 progress os ps over = record { openers = os; pairs = ps; is_over = over }
 
@@ -56,8 +57,8 @@ found_by (Some o) j ps = insert_pair (o.0, j) ps
 abbrev pub opened : ℕ → ℕ → List (ℕ × ℕ) → List (ℕ × ℕ)
 opened j m os = elim (nat_lt (length os) bracket_room) [ true ↦ (j, canonical m) ∷ os | false ↦ os ]
 
--- the progress after the character `c` at index `j`, which is no bracket, or one of a side with its counterpart `m`; `turn` takes the
--- search not to have ended, `after` changes nothing if it has
+-- the progress after the character `c` at index `j`, which is not a bracket, or one of a side with its counterpart `m`, of a search
+-- that has not ended
 abbrev pub turn : ℕ → ℕ → Option (Side × ℕ) → Progress → Progress
 turn j c None p = p
 turn j c (Some (Opener, m)) p = record p { openers = opened j m p.openers; is_over = not (nat_lt (length p.openers) bracket_room) }
@@ -66,6 +67,7 @@ turn j c (Some (Closer, m)) p = record p {
   pairs = found_by (find (is_for (canonical c)) p.openers) j p.pairs;
 }
 
+-- the progress after the character `c` at index `j`, which is the bracket `b`, if it is one; a search that has ended stays as it is
 abbrev pub after : ℕ → ℕ → Option (Side × ℕ) → Progress → Progress
 after j c b p = elim p.is_over [ true ↦ p | false ↦ turn j c b p ]
 
@@ -101,11 +103,12 @@ abbrev pub with_closer : Option ℕ → ℕ → List ℕ → List ℕ
 with_closer None j cs = cs
 with_closer (Some k) j cs = slice_set cs k j
 
--- the opener at index `k` has no closer in the list `cs`; and none of these openers has one
+-- the opener at index `k` has no closer in the list `cs`
 pub record IsUnclosed (cs : List ℕ) (k : ℕ) : Type 0 where
   pub inside : k < length cs
   pub none : slice_index_or cs k 0 ≤ k
 
+-- none of the openers has a closer in the list `cs`
 abbrev pub AreUnclosed : List ℕ → List (ℕ × ℕ) → Type 0
 AreUnclosed cs [] = Unit {0}
 AreUnclosed cs (o ∷ os) = IsUnclosed cs o.0 × AreUnclosed cs os

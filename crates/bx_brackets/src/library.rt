@@ -40,7 +40,7 @@ fn insert_pair(found: &mut Vec<(usize, usize)>, pair: (usize, usize)) -> Result<
     Ok(())
 }
 
-/// Takes the closer at `index`.
+/// Takes the closer at `index`; `closer` is the character that it is compared as.
 #[tactic(auto, using(crate::proofs::Insert::close_some, crate::proofs::Insert::close_none))]
 fn meet_closer(
     open: &mut OpenStack,

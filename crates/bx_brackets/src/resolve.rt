@@ -52,8 +52,8 @@ struct Clears {
     other: Clear,
 }
 
-/// Whether a type at an index in `from..to` counts as the direction `d`, and the range then known to be clear of it. Skips the
-/// indexes of `clear`, which is known to be clear.
+/// Whether a type at an index in `from..to` counts as the direction `d`, and the range then known to be clear of it. Skips to the
+/// end of `clear`, a range known to be clear of `d`, if `from` lies in it or at its end.
 fn has(d: Class, clear: Clear, types: &[Class], from: usize, to: usize) -> (bool, Clear)
     requires within { to ≤ length types.now }
     requires known { IsClear d types.now clear }

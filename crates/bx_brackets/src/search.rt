@@ -17,7 +17,7 @@ use bx_ucd::{BidiData, Class, Side};
 use std::alloc::{AllocError, Global};
 use std::marker::Model;
 
-/// Fills the list with `count` entries 0, which are no closers, since an opener comes before its closer. Capacity grows to the
+/// Fills the list with `count` entries 0, which mean no closer, since an opener comes before its closer. Capacity grows to the
 /// need, and by a quarter at least.
 #[inline(never)]
 fn make_entries(closers: &mut Vec<u32>, count: usize) -> Result<(), AllocError>

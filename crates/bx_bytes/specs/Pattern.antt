@@ -29,9 +29,10 @@ begins (One low high ∷ ps) [] = true
 begins (One low high ∷ ps) (b ∷ bs) = is_within low high b && begins ps bs
 begins (Many low high ∷ ps) bs = begins ps (past low high bs)
 
--- the same for a grammar, a list of patterns
+-- the bytes match one of the patterns
 abbrev pub matches_any : List (List Piece) → List ℕ → Bool
 matches_any patterns bs = list_any (λ p. matches p bs) patterns
 
+-- the bytes begin a match of one of the patterns, or are one
 abbrev pub begins_any : List (List Piece) → List ℕ → Bool
 begins_any patterns bs = list_any (λ p. begins p bs) patterns

@@ -34,7 +34,7 @@ fn is_trail(byte: u8) -> bool
     0x80 <= byte && byte <= 0xBF
 }
 
-/// C0, C1 and F5 to FF begin no character, and neither do the bytes 10xxxxxx.
+/// What a first byte is to the grammar: C0, C1 and F5 to FF begin no character, and neither do the bytes 10xxxxxx.
 fn fate_of_first(byte: u8) -> Fate
     ensures { result ≡ fate_in characters (byte ∷ []) }
 {
@@ -45,8 +45,8 @@ fn fate_of_first(byte: u8) -> Fate
     }
 }
 
-/// Refuses overlong forms (after E0 and F0), surrogates (after ED) and codes above U+10FFFF (after F4). A second byte is the last
-/// after a lead below E0.
+/// What a second byte makes of a first, `lead`. Refuses overlong forms (after E0 and F0), surrogates (after ED) and codes above
+/// U+10FFFF (after F4). A second byte is the last after a lead below E0.
 fn fate_of_second(lead: u8, byte: u8) -> Fate
     requires { fate_in characters (lead ∷ []) ≡ Fate.Waits }
     ensures { result ≡ fate_in characters (lead ∷ byte ∷ []) }
@@ -67,7 +67,7 @@ fn fate_of_second(lead: u8, byte: u8) -> Fate
     }
 }
 
-/// A third byte is the last after a lead below F0.
+/// What a third byte makes of two before it. It is the last after a lead below F0.
 fn fate_of_third(lead: u8, second: u8, byte: u8) -> Fate
     requires { fate_in characters (lead ∷ second ∷ []) ≡ Fate.Waits }
     ensures { result ≡ fate_in characters (lead ∷ second ∷ byte ∷ []) }
@@ -95,6 +95,7 @@ pub fn character(read: &[u8], byte: u8) -> char
     }
 }
 
+/// The character of a single byte.
 #[tactic(auto, using(crate::proofs::Codes::chars_of_one))]
 fn of_one(byte: u8) -> char
     requires { fate_in characters (byte ∷ []) ≡ Fate.Ends }
@@ -103,6 +104,7 @@ fn of_one(byte: u8) -> char
     char::from(byte)
 }
 
+/// The character of two bytes.
 #[tactic(auto, using(crate::proofs::Codes::chars_of_two))]
 fn of_two(lead: u8, last: u8) -> char
     requires { fate_in characters (lead ∷ last ∷ []) ≡ Fate.Ends }
@@ -112,6 +114,7 @@ fn of_two(lead: u8, last: u8) -> char
     char::from_u32(code).unwrap()
 }
 
+/// The character of three bytes.
 #[tactic(auto, using(crate::proofs::Codes::of_three))]
 fn of_three(lead: u8, second: u8, last: u8) -> char
     requires { fate_in characters (lead ∷ second ∷ last ∷ []) ≡ Fate.Ends }
@@ -122,6 +125,7 @@ fn of_three(lead: u8, second: u8, last: u8) -> char
     char::from_u32(code).unwrap()
 }
 
+/// The character of four bytes.
 #[tactic(auto, using(crate::proofs::Codes::of_four))]
 fn of_four(lead: u8, second: u8, third: u8, last: u8) -> char
     requires { fate_in characters (lead ∷ second ∷ third ∷ last ∷ []) ≡ Fate.Ends }

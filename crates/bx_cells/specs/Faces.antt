@@ -1,5 +1,5 @@
 -- The face of a grapheme cluster in a window of `w` columns: what the window shows for it. A cluster is given as its bytes; `cs` are its
--- characters.
+-- characters, and `says` is Unicode's data.
 use Rattle.std.specs.Prelude.{ℕ, ◌==◌, nat_lt, Bool, true, false, List, [], ◌∷◌, Option, Some, None, chars}
 use Rattle.std.specs.List.{list_any}
 use Rattle.bx_ucd.specs.Data.{Data}

@@ -1,4 +1,4 @@
--- A cluster of simple characters in a body.
+-- A cluster of simple characters in a body. `says` is Unicode's data, `w` the columns of the window.
 use Rattle.std.specs.Prelude.{◌≡◌, ℕ, ◌<◌, cond, List, ◌∷◌, chars, slice_range, Some, None}
 use Rattle.std.specs.Str.{IsCharBoundary}
 use Rattle.bx_ucd.specs.Data.{Data}

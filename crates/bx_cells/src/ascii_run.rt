@@ -1,4 +1,5 @@
-//! Runs of printable ASCII in a body: each byte, except maybe the last, which a mark may follow, is a unit of one column.
+//! Runs of printable ASCII in a body: each byte, except maybe the last, which a combining mark may follow, is a unit of one
+//! column.
 ghost use Rattle.std.specs.Prelude.{◌≡◌, ◌≤◌, ◌<◌, ℕ, get_or, length, false, true};
 ghost use Rattle.bx_terms.specs.Characters.{is_ascii_printable};
 

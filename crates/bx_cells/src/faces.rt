@@ -72,7 +72,7 @@ fn small_face(w: u16, columns: u8) -> Face
     sized_face(w, usize::from(columns))
 }
 
-/// The face of a text of these columns that is not a tab, control or formatting character: the mark `~` for no column, the mark
+/// The face of a text of `columns` columns that is not a tab, control or formatting character: the mark `~` for no column, the mark
 /// `#` for more than the window has.
 fn sized_face(w: u16, columns: usize) -> Face
     ensures { result ≡ sized_face w columns }

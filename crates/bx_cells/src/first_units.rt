@@ -1,4 +1,4 @@
-//! The first units of a body from an offset on: those of one row.
+//! The first units of a body from an offset on: those of one row, in a window of `w` columns.
 ghost use Rattle.std.specs.Prelude.{◌≡◌, ◌<◌, ◌∷◌, All, IfOk, length, take};
 ghost use Rattle.std.specs.Str.{IsCharBoundary};
 ghost use Rattle.bx_cells.specs.Units.{HasFace, StandsIn, units_from};
@@ -11,7 +11,7 @@ use crate::unit::{Unit, UnitRange};
 use bx_ucd::BidiData;
 use std::alloc::{AllocError, Global};
 
-/// The largest initial capacity, in units; a longer list reallocates while the body is read.
+/// The largest initial capacity, in units, a chosen number; a longer list reallocates while the body is read.
 const FIRST_ROOM: usize = 256;
 
 /// The unit that begins at byte offset `at`: by simple characters if possible, else by the rules on breaks.

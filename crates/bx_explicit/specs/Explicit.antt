@@ -51,13 +51,14 @@ isolate s level = elim (is_valid s level) [
 abbrev pub first_above : ℕ → ℕ → ℕ
 first_above first n = elim first [ zero ↦ even_above n | suc m ↦ odd_above n ]
 
--- X6, and X5a to X5c for the initiator itself: the character gets the entry's level and, under an override, the
--- override's type
+-- the type of a character of class `c` under an override
 abbrev pub forced_class : Override → Class → Class
 forced_class Neutral c = c
 forced_class Left c = L
 forced_class Right c = R
 
+-- X6, and X5a to X5c for the initiator itself: the character gets the entry's level and, under an override, the
+-- override's type
 abbrev pub kept_under : Entry → Class → Option ExplicitChar
 kept_under e c = Some (record { level = e.level; class = forced_class e.forced c })
 
@@ -106,7 +107,7 @@ state_after Pdf first s = end_embedding s
 -- X9: it is removed
 state_after Bn first s = s
 
--- the same, where `cs` has the classes of the text after the character
+-- the state after a character of a role, where `cs` has the classes of the text after the character
 abbrev pub next_state : Role → List Class → State → State
 next_state Fsi cs s = state_after Fsi (isolate_level cs) s
 next_state role cs s = state_after role 0 s

@@ -23,7 +23,7 @@ given_between (s ∷ []) cs = []
 given_between (s ∷ t ∷ ss) [] = []
 given_between (s ∷ t ∷ ss) (c ∷ cs) = kept_by (role_of c) c s t ∷ given_between (t ∷ ss) cs
 
--- these states give each character its explicit level
+-- the states over a paragraph give each character its explicit level
 abbrev pub StatesGiveLevels : Type 0
 StatesGiveLevels = (level : ℕ) (cs : List Class) → given_between (states level cs) cs ≡ explicit_levels level cs
 

@@ -8,7 +8,7 @@ level_indexes level k [] = []
 level_indexes level k (None ∷ cs) = level_indexes level (k + 1) cs
 level_indexes level k (Some c ∷ cs) = elim (c.level == level) [ true ↦ k ∷ level_indexes level (k + 1) cs | false ↦ [] ]
 
--- the same from each first index
+-- the indexes of all runs of a chain of this level, whose runs begin at the indexes `p ∷ ps`
 abbrev pub indexes_from : ℕ → List (Option ExplicitChar) → List ℕ → List ℕ
 indexes_from level kept [] = []
 indexes_from level kept (p ∷ ps) = level_indexes level p (drop p kept) ++ indexes_from level kept ps

@@ -38,6 +38,6 @@ abbrev pub match_after : ℕ → List Class → Option ℕ
 match_after i [] = None
 match_after i (c ∷ cs) = elim (is_initiator c) [ false ↦ None | true ↦ elim (before_pdi 1 cs) [ None ↦ None | Some k ↦ Some (i + 1 + k) ] ]
 
--- the same in a whole text
+-- the index of the matching PDI of the character at index `i` of a whole text, if it is an initiator and has one
 abbrev pub match_of : List Class → ℕ → Option ℕ
 match_of cs i = match_after i (drop i cs)

@@ -1,5 +1,6 @@
 -- Open chains: chains of level runs that a later run may join, while the runs are met in order. A chain whose newest run
 -- ends in an initiator waits for the next run of its level; the higher runs before that one are inside the isolate.
+-- `paragraph`, `cs` and `kept` are as in `Sequences`.
 use Rattle.std.specs.Prelude.{◌==◌, ◌&&◌, ◌||◌, ℕ, nat_lt, Bool, true, false, not, List, [], ◌∷◌, Option, drop, reverse}
 use Rattle.bx_ucd.specs.declared.class.Class.{Class}
 use Rattle.bx_ucd.specs.declared.class.Class.TheVariants.{L}
@@ -9,11 +10,12 @@ use Rattle.bx_explicit.specs.declared.runs.Run.{Run}
 use Rattle.bx_explicit.specs.Runs.{run, runs_from}
 use Rattle.bx_explicit.specs.Sequences.{RunSequence, starts_with_initiator, sequence_of}
 
--- the run at an index: the first of the runs from there on, or an empty value if there is none
+-- the first of some runs, or `run 0 0 0` if there is none
 abbrev pub first_run_of : List Run → Run
 first_run_of [] = run 0 0 0
 first_run_of (r ∷ rs) = r
 
+-- the first of the level runs of the characters from index `p` on; where a run begins at `p`, this run
 abbrev pub run_at : List (Option ExplicitChar) → ℕ → Run
 run_at kept p = first_run_of (runs_from p (drop p kept))
 
@@ -30,7 +32,8 @@ all_above level (r ∷ rs) = nat_lt level r.level && all_above level rs
 abbrev pub is_resumed : List Class → Run → List Run → Run → Bool
 is_resumed cs r between q = ends_in_initiator cs r && (q.level == r.level) && all_above r.level between
 
--- the newest chain ends before the run `q`: no later run can join it. Chains are listed the newest first, each with its newest run first
+-- the newest chain ends before the run `q`: no later run can join it. Chains are listed the newest first, each with its
+-- newest run first; none is without a run
 abbrev pub is_over : List Class → List (List Run) → Run → Bool
 is_over cs [] q = false
 is_over cs ([] ∷ chains) q = true

@@ -24,10 +24,12 @@ level_of_strong R = 1
 level_of_strong AL = 1
 level_of_strong _ = 0
 
+-- P3: the level by the first strong class, or 0 if there is none
 abbrev pub level_of : Option Class → ℕ
 level_of None = 0
 level_of (Some c) = level_of_strong c
 
+-- P2 and P3: the paragraph level of a text whose characters have the classes `cs`
 abbrev pub paragraph_level : List Class → ℕ
 paragraph_level cs = level_of (first_strong 0 cs)
 

@@ -1,4 +1,5 @@
--- Level runs, BD7. Indexes count the characters of the paragraph from 0.
+-- Level runs, BD7. Indexes count the characters of the paragraph from 0; the lists of characters have each one's result of the
+-- explicit rules, `None` where X9 removes it.
 use Rattle.std.specs.Prelude.{◌≤◌, ◌<◌, ◌==◌, ℕ, ◌+◌, ◌-◌, true, false, List, [], ◌∷◌, Option, Some, None, All, take, drop}
 use Rattle.bx_explicit.specs.declared.entry.ExplicitChar.{ExplicitChar}
 use Rattle.bx_explicit.specs.declared.runs.Run.{Run}

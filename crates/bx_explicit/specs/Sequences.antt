@@ -1,4 +1,5 @@
--- Isolating run sequences and the types at their ends, BD13 and X10.
+-- Isolating run sequences and the types at their ends, BD13 and X10. `paragraph` is the paragraph level, `cs` are the classes of the
+-- paragraph's characters and `kept` their results of the explicit rules; `r` and `q` are level runs.
 pub use Rattle.bx_ucd.specs.Class.{direction}
 use Rattle.std.specs.Prelude.{◌==◌, ℕ, ◌+◌, Bool, true, false, List, [], ◌∷◌, ◌++◌, Option, Some, None, take, drop, reverse, max}
 use Rattle.std.specs.List.{list_any}
@@ -74,7 +75,7 @@ sequence_of paragraph cs kept r rs = record {
   eos = end_class paragraph cs kept (last_run r rs);
 }
 
--- one sequence for each run to which no earlier run is joined
+-- one sequence for each of the runs `r ∷ rs` to which no earlier run is joined; `before` are the runs before `r`
 abbrev pub sequences_from : ℕ → List Class → List (Option ExplicitChar) → List Run → List Run → List RunSequence
 sequences_from paragraph cs kept before [] = []
 sequences_from paragraph cs kept before (r ∷ rs) = elim (follows cs before r) [

@@ -1,5 +1,5 @@
 -- How open chains are stored: for each chain, the newest first, its level, the last index of its newest run and the number
--- of runs before it; and the first index of each run, the oldest first.
+-- of runs before it; and the first index of each run, the oldest first. `kept` has the result of the explicit rules for each character.
 use Rattle.std.specs.Prelude.{◌≡◌, ◌<◌, ◌==◌, ◌-◌, ℕ, true, false, List, [], ◌∷◌, Option, All, length, take, drop, map, reverse, slice_index_or}
 use Rattle.bx_explicit.specs.declared.entry.ExplicitChar.{ExplicitChar}
 use Rattle.bx_explicit.specs.declared.open_chains.OpenChain.{OpenChain}

@@ -11,11 +11,14 @@ is_fsi _ = false
 -- A text is cut into parts at each PDI that matches no initiator in it. Each part has its paragraph level in a list, the first part first.
 -- With one more character in front of the text: a PDI begins a new part, of level 0; an initiator drops the first part, which is its
 -- isolate, so that the second becomes the first; a strong character gives the first part its level
+
+-- the levels without the first part; if it is the only one, an empty part of level 0 is left
 abbrev pub rest_levels : List ℕ → List ℕ
 rest_levels [] = 0 ∷ []
 rest_levels (l ∷ []) = 0 ∷ []
 rest_levels (l ∷ m ∷ ls) = m ∷ ls
 
+-- the levels with the level `n` for the first part
 abbrev pub with_level : ℕ → List ℕ → List ℕ
 with_level n [] = n ∷ []
 with_level n (l ∷ ls) = n ∷ ls

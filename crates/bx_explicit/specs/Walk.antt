@@ -1,4 +1,5 @@
 -- The sequences of a paragraph body, in the order in which their chains end while its level runs are met in order.
+-- `paragraph`, `cs` and `kept` are as in `Sequences`; chains are listed the newest first, each with its newest run first.
 use Rattle.std.specs.Prelude.{◌≡◌, ◌<◌, ◌≤◌, ◌+◌, ◌⊎◌, ℕ, Bool, true, false, List, [], ◌∷◌, ◌++◌, Option, Some, None, All, drop, length, reverse}
 use Rattle.bx_ucd.specs.declared.class.Class.{Class}
 use Rattle.bx_explicit.specs.declared.entry.Explicit.{Explicit}
@@ -29,10 +30,11 @@ ending paragraph cs kept chains [] = sequences_of paragraph cs kept chains
 ending paragraph cs kept chains (q ∷ rest) = sequences_of paragraph cs kept (over_before cs chains q)
     ++ ending paragraph cs kept (with_run (still_open cs chains q) q) rest
 
--- an index lies within `low..high`, or outside
+-- an index lies within `low..high`
 abbrev pub IsIn : ℕ → ℕ → ℕ → Type 0
 IsIn low high p = (low ≤ p) × (p < high)
 
+-- an index lies outside `low..high`
 abbrev pub IsOut : ℕ → ℕ → ℕ → Type 0
 IsOut low high p = (p < low) ⊎ (high ≤ p)
 

@@ -14,10 +14,10 @@ use smallvec::SmallVec;
 use std::alloc::{AllocError, Global};
 use std::marker::Model;
 
-/// The indexes of a sequence. Up to 8 need no allocation.
+/// The indexes of a sequence. Up to 8, a chosen number, need no allocation.
 type Indexes = SmallVec<usize, 8>;
 
-/// An isolating run sequence.
+/// An isolating run sequence: the indexes and the level of its characters, and the types before and after them (X10).
 #[derive(Drop)]
 pub struct Sequence {
     indexes: Indexes,

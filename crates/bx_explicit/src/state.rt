@@ -16,7 +16,8 @@ pub struct State {
     pub stack: EntryStack,
     /// Open isolates that were not pushed, since their level would exceed `MAX_DEPTH` or something had overflowed before.
     pub overflow_isolates: usize,
-    /// Open embeddings and overrides that were not pushed for one of these reasons, while no isolate had overflowed.
+    /// Open embeddings and overrides that were not pushed, since their level would exceed `MAX_DEPTH` or another of them had
+    /// overflowed; while an isolate has overflowed they are not counted.
     pub overflow_embeddings: usize,
     /// Open isolates that were pushed.
     pub valid_isolates: usize,

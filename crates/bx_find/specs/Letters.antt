@@ -1,4 +1,4 @@
--- The letters that a search compares in place of characters: those that a reading gives each character.
+-- The letters that a search compares in place of characters: those that a reading gives each character. `says` is Unicode's data.
 use Rattle.std.specs.Prelude.{ℕ, Bool, not, ◌||◌, ◌==◌, List, [], ◌∷◌, map, filter, flat_map, if◌then◌else◌}
 use Rattle.std.specs.Char.{to_ascii_lowercase}
 use Rattle.ucd_case.specs.CaseFolding.{full_fold}

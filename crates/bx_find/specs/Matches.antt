@@ -1,4 +1,4 @@
--- The offsets at which a query's letters match in a text.
+-- The offsets at which a query's letters, the sought ones, match in a text. `says` is Unicode's data.
 use Rattle.std.specs.Prelude.{ℕ, ◌+◌, ◌==◌, ◌&&◌, Bool, true, false, List, [], ◌∷◌, length, nat_le, nat_lt, find, Option, Some, None, chars, encode_utf8}
 use Rattle.bx_ucd.specs.Data.{Data}
 use Rattle.bx_find.specs.Letters.{letters_of, letters}

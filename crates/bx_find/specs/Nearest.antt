@@ -1,4 +1,5 @@
 -- The first match of the sought letters at or after an offset of a text, and the last before it, with no list of matches.
+-- `says` is Unicode's data.
 use Rattle.std.specs.Prelude.{◌≡◌, ℕ, ◌≤◌, ◌<◌, List, true, drop, chars, IsCharBoundary}
 use Rattle.bx_ucd.specs.Data.{Data}
 use Rattle.bx_find.specs.Matches.{is_match}

@@ -1,5 +1,6 @@
 -- The prefix of the sought letters that a search has read last, as the places of its letters, and the matches still to come.
 -- The place of a letter is the offset of the character that begins with it, in bytes; a character's later letters have None.
+-- `says` is Unicode's data.
 use Rattle.std.specs.Prelude.{ℕ, ◌+◌, true, false, List, [], ◌∷◌, ◌++◌, length, map, flat_map, Option, Some, None, option_to_list, encode_utf8}
 use Rattle.bx_ucd.specs.Data.{Data}
 use Rattle.bx_find.specs.Letters.{letters_of}
@@ -31,7 +32,8 @@ with_letters [] ls = []
 with_letters (o ∷ os) [] = []
 with_letters (o ∷ os) (l ∷ ls) = (o, l) ∷ with_letters os ls
 
--- such places in a prefix of the sought letters, given by its places, and the letters `ps` that follow it
+-- the places from which the letters begin with the sought ones, of a prefix of the sought letters, given by its places, and of the
+-- letters `ps` that follow it
 abbrev pub found_after : List ℕ → List (Option ℕ) → List Placed → List (Option ℕ)
 found_after sought prefix ps = found sought (with_letters prefix sought ++ ps)
 

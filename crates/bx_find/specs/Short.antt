@@ -16,7 +16,7 @@ abbrev pub is_simple : Reading → ℕ → Bool
 is_simple Wide c = is_short c
 is_simple Close c = true
 
--- the letter that a reading gives such a character, unless it is passed over
+-- the letter that a reading gives a simple character, unless it is passed over
 abbrev pub simple_letter : Reading → ℕ → ℕ
 simple_letter Wide c = main_letter (to_ascii_lowercase c)
 simple_letter Close c = to_ascii_lowercase c

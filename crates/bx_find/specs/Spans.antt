@@ -1,4 +1,4 @@
--- Where a match ends, and the matches that follow one another without a common part.
+-- Where a match ends, and the matches that follow one another without a common part. `says` is Unicode's data.
 use Rattle.std.specs.Prelude.{ℕ, zero, suc, ◌+◌, ◌-◌, ◌==◌, ◌||◌, ◌&&◌, Bool, true, false, List, [], ◌∷◌, length, nat_le, chars, drop, encode_utf8}
 use Rattle.bx_ucd.specs.Data.{Data}
 use Rattle.bx_ucd.specs.declared.class.Class.{Class}
@@ -43,6 +43,6 @@ spans_of says reading sought x at (c ∷ cs) = elim (nat_le x at && is_match say
   | false ↦ spans_of says reading sought x (at + length (encode_utf8 c)) cs
 ]
 
--- these matches in a text
+-- the matches in a text at or after the offset x, each with its end, as `spans_of` lists them
 abbrev pub spans_from : Data → Reading → List ℕ → List ℕ → ℕ → List (ℕ × ℕ)
 spans_from says reading sought text x = spans_of says reading sought x 0 (chars text)

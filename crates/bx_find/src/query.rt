@@ -12,7 +12,8 @@ use bx_terms::first_char;
 use bx_ucd::BidiData;
 use std::marker::Model;
 
-/// The greatest number of letters: `MOST_LETTERS`, four, for each of the 64 characters that a query's text may have.
+/// The greatest number of letters: `MOST_LETTERS`, four, for each of the 64 characters that a query's text may have, a limit that
+/// `bx_editor` chose (`longest_query`).
 const ROOM: usize = 256;
 
 /// One border for each beginning of the letters, the empty one too.

@@ -7,7 +7,7 @@ use std::marker::Model;
 const ROOM: usize = 256;
 
 /// A queue of places in a ring of slots. A place is the offset, in bytes of the text, of the character whose first letter it is
-/// of; a character's later letters have None.
+/// of; a character's later letters have None. Slots and places are not those of a row here.
 #[derive(Drop)]
 pub struct Ring {
     slots: [Option<usize>; ROOM],

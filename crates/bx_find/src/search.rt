@@ -30,7 +30,7 @@ pub fn first_from<H: Haystack, D: BidiData>(
     first_match(haystack, &sought, x)
 }
 
-/// The same, where the query, the tables and the reading are one.
+/// `first_from`, with the query, the tables and the reading in one value.
 pub(crate) fn first_match<H: Haystack, D: BidiData>(
     haystack: &H,
     sought: &Sought<'_, D>,
@@ -54,8 +54,8 @@ pub(crate) fn first_match<H: Haystack, D: BidiData>(
     None
 }
 
-/// The byte offset of the first match before `x`. Reads the text from its start to `x`, and on while a match that begins before
-/// `x` may end there.
+/// The byte offset of the first match before `x`. Reads the text from its start to `x`, and beyond while a match that begins before
+/// `x` may go on.
 pub fn first_before<H: Haystack, D: BidiData>(
     haystack: &H,
     tables: &D,

@@ -20,6 +20,7 @@ impl<'t> Haystack for Cut<'t> {
     }
 
     fn piece_at(&self, offset: usize) -> &str {
+        // A character has four bytes at most.
         for len in 1..5 {
             if offset + len <= self.0.len() && self.0.is_char_boundary(offset + len) {
                 return &self.0[offset..offset + len];
@@ -36,7 +37,8 @@ fn count(text: &str) -> usize
     text.chars().count()
 }
 
-/// The nearest offsets of a query in a text: from `x` on, and before it. None for a query without letters.
+/// The nearest offsets of a query in a text: from `x` on, and before it. None for a query without letters, and where the call may not be
+/// made: more characters than `Query::new` takes, 64, or an offset inside one.
 fn nearest(tables: &Tables, text: &str, query: &str, x: usize) -> (Option<usize>, Option<usize>) {
     if count(query) > 64 || !text.is_char_boundary(x) {
         return (None, None);
@@ -97,7 +99,8 @@ fn finds_the_nearest(rt: HostRuntime) -> Result<(), Fail> {
     Ok(())
 }
 
-/// The offsets of a query in a text, widely read: the first from `x` on, the first before it, and the last from it on.
+/// The offsets of a query in a text, widely read: the first from `x` on, the first before it, and the last from it on. None as in
+/// `nearest`.
 fn wide(
     tables: &Tables,
     text: &str,
@@ -176,7 +179,7 @@ fn finds_by_letters(rt: HostRuntime) -> Result<(), Fail> {
     Ok(())
 }
 
-/// The first match of a query from `x` on, closely read, with its end.
+/// The first match of a query from `x` on, closely read, with its end. None also as in `nearest`.
 fn span(tables: &Tables, text: &str, query: &str, x: usize) -> Option<(usize, usize)> {
     if count(query) > 64 || !text.is_char_boundary(x) {
         return None;

@@ -1,4 +1,4 @@
--- A search answers with the nearest matches of the query.
+-- A search answers with the nearest matches of the query. `says` is Unicode's data.
 use Rattle.std.specs.Prelude.{◌≡◌, ℕ, ◌≤◌, ◌<◌, List, [], ◌∷◌, MatchOption, IsUtf8}
 use Rattle.bx_ucd.specs.Data.{Data}
 use Rattle.bx_find.specs.Matches.{is_match, first_from, first_before, last_before}

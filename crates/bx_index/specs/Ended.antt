@@ -1,4 +1,4 @@
--- The paragraphs that end in the first bytes of a text: those that a scan up to an offset finds.
+-- The paragraphs that end in the first bytes of a text: those that a scan up to an offset finds. `says` is Unicode's data.
 use Rattle.std.specs.Prelude.{ℕ, ◌+◌, ◌-◌, ◌==◌, nat_le, List, drop, [], ◌∷◌, if◌then◌else◌}
 use Rattle.bx_ucd.specs.Data.{Data}
 use Rattle.bx_index.specs.declared.lengths.Lengths.{Lengths}

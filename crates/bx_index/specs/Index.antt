@@ -1,4 +1,5 @@
 -- The value of an `Index` of the code: the lengths of each paragraph in bytes, and the room made for the next edit.
+-- `says` is Unicode's data.
 use Rattle.std.specs.Prelude.{ℕ, ◌+◌, ◌*◌, ◌≤◌, min, List, [], ◌∷◌, ◌++◌, length, Option, IfSome, IsUtf8}
 use Rattle.bx_ucd.specs.Data.{Data}
 use Rattle.bx_text.specs.Edits.{largest_text}

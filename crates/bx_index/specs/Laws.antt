@@ -1,4 +1,4 @@
--- Laws of the paragraphs of any text.
+-- Laws of the paragraphs of any text. `says` is Unicode's data.
 use Rattle.std.specs.Prelude.{◌≡◌, ◌-◌, ◌⊎◌, ℕ, true, List, [], ◌∷◌, ◌++◌, All, map, take, drop, chars, encode_utf8, IsUtf8}
 use Rattle.bx_ucd.specs.Data.{Data}
 use Rattle.bx_index.specs.Paragraphs.{Paragraph, is_separator, paragraphs, lengths}

@@ -1,4 +1,4 @@
--- The first bytes of paragraph separators in UTF-8, at which alone a scan looks closer.
+-- The first bytes of paragraph separators in UTF-8, at which alone a scan looks closer. `says` is Unicode's data.
 use Rattle.std.specs.Prelude.{◌≡◌, ℕ, Bool, true, false, List, get_or, encode_utf8}
 use Rattle.std.specs.Char.{IsScalar}
 use Rattle.bx_ucd.specs.Data.{Data}

@@ -1,4 +1,5 @@
 -- The paragraphs of a text: the text cut at each paragraph separator (UAX #9, P1). CR LF, 13 and 10, is one separator.
+-- `says` is Unicode's data.
 use Rattle.std.specs.Prelude.{ℕ, ◌-◌, ◌==◌, ◌&&◌, Bool, true, false, List, [], ◌∷◌, ◌++◌, map, length, chars, encode_utf8}
 use Rattle.bx_ucd.specs.Data.{Data}
 use Rattle.bx_ucd.specs.declared.class.Class.{Class}

@@ -1,4 +1,5 @@
 -- The first separator of some characters, and that there is none: what a scan finds in a piece of a text.
+-- `says` is Unicode's data.
 use Rattle.std.specs.Prelude.{◌≡◌, ◌<◌, ℕ, true, false, List, [], ◌∷◌, ◌++◌, length, drop, chars, encode_utf8_all, IsCharBoundary}
 use Rattle.bx_ucd.specs.Data.{Data}
 use Rattle.bx_index.specs.Paragraphs.{is_separator}

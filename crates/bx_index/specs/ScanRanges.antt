@@ -1,4 +1,5 @@
 -- The part of a text that a scan for paragraphs reads, and the rest of a paragraph after it, whose lengths are known.
+-- `says` is Unicode's data.
 use Rattle.std.specs.Prelude.{◌≡◌, ◌≤◌, ℕ, ◌-◌, min, List, drop, IsCharBoundary}
 use Rattle.bx_ucd.specs.Data.{Data}
 use Rattle.bx_index.specs.declared.lengths.Lengths.{Lengths}
@@ -11,7 +12,7 @@ use Rattle.bx_index.specs.Ended.{first, further}
 abbrev pub rest_of : ℕ → Lengths → Lengths
 rest_of n p = record { body = p.body - n; separator = min p.separator (bytes_of p - n) }
 
--- The range is one to scan for the paragraph that begins at the offset `at`: no separator is between the offset and the range,
+-- The range `w` is one to scan for the paragraph that begins at the offset `at`: no separator is between the offset and the range,
 -- and the range is followed by the rest of a paragraph, a body of `w.body` bytes and a separator of `w.separator`.
 pub record IsScanRange (says : Data) (text : List ℕ) (at : ℕ) (w : ScanRange) : Type 0 where
   pub start_bounds : IsCharBoundary text w.start

@@ -1,4 +1,4 @@
--- The paragraphs of the old text that a change touches, between which the index scans the new text.
+-- The paragraphs of the old text that a change touches, between which the index scans the new text. `says` is Unicode's data.
 use Rattle.std.specs.Prelude.{◌≡◌, ℕ, ◌+◌, ◌-◌, List, [], ◌∷◌, ◌++◌, IsUtf8}
 use Rattle.bx_ucd.specs.Data.{Data}
 use Rattle.bx_text.specs.declared.change.Change.{Change}

@@ -19,7 +19,7 @@ all_of w = closed w.blocks.now.blocks w.last
 abbrev pub walk_of : Inside → WalkState
 walk_of w = record { paragraphs = all_of w; number = w.spot.number }
 
--- what always holds of a walk: its spot, start and lengths are those of one paragraph
+-- what always holds of a walk: its spot, start and lengths are of one paragraph
 pub record IsWalk (w : Inside) : Type 0 where
   pub stands : IsSpot w.blocks.now.blocks w.spot
   pub begins : w.start ≡ total (take w.spot.number (all_of w))

@@ -88,7 +88,7 @@ impl Block {
         self.lengths.push(paragraph).unwrap();
     }
 
-    /// Moves the paragraphs from the index `at` on into the block `rest`, whose own it drops, and returns this block.
+    /// Moves the paragraphs from the index `at` on into `rest`, a block whose old paragraphs are dropped, and returns `rest`.
     #[tactic(auto, using(crate::proofs::Totals::total_rest))]
     pub fn cut(&mut self, at: usize, mut rest: Block) -> Block
         requires { at ≤ length self.old }

@@ -50,7 +50,7 @@ impl Model for Index {
 }
 
 /// The old paragraphs at the edges of a change: the one with the byte before it, and the one that the text after it begins in.
-/// `front` and `last` are the paragraphs of the old text, `text` is the new one.
+/// `front` has the old text's paragraphs but the last, which has `last` bytes; `text` is the new text.
 fn touched<D: BidiData>(
     front: &Blocks,
     last: u32,
@@ -101,7 +101,7 @@ fn rest_behind(last: ParagraphSpan, offset: usize, left: usize) -> (usize, usize
     }
 }
 
-/// The range to scan after a change; `reached` are the paragraphs of `touched`.
+/// The range to scan after a change; `reached` is what `touched` gives for the other arguments.
 fn range_after<D: BidiData>(
     front: &Blocks,
     last: u32,

@@ -51,8 +51,9 @@ fn insert_scanned<D: BidiData>(
     (position, at)
 }
 
-/// Replaces the paragraphs from `from` to before the number `to` by those scanned from the text, which begin at `from.start` and
-/// end with a separator at or before `stop`. Returns the offset where the last of them ends. Frees spare blocks.
+/// Replaces the paragraphs from `from` up to the one with the number `to`, which stays, by those scanned from the text: the ones
+/// that begin at `from.start` or later and end with a separator at or before `stop`. Returns the offset where the last of them
+/// ends. Frees spare blocks.
 pub(crate) fn replace<D: BidiData>(
     blocks: &mut Blocks,
     scanned: &ScannedText<'_, D>,

@@ -32,7 +32,7 @@ pub fn spot_of(blocks: &Blocks, number: usize) -> Spot
     }
 }
 
-/// The first block from `from` on that has a paragraph; the number of blocks if none has.
+/// The number of the first block from the block `from` on that has a paragraph; the number of blocks if none has.
 #[tactic(auto, using(crate::proofs::Flats::length_flat_more))]
 fn first_filled(blocks: &Blocks, from: usize) -> usize
     requires { from ≤ length blocks.now.blocks }
@@ -50,7 +50,7 @@ fn first_filled(blocks: &Blocks, from: usize) -> usize
     at
 }
 
-/// The last block before `to` that has a paragraph, and its number of paragraphs.
+/// The number of the last block before the block `to` that has a paragraph, and how many paragraphs it has.
 #[tactic(auto, using(crate::proofs::Flats::length_flat_more))]
 fn last_filled(blocks: &Blocks, to: usize) -> (usize, usize)
     requires inside { to ≤ length blocks.now.blocks }

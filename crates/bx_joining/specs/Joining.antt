@@ -1,4 +1,5 @@
 -- The forms of a body's letters. Which letters join is decided by the joining types and levels of neighbours, and of what is between them.
+-- `says` is Unicode's data.
 use Rattle.std.specs.Prelude.{ℕ, zero, suc, ◌%◌, ◌==◌, ◌&&◌, ◌||◌, not, nat_lt, Bool, true, false, List, [], ◌∷◌, map, length, drop, Option, Some, None, chars}
 use Rattle.std.specs.List.{list_any, zip}
 use Rattle.bx_ucd.specs.Data.{Data}
@@ -34,7 +35,7 @@ abbrev pub neighbour : List Joiner → Option Joiner
 neighbour [] = None
 neighbour (x ∷ xs) = elim (is_transparent x.0) [ true ↦ neighbour xs | false ↦ Some x ]
 
--- the transparent characters nearer than that one
+-- the transparent characters nearer than the one that `neighbour` gives, or all if it gives none
 abbrev pub passed_over : List Joiner → List Joiner
 passed_over [] = []
 passed_over (x ∷ xs) = elim (is_transparent x.0) [ true ↦ x ∷ passed_over xs | false ↦ [] ]

@@ -1,4 +1,4 @@
--- Laws of letters that join.
+-- Laws of letters that join. `says` is Unicode's data.
 use Rattle.std.specs.Prelude.{◌≡◌, ◌↔◌, ℕ, false, true, All, List, ◌∷◌, ◌++◌, Option, Some, length, reverse, slice_get}
 use Rattle.bx_ucd.specs.Data.{Data}
 use Rattle.bx_ucd.specs.declared.joining.Form.{Form}

@@ -1,4 +1,4 @@
--- The place of a text in a body.
+-- Where a text stands in a body.
 use Rattle.std.specs.Prelude.{◌≡◌, ℕ, List, length, take, drop, chars}
 use Rattle.std.specs.Str.{IsCharBoundary}
 

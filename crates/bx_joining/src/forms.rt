@@ -16,6 +16,7 @@ type Joiner = (Joining, Option<u8>);
 /// The text of a body, and the level of each of its characters.
 #[derive(Clone, Copy)]
 pub struct LeveledBody<'t, 'e> {
+    /// The body itself.
     pub text: &'t str,
     /// The level of each character of the text.
     pub each: &'e [Level],
@@ -200,7 +201,7 @@ fn joins_before<D: BidiData>(own: Joiner, text: &str, levels: &[Level], tables: 
     requires { length levels.now ≡ length (chars text.now) }
     ensures { result ≡ joins_before (reverse (joiners (D.data tables.now) text.now levels.now)) own }
 {
-    // A mark joins nothing, so the marks of a long cluster do not read each other.
+    // A combining mark (type T) joins nothing, so those of a long cluster do not read each other.
     if !joins_back(own.0) {
         return false;
     }

@@ -53,12 +53,12 @@ longer [] n = []
 longer (p ∷ []) n = record p { len = p.len + n } ∷ []
 longer (p ∷ x ∷ ps) n = p ∷ longer (x ∷ ps) n
 
--- the pieces `ps`, whose last one is given, after a piece `q` is appended: it lengthens the last one if it begins where that one ends.
--- `pushed` finds the last one itself, and ignores an empty piece
+-- the pieces `ps`, whose last one is given, after a piece `q` is appended: it lengthens the last one if it begins where that one ends
 abbrev pub pushed_after : Option Piece → List Piece → Piece → List Piece
 pushed_after None ps q = ps ++ q ∷ []
 pushed_after (Some p) ps q = if goes_on p q then longer ps q.len else ps ++ q ∷ []
 
+-- the pieces `ps` after a piece `q` is appended; an empty piece changes nothing
 abbrev pub pushed : List Piece → Piece → List Piece
 pushed ps q = if q.len == 0 then ps else pushed_after (last_of ps) ps q
 

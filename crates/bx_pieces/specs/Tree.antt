@@ -5,7 +5,7 @@ use Rattle.std.specs.declared.alloc.Global.{Global}
 use Rattle.bx_pieces.specs.declared.piece.Piece.{Piece}
 use Rattle.bx_pieces.specs.Pieces.{total}
 
--- the pieces in order, and the number of pieces on the longest path down
+-- the pieces in order, and the number of pieces on the longest path down, which the code calls height
 pub record Shape : Type 0 where
   pub pieces : List Piece
   pub depth : ℕ

@@ -31,7 +31,8 @@ fn lean_left(node: Box<Tree>, left: Link, piece: Piece, mut right: Box<Tree>) ->
     hang(top, Some(first), highest, Some(rest))
 }
 
-/// Likewise where the left side is deeper by two: rotates right.
+/// Builds a tree in `node` where the left side is deeper by two, and rotates it right: once, or twice if the inner side is the
+/// deeper one.
 #[tactic(auto, using(crate::proofs::Cuts::total_append))]
 fn lean_right(node: Box<Tree>, mut left: Box<Tree>, piece: Piece, right: Link) -> Box<Tree>
     requires some { 0 < piece.len }

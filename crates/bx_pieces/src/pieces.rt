@@ -53,8 +53,9 @@ impl Pieces {
         tree::len(&self.tree)
     }
 
-    /// Height of the tree, which bounds the recursion of each search, split, join and drop. It is at most about twice the binary
-    /// logarithm of the number of pieces, and so below 130, since there are fewer than 2^64 of them. Allocates nothing.
+    /// Height of the tree, the depth in contracts, which bounds the recursion of each search, split, join and drop. It is at most
+    /// about twice the binary logarithm of the number of pieces, and so below 130, since there are fewer than 2^64 of them.
+    /// Allocates nothing.
     pub fn depth(&self) -> u8
         ensures logarithmic { 2 ^ (result / 2) ≤ length self.now + 1 }
         ensures no_more_than_bytes { length self.now ≤ total self.now }

@@ -11,7 +11,7 @@ use std::mem;
 /// A tree, or `None` for the tree without pieces.
 pub type Link = Option<Box<Tree>>;
 
-/// Pieces in order. Contracts see the pieces and the depth.
+/// Pieces in order. Contracts see the pieces and the height, as `depth`.
 #[cycle(tree)]
 #[derive(Drop)]
 pub struct Tree {
@@ -82,7 +82,7 @@ pub fn len(tree: &Link) -> usize
     }
 }
 
-/// Number of pieces on the longest path down in a tree.
+/// Number of pieces on the longest path down in a tree; `Pieces::depth` says why it is below 130.
 pub fn height(tree: &Link) -> u8
     ensures depth { result ≡ depth_of tree.now }
     ensures shallow { IsShallow (depth_of tree.now) (sequence tree.now) }

@@ -1,4 +1,4 @@
--- Levels that depend on the characters' classes only: what the short ways for simple texts find.
+-- Levels that depend on the characters' classes only: what the short ways for simple texts find. `says` is Unicode's data.
 use Rattle.std.specs.Prelude.{◌≡◌, ℕ, List, Option, map}
 use Rattle.bx_ucd.specs.Data.{Data}
 use Rattle.bx_ucd.specs.declared.class.Class.{Class}

@@ -1,4 +1,4 @@
--- Edits of a paragraph's text that change no level outside the text between two strong characters.
+-- Edits of a paragraph's text that change no level outside the text between two strong characters. `says` is Unicode's data.
 use Rattle.std.specs.Prelude.{◌≡◌, ◌⊎◌, ◌<◌, ℕ, ◌+◌, Bool, true, false, List, ◌++◌, Option, Some, None}
 use Rattle.std.specs.Prelude.{length, take, drop, map, slice_index_or}
 use Rattle.std.specs.List.{list_any}
@@ -20,9 +20,11 @@ pub record Edit : Type 0 where
   pub inserted : List ℕ
   pub behind : List ℕ
 
+-- the whole text before the edit
 abbrev pub old_text : Edit → List ℕ
 old_text e = e.before ++ (e.removed ++ e.behind)
 
+-- the whole text after the edit
 abbrev pub new_text : Edit → List ℕ
 new_text e = e.before ++ (e.inserted ++ e.behind)
 
@@ -106,7 +108,7 @@ FollowsBetween says chars first last was now = (base : Base) (e : Edit) (j : ℕ
     → chars ≡ piece e.before first e.inserted e.behind j → last ≡ old_index e j
     → AreLevelsOf says base (old_text e) was → AreLevelsOf says base (new_text e) now
 
--- the same to the end of the text
+-- `FollowsBetween` for any edit that puts `chars` in the place of the old text from the strong character at index `first` to the end
 abbrev pub FollowsToEnd : Data → List ℕ → ℕ → Levels → Levels → Type 0
 FollowsToEnd says chars first was now = (base : Base) (e : Edit) → IsCutToEnd says e first
     → chars ≡ end_piece e.before first e.inserted e.behind

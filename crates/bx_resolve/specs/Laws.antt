@@ -1,4 +1,5 @@
 -- Laws of the isolating run sequences of every text, of the levels of a text of class L, and of the directions of all levels.
+-- `says` is Unicode's data.
 use Rattle.std.specs.Prelude.{◌≡◌, ◌<◌, ◌≤◌, ℕ, ◌+◌, ◌%◌, Bool, true, false, List, [], ◌∷◌, ◌++◌, All, Option, Some, None, length, map, replicate}
 use Rattle.std.specs.Prelude.{slice_index_or}
 use Rattle.std.specs.List.{list_any}
@@ -64,6 +65,7 @@ level_at says base chars i = slice_index_or (levels_under says base chars) i Non
 abbrev pub TypesKeepDirection : Type 0
 TypesKeepDirection = (says : Data) (base : Base) (chars : List ℕ) (i : ℕ) → HasDirection (type_at says base chars i) (level_at says base chars i)
 
+-- a class that begins an override (UAX #9, X4 and X5)
 abbrev pub is_override : Class → Bool
 is_override LRO = true
 is_override RLO = true

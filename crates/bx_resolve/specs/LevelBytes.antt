@@ -16,17 +16,21 @@ abbrev byte_of : Option ℕ → ℕ
 byte_of None = 255
 byte_of (Some level) = level
 
+-- the stored value with this byte
 abbrev made : ℕ → Inside
 made byte = record { byte = byte }
 
+-- the stored value of a level, or of none
 abbrev pub inside_of : Option ℕ → Inside
 inside_of level = made (byte_of level)
 
+-- what a byte stores, stored again, is the byte
 byte_back : (byte : ℕ) → byte_of (kept_in byte) ≡ byte
 byte_back byte = elim (byte == 255) as (λ b. (byte == 255) ≡ b → byte_of (elim b [ true ↦ None | false ↦ Some byte ]) ≡ byte) [
   | true ↦ λ e. sym (eqb-true byte 255 e)
   | false ↦ λ e. refl
 ] refl
 
+-- what a value stores, stored again, is the value
 pub inside_of-level : (l : Inside) → inside_of (level_of l) ≡ l
 inside_of-level l = ap made (byte_back l.byte)

@@ -1,4 +1,5 @@
 -- What is left to do for a sequence after one of its level runs: the levels still to write, the characters still to pass to a search.
+-- `says` is Unicode's data.
 use Rattle.std.specs.Prelude.{◌≡◌, ℕ, List, ◌++◌, Option, drop}
 use Rattle.bx_ucd.specs.Data.{Data}
 use Rattle.bx_ucd.specs.declared.class.Class.{Class}

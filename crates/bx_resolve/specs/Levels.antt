@@ -1,4 +1,4 @@
--- The levels of a paragraph, by all rules in order.
+-- The levels of a paragraph, by all rules in order. `says` is Unicode's data.
 use Rattle.std.specs.Prelude.{ℕ, ◌+◌, Bool, true, false, List, [], ◌∷◌, Option, Some, None, length, map, replicate, slice_index_or, slice_set}
 use Rattle.bx_ucd.specs.Data.{Data}
 use Rattle.bx_ucd.specs.declared.class.Class.{Class}

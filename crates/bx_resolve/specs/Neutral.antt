@@ -1,4 +1,4 @@
--- N1, N2, I1 and I2, over the types of a sequence.
+-- N1, N2, I1 and I2, over the types of a sequence. `n1_at`, `n2_at` and `implicit_at` are of one type, `n1`, `n2` and `implicit` of all.
 use Rattle.std.specs.Prelude.{ℕ, ◌+◌, ◌%◌, true, false, List, [], ◌∷◌, map, Option, Some, None}
 use Rattle.std.proofs.Common.{zero, suc}
 use Rattle.bx_ucd.specs.declared.class.Class.{Class}
@@ -23,7 +23,8 @@ agreed t L L = L
 agreed t R R = R
 agreed t _ _ = t
 
--- N1: a neutral takes the direction of both sides of its run, if they agree
+-- N1: a neutral takes the direction of both sides of its run, if they agree; the types `before` and `after` it are listed from the
+-- nearest on
 abbrev pub n1_at : Class → Class → List Class → Class → List Class → Class
 n1_at sos eos before t after = elim (is_neutral t) [ true ↦ agreed t (side sos before) (side eos after) | false ↦ t ]
 

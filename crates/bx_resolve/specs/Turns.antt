@@ -104,7 +104,7 @@ next_fourth before t behind = record before { terminators = terminators_next bef
 abbrev pub written_fourth : Before → Class → List Class → Class
 written_fourth before t behind = after_w7 before.strong (after_w6 (terminators_next before.terminators t behind) t)
 
--- the step of a type `t` after W3, likewise
+-- the step of a type `t` after W3, with `behind` and `before` as in `next_fourth`: the next state, and the type written
 abbrev pub next_third : Before → Class → List Class → Before
 next_third before t behind =
     next_fourth (record before { neighbour = neighbour_of t }) (after_w4 t before.neighbour (beside behind)) behind

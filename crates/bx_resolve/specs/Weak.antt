@@ -1,4 +1,5 @@
--- W1 to W7, over the types of a sequence.
+-- W1 to W7, over the types of a sequence. Of a type `t`, `before` are the types before it and `after` those after it, each list from the
+-- nearest on. `wN_at` is the type that rule WN makes of `t`, `wN` the types that it makes of all.
 use Rattle.std.specs.Prelude.{◌&&◌, Bool, true, false, List, [], ◌∷◌, map}
 use Rattle.bx_ucd.specs.declared.class.Class.{Class}
 use Rattle.bx_ucd.specs.declared.class.Class.TheVariants.{L, R, AL, EN, ES, ET, AN, CS, NSM, ON, LRI, RLI, FSI, PDI}

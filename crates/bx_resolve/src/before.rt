@@ -288,7 +288,8 @@ impl Before {
         }
     }
 
-    /// Takes a type after W3, likewise. Returns the type after W7.
+    /// Takes a type after W3, with `rest` behind it, where `mark` and `strong` are already those of the next step. Returns the type
+    /// after W7.
     #[inline(always)]
     fn take_separator(&mut self, t: Class, rest: &[Class]) -> Class
         ensures written { result ≡ written_third self.old t (thirds self.old rest.now) }
@@ -299,7 +300,7 @@ impl Before {
         self.take_fourth(fourth, rest)
     }
 
-    /// The same, with a shorter way for types that are not separators.
+    /// `take_separator`, with a shorter way for types that are not separators.
     #[inline(always)]
     fn take_third(&mut self, t: Class, rest: &[Class]) -> Class
         ensures written { result ≡ written_third self.old t (thirds self.old rest.now) }

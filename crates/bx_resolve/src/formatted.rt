@@ -1,4 +1,4 @@
-//! The levels of a paragraph body with formatting characters, sequence by sequence.
+//! The levels of a paragraph body with formatting characters, sequence by sequence. `each` has a level for each character of the body.
 ghost use Rattle.std.specs.Prelude.{◌≡◌, ◌≤◌, ◌<◌, ◌^◌, ◌++◌, All, IfOk, OnOk, None, true, chars, drop, length, map, replicate};
 ghost use Rattle.bx_explicit.specs.Stack.{max_depth};
 ghost use Rattle.bx_explicit.specs.Sequences.{RunSequence, sequences};

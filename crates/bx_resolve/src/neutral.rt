@@ -152,7 +152,7 @@ pub fn implicit_at(level: u8, t: Class) -> u8
     }
 }
 
-/// The same, as a `Level`.
+/// `implicit_at`, as a `Level`.
 #[inline(always)]
 #[tactic(auto, using(crate::proofs::KeptLevels::implicit_low))]
 pub fn found_level(level: u8, t: Class) -> Level

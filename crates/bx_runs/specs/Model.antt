@@ -9,10 +9,10 @@ pub record RunsState : Type 0 where
   -- if it is true, the next edit allocates nothing
   pub room : Bool
 
+-- the value of the code's `Runs`
 abbrev pub runs_of : Inside → RunsState
 runs_of r = record { numbers = r.numbers.items; room = r.room }
 
--- what always holds of `Runs`
 -- what always holds of `Runs`
 pub record AreRuns (r : Inside) : Type 0 where
   pub rise : Rise r.numbers.items

@@ -4,15 +4,15 @@ use Rattle.bx_text.specs.declared.change.Change.{Change}
 use Rattle.bx_text.specs.declared.pairs.Replacement.{Replacement}
 use Rattle.bx_text.specs.Edits.{Edited, replaced, splice}
 
--- a text after such an edit, with its past
+-- a text after the edit `r`, with its past
 abbrev pub made : Edited → Replacement → Edited
 made t r = replaced t r.start (r.start + r.len) r.text.now r.before r.after
 
--- a text's bytes after such an edit
+-- a text's bytes after the edit `r`
 abbrev pub text_after : List ℕ → Replacement → List ℕ
 text_after text r = splice text r.start (r.start + r.len) r.text.now
 
--- the change that such an edit makes
+-- the change that the edit `r` makes
 abbrev pub change_made : Replacement → Change
 change_made r = record { start = r.start; removed = r.len; added = length r.text.now; place = r.after }
 

@@ -50,11 +50,11 @@ AreSteps b text (s ∷ ss) =
 abbrev pub IsShort : List Piece → List Step → Type 0
 IsShort ps steps = (s : Step) (rest : List Step) → steps ≡ rest ++ s ∷ [] → total ps + total s.span < 2 ^ 64
 
--- the pieces after a step, and the step that reverses it
+-- the pieces after a step
 abbrev pub turned_pieces : List Piece → Step → List Piece
 turned_pieces ps s = front ps s.start ++ (s.span ++ back (back ps s.start) s.len)
 
--- (its span is the pieces that were replaced)
+-- the step that reverses it: its span is the pieces that were replaced
 abbrev pub turned_step : List Piece → Step → Step
 turned_step ps s = record { start = s.start; span = front (back ps s.start) s.len; len = total s.span; before = s.before; after = s.after }
 

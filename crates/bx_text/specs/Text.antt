@@ -29,7 +29,7 @@ text_of t = record {
   room = t.room;
 }
 
--- There is room for these bytes more, for one step more, and for the three nodes that one edit takes at most: two where it cuts
+-- There is room for `bytes` bytes more, for one step more, and for the three nodes that one edit takes at most: two where it cuts
 -- the pieces, one for the piece that it puts in.
 pub record HasRoom (t : Inside) (bytes : ℕ) : Type 0 where
   pub bytes_fit : string_len t.added + bytes ≤ string_capacity t.added
@@ -44,7 +44,7 @@ pub record IsText (t : Inside) : Type 0 where
   pub future_steps : AreSteps (buffers_of t) (bytes_in t) (reverse t.future.items)
   pub has_room : IfSome t.room (HasRoom t)
 
--- room was made for these bytes
+-- room was made for `bytes` bytes
 abbrev pub HasRoomFor : Option ℕ → ℕ → Type 0
 HasRoomFor None bytes = ⊥
 HasRoomFor (Some room) bytes = bytes ≤ room

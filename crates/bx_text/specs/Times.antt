@@ -22,7 +22,8 @@ both_stop first next = max (first.start + first.added) (next.start + next.remove
 abbrev pub both_bytes : Change → Change → ℕ
 both_bytes first next = both_stop first next - both_start first next
 
--- one change in place of the two: it covers both, and has the place after the second
+-- one change in place of the two: it covers both, and has the place after the second. What it covers has `both_bytes` bytes after the
+-- first change; from them follow the numbers before the first, `removed`, and after the second, `added`
 abbrev pub merged : Change → Change → Change
 merged first next = record {
   start = both_start first next;

@@ -50,7 +50,8 @@ impl<'a> Replacement<'a> {
     }
 }
 
-/// Makes an edit in room made before, and pushes the step that undoes it to `past`. Allocates nothing.
+/// Makes an edit in room made before: appends its text to the buffer `added`, changes `pieces`, and pushes the step that undoes it
+/// to `past`. Allocates nothing.
 fn make(
     pieces: &mut Pieces,
     added: &mut String,

@@ -51,7 +51,7 @@ fn add(pieces: &mut Pieces, added: &mut String, text: &str, spares: &mut Spares)
     pieces.push(piece, spares);
 }
 
-/// Replaces `len` bytes from the offset `start` on by text, and returns the pieces replaced.
+/// Replaces `len` bytes from the offset `start` on by text, which it appends to the buffer `added`, and returns the pieces replaced.
 pub fn put(
     pieces: &mut Pieces,
     start: usize,

@@ -146,7 +146,7 @@ impl Text {
         }
     }
 
-    /// Replaces `len` bytes from the offset `start` on by text, as one edit. `before` and `after` are the places before and
+    /// Replaces `len` bytes from the offset `start` on by text, as one edit. `before` and `after` are the cursor's places before and
     /// after it.
     fn replace(
         &mut self,
@@ -272,8 +272,8 @@ impl Text {
         self.ready(bytes)
     }
 
-    /// Inserts text at a character boundary, as one edit even if it has no bytes. Empties the future. `before`
-    /// and `after` are the places before and after the edit.
+    /// Inserts text at the offset `pos`, a character boundary, as one edit even if it has no bytes. Empties the future. `before`
+    /// and `after` are the cursor's places before and after the edit.
     ///
     /// Errors, in this order, each leaving all unchanged: `NotABoundary`; `TooLong` where the text would
     /// exceed 16,777,216 bytes; `OutOfMemory`, unless `ready` made room.

@@ -37,6 +37,6 @@ class_by_lines entries code = unwrap_or (option_or (class_by_ranges (filter_map 
 abbrev pub bracket_by_lines : List BracketEntry → ℕ → Option (Side × ℕ)
 bracket_by_lines entries code = option_map (λ e. (e.side, e.paired)) (find_last (λ e. e.bracket == code) entries)
 
--- the mirrored character, by the last line for it
+-- the mirror of a character, by the last line for it
 abbrev pub mirror_by_lines : List MirrorEntry → ℕ → Option ℕ
 mirror_by_lines entries code = option_map (λ e. e.mirror) (find_last (λ e. e.character == code) entries)

@@ -28,7 +28,7 @@ abbrev pub form_between : Form → ℕ → ℕ → Line FormEntry
 form_between form shown letter = if is_control shown || is_control letter then Err ControlInMirror else Ok
     (Some (record { letter = letter; form = form; shown = shown }))
 
--- the same from the codes of the character and of the letter; without a form there is no entry
+-- that entry, from the fields with the codes of the character and of the letter; without a form there is none
 abbrev pub form_entry : Option Form → List ℕ → List ℕ → Line FormEntry
 form_entry None character letter = Ok None
 form_entry (Some form) character letter = and_then (character_of character) (λ s. and_then (character_of letter) (λ l. form_between form s l))

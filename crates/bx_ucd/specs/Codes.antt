@@ -38,6 +38,6 @@ range_of_codes (code ∷ []) = and_then (code_of code) (λ c. Ok (record { low =
 range_of_codes (low ∷ [] ∷ high ∷ []) = and_then (code_of low) (λ l. and_then (code_of high) (λ h. range_between l h))
 range_of_codes _ = Err BadCode
 
--- the range that a field writes: `CODE` or `CODE..CODE`
+-- the range that a field writes: `CODE` or `CODE..CODE` (0x2E is the dot)
 abbrev pub range_of : List ℕ → Result Range Cause
 range_of field = range_of_codes (slice_split (λ b. b == 0x2E) field)

@@ -13,6 +13,6 @@ abbrev pub type_by : Option (CodeMap Joining) → Class → ℕ → Joining
 type_by None class c = U
 type_by (Some types) class c = unwrap_or (value_in types c) (joining_by_class class c)
 
--- the same by what is stored of both files
+-- the joining type of a character of a class, by what is stored of both files
 abbrev pub type_in : JoinedLetters → Class → ℕ → Joining
 type_in joined class c = type_by joined.types class c

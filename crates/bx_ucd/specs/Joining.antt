@@ -41,7 +41,7 @@ abbrev pub is_joined_across : Class → ℕ → Bool
 is_joined_across BN c = not (is_control c)
 is_joined_across class c = is_unlettered class
 
--- the joining type of a character of a class that has no line
+-- the joining type of a character without a line, by its class: T if letters join across it, else U
 abbrev pub joining_by_class : Class → ℕ → Joining
 joining_by_class class c = if is_direction_mark c || is_joined_across class c then T else U
 

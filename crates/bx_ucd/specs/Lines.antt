@@ -50,7 +50,7 @@ abbrev pub line_by : {A : Type 0} → (List ℕ → Option A) → (List (List �
 line_by comment entry line =
     if list_all is_blank (before_comment line) then Ok (comment line) else and_then (entry (fields (before_comment line))) (λ a. Ok (Some a))
 
--- no comment has an entry, for files other than that of classes
+-- the entry of a comment: none, in all files but the file of classes
 abbrev pub plain : {A : Type 0} → List ℕ → Option A
 plain line = None
 

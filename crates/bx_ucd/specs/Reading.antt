@@ -35,6 +35,7 @@ abbrev pub joining_refusal : JoiningTexts → Option UcdError
 joining_refusal texts =
     option_or (first_refusal OfJoining (joining_lines texts.0)) (first_refusal Characters (character_lines texts.1))
 
+-- that refusal, if the two files are given
 abbrev pub joining_refusal_if_any : Option JoiningTexts → Option UcdError
 joining_refusal_if_any None = None
 joining_refusal_if_any (Some texts) = joining_refusal texts
@@ -75,15 +76,19 @@ TellsJoining texts e =
 
 -- ---- the properties of a code by the lines of the files
 
+-- the class of a code, by the bytes of the file of classes
 abbrev pub class_in_file : List ℕ → ℕ → Class
 class_in_file bytes code = class_by_lines (entries (class_lines bytes)) code
 
+-- the side of a bracket and its counterpart, by the bytes of the file of brackets
 abbrev pub bracket_in_file : List ℕ → ℕ → Option (Side × ℕ)
 bracket_in_file bytes code = bracket_by_lines (entries (bracket_lines bytes)) code
 
+-- the mirror of a character, by the bytes of the file of mirrored characters
 abbrev pub mirror_in_file : List ℕ → ℕ → Option ℕ
 mirror_in_file bytes code = mirror_by_lines (entries (mirror_lines bytes)) code
 
+-- the character that is this form of a letter, by the bytes of the file of characters
 abbrev pub form_in_file : List ℕ → ℕ → Form → Option ℕ
 form_in_file bytes letter form = form_by_lines (entries (character_lines bytes)) letter form
 

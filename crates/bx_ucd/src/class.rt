@@ -3,7 +3,8 @@
 ghost use Rattle.std.specs.Prelude.{◌≡◌};
 ghost use Rattle.bx_ucd.specs.Class.{is_initiator, is_strong, is_neutral, is_unlettered, direction};
 
-/// A bidirectional class, under its short name in the data files.
+/// A bidirectional class, under its short name in the data files. The order of the formatting classes, LRE to PDI without another
+/// between them, makes a test for them one range test (`bx_resolve/src/uniform.rt`).
 #[derive(Clone, Copy, PartialEq, Eq, Debug)]
 pub enum Class {
     /// Left_To_Right

@@ -13,7 +13,7 @@ type Classes = [Class; BLOCK_SIZE];
 /// The class of each code point. Equal blocks are stored once.
 #[derive(Drop)]
 pub struct ClassTable {
-    /// For each 256 codes, the index of their block in `stored`.
+    /// For each 256 codes, the index of their block in `stored`. 16 bits suffice: there are 4352 blocks at most (`BLOCK_COUNT`).
     numbers: Vec<u16>,
     /// The different blocks, in the order in which they were first met.
     stored: Vec<Classes>,

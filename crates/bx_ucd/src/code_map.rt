@@ -9,8 +9,8 @@ ghost use Rattle.std.specs.BTreeMap.{get};
 use std::alloc::{AllocError, Global};
 use std::collections::BTreeMap;
 
-/// The number of slots. Two characters share a slot if their codes differ by a multiple of this number; those below U+2000 never
-/// share one with each other.
+/// The number of slots, a chosen one. Two characters share a slot if their codes differ by a multiple of this number; those below
+/// U+2000 never share one with each other.
 const SLOTS: usize = 8192;
 
 /// The values of some characters. One look at a slot mostly gives the value, or rules out that there is one.

@@ -41,7 +41,7 @@ pub enum Cause {
     /// No class, side of a bracket or joining type has this name.
     #[error("unknown value")]
     UnknownValue,
-    /// The character, its mirror or its form is a control.
+    /// A control is given as a character, a mirror, a letter or a form; the name tells of mirrors alone.
     #[error("control in mirror")]
     ControlInMirror,
     /// An allocation failed. The line is 0, and later lines may be unread.
