@@ -59,7 +59,7 @@ pub(crate) fn is_narrow<D: BidiData>(c: char, tables: &D, w: u16) -> bool
     is_single(c, simple_kind(c), tables, w)
 }
 
-/// The class of a character that `is_plain` takes; none for any other.
+/// The class of a character that `is_plain` takes; None for any other.
 #[inline(always)]
 fn plain_class<D: BidiData>(c: char, tables: &D, w: u16) -> Option<Class>
     ensures begin { IfSome result (λ k. begins c ≡ true) }
@@ -99,7 +99,7 @@ fn is_cluster_end(text: &str) -> bool
     matches!(simple_kind(c), Simple::Begins(_))
 }
 
-/// The first character of a text, its bytes, and the text after it.
+/// The first character of a text, its bytes, and the text after it; None if the text is empty.
 #[inline(always)]
 fn first_part(text: &str) -> Option<(char, &str, &str)>
     ensures { MatchOption result (length text.now ≡ 0) (λ r.
@@ -110,8 +110,8 @@ fn first_part(text: &str) -> Option<(char, &str, &str)>
 }
 
 impl<'a, 't, D: BidiData> Lines<'a, 't, D> {
-    /// The glyphs, not mirrored yet, and the levels by L1 of the first `count` units, or all, from a row's start on; none if a
-    /// unit is not a single character of one column, or its character has no level.
+    /// The glyphs, not mirrored yet, and the levels by L1 of the first `count` units from a row's start on, or of all if there are
+    /// fewer; None if a unit is not a single character of one column, or X9 removes its character.
     pub(crate) fn plain_row(
         &self,
         alloc: Global,
