@@ -1,5 +1,5 @@
 -- The embedding level of the unit at a place, which the editor tells of the unit at the cursor: UAX #9's after rule I2, before
--- rule L1 resets trailing blanks. Rule X9 removes characters: these have no level.
+-- rule L1 resets trailing blanks. Rule X9 removes characters: these have no level. `says` is what the tables say.
 use Rattle.std.specs.Prelude.{◌≡◌, ℕ, ◌+◌, ◌-◌, ◌==◌, ◌<◌, true, false, List, [], ◌∷◌, ◌++◌, length, take, drop, slice_get, Option, Some, None, chars}
 use Rattle.std.specs.List.{concat}
 use Rattle.bx_ucd.specs.Data.{Data}

@@ -245,7 +245,7 @@ impl<D: BidiData + Drop> Document<D> {
     }
 
     /// The place to which an offset of the text, at or after `stop`, leads once the bytes from `start` to `stop` have given way
-    /// to `new`: the last place at or before the offset that it has then.
+    /// to `new`: the last place of the new text at or before the offset, moved as the bytes after `stop` are.
     pub fn place_behind(
         &mut self,
         start: usize,

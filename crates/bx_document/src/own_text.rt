@@ -157,7 +157,7 @@ impl<D: BidiData + Drop> OwnText<D> {
         self.text.future_len()
     }
 
-    /// The one change that `n` steps make; none if `n` is 0 or there is nothing to undo or redo. Allocates nothing.
+    /// The one change that `n` steps make; None if `n` is 0 or there is nothing to undo or redo. Allocates nothing.
     pub(crate) fn next_changes(&self, step: HistoryStep, n: usize) -> Option<Change>
         ensures { result ≡ next_changes step n self.now.content }
     {

@@ -65,8 +65,8 @@ impl<'g> BorrowedRow<'g> {
         BorrowedRow::new(&self.columns[from..], &self.codes[from..])
     }
 
-    /// Whether codes alone prove that both rows have the same glyph here. True where a shared column begins no glyph; false
-    /// where the glyph has more than two columns or no code of its own.
+    /// Whether codes alone prove that both rows have the same glyph at an index. True where both have the same column of a glyph
+    /// that began before; false where the glyph has more than two columns or no code of its own.
     pub fn begins_alike(&self, other: &BorrowedRow<'_>, index: usize) -> bool
         requires inside { index < length self.now }
         requires also { index < length other.now }

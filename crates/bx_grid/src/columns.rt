@@ -111,7 +111,7 @@ pub(crate) fn are_blank(columns: &[Column]) -> bool
     all_blank(columns)
 }
 
-/// Whether all columns are blanks, as a loop tells.
+/// Whether all columns are blanks: the loop of `are_blank`.
 fn all_blank(columns: &[Column]) -> bool
     ensures { result ≡ list_all is_blank (all_seen columns.now) }
 {

@@ -6,7 +6,8 @@ use Rattle.bx_grid.specs.Effects.{Effect, Puts, Erases}
 use Rattle.bx_grid.specs.Picture.{PictureState}
 use Rattle.bx_paint.specs.Painting.{before_tail, leading_blanks, is_sent}
 
--- the glyphs before a row's tail that differ in some column; the first column has this index, counted over all rows
+-- The glyphs before a row's tail that differ in some column from the `old` columns in their place. The first column has the
+-- index `index`, counted over all rows from 0.
 abbrev pub glyphs_changed : ℕ → List Col → List Col → List Effect
 glyphs_changed index old [] = []
 glyphs_changed index old (Unknown ∷ cs) = glyphs_changed (index + 1) (drop 1 old) cs

@@ -143,6 +143,7 @@ impl Live {
         }
     }
 
+    /// Obeys the command of a control sequence.
     #[inline(always)]
     fn obey(&mut self, command: Command)
         ensures { self.new ≡ after_command self.old command }
@@ -309,6 +310,7 @@ impl Live {
         Ok(())
     }
 
+    /// Reads one byte.
     fn read_byte(&mut self, byte: u8) -> Result<(), AllocError>
         ensures { OnOk result (self.new ≡ byte_read self.old byte) }
     {

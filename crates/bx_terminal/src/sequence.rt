@@ -16,8 +16,8 @@ pub struct Sequence {
     pub len: usize,
 }
 
-/// The move at the start of `body`, the bytes after CSI, if it gives both its numbers (`LINE;COLUMNH`). Reads each number
-/// once.
+/// The move at the start of `body`, the bytes after CSI, if it gives both its numbers (`LINE;COLUMNH`); None for any other start.
+/// Reads each number once.
 fn move_in(body: &[u8]) -> Option<Sequence>
     ensures { IfSome result (λ s. BeginWithSequence (0x1B ∷ 0x5B ∷ body.now) s.command s.len) }
 {

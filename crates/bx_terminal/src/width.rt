@@ -50,7 +50,7 @@ fn are_still(text: &str) -> bool
     text.chars().all(|c| is_still(c))
 }
 
-/// The text's first character, if it is above U+00A0 and all that follow are still.
+/// The text's first character, if it is above U+00A0 and all that follow are still; else None.
 fn base(text: &str) -> Option<char>
     ensures { IfSome result (λ c. IsBase text.now c) }
 {
@@ -74,7 +74,7 @@ fn is_letter(c: char) -> bool
         || ('\u{620}' <= c && c <= '\u{64A}')
 }
 
-/// Width of a character in columns; none for a control.
+/// Width of a character in columns; None for a control.
 #[inline(always)]
 #[tactic(auto, using(crate::proofs::Marks::letter_narrow))]
 fn char_width(c: char) -> Option<usize>

@@ -139,8 +139,9 @@ impl View {
         })
     }
 
-    /// Applies an edit, which replaces a range with `new`, to the cached paragraph that `cached_range` has found since the last
-    /// search of this view. Nothing changes if `new` contains a separator or the range cuts a character.
+    /// Applies an edit, which replaces a range with `new`, to the cached paragraph that `cached_range` just found: once the view
+    /// has searched again, another may have its index. Nothing changes if `new` contains a separator or the range cuts a
+    /// character.
     pub fn follow_edit<D: BidiData>(
         &mut self,
         range: CachedRange,
