@@ -8,7 +8,7 @@ use Rattle.bx_view.specs.TextParts.{is_covered}
 use Rattle.bx_view.specs.TextRows.{TextRow}
 use Rattle.bx_document.specs.Drawing.{row_columns}
 
--- the columns, those of them in the other rendition whose number passes; the first column has the number `k`
+-- the columns, each whose number passes turned to the other rendition; the first column has the number `k`
 abbrev pub turned_where : (ℕ → Bool) → ℕ → List Col → List Col
 turned_where passes k [] = []
 turned_where passes k (c ∷ cs) = (if passes k then turned c else c) ∷ turned_where passes (k + 1) cs

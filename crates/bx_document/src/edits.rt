@@ -311,7 +311,7 @@ impl<D: BidiData + Drop> Document<D> {
 
     /// Inserts `back` after the bytes from `start` to `stop`, then `front` before them, and returns the new place; None, and
     /// no change, if the text would exceed 16,777,216 bytes after both. The cursor was at `place`, which was the end `end` of
-    /// those bytes, and stays at that end. These are two edits, of which undo takes back that of `front` first.
+    /// those bytes, and stays at that end. These are two edits: undo takes back the insertion of `front` first.
     ///
     /// Errors: `OutOfMemory`, and nothing has changed.
     pub fn wrap(

@@ -43,7 +43,7 @@ blank_code = code_in (packed (0x20 ∷ [])) 1 0 false
 abbrev pub codes_of : List Col → List ℕ
 codes_of columns = map code_of columns
 
--- the number of columns of the glyph, from the code of one of them
+-- the number of columns of a glyph, from the code of one of its columns
 abbrev pub columns_in : ℕ → ℕ
 columns_in code = (code / 8) % 4
 

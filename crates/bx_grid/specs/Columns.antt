@@ -26,13 +26,13 @@ abbrev pub columns_before : Col → ℕ
 columns_before Unknown = 0
 columns_before (Glyph text columns offset negative) = offset
 
--- the columns of a row before those that are put: a glyph that reaches into these becomes unknown
+-- the columns of a row before those that are put: a glyph that reaches into the put ones becomes unknown
 abbrev pub cut_before : List Col → List Col
 cut_before [] = []
 cut_before (x ∷ xs) = (if nat_lt (length xs) (columns_after x) then Unknown else x) ∷ cut_before xs
 
--- the columns of a row after the ones that are put, where `d` columns lie between these and the first: a glyph that begins
--- before the first becomes unknown
+-- the columns of a row after those that are put, without the first `d` of them: a glyph that begins in the put ones, or before,
+-- becomes unknown
 abbrev pub cut_after : ℕ → List Col → List Col
 cut_after d [] = []
 cut_after d (x ∷ xs) = (if nat_lt d (columns_before x) then Unknown else x) ∷ cut_after (d + 1) xs

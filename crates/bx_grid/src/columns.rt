@@ -123,7 +123,7 @@ fn all_blank(columns: &[Column]) -> bool
     true
 }
 
-/// Puts a run over blanks. If memory runs out, they are blanks again.
+/// Puts a run over blanks, from the index `from` on. If memory runs out, its columns are blanks again.
 pub(crate) fn put_over_blanks(
     alloc: Global,
     columns: &mut [Column],

@@ -186,7 +186,7 @@ impl GlyphText {
         self.as_bytes() == other.as_bytes()
     }
 
-    /// Whether it consists of this byte alone.
+    /// Whether the text is this byte alone.
     pub(crate) fn is_byte(&self, byte: u8) -> bool
         ensures { result ≡ is_only byte self.now }
     {
@@ -196,7 +196,7 @@ impl GlyphText {
         }
     }
 
-    /// Whether it is one character from SPACE to TILDE.
+    /// Whether the text is one character from SPACE to TILDE.
     pub fn is_ascii_glyph(&self) -> bool
         ensures { result ≡ is_ascii_glyph self.now }
     {

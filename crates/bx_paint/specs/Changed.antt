@@ -16,8 +16,8 @@ glyphs_changed index old (Glyph text columns offset negative ∷ cs) =
     then Puts index text negative ∷ glyphs_changed (index + 1) (drop 1 old) cs
     else glyphs_changed (index + 1) (drop 1 old) cs
 
--- the end of a row, where the new columns are blanks, from the first old column that is not blank on; `index` is that of the
--- tail's first column
+-- the erasure of a row's tail, where the new columns are blanks, from the first old column that is not blank on; none if all old
+-- ones are blank. `index` is that of the tail's first column.
 abbrev pub tail_changed : ℕ → List Col → List Effect
 tail_changed index old = if list_all is_blank old then [] else Erases (index + leading_blanks old) ∷ []
 

@@ -89,7 +89,7 @@ columns_sent row column near negative old (c ∷ cs) =
     then_sent s.bytes (columns_sent row (column + 1) s.near s.negative (drop 1 old) cs)
 
 -- the bytes sent for a row's tail in place of these old columns, of which the first is `column`: they erase from the first one
--- that is not blank; none if all are
+-- that is not blank; no bytes if all are blank
 abbrev pub tail_sent : ℕ → ℕ → Bool → List Col → Sent
 tail_sent row column negative old =
     if list_all is_blank old

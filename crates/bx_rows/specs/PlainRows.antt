@@ -41,7 +41,7 @@ leveled_glyphs says w cs levels forms = map (λ (c, at). leveled_glyph says w c 
 abbrev pub mirrored_glyph : Data → ℕ → ℕ → ℕ → Glyph
 mirrored_glyph says w c level = glyph (mirrored_text says w 1 level (encode_utf8 c)) 1 false
 
--- such glyphs of characters at their levels, in text order
+-- the glyphs of characters at their levels, mirrored but not joined at odd ones, in text order
 abbrev pub mirrored_glyphs : Data → ℕ → List ℕ → List ℕ → List Glyph
 mirrored_glyphs says w cs levels = map (λ (c, level). mirrored_glyph says w c level) (zip cs levels)
 

@@ -46,7 +46,7 @@ mirrors_of says cs = map (λ c. unwrap_or (says.mirror c) c) cs
 abbrev pub mirror_image : Data → List ℕ → List ℕ
 mirror_image says text = encode_utf8_all (mirrors_of says (chars text))
 
--- the face shows its own text in n columns
+-- the face is the unit's own text, in `n` columns
 abbrev pub is_own : ℕ → Face → Bool
 is_own n (Own m) = m == n
 is_own n _ = false

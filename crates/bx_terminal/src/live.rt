@@ -111,7 +111,8 @@ impl Live {
         }
     }
 
-    /// Obeys `CSI 2 J`: blanks all, if the rendition is normal. The position is then unknown.
+    /// Obeys `CSI 2 J`: if the rendition is normal, blanks all, and the position is then unknown; else the whole state becomes
+    /// unknown.
     fn clear(&mut self)
         ensures { self.new ≡ after_clear self.old self.old.negative }
     {
@@ -124,7 +125,8 @@ impl Live {
         }
     }
 
-    /// Obeys `CSI K`: blanks the row from the cursor on, if the rendition is normal. The position is then unknown.
+    /// Obeys `CSI K`: if the position is known and the rendition is normal, blanks the row from the cursor on, and the position is
+    /// then unknown; else the whole state becomes unknown.
     fn erase(&mut self)
         ensures { self.new ≡ after_erase self.old self.old.position self.old.negative }
     {
@@ -206,7 +208,7 @@ impl Live {
         Ok(())
     }
 
-    /// Puts the run's glyphs, if it is not empty.
+    /// Puts the run's glyphs, if it is not empty; where position or rendition is unknown, the whole state becomes unknown.
     #[inline(always)]
     fn end_run(&mut self) -> Result<(), AllocError>
         ensures { OnOk result (self.new ≡ run_ended self.old) }
@@ -243,7 +245,7 @@ impl Live {
         self.end_run()
     }
 
-    /// Reads the last byte of a character.
+    /// Reads the last byte of a character, which joins the run; a control makes the whole state unknown.
     fn end_character(&mut self, byte: u8) -> Result<(), AllocError>
         requires { fate_in characters (self.old.half_read ++ byte ∷ []) ≡ Fate.Ends }
         ensures { OnOk result (self.new ≡ character_read self.old (self.old.half_read ++ byte ∷ [])) }

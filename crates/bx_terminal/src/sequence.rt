@@ -10,7 +10,7 @@ use bx_grid::Command;
 /// A control sequence of parameter bytes and a final byte: its command, and its length in bytes, with ESC and `[`.
 #[derive(Clone, Copy)]
 pub struct Sequence {
-    /// What it does.
+    /// What the sequence does.
     pub command: Command,
     /// Number of bytes.
     pub len: usize,

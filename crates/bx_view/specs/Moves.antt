@@ -64,7 +64,7 @@ step_visual w rows side place =
 abbrev pub entry_in : ℕ → TextRow → ℕ → Option ℕ
 entry_in w r column = place_in r (entry w r.row column)
 
--- from a place to row `k`, which is entered in a column; in its own row, the place itself
+-- from a place to row `k`, which is entered in a column; in the place's own row, the place itself
 abbrev pub to_row : ℕ → List TextRow → ℕ → ℕ → ℕ → ℕ
 to_row w rows column place k = elim (k == row_of rows place) [
   | true ↦ place

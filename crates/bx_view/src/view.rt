@@ -109,7 +109,8 @@ impl View {
         self.w = w;
     }
 
-    /// The index of the cached paragraph whose body is the text's in a span, in the view's width. Lays it out if it is not cached.
+    /// The index of the cached paragraph whose body is the text's in a span, in the view's width. Lays it out if it is not
+    /// cached.
     pub fn find<D: BidiData>(
         &mut self,
         source: &Source<'_, D>,
