@@ -98,7 +98,7 @@ pub record IsEditOf (old new : List ℕ) (t : TextEdit) : Type 0 where
 abbrev pub IsCounted : List ℕ → RowStart → Type 0
 IsCounted body s = s.chars ≡ length (chars (take s.offset body))
 
--- the levels `now` are those of before
+-- the levels `now` are equal to `was`
 pub record AreAsBefore (was now : Levels) : Type 0 where
   pub paragraph_is : now.paragraph ≡ was.paragraph
   pub each_is : now.each.items ≡ was.each.items

@@ -42,7 +42,8 @@ fn is_single<D: BidiData>(c: char, kind: Simple, tables: &D, w: u16) -> bool
     is_own(simple_face(c, columns, false, tables, w), 1)
 }
 
-/// Whether a common character is a unit of one column with its own text, like `is_single`; false for all others.
+/// Whether a common character (`common_kind`: printable ASCII, Hebrew and most Arabic letters) is a unit of one column with
+/// its own text, like `is_single`; false for all others.
 #[inline(always)]
 pub(crate) fn is_plain<D: BidiData>(c: char, tables: &D, w: u16) -> bool
     ensures begin { result ≡ true → begins c ≡ true }
@@ -51,7 +52,8 @@ pub(crate) fn is_plain<D: BidiData>(c: char, tables: &D, w: u16) -> bool
     is_single(c, common_kind(c), tables, w)
 }
 
-/// Whether a simple character is a unit of one column with its own text, like `is_single`; false for all others.
+/// Whether a simple character, one whose kind `simple_kind` knows, is a unit of one column with its own text, like
+/// `is_single`; false for all others.
 pub(crate) fn is_narrow<D: BidiData>(c: char, tables: &D, w: u16) -> bool
     ensures begin { result ≡ true → begins c ≡ true }
     ensures face { result ≡ true → simple_face (D.data tables.now) w c false ≡ Own 1 }

@@ -125,8 +125,8 @@ impl Live {
         }
     }
 
-    /// Obeys `CSI K`: if the position is known and the rendition is normal, blanks the row from the cursor on, and the position is
-    /// then unknown; else the whole state becomes unknown.
+    /// Obeys `CSI K`: if the position is known and the rendition is normal, blanks the row from the cursor on, and the position
+    /// is then unknown; else the whole state becomes unknown.
     fn erase(&mut self)
         ensures { self.new ≡ after_erase self.old self.old.position self.old.negative }
     {
@@ -195,7 +195,7 @@ impl Live {
         Ok(())
     }
 
-    /// Puts the run's glyphs at a row and a column, from 0.
+    /// Puts the run's glyphs at a row and a column, from 0, and empties the run. Keeps the run's buffer for the next run.
     fn put_run(&mut self, row: u16, column: u16, negative: bool) -> Result<(), AllocError>
         requires { (row < self.old.height) × (column < self.old.width) }
         ensures { OnOk result (self.new ≡ glyphs_put self.old (row, column) (run_columns negative self.old.run)) }
@@ -260,7 +260,7 @@ impl Live {
         Ok(())
     }
 
-    /// Reads the last byte of a sequence.
+    /// Reads the last byte of a sequence, and obeys it.
     fn end_sequence(&mut self, byte: u8) -> Result<(), AllocError>
         requires { self.old.half_read ++ byte ∷ [] ≡ 0x1B ∷ 0x5B ∷ drop 2 (self.old.half_read ++ byte ∷ []) }
         ensures { OnOk result (self.new ≡ token_read self.old (self.old.half_read ++ byte ∷ [])) }
@@ -272,7 +272,7 @@ impl Live {
         Ok(())
     }
 
-    /// Reads a byte where no token is half read.
+    /// Reads a byte where no token is half read. An ESC ends the run; a byte that begins no token makes the whole state unknown.
     fn begin(&mut self, byte: u8) -> Result<(), AllocError>
         requires { self.old.half_read ≡ [] }
         ensures { OnOk result (self.new ≡ after_first_byte self.old byte) }
@@ -290,7 +290,8 @@ impl Live {
         Ok(())
     }
 
-    /// Reads a byte after a half-read token.
+    /// Reads a byte after a half-read token. If it breaks the token, the whole state becomes unknown, and the byte is read as a
+    /// first one.
     fn go_on(&mut self, byte: u8) -> Result<(), AllocError>
         requires { 0 < length self.old.half_read }
         ensures { OnOk result (self.new ≡ after_next_byte self.old byte (fate (self.old.half_read ++ byte ∷ []))) }

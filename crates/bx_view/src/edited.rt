@@ -77,8 +77,8 @@ fn place_in_body<D: BidiData>(
 impl View {
     /// Applies an edit that the text is about to get, which replaces its bytes from `start` to `stop` with `new`, to the cached
     /// paragraph, and returns the place after the edit. None, with nothing applied, if the paragraph is not cached, if the range
-    /// exceeds it or cuts a character, or if `new` has a separator. None too at the start of a paragraph other than the text's
-    /// first, where a CR before it and an LF may join into one separator.
+    /// exceeds it or cuts a character, or if `new` has a separator. None too, with the edit applied, at the start of a paragraph
+    /// other than the text's first, where a CR before it and an LF may join into one separator.
     pub fn edit<D: BidiData>(
         &mut self,
         source: &Source<'_, D>,
