@@ -7,8 +7,8 @@ use Rattle.unicode_width.specs.Width.{str_width}
 use Rattle.std.specs.Prelude.{◌≡◌, replicate, ℕ, zero, suc, chars, ◌+◌, ◌-◌, ◌*◌, nat_lt, if◌then◌else◌, Bool, true, false, ◌&&◌, ◌==◌, not, List, [], ◌∷◌}
 use Rattle.std.specs.Prelude.{◌++◌, length, map, take, drop}
 
--- What a column shows: nothing that is known, which only a terminal's columns may be, or one column of a glyph, with the glyph's
--- text, its number of columns, the index of this one from 0 (`offset`), and whether the glyph is negative.
+-- What a column shows: `Unknown`, only in the model of a terminal, or one column of a glyph, by the glyph's text, its number of
+-- columns, the index of this one from 0 (`offset`), and whether the glyph is negative.
 pub data Col : Type 0 where
   Unknown : Col
   Glyph : (text : List ℕ) (columns offset : ℕ) (negative : Bool) → Col

@@ -10,7 +10,7 @@ use Rattle.bx_bytes.specs.declared.fate.Fate.TheVariants.{Waits, Ends, Breaks}
 use Rattle.bx_grid.specs.declared.command.Command.{Command}
 use Rattle.bx_grid.specs.declared.command.Command.TheVariants.{Move, Clear, Erase, Render, Other}
 
--- indices count columns, row by row, from 0
+-- what reading makes of the columns; indices count them row by row, from 0
 pub data Effect : Type 0 where
   -- a glyph, from an index on
   Puts : (index : ℕ) (text : List ℕ) (negative : Bool) → Effect

@@ -13,7 +13,7 @@ pub record ViewState : Type 0 where
   pub w : ℕ
   pub cache : List LayoutState
 
--- a paragraph laid out by the data, under a base direction, in any width
+-- the layout `l` is by what the tables say, under a base direction, in any width
 pub record IsCached (says : Data) (base : Base) (l : LayoutState) : Type 0 where
   pub base_is : l.base ≡ base
   pub rows : IsLayoutBy says l
@@ -22,7 +22,7 @@ pub record IsCached (says : Data) (base : Base) (l : LayoutState) : Type 0 where
 abbrev pub most_cached : ℕ
 most_cached = 512
 
--- not too many paragraphs, laid out by the data under a base direction
+-- at most `most_cached` paragraphs, laid out by what the tables say, under a base direction
 pub record AreCached (says : Data) (base : Base) (cache : List LayoutState) : Type 0 where
   pub few : length cache ≤ most_cached
   pub laid_out : All (IsCached says base) cache
@@ -35,11 +35,11 @@ cached_bytes cache = sum_by (λ l. length l.body) cache
 abbrev pub FitsLimit : ℕ → List LayoutState → Type 0
 FitsLimit limit cache = (cached_bytes cache ≤ limit) ⊎ (length cache ≡ 1)
 
--- the cached paragraphs are not too many, and are laid out by the data
+-- the view `v` caches at most `most_cached` paragraphs, laid out by what the tables say
 abbrev pub IsViewBy : Data → ViewState → Type 0
 IsViewBy says v = AreCached says v.base v.cache
 
--- only the cached paragraphs changed: they are still not too many, and laid out by the data
+-- only the cached paragraphs changed: they are still at most `most_cached`, and laid out by what the tables say
 pub record Keeps (says : Data) (old new : ViewState) : Type 0 where
   pub base : new.base ≡ old.base
   pub w : new.w ≡ old.w

@@ -7,8 +7,8 @@ use Rattle.bx_view.specs.Caching.{Caches, IsViewBy, ViewState}
 use Rattle.bx_view.specs.Standing.{IsRow, body_at, start_at}
 use Rattle.bx_view.specs.TextRows.{TextRow, row_at, text_rows}
 
--- `at` is row `n` of the text, and its paragraph is cached; the width is within its limits, and all cached paragraphs are laid
--- out by the data
+-- `at` is row `n` of the text, and its paragraph is cached, in the view's width; this is within its limits, and all cached
+-- paragraphs are laid out by what the tables say
 pub record StandsOn (says : Data) (v : ViewState) (text : List ℕ) (at : RowAt) (n : ℕ) : Type 0 where
   pub by : IsViewBy says v
   pub side : is_side v.w ≡ true
