@@ -67,8 +67,8 @@ with_run s n zero next =
 with_run s n (suc m) next =
     record { start = s.start; next = next; columns = s.columns + n; last = s.last + s.count + suc m; count = n - suc m; since = n - suc m }
 
--- The unit `u` has the columns of the extent `e`, and allows a break if `e` does. It is the body's unit at the offset `e.start`, and
--- `rest` are the units after it.
+-- The unit `u` has the columns of the extent `e`, and allows a break if `e` does. It is the body's unit at the offset `e.start`,
+-- and `rest` are the units after it.
 pub record HasExtent (says : Data) (w : ℕ) (body : List ℕ) (e : Extent) (u : Unit) (rest : List Unit) : Type 0 where
   pub columns : (c : ℕ) → columns_at w c u.face ≡ columns_at w c e.face
   pub breaks : is_break says body u ≡ e.is_break

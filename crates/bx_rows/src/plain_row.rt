@@ -112,8 +112,8 @@ fn first_part(text: &str) -> Option<(char, &str, &str)>
 }
 
 impl<'a, 't, D: BidiData> Lines<'a, 't, D> {
-    /// The glyphs, not mirrored yet, and the levels by L1 of the first `count` units from a row's start on, or of all if there are
-    /// fewer; None if a unit is not a single character of one column, or X9 removes its character.
+    /// The glyphs, not mirrored yet, and the levels by L1 of the first `count` units from a row's start on, or of all if there
+    /// are fewer; None if a unit is not a single character of one column, or X9 removes its character.
     pub(crate) fn plain_row(
         &self,
         alloc: Global,

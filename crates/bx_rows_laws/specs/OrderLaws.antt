@@ -1,5 +1,5 @@
--- Laws of the visual order and the picture of every row, with the units `us`, in a window of `w` columns. An order lists the numbers
--- of a row's units, from 0, from left to right. `says` is what any tables say.
+-- Laws of the visual order and the picture of every row, with the units `us`, in a window of `w` columns. An order lists the
+-- numbers of a row's units, from 0, from left to right. `says` is what any tables say.
 use Rattle.std.specs.Prelude.{◌≡◌, ◌⊎◌, ◌+◌, ◌-◌, ◌%◌, ◌<◌, ◌≤◌, ℕ, All, Contains, HoldsAt, IsPermutation, List, ◌∷◌, ◌++◌, [], Option, flat_map, length, replicate, slice_index_or}
 use Rattle.std.specs.List.{between, range_with_len}
 use Rattle.bx_ucd.specs.Data.{Data}

@@ -1,6 +1,6 @@
--- Joined letters on the screen: at most units of transparent characters (joining type T) stand between them. `us` are a row's units,
--- by their numbers from 0; `each` has the level of each of the body's characters, None for one that X9 removes; `says` is what
--- any tables say.
+-- Joined letters on the screen: at most units of transparent characters (joining type T) stand between them. `us` are a row's
+-- units, by their numbers from 0; `each` has the level of each of the body's characters, None for one that X9 removes; `says` is
+-- what any tables say.
 use Rattle.std.specs.Prelude.{◌≡◌, ◌+◌, ◌%◌, ◌<◌, ℕ, false, true, All, HoldsAt, IsUtf8, List, [], ◌∷◌, ◌++◌, Option, Some, chars, flat_map, length, map, slice_index_or, take}
 use Rattle.std.specs.List.{zip}
 use Rattle.bx_ucd.specs.Data.{Data}

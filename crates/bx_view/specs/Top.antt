@@ -1,4 +1,5 @@
--- The visible rows: which row of the text is the top one, and those from it on. `t` is the number of rows that the window can show.
+-- The visible rows: which row of the text is the top one, and those from it on. `t` is the number of rows that the window has
+-- for text.
 use Rattle.std.specs.Prelude.{ℕ, ◌+◌, ◌-◌, min, max, List, take, drop}
 use Rattle.bx_view.specs.TextRows.{TextRow, first, row_at, row_of}
 
