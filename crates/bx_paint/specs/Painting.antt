@@ -72,7 +72,7 @@ pub record Step : Type 0 where
 abbrev pub nothing_sent : Bool → Step
 nothing_sent negative = record { bytes = []; near = false; negative = negative }
 
--- the bytes sent for the first of these columns of a row
+-- the bytes sent for column `column` of a row, the first of these new columns; `old` are the old ones from it on
 abbrev pub column_sent : ℕ → ℕ → Bool → Bool → List Col → List Col → Step
 column_sent row column near negative old [] = nothing_sent negative
 column_sent row column near negative old (Unknown ∷ cs) = nothing_sent negative

@@ -214,7 +214,8 @@ fn blanks_len(columns: &[Column]) -> usize
     len
 }
 
-/// Erases a row's tail, which begins at `column`, from the first of its old columns that is not blank; sends nothing if all are.
+/// Erases a row's tail, which begins at `column`, from the first of its old columns that is not blank; sends nothing if all are
+/// blank.
 fn write_tail(
     out: &mut Output,
     row: u16,

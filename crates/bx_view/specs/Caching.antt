@@ -18,7 +18,7 @@ pub record IsCached (says : Data) (base : Base) (l : LayoutState) : Type 0 where
   pub base_is : l.base ≡ base
   pub rows : IsLayoutBy says l
 
--- the most paragraphs that are cached, a choice: more than the rows of any window (500)
+-- the most paragraphs that are cached, a choice: more than the rows of any window (500), each of which may be a paragraph
 abbrev pub most_cached : ℕ
 most_cached = 512
 

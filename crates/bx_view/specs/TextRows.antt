@@ -14,7 +14,7 @@ pub record TextRow : Type 0 where
   pub start : ℕ
   pub row : BodyRow
 
--- a row by these two
+-- a row of a text, by the offset at which its paragraph's body begins and the row of that body
 abbrev pub text_row : ℕ → BodyRow → TextRow
 text_row start r = record { start = start; row = r }
 

@@ -16,10 +16,10 @@ use std::alloc::{AllocError, Global};
 use std::marker::Model;
 use std::ops::Range;
 
-// A choice: more than the rows of any window (500), so a page's paragraphs stay cached while it is drawn.
+// A choice: more than the rows of any window (500), each of which may be a paragraph.
 const MOST_CACHED: usize = 512;
 
-// The least limit for all cached bodies, in bytes, a choice: typing into a small text evicts no paragraph that is shown.
+// The least limit for all cached bodies, in bytes, a choice: typing into a small text seldom evicts paragraphs that are shown.
 const LEAST_LIMIT: usize = 65_536;
 
 /// Whether there is a cached paragraph at index `i` and its body is the text's in a span.
