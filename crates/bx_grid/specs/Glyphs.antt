@@ -53,7 +53,7 @@ abbrev pub ShareWholeGlyphs : List Col → List Col → Type 0
 ShareWholeGlyphs old new = (i : ℕ) → i < length old → slice_index_or old i Unknown ≡ slice_index_or new i Unknown
     → IsWholeAt (slice_index_or old i Unknown) i old × IsWholeAt (slice_index_or old i Unknown) i new
 
--- another index lies in the glyph of this column, which is at an index
+-- the index `other` lies in the glyph of this column, which is at `index`
 abbrev pub IsOfGlyph : Col → ℕ → ℕ → Type 0
 IsOfGlyph Unknown index other = ⊥
 IsOfGlyph (Glyph text count offset negative) index other = (index ≤ other + offset) × (other + offset < index + count)

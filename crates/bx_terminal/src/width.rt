@@ -43,7 +43,7 @@ fn is_still(c: char) -> bool
     }
 }
 
-/// Whether all characters are still.
+/// Whether all characters are still (`is_still`).
 fn are_still(text: &str) -> bool
     ensures { result ≡ list_all is_still (chars text.now) }
 {
@@ -86,7 +86,8 @@ fn char_width(c: char) -> Option<usize>
     c.width()
 }
 
-/// Width of a text that is not all from SPACE to TILDE. A character followed by still ones takes one look-up.
+/// Width in columns of a text that is not all from SPACE to TILDE. A character followed by still ones (`is_still`) takes one
+/// look-up.
 #[tactic(auto, using(crate::proofs::Still::width_of_base))]
 fn other_width(text: &str) -> usize
     requires { are_ascii_printable text.now ≡ false }
