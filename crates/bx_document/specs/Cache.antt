@@ -1,4 +1,5 @@
--- The cache of drawn rows: what an entry holds, and that its grid shows just the row that the rest of it names.
+-- The cache of drawn rows: what an entry holds, and that its grid shows just the row that the rest of it names. `d` is the data
+-- of Unicode's tables.
 use Rattle.std.specs.Prelude.{◌≡◌, ℕ, ◌<◌, List, length, All, HoldsAt}
 use Rattle.bx_terms.specs.declared.base.Base.{Base}
 use Rattle.bx_grid.specs.Columns.{Col}
@@ -22,11 +23,12 @@ numbered_row_columns d body base number w = body_row_columns d w (row_at (body_r
 pub record IsDrawnBy (d : Data) (r : EntryState) : Type 0 where
   pub grid_is : r.grid ≡ record { height = 1; width = r.grid.width; columns = numbered_row_columns d r.body r.base r.number r.grid.width }
 
--- each of these entries is so
+-- each of these entries has such a grid
 abbrev pub AreDrawnBy : Data → List EntryState → Type 0
 AreDrawnBy d rows = All (IsDrawnBy d) rows
 
--- the entry is for row `k`, from 0, of the body `text`, under the base direction `direction`, in a window of `w` columns
+-- the entry is for row `k`, from 0, of a body with the bytes `text`, under the base direction `direction`, in a window of `w`
+-- columns
 pub record IsRowOf (text : List ℕ) (direction : Base) (k w : ℕ) (r : EntryState) : Type 0 where
   pub body_is : r.body ≡ text
   pub base_is : r.base ≡ direction

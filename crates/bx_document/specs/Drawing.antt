@@ -1,4 +1,5 @@
--- The columns that show a row of text, and a grid that has them in its rows.
+-- The columns that show a row of text, and a grid that has them in its rows. `d` is the data of Unicode's tables, `width` the
+-- window's columns.
 use Rattle.std.specs.Prelude.{ℕ, ◌+◌, ◌*◌, ◌≤◌, ◌<◌, List, flat_map}
 use Rattle.bx_grid.specs.Columns.{Col, glyph_columns, paste}
 use Rattle.bx_grid.specs.Picture.{GridState}

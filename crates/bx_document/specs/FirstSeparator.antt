@@ -1,4 +1,4 @@
--- Whether a text's lines end with CR LF, by its first separator: Enter types what they end with.
+-- Whether a text's lines end with CR LF, by its first separator: Enter types what they end with. `says` is what the tables say.
 use Rattle.std.specs.Prelude.{ℕ, ◌==◌, Bool, false, ◌&&◌, List, [], ◌∷◌}
 use Rattle.bx_ucd.specs.Data.{Data}
 use Rattle.bx_view.specs.Standing.{paragraph_at}

@@ -1,4 +1,5 @@
--- Undo and redo: what they make of a text, and the change of its bytes by which index and view follow.
+-- Undo and redo: what they make of a text `t` with its past and future, and the change of its bytes by which index and view
+-- follow.
 use Rattle.std.specs.Prelude.{ℕ, Option}
 use Rattle.bx_text.specs.declared.change.Change.{Change}
 use Rattle.bx_text.specs.Edits.{Edited, next_redo, next_undo, redone, undone}
@@ -16,7 +17,7 @@ abbrev pub next_change : HistoryStep → Edited → Option Change
 next_change Undo t = next_undo t
 next_change Redo t = next_redo t
 
--- the text after n steps, or after all if there are fewer
+-- the text after `n` steps, or after all if there are fewer
 abbrev pub stepped_times : HistoryStep → ℕ → Edited → Edited
 stepped_times Undo n t = undone_times n t
 stepped_times Redo n t = redone_times n t

@@ -1,4 +1,5 @@
--- Lines: paragraphs with their separators. Cut and Copy take the cursor's line where the region is empty.
+-- Lines: paragraphs with their separators. Cut and Copy take the cursor's line where the region is empty. `says` is what the
+-- tables say.
 use Rattle.std.specs.Prelude.{ℕ, ◌+◌, List, take}
 use Rattle.bx_ucd.specs.Data.{Data}
 use Rattle.bx_index.specs.Paragraphs.{lengths}
@@ -8,7 +9,7 @@ use Rattle.bx_index.specs.Positions.{paragraph_of, total}
 abbrev pub begin_of : Data → List ℕ → ℕ → ℕ
 begin_of says text number = total (take number (lengths says text))
 
--- from the start of the paragraph that an offset falls in to the start of the next one, or to the text's end
+-- the offsets of the start of the paragraph that an offset falls in, and of the start of the next one, or the text's end
 abbrev pub line_of : Data → List ℕ → ℕ → ℕ × ℕ
 line_of says text offset =
     (begin_of says text (paragraph_of (lengths says text) offset), begin_of says text (paragraph_of (lengths says text) offset + 1))

@@ -1,5 +1,5 @@
 -- The embedding level of the unit at a place, which the editor tells of the unit at the cursor: UAX #9's after rule I2, before
--- rule L1 resets trailing blanks. Rule X9 removes characters: these have no level.
+-- rule L1 resets trailing blanks. Rule X9 removes characters: these have no level. `says` is what the tables say.
 use Rattle.std.specs.Prelude.{◌≡◌, ℕ, ◌+◌, ◌-◌, ◌==◌, ◌<◌, true, false, List, [], ◌∷◌, ◌++◌, length, take, drop, slice_get, Option, Some, None, chars}
 use Rattle.std.specs.List.{concat}
 use Rattle.bx_ucd.specs.Data.{Data}
@@ -12,8 +12,8 @@ use Rattle.bx_rows.specs.RowLevels.{first_level}
 use Rattle.bx_view.specs.Standing.{body_at, count, start_at}
 
 -- The level of the unit that begins at the offset `at`, among units of which the first begins at the offset `start`; `each` has
--- the level of each of their characters. It is that of the unit's first character that X9 keeps: None if X9 keeps none of the
--- unit's, and if no unit begins there.
+-- the level of each of their characters. The unit's level is the one of its first character that X9 keeps: None if X9 keeps none,
+-- and if no unit begins at `at`.
 abbrev pub level_from : ℕ → List (List ℕ) → List (Option ℕ) → ℕ → Option ℕ
 level_from start [] each at = None
 level_from start (u ∷ us) each at =

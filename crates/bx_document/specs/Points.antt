@@ -1,4 +1,5 @@
--- Points: marks and joiners that are typed after a letter, and that Backspace removes one by one.
+-- Points: marks and joiners that are typed after a letter, and that Backspace removes one by one. Characters are their codes,
+-- `says` is what the tables say.
 use Rattle.std.specs.Prelude.{ℕ, ◌-◌, ◌==◌, nat_le, Bool, true, false, not, ◌&&◌, ◌||◌, List, take, length, chars, encode_utf8_all, slice_index_or}
 use Rattle.bx_ucd.specs.Data.{Data}
 use Rattle.bx_ucd.specs.declared.class.Class.{Class}

@@ -1,5 +1,5 @@
 -- The columns of a status row. It shows a text, or a text and after it a query or what was typed, and leaves out the glyphs that
--- do not fit.
+-- do not fit. `d` is the data of Unicode's tables.
 use Rattle.std.specs.Prelude.{◌≡◌, ℕ, ◌-◌, nat_le, true, false, List, [], ◌∷◌, ◌++◌, take, replicate, map, chars, encode_utf8}
 use Rattle.bx_terms.specs.Glyphs.{is_one_glyph, run_width}
 use Rattle.bx_terms.specs.declared.base.Base.TheVariants.{Auto}

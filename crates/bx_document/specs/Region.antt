@@ -1,5 +1,5 @@
 -- A region is a part of the text, from one offset up to another: a pair. Drawn rows show its columns in the other rendition:
--- negative, or plain if they were negative.
+-- negative, or plain if they were negative. `d` is the data of Unicode's tables, `w` the window's columns.
 use Rattle.std.specs.Prelude.{ℕ, ◌+◌, ◌-◌, ◌*◌, Bool, List, [], ◌∷◌, ◌++◌, flat_map, length, replicate, if◌then◌else◌}
 use Rattle.bx_grid.specs.Columns.{Col, blank}
 use Rattle.bx_grid.specs.Turned.{turned}
@@ -8,7 +8,7 @@ use Rattle.bx_view.specs.TextParts.{is_covered}
 use Rattle.bx_view.specs.TextRows.{TextRow}
 use Rattle.bx_document.specs.Drawing.{row_columns}
 
--- the columns, those of them in the other rendition whose number passes; the first column has the number `k`
+-- the columns, each whose number passes turned to the other rendition; the first column has the number `k`
 abbrev pub turned_where : (ℕ → Bool) → ℕ → List Col → List Col
 turned_where passes k [] = []
 turned_where passes k (c ∷ cs) = (if passes k then turned c else c) ∷ turned_where passes (k + 1) cs

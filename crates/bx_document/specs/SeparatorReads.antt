@@ -1,4 +1,5 @@
--- Whether the first separator of some characters is CR LF, read character by character.
+-- Whether the first separator of some characters is CR LF, read character by character. `says` is what the tables say, `cs` are
+-- the codes of the characters that are not read yet.
 use Rattle.std.specs.Prelude.{ℕ, ◌==◌, Bool, true, false, ◌&&◌, List, [], ◌∷◌}
 use Rattle.bx_ucd.specs.Data.{Data}
 use Rattle.bx_index.specs.Paragraphs.{begins_with_lf, is_separator}
@@ -10,7 +11,8 @@ abbrev pub crlf_first : Data → List ℕ → Bool
 crlf_first says [] = false
 crlf_first says (c ∷ cs) = elim (is_separator (says.class c)) [ true ↦ (c == 13) && begins_with_lf says cs | false ↦ crlf_first says cs ]
 
--- the same of a text of which some characters are read, and tell `Seen` (`src/first_separator.rt`), and others are left
+-- the first separator of a text is CR LF, by what its characters read so far tell (`Seen` of `src/first_separator.rt`), and by
+-- those that are left
 abbrev pub crlf_from : Data → Seen → List ℕ → Bool
 crlf_from says Nothing cs = crlf_first says cs
 crlf_from says Cr cs = begins_with_lf says cs

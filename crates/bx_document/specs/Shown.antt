@@ -1,4 +1,4 @@
--- The visible rows of a document, from the row of the offset `top` on.
+-- The visible rows of a document `t`, from the row of the offset `top` on. `d` is the data of Unicode's tables.
 use Rattle.std.specs.Prelude.{ℕ, ◌-◌, List}
 use Rattle.bx_grid.specs.Columns.{Col}
 use Rattle.bx_view.specs.TextRows.{row_of}

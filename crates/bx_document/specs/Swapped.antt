@@ -12,6 +12,6 @@ abbrev pub swapped : ℕ → List ℕ → List ℕ → List (ℕ × ℕ) → Lis
 swapped start text other [] = []
 swapped start text other (s ∷ ss) = slice_range text start s.0 ++ other ++ swapped s.1 text other ss
 
--- the offset after the character at an offset; the same offset at the text's end
+-- the offset after the character at the offset `x`; `x` itself at the text's end
 abbrev pub behind_character : List ℕ → ℕ → ℕ
 behind_character text x = x + length (encode_utf8_all (take 1 (chars (drop x text))))

@@ -1,4 +1,5 @@
 -- The paragraphs that an edit touches, as they are after the edit: they determine the place after it, so only they are laid out.
+-- `says` is what the tables say.
 use Rattle.std.specs.Prelude.{ℕ, ◌+◌, ◌-◌, List, ◌++◌, slice_range}
 use Rattle.bx_ucd.specs.Data.{Data}
 use Rattle.bx_index.specs.Paragraphs.{lengths}

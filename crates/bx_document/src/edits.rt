@@ -245,7 +245,7 @@ impl<D: BidiData + Drop> Document<D> {
     }
 
     /// The place to which an offset of the text, at or after `stop`, leads once the bytes from `start` to `stop` have given way
-    /// to `new`: the last place at or before the offset that it has then.
+    /// to `new`: the last place of the new text at or before the offset, moved as the bytes after `stop` are.
     pub fn place_behind(
         &mut self,
         start: usize,
@@ -311,7 +311,7 @@ impl<D: BidiData + Drop> Document<D> {
 
     /// Inserts `back` after the bytes from `start` to `stop`, then `front` before them, and returns the new place; None, and
     /// no change, if the text would exceed 16,777,216 bytes after both. The cursor was at `place`, which was the end `end` of
-    /// those bytes, and stays at that end. These are two edits, of which undo takes back that of `front` first.
+    /// those bytes, and stays at that end. These are two edits: undo takes back the insertion of `front` first.
     ///
     /// Errors: `OutOfMemory`, and nothing has changed.
     pub fn wrap(

@@ -14,9 +14,9 @@ use bx_ucd::BidiData;
 /// What the characters read so far, from a text's start on, tell of its first separator.
 #[derive(Clone, Copy, PartialEq, Eq, Debug)]
 enum Seen {
-    /// There is no separator yet.
+    /// No separator is read yet.
     Nothing,
-    /// The last of them is the first separator, a CR: an LF may follow.
+    /// The last character read is the first separator, a CR: an LF may follow.
     Cr,
     /// Whether the first separator is CR LF.
     Known(bool),

@@ -52,7 +52,7 @@ impl<D: BidiData + Drop> Haystack for OwnText<D> {
     }
 }
 
-/// Updates the index after an edit, in the room reserved for one separator per added byte. Allocates nothing.
+/// Updates the index after an edit, in the room that `ready` reserved for one separator per added byte. Allocates nothing.
 fn follow<D: BidiData>(index: &mut Index, text: &Text, tables: &D, change: &Change)
     requires was { (old : List ℕ)
         × IsUtf8 old
@@ -157,7 +157,7 @@ impl<D: BidiData + Drop> OwnText<D> {
         self.text.future_len()
     }
 
-    /// The one change that `n` steps make; none if `n` is 0 or there is nothing to undo or redo. Allocates nothing.
+    /// The one change that `n` steps make; None if `n` is 0 or there is nothing to undo or redo. Allocates nothing.
     pub(crate) fn next_changes(&self, step: HistoryStep, n: usize) -> Option<Change>
         ensures { result ≡ next_changes step n self.now.content }
     {
@@ -166,7 +166,8 @@ impl<D: BidiData + Drop> OwnText<D> {
 
     /// Inserts characters at an offset; the places of the cursor before and after are recorded.
     ///
-    /// Errors: `OutOfMemory`, and nothing has changed.
+    /// Errors: `OutOfMemory`, and nothing has changed. The same for an offset within a character and for a text that gets too
+    /// long, which callers rule out.
     pub(crate) fn insert(
         &mut self,
         at: usize,
@@ -187,7 +188,7 @@ impl<D: BidiData + Drop> OwnText<D> {
 
     /// Removes the bytes of a range; the places of the cursor before and after are recorded.
     ///
-    /// Errors: `OutOfMemory`, and nothing has changed.
+    /// Errors: `OutOfMemory`, and nothing has changed. The same for a range that cuts a character, which callers rule out.
     pub(crate) fn remove(
         &mut self,
         range: Range<usize>,
@@ -205,9 +206,11 @@ impl<D: BidiData + Drop> OwnText<D> {
         Ok(())
     }
 
-    /// Removes the bytes of a range, and inserts `new` at an offset `at` of the text without them: two edits.
+    /// Removes the bytes of a range, and inserts `new` at an offset `at` of the text without them: two edits, for which `places`
+    /// are recorded.
     ///
-    /// Errors: `OutOfMemory`, and nothing has changed.
+    /// Errors: `OutOfMemory`, and nothing has changed. The same for offsets within a character and for a text that gets too
+    /// long, which callers rule out.
     pub(crate) fn exchange(
         &mut self,
         range: Range<usize>,
@@ -230,7 +233,7 @@ impl<D: BidiData + Drop> OwnText<D> {
         Ok(())
     }
 
-    /// Inserts `back` after the bytes of a range, and `front` before them: two edits.
+    /// Inserts `back` after the bytes of a range, and `front` before them: two edits, for which `places` are recorded.
     ///
     /// Errors: `OutOfMemory`, and nothing has changed.
     pub(crate) fn insert_pair(

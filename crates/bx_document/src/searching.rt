@@ -15,7 +15,7 @@ use bx_terms::{OutOfMemory, first_char};
 use bx_ucd::BidiData;
 
 impl<D: BidiData + Drop> Document<D> {
-    /// The query with a text's letters; none if the text has no letter. The text has at most 64 characters. Allocates nothing.
+    /// The query with a text's letters; None if the text has no letter. The text has at most 64 characters. Allocates nothing.
     pub fn query(&self, reading: Reading, text: &str) -> Option<Query>
         requires few { length (chars text.now) ≤ 64 }
         ensures letters { IfSome result (λ q. q ≡ letters (D.data self.now.tables) reading (chars text.now)) }
@@ -39,7 +39,7 @@ impl<D: BidiData + Drop> Document<D> {
         bx_find::first_from(&self.own, source.tables, reading, query, x)
     }
 
-    /// The byte offset of a query's first match, where there is none at or after `x`. Allocates nothing.
+    /// The byte offset of a query's first match in the text, for a caller that has found none at or after `x`. Allocates nothing.
     pub fn first_before(&self, reading: Reading, query: &Query, x: usize) -> Option<usize>
         requires bounds { IsCharBoundary self.now.document.content.text x }
         requires none_from { first_from (D.data self.now.tables) reading query.now self.now.document.content.text x ≡ None }
@@ -57,7 +57,7 @@ impl<D: BidiData + Drop> Document<D> {
         bx_find::last_before(&self.own, self.own.tables(), reading, query, x)
     }
 
-    /// The byte offset of a query's last match, where there is none before `x`. Allocates nothing.
+    /// The byte offset of a query's last match in the text, for a caller that has found none before `x`. Allocates nothing.
     pub fn last_from(&self, reading: Reading, query: &Query, x: usize) -> Option<usize>
         requires bounds { IsCharBoundary self.now.document.content.text x }
         requires none_before { last_before (D.data self.now.tables) reading query.now self.now.document.content.text x ≡ None }

@@ -12,7 +12,7 @@ use bx_ucd::BidiData;
 /// What replaces the text from the offset at which a search starts to the end of the last match.
 #[derive(Drop)]
 pub struct Swap {
-    /// The offset, in bytes of the text, at which the last match ends; that of the start if there is no match.
+    /// The offset, in bytes of the text, at which the last match ends; the one at which the search starts if there is no match.
     pub stop: usize,
     /// The number of matches.
     pub count: usize,
@@ -23,11 +23,11 @@ pub struct Swap {
 /// What is found of a `Swap` before its text is made.
 #[derive(Clone, Copy)]
 struct Measure {
-    /// Its `stop`.
+    /// The `stop` of the `Swap`.
     stop: usize,
-    /// Its `count`.
+    /// The `count` of the `Swap`.
     count: usize,
-    /// The length of its `text` in bytes, at most 2^64 - 1.
+    /// The length of the `text` of the `Swap` in bytes, at most 2^64 - 1.
     len: usize,
 }
 
@@ -96,8 +96,8 @@ impl<D: BidiData + Drop> Document<D> {
         Ok(copy)
     }
 
-    /// The matches of a query from `start` on, with `other` in place of each; None if the whole text would then exceed 16,777,216
-    /// bytes; then no text is made.
+    /// The matches of a query from `start` on, with `other` in place of each; None, before any text is made, if the whole text
+    /// would exceed 16,777,216 bytes.
     pub fn swap(
         &self,
         reading: Reading,

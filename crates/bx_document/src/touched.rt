@@ -64,7 +64,7 @@ fn touched<D: BidiData>(
     Ok((first, characters))
 }
 
-/// The first place at or after an offset of a text of its own, `characters`, which is laid out with `view`'s width and base
+/// The first place at or after an offset of the text `characters`, which is laid out by itself with `view`'s width and base
 /// direction. The offset counts the bytes of this text.
 fn place_in<D: BidiData>(
     alloc: Global,
@@ -115,7 +115,7 @@ pub(crate) fn place_inside<D: BidiData>(
     Ok(first + place)
 }
 
-/// The last place at or before an offset of a text of its own, `characters`, which is laid out with `view`'s width and base
+/// The last place at or before an offset of the text `characters`, which is laid out by itself with `view`'s width and base
 /// direction. The offset counts the bytes of this text.
 fn last_place_in<D: BidiData>(
     alloc: Global,

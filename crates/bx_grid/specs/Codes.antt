@@ -4,6 +4,7 @@ use Rattle.std.specs.Prelude.{ℕ, ◌+◌, ◌*◌, ◌/◌, ◌%◌, ◌==◌,
 use Rattle.std.specs.List.{list_all}
 use Rattle.bx_grid.specs.Columns.{Col, Unknown, Glyph}
 
+-- the number fits one byte
 abbrev pub is_byte : ℕ → Bool
 is_byte b = nat_lt b 256
 
@@ -38,10 +39,11 @@ code_of (Glyph text columns offset negative) =
 abbrev pub blank_code : ℕ
 blank_code = code_in (packed (0x20 ∷ [])) 1 0 false
 
+-- the code of each column
 abbrev pub codes_of : List Col → List ℕ
 codes_of columns = map code_of columns
 
--- the number of columns of the glyph, from the code of one of them
+-- the number of columns of a glyph, from the code of one of its columns
 abbrev pub columns_in : ℕ → ℕ
 columns_in code = (code / 8) % 4
 

@@ -7,8 +7,8 @@ use Rattle.unicode_width.specs.Width.{str_width}
 use Rattle.std.specs.Prelude.{◌≡◌, replicate, ℕ, zero, suc, chars, ◌+◌, ◌-◌, ◌*◌, nat_lt, if◌then◌else◌, Bool, true, false, ◌&&◌, ◌==◌, not, List, [], ◌∷◌}
 use Rattle.std.specs.Prelude.{◌++◌, length, map, take, drop}
 
--- one column of a glyph: the glyph's text, its number of columns, the index of this one from 0 (`offset`), and whether the
--- glyph is negative
+-- What a column shows: `Unknown`, only in the model of a terminal, or one column of a glyph, by the glyph's text, its number of
+-- columns, the index of this one from 0 (`offset`), and whether the glyph is negative.
 pub data Col : Type 0 where
   Unknown : Col
   Glyph : (text : List ℕ) (columns offset : ℕ) (negative : Bool) → Col
@@ -26,31 +26,31 @@ abbrev pub columns_before : Col → ℕ
 columns_before Unknown = 0
 columns_before (Glyph text columns offset negative) = offset
 
--- the columns of a row before those that are put: a glyph that reaches into these becomes unknown
+-- the columns of a row before those that are put: a glyph that reaches into the put ones becomes unknown
 abbrev pub cut_before : List Col → List Col
 cut_before [] = []
 cut_before (x ∷ xs) = (if nat_lt (length xs) (columns_after x) then Unknown else x) ∷ cut_before xs
 
--- the columns of a row after the ones that are put, where `d` columns lie between these and the first: a glyph that begins
--- before the first becomes unknown
+-- the columns of a row after those that are put, without the first `d` of them: a glyph that begins in the put ones, or before,
+-- becomes unknown
 abbrev pub cut_after : ℕ → List Col → List Col
 cut_after d [] = []
 cut_after d (x ∷ xs) = (if nat_lt d (columns_before x) then Unknown else x) ∷ cut_after (d + 1) xs
 
--- columns replaced from index k on
+-- the columns with `new` in place of those from index `k` on
 abbrev pub paste : List Col → ℕ → List Col → List Col
 paste columns k new = take k columns ++ new ++ drop (k + length new) columns
 
--- count columns from index k on are blanks
+-- `count` columns from index `k` on are blanks
 abbrev pub AreBlank : ℕ → ℕ → List Col → Type 0
 AreBlank k count columns = take count (drop k columns) ≡ replicate count blank
 
--- the two lists agree except in `count` columns from index k on
+-- the two lists agree except in `count` columns from index `k` on
 pub record AreSameAround (k count : ℕ) (old new : List Col) : Type 0 where
   pub before : take k new ≡ take k old
   pub after : drop (k + count) new ≡ drop (k + count) old
 
--- a row with columns put from index k on
+-- a row with the columns `new` put from index `k` on
 abbrev pub put_in_row : List Col → ℕ → List Col → List Col
 put_in_row row k new = cut_before (take k row) ++ new ++ cut_after 0 (drop (k + length new) row)
 
@@ -65,6 +65,7 @@ abbrev pub is_blank : Col → Bool
 is_blank Unknown = false
 is_blank (Glyph text columns offset negative) = is_only 0x20 text && (columns == 1) && (offset == 0) && not negative
 
+-- both are true, or both are false
 abbrev pub bool_eq : Bool → Bool → Bool
 bool_eq true b = b
 bool_eq false b = not b
@@ -95,7 +96,7 @@ glyph_columns_from text columns negative offset (suc count) =
 abbrev pub glyph_columns : List ℕ → ℕ → Bool → List Col
 glyph_columns text columns negative = glyph_columns_from text columns negative 0 columns
 
--- one glyph for each character
+-- one glyph of one column for each byte of a run, all in this rendition
 abbrev pub plain_columns : Bool → List ℕ → List Col
 plain_columns negative run = map (λ b. Glyph (b ∷ []) 1 0 negative) run
 

@@ -1,5 +1,5 @@
--- The effects of reading on a terminal's columns: each glyph that it puts, and each erasure. `bx_paint` says by them what a
--- painting sends.
+-- The effects of reading on the columns of a terminal `t`: each glyph that it puts, and each erasure. `bx_paint` says by them
+-- what a painting sends. A position `p` is a row and a column, from 0.
 use Rattle.std.specs.Prelude.{ℕ, drop, ◌+◌, ◌*◌, Bool, true, false, ◌&&◌, nat_le, ◌==◌, List, [], ◌∷◌, ◌++◌, length, Option, Some, None, if◌then◌else◌}
 use Rattle.bx_grid.specs.Columns.{Col, Unknown, Glyph, run_columns}
 use Rattle.bx_grid.specs.Tokens.{fate, command}
@@ -10,7 +10,7 @@ use Rattle.bx_bytes.specs.declared.fate.Fate.TheVariants.{Waits, Ends, Breaks}
 use Rattle.bx_grid.specs.declared.command.Command.{Command}
 use Rattle.bx_grid.specs.declared.command.Command.TheVariants.{Move, Clear, Erase, Render, Other}
 
--- indices count columns, row by row, from 0
+-- what reading makes of the columns; indices count them row by row, from 0
 pub data Effect : Type 0 where
   -- a glyph, from an index on
   Puts : (index : ℕ) (text : List ℕ) (negative : Bool) → Effect
@@ -28,7 +28,7 @@ glyphs_at index (Unknown ∷ cs) = glyphs_at (index + 1) cs
 glyphs_at index (Glyph text columns offset negative ∷ cs) =
     if offset == 0 then Puts index text negative ∷ glyphs_at (index + 1) cs else glyphs_at (index + 1) cs
 
--- glyphs put from a row and a column on; where they do not fit in the row, all is unknown
+-- glyphs with the columns `new`, put from a position on; where they do not fit in the row, all is unknown
 abbrev pub put_effects : Terminal → ℕ × ℕ → List Col → List Effect
 put_effects t p new =
     if nat_le 1 (length new) && nat_le (p.1 + length new) t.width then glyphs_at (p.0 * t.width + p.1) new else Forgets ∷ []
@@ -44,7 +44,8 @@ run_effects t None negative (b ∷ bs) = Forgets ∷ []
 abbrev pub pending_effects : Terminal → List Effect
 pending_effects t = run_effects t t.position t.negative t.run
 
--- what a command does; each forgets all where the terminal's state becomes unknown (`Terminal.antt`)
+-- an erasure from this position to the row's end, in this rendition; like each command it forgets all where the terminal's state
+-- becomes unknown (`Terminal.antt`)
 abbrev pub erase_effects : Terminal → Option (ℕ × ℕ) → Option Bool → List Effect
 erase_effects t (Some p) (Some false) = Erases (p.0 * t.width + p.1) ∷ []
 erase_effects t (Some p) (Some true) = Forgets ∷ []
@@ -62,6 +63,7 @@ abbrev pub move_effects : Terminal → ℕ → ℕ → List Effect
 move_effects t line column =
     if nat_le 1 line && nat_le line t.height && nat_le 1 column && nat_le column t.width then [] else Forgets ∷ []
 
+-- the effects of a command
 abbrev pub command_effects : Terminal → Command → List Effect
 command_effects t (Move line column) = move_effects t line column
 command_effects t Clear = clear_effects t.negative
@@ -76,16 +78,17 @@ token_effects t (b ∷ rest) =
     if b == 0x1B then command_effects t (command (drop 1 rest))
     else if are_printable (b ∷ rest) then [] else Forgets ∷ []
 
--- a byte where no token is half read
+-- a byte other than ESC where no token is half read, by the fate of the byte alone
 abbrev pub first_byte_effects_as : Terminal → ℕ → Fate → List Effect
 first_byte_effects_as t b Waits = []
 first_byte_effects_as t b Ends = token_effects t (b ∷ [])
 first_byte_effects_as t b Breaks = Forgets ∷ []
 
+-- a byte where no token is half read; an ESC (0x1B) ends a run
 abbrev pub first_byte_effects : Terminal → ℕ → List Effect
 first_byte_effects t b = if b == 0x1B then pending_effects t else first_byte_effects_as t b (fate (b ∷ []))
 
--- a byte after a half-read token
+-- a byte after a half-read token, by the fate of the token with it
 abbrev pub next_byte_effects : Terminal → ℕ → Fate → List Effect
 next_byte_effects t b Waits = []
 next_byte_effects t b Ends = token_effects t (t.half_read ++ b ∷ [])

@@ -13,7 +13,7 @@ pub record IsGlyph (g : WholeGlyph) : Type 0 where
   pub utf8 : IsUtf8 g.text
   pub one : is_one_glyph g.text ≡ true
 
--- all its columns
+-- all columns of a glyph
 abbrev pub whole_columns : WholeGlyph → List Col
 whole_columns g = run_columns g.negative g.text
 
@@ -28,7 +28,7 @@ pub record AreWhole (columns : List Col) : Type 0 where
   pub each : All IsGlyph glyphs
   pub are : all_columns glyphs ≡ columns
 
--- each of these rows of this width is whole glyphs
+-- each of these rows, of `width` columns, consists of whole glyphs
 abbrev pub AreWholeRows : ℕ → ℕ → List Col → Type 0
 AreWholeRows zero width columns = Unit {0}
 AreWholeRows (suc rows) width columns = AreWhole (take width columns) × AreWholeRows rows width (drop width columns)
@@ -43,7 +43,7 @@ pub record StandsWhole (text : List ℕ) (count offset : ℕ) (negative : Bool) 
   pub begins : offset ≤ index
   pub all : take count (drop (index - offset) columns) ≡ run_columns negative text
 
--- a column with its glyph stands whole at an index of the columns
+-- the glyph of a column that is at `index` stands whole in the columns; an unknown column has no glyph
 abbrev pub IsWholeAt : Col → ℕ → List Col → Type 0
 IsWholeAt Unknown index columns = ⊥
 IsWholeAt (Glyph text count offset negative) index columns = StandsWhole text count offset negative index columns
@@ -53,7 +53,7 @@ abbrev pub ShareWholeGlyphs : List Col → List Col → Type 0
 ShareWholeGlyphs old new = (i : ℕ) → i < length old → slice_index_or old i Unknown ≡ slice_index_or new i Unknown
     → IsWholeAt (slice_index_or old i Unknown) i old × IsWholeAt (slice_index_or old i Unknown) i new
 
--- another index lies in the glyph of this column, which is at an index
+-- the index `other` lies in the glyph of this column, which is at `index`
 abbrev pub IsOfGlyph : Col → ℕ → ℕ → Type 0
 IsOfGlyph Unknown index other = ⊥
 IsOfGlyph (Glyph text count offset negative) index other = (index ≤ other + offset) × (other + offset < index + count)

@@ -1,4 +1,5 @@
--- The terminal: its state, the state after a token, and the state after reading bytes.
+-- The terminal `t`: its state, the state after a token, and the state after reading bytes. A position `p` is a row and a column,
+-- from 0.
 use Rattle.std.specs.Prelude.{ℕ, ◌+◌, ◌-◌, ◌*◌, Bool, true, false, ◌&&◌, nat_le, nat_lt, ◌==◌, List, [], ◌∷◌, ◌++◌, length, drop, replicate, Option, Some, None}
 use Rattle.std.specs.Prelude.{if◌then◌else◌}
 use Rattle.bx_bytes.specs.Utf8.{are_printable}
@@ -60,10 +61,11 @@ after_erase t (Some p) (Some true) = all_unknown t
 after_erase t (Some p) None = all_unknown t
 after_erase t None negative = all_unknown t
 
--- CSI m
+-- CSI m: from now on in this rendition
 abbrev pub after_rendition : Terminal → Bool → Terminal
 after_rendition t negative = record t { negative = Some negative }
 
+-- after any command of a sequence
 abbrev pub after_command : Terminal → Command → Terminal
 after_command t (Move line column) = after_move t line column
 after_command t Clear = after_clear t t.negative
@@ -73,11 +75,11 @@ after_command t Other = all_unknown t
 
 -- ---- printable runs
 
--- a cell in a row of this width; past its end it is unknown
+-- the position at a column of a row of this width; past the row's end it is unknown
 abbrev pub within : ℕ → ℕ → ℕ → Option (ℕ × ℕ)
 within width row column = if nat_lt column width then Some (row, column) else None
 
--- the terminal with glyphs put from a position on
+-- the terminal with glyphs, of the columns `new`, put from a position on; where they do not fit in the row, all is unknown
 abbrev pub glyphs_put : Terminal → ℕ × ℕ → List Col → Terminal
 glyphs_put t p new =
     if nat_le 1 (length new) && nat_le (p.1 + length new) t.width
@@ -116,7 +118,8 @@ after_first_byte_as t b Breaks = all_unknown t
 abbrev pub after_first_byte : Terminal → ℕ → Terminal
 after_first_byte t b = if b == 0x1B then record (run_ended t) { half_read = b ∷ [] } else after_first_byte_as t b (fate (b ∷ []))
 
--- a byte after a half-read token; if it breaks the token, the state becomes unknown, and the byte is read as a first one
+-- a byte after a half-read token, by the fate of the token with it; if it breaks the token, the state becomes unknown, and the
+-- byte is read as a first one
 abbrev pub after_next_byte : Terminal → ℕ → Fate → Terminal
 after_next_byte t b Waits = record t { half_read = t.half_read ++ b ∷ [] }
 after_next_byte t b Ends = token_read t (t.half_read ++ b ∷ [])

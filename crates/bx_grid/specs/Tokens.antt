@@ -28,6 +28,7 @@ abbrev pub after_params : List ℕ → List ℕ
 after_params [] = []
 after_params (b ∷ rest) = if is_param b then after_params rest else b ∷ rest
 
+-- the bytes from the first that is not an intermediate byte on
 abbrev pub after_intermediates : List ℕ → List ℕ
 after_intermediates [] = []
 after_intermediates (b ∷ rest) = if is_intermediate b then after_intermediates rest else b ∷ rest
@@ -49,11 +50,12 @@ abbrev pub fate : List ℕ → Fate
 fate [] = Waits
 fate (b ∷ rest) = if b == 0x1B then escape_fate rest else fate_in characters (b ∷ rest)
 
--- a number, 1 where it is absent; None where a byte is no digit
+-- a decimal number by its digits, 1 where there are none (ECMA-48's default for CUP); None where a byte is no digit
 abbrev pub number : List ℕ → Option ℕ
 number [] = Some 1
 number (d ∷ ds) = if all_ascii_digits (d ∷ ds) then Some (digits_value 10 (d ∷ ds)) else None
 
+-- the bytes before the first semicolon, or all; and those after it, or none
 abbrev pub before_semicolon : List ℕ → List ℕ
 before_semicolon [] = []
 before_semicolon (b ∷ bs) = if b == 0x3B then [] else b ∷ before_semicolon bs
@@ -62,7 +64,7 @@ abbrev pub after_semicolon : List ℕ → List ℕ
 after_semicolon [] = []
 after_semicolon (b ∷ bs) = if b == 0x3B then bs else after_semicolon bs
 
--- a move to a line and a column, counted from 1
+-- a move to a line and a column, counted from 1, if both are numbers
 abbrev pub move_to : Option ℕ → Option ℕ → Command
 move_to (Some line) (Some column) = Move line column
 move_to (Some line) None = Other
@@ -79,7 +81,8 @@ abbrev pub is_absent_or_zero : List ℕ → Bool
 is_absent_or_zero [] = true
 is_absent_or_zero (b ∷ bs) = is_only 0x30 (b ∷ bs)
 
--- H (CUP) with two numbers; J (ED) with 2; K (EL) with none or 0; m (SGR) with none, 0 or 7
+-- The command of parameter bytes and a final byte: H (CUP) with two numbers; J (ED) with 2; K (EL) with none or 0; m (SGR) with
+-- none, 0 or 7. Any other is `Other`.
 abbrev pub command_of : List ℕ → ℕ → Command
 command_of ps final =
     if final == 0x48 then move_to (number (before_semicolon ps)) (number (after_semicolon ps))
@@ -91,7 +94,7 @@ command_of ps final =
     else Other)
     else Other
 
--- the command of a sequence, by its parameter bytes and those after them
+-- the command of a sequence, by its parameter bytes and those after them: `Other` if it has intermediate bytes
 abbrev pub command_at : List ℕ → List ℕ → Command
 command_at ps [] = Other
 command_at ps (b ∷ []) = command_of ps b

@@ -42,14 +42,14 @@ impl<'g> BorrowedRow<'g> {
         BorrowedRow { columns, codes }
     }
 
-    /// Its columns, from the left.
+    /// The row's columns, from the left.
     pub fn columns(&self) -> &'g [Column]
         ensures { all_seen result.now ≡ self.now }
     {
         self.columns
     }
 
-    /// Its first `count` columns, or all if it has fewer.
+    /// The row's first `count` columns, or all if it has fewer.
     pub fn front(&self, count: usize) -> BorrowedRow<'g>
         ensures { result ≡ take count self.now }
     {
@@ -57,7 +57,7 @@ impl<'g> BorrowedRow<'g> {
         BorrowedRow::new(&self.columns[..end], &self.codes[..end])
     }
 
-    /// Its columns from the index `from` on.
+    /// The row's columns from the index `from`, counted from 0, on.
     pub fn rest(&self, from: usize) -> BorrowedRow<'g>
         requires { from ≤ length self.now }
         ensures { result ≡ drop from self.now }
@@ -65,8 +65,8 @@ impl<'g> BorrowedRow<'g> {
         BorrowedRow::new(&self.columns[from..], &self.codes[from..])
     }
 
-    /// Whether codes alone prove that both rows have the same glyph here. True where a shared column begins no glyph; false
-    /// where the glyph has more than two columns or no code of its own.
+    /// Whether codes alone prove that both rows have the same glyph at an index. True where both have the same column of a glyph
+    /// that began before; false where the glyph has more than two columns or no code of its own.
     pub fn begins_alike(&self, other: &BorrowedRow<'_>, index: usize) -> bool
         requires inside { index < length self.now }
         requires also { index < length other.now }

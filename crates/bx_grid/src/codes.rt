@@ -124,7 +124,7 @@ pub fn is_same_code(code: u64, other: u64) -> bool
     code == other && code < NO_CODE
 }
 
-/// Number of columns of the glyph, from the code of one of them.
+/// Number of columns of a glyph, from the code of one of its columns.
 pub fn columns_in(code: u64) -> u64
     ensures { result ≡ columns_in code }
 {

@@ -22,7 +22,7 @@ pub enum Column {
         columns: u16,
         /// The index of this column in the glyph, from 0.
         offset: u16,
-        /// Whether the glyph is in reverse video.
+        /// Whether the glyph is in negative image.
         negative: bool,
     },
 }

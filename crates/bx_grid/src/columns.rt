@@ -111,7 +111,7 @@ pub(crate) fn are_blank(columns: &[Column]) -> bool
     all_blank(columns)
 }
 
-/// Whether all columns are blanks, as a loop tells.
+/// Whether all columns are blanks: the loop of `are_blank`.
 fn all_blank(columns: &[Column]) -> bool
     ensures { result ≡ list_all is_blank (all_seen columns.now) }
 {
@@ -123,7 +123,7 @@ fn all_blank(columns: &[Column]) -> bool
     true
 }
 
-/// Puts a run over blanks. If memory runs out, they are blanks again.
+/// Puts a run over blanks, from the index `from` on. If memory runs out, its columns are blanks again.
 pub(crate) fn put_over_blanks(
     alloc: Global,
     columns: &mut [Column],

@@ -8,9 +8,9 @@ ghost use Rattle.bx_grid.specs.Columns.{run_width};
 pub struct GlyphRun<'t> {
     /// Characters from SPACE to TILDE, a glyph each, or the text of one glyph.
     pub text: &'t str,
-    /// In columns.
+    /// The number of columns.
     pub width: u16,
-    /// Whether it is in reverse video.
+    /// Whether it is in negative image.
     pub negative: bool,
     pub ghost measured: { width ≡ run_width text.now },
 }

@@ -186,7 +186,7 @@ impl GlyphText {
         self.as_bytes() == other.as_bytes()
     }
 
-    /// Whether it consists of this byte alone.
+    /// Whether the text is this byte alone.
     pub(crate) fn is_byte(&self, byte: u8) -> bool
         ensures { result ≡ is_only byte self.now }
     {
@@ -196,7 +196,7 @@ impl GlyphText {
         }
     }
 
-    /// Whether it is one character from SPACE to TILDE.
+    /// Whether the text is one character from SPACE to TILDE.
     pub fn is_ascii_glyph(&self) -> bool
         ensures { result ≡ is_ascii_glyph self.now }
     {
@@ -206,7 +206,7 @@ impl GlyphText {
         }
     }
 
-    /// A number that identifies a short text; none for any other text.
+    /// A number that identifies a text of at most seven bytes; None for a longer one.
     #[inline(always)]
     pub(crate) fn packed(&self) -> Option<u64>
         ensures { MatchOption result (is_short self.now ≡ false) (λ n. (n ≡ packed self.now) × (is_short self.now ≡ true) × (n < 2 ^ 57)) }
@@ -218,7 +218,7 @@ impl GlyphText {
     }
 }
 
-/// A number that identifies at most seven bytes.
+/// A number that identifies at most seven bytes: the first is its lowest byte, and a 1 above the last marks their count.
 #[inline(always)]
 fn packed_bytes(bytes: &[u8]) -> u64
     requires { length bytes.now ≤ 7 }

@@ -91,7 +91,7 @@ fn copy_short(columns: &mut [Column], from: usize, others: &[Column], at: usize)
     others.len()
 }
 
-/// Copies columns over others, from the index `from` on. If memory runs out, some of them are written, and nothing else.
+/// Copies `others` over the columns from the index `from` on. If memory runs out, some of these are written, and nothing else.
 fn copy_over(
     alloc: Global,
     columns: &mut [Column],
@@ -110,7 +110,7 @@ fn copy_over(
     Ok(())
 }
 
-/// Copies columns over others, from the index `from` on. If memory runs out, all of them are blanks.
+/// Copies `others` over the columns from the index `from` on. If memory runs out, all of these are blanks.
 fn put_copies(
     alloc: Global,
     columns: &mut [Column],
@@ -128,7 +128,7 @@ fn put_copies(
     copied
 }
 
-/// Copies codes over others, from the index `from` on.
+/// Copies the codes `others` over those from the index `from` on.
 fn put_codes(codes: &mut [u64], from: usize, others: &[u64])
     requires { from + length others.now ≤ length codes.old }
     ensures { codes.new ≡ take from codes.old ++ others.now ++ drop (from + length others.now) codes.old }

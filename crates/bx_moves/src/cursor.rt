@@ -13,7 +13,7 @@ use crate::word_moves::{step_word, word_towards};
 use bx_ucd::BidiData;
 use bx_view::{Move, Source, View, ViewError};
 
-/// The place that a move leads to from `place`.
+/// The place that the move `m` leads to from `place`.
 fn led_by<D: BidiData>(
     view: &mut View,
     source: &Source<'_, D>,
@@ -62,7 +62,7 @@ fn led_by<D: BidiData>(
     }
 }
 
-/// The place that a move leads to from `place`; `place` itself if there is nowhere to go.
+/// The place that the move `m` leads to from `place`; `place` itself if there is nowhere to go.
 pub fn moved<D: BidiData>(
     view: &mut View,
     source: &Source<'_, D>,

@@ -12,7 +12,7 @@ use bx_paragraph::Visual;
 use bx_ucd::BidiData;
 use bx_view::{Logical, RowAt, Source, View, ViewError, current_span};
 
-/// The way in text order that leads toward a side: forward if the paragraph is read toward it.
+/// The way in text order that leads toward a side: forward if the paragraph is read toward it (`is_read_on`), else back.
 fn word_way(is_read_on: bool) -> Logical
     ensures { result ≡ word_way is_read_on }
 {

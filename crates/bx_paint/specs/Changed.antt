@@ -6,7 +6,8 @@ use Rattle.bx_grid.specs.Effects.{Effect, Puts, Erases}
 use Rattle.bx_grid.specs.Picture.{PictureState}
 use Rattle.bx_paint.specs.Painting.{before_tail, leading_blanks, is_sent}
 
--- the glyphs before a row's tail that differ in some column; the first column has this index, counted over all rows
+-- The glyphs before a row's tail that differ in some column from the `old` columns in their place. The first column has the
+-- index `index`, counted over all rows from 0.
 abbrev pub glyphs_changed : ℕ → List Col → List Col → List Effect
 glyphs_changed index old [] = []
 glyphs_changed index old (Unknown ∷ cs) = glyphs_changed (index + 1) (drop 1 old) cs
@@ -15,8 +16,8 @@ glyphs_changed index old (Glyph text columns offset negative ∷ cs) =
     then Puts index text negative ∷ glyphs_changed (index + 1) (drop 1 old) cs
     else glyphs_changed (index + 1) (drop 1 old) cs
 
--- the end of a row, where the new columns are blanks, from the first old column that is not blank on; `index` is that of the
--- tail's first column
+-- the erasure of a row's tail, where the new columns are blanks, from the first old column that is not blank on; none if all old
+-- ones are blank. `index` is that of the tail's first column.
 abbrev pub tail_changed : ℕ → List Col → List Effect
 tail_changed index old = if list_all is_blank old then [] else Erases (index + leading_blanks old) ∷ []
 

@@ -5,4 +5,5 @@ use Rattle.std.specs.Prelude.{ℕ, List}
 pub record OutputState : Type 0 where
   -- the bytes before the painting, which stay
   pub before : List ℕ
+  -- the bytes of the painting so far
   pub painting : List ℕ

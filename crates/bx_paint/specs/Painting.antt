@@ -1,4 +1,5 @@
--- The bytes that paint a picture: all of it, or its changes from the one before.
+-- The bytes that paint a picture: all of it, or its changes from the one before. Rows and columns count from 0, `old` are the
+-- columns that the terminal shows before, a rendition is true if it is negative.
 use Rattle.std.specs.Prelude.{ℕ, zero, suc, ◌+◌, ◌*◌, Bool, true, false, not, ◌&&◌, ◌==◌, List, [], ◌∷◌, ◌++◌, length, take, drop, replicate, if◌then◌else◌}
 use Rattle.std.specs.Prelude.{decimal}
 use Rattle.std.specs.List.{list_all}
@@ -11,18 +12,18 @@ use Rattle.bx_grid.specs.Picture.{PictureState}
 abbrev pub move_bytes : ℕ → ℕ → List ℕ
 move_bytes row column = 0x1B ∷ 0x5B ∷ ((decimal (row + 1) ++ 0x3B ∷ decimal (column + 1)) ++ 0x48 ∷ [])
 
--- SGR, `\e[7m` or `\e[0m`
+-- SGR, `\e[7m` for negative, `\e[0m` for normal
 abbrev pub render_bytes : Bool → List ℕ
 render_bytes negative = 0x1B ∷ 0x5B ∷ (if negative then 0x37 else 0x30) ∷ 0x6D ∷ []
 
--- SGR, if the rendition must change from one to the other; true is negative
+-- SGR, if the rendition must change from the first to the second
 abbrev pub render_change : Bool → Bool → List ℕ
 render_change true true = []
 render_change true false = render_bytes false
 render_change false true = render_bytes true
 render_change false false = []
 
--- EL, `\e[0K`
+-- EL, `\e[0K`: from the cursor to the row's end
 abbrev pub erase_bytes : List ℕ
 erase_bytes = 0x1B ∷ 0x5B ∷ 0x30 ∷ 0x4B ∷ []
 
@@ -33,7 +34,7 @@ pub record Sent : Type 0 where
   pub bytes : List ℕ
   pub negative : Bool
 
--- bytes before the bytes of the rest
+-- these bytes, and then those of `s`
 abbrev pub then_sent : List ℕ → Sent → Sent
 then_sent bytes s = record { bytes = bytes ++ s.bytes; negative = s.negative }
 
@@ -54,8 +55,9 @@ is_sent old (Unknown ∷ cs) = false
 is_sent old (Glyph text columns offset negative ∷ cs) =
     (offset == 0) && not (are_equal (take columns old) (take columns (Glyph text columns offset negative ∷ cs)))
 
--- the bytes of a glyph. near says that a character from SPACE to TILDE was just sent before it, so that another such
--- character needs no move; any other glyph gets one, since a run with other characters is one glyph.
+-- The bytes of a glyph. `near` says that a character from SPACE to TILDE was just sent for the column before, so that another
+-- such character needs no move; any other glyph gets one, since a run with other characters is one glyph. `negative` is the
+-- rendition before.
 abbrev pub glyph_bytes : ℕ → ℕ → Bool → Bool → List ℕ → Bool → List ℕ
 glyph_bytes row column near negative text glyph_negative =
     (if near && is_ascii_glyph text then [] else move_bytes row column) ++ (render_change negative glyph_negative ++ text)
@@ -70,7 +72,7 @@ pub record Step : Type 0 where
 abbrev pub nothing_sent : Bool → Step
 nothing_sent negative = record { bytes = []; near = false; negative = negative }
 
--- the bytes sent for the first of these columns of a row
+-- the bytes sent for column `column` of a row, the first of these new columns; `old` are the old ones from it on
 abbrev pub column_sent : ℕ → ℕ → Bool → Bool → List Col → List Col → Step
 column_sent row column near negative old [] = nothing_sent negative
 column_sent row column near negative old (Unknown ∷ cs) = nothing_sent negative
@@ -79,14 +81,15 @@ column_sent row column near negative old (Glyph text columns offset glyph_negati
     then record { bytes = glyph_bytes row column near negative text glyph_negative; near = is_ascii_glyph text; negative = glyph_negative }
     else nothing_sent negative
 
--- the bytes sent for the columns of a row before its tail, from one on
+-- the bytes sent for the columns of a row before its tail, from column `column` on
 abbrev pub columns_sent : ℕ → ℕ → Bool → Bool → List Col → List Col → Sent
 columns_sent row column near negative old [] = record { bytes = []; negative = negative }
 columns_sent row column near negative old (c ∷ cs) =
     let s = column_sent row column near negative old (c ∷ cs) in
     then_sent s.bytes (columns_sent row (column + 1) s.near s.negative (drop 1 old) cs)
 
--- the bytes sent for the row's tail where these columns were: they erase it from the first that differs
+-- the bytes sent for a row's tail in place of these old columns, of which the first is `column`: they erase from the first one
+-- that is not blank; no bytes if all are blank
 abbrev pub tail_sent : ℕ → ℕ → Bool → List Col → Sent
 tail_sent row column negative old =
     if list_all is_blank old
@@ -97,7 +100,7 @@ tail_sent row column negative old =
 abbrev pub tail_after : ℕ → ℕ → List Col → Sent → Sent
 tail_after row column old s = then_sent s.bytes (tail_sent row column s.negative old)
 
--- the bytes sent for a row, where its old columns were
+-- the bytes sent for a row in place of its old columns
 abbrev pub row_sent : ℕ → Bool → List Col → List Col → Sent
 row_sent row negative old new =
     let front = before_tail new in
@@ -116,15 +119,15 @@ rows_sent (suc count) row width negative old new =
     rows_after (row_sent row negative (take width old) (take width new))
     (λ after. rows_sent count (row + 1) width after (drop width old) (drop width new))
 
--- the bytes sent for a picture where these columns were
+-- the bytes sent for a picture in place of these old columns
 abbrev pub columns_changed : List Col → PictureState → Sent
 columns_changed old p = rows_sent p.height 0 p.width false old p.columns
 
--- normal rendition, and the cursor
+-- what was sent, then normal rendition, if it is not so already, and a move to the cursor
 abbrev pub ended : PictureState → Sent → List ℕ
 ended p s = s.bytes ++ (render_change s.negative false ++ move_bytes p.row p.column)
 
--- the cursors of both pictures are at one place
+-- the cursors of both pictures are in the same cell
 abbrev pub is_at_cursor_of : PictureState → PictureState → Bool
 is_at_cursor_of p q = (p.row == q.row) && (p.column == q.column)
 

@@ -1,6 +1,6 @@
 //! Writes the bytes of a painting: what of two grids differs. Rows and columns count from 0, and are below 65535, so that
-//! the numbers of a move, counted from 1, fit in 16 bits. `negative` is the rendition before; a returned bool is the
-//! rendition after.
+//! the numbers of a move, counted from 1, fit in 16 bits. `negative` and `pen` are the state before; a returned bool is the
+//! rendition after, a returned `Pen` the state after.
 
 ghost use Rattle.std.specs.Prelude.{◌≡◌, ℕ, ◌+◌, ◌*◌, ◌<◌, ◌≤◌, ◌^◌, [], ◌∷◌, ◌++◌, length, true};
 ghost use Rattle.std.specs.Prelude.{false, IfOk, OnOk, OnErr, string_bytes, take, drop, replicate};
@@ -49,7 +49,7 @@ struct Pen {
     negative: bool,
 }
 
-/// Sends a glyph, of this rendition.
+/// Sends a glyph whose rendition is `negative`.
 fn write_glyph(
     out: &mut Output,
     row: u16,
@@ -69,7 +69,7 @@ fn write_glyph(
     out.append(text.as_bytes())
 }
 
-/// Whether the first `count` columns of both are the same, or all if there are fewer.
+/// Whether the first `count` columns of both are the same, or all if there are fewer. Codes alone often tell that they differ.
 fn is_same_front(old: &BorrowedRow<'_>, new: &BorrowedRow<'_>, count: u16) -> bool
     ensures { result ≡ are_equal (take count old.now) (take count new.now) }
 {
@@ -214,7 +214,8 @@ fn blanks_len(columns: &[Column]) -> usize
     len
 }
 
-/// Erases a row's tail, which begins at `column`, from the first of its old columns that is not blank.
+/// Erases a row's tail, which begins at `column`, from the first of its old columns that is not blank; sends nothing if all are
+/// blank.
 fn write_tail(
     out: &mut Output,
     row: u16,

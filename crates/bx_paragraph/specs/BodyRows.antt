@@ -1,4 +1,5 @@
--- The rows of a paragraph's body in a window of `w` columns, numbered from 0. Offsets count bytes of the body.
+-- The rows of a paragraph's body in a window of `w` columns, numbered from 0. Offsets count bytes of the body. `says` is what the
+-- tables say.
 use Rattle.std.specs.Prelude.{ℕ, ◌-◌, nat_le, Bool, true, false, List, [], ◌∷◌, ◌++◌, map, length, count_by, slice_index_or, Option, chars}
 use Rattle.bx_ucd.specs.Data.{Data}
 use Rattle.bx_terms.specs.declared.base.Base.{Base}
@@ -49,7 +50,7 @@ first_of r = first_offset r.units
 abbrev pub offsets_of : BodyRow → List ℕ
 offsets_of r = map (λ u. u.start) r.units ++ elim (r.is_last) [ true ↦ length r.body ∷ [] | false ↦ [] ]
 
--- the last offset, or 0
+-- the last of some offsets; 0 if there is none
 abbrev pub last_offset : List ℕ → ℕ
 last_offset [] = 0
 last_offset (p ∷ []) = p

@@ -1,5 +1,6 @@
 -- Edits of a body cut off by two strong characters (L, R or AL), one before and one after: the levels of all characters outside the two
--- stay, so only the text between them is resolved again. A bracket is a character that the tables list as one.
+-- stay, so only the text between them is resolved again. A bracket is a character that the tables list as one. `says` is what the
+-- tables say, `t` an edit in parts (`TextEdit`).
 use Rattle.std.specs.Prelude.{◌≡◌, ◌⊎◌, ◌<◌, ◌+◌, ◌&&◌, ℕ, Bool, true, not, List, ◌++◌, chars, drop, length, slice_index_or, take}
 use Rattle.std.specs.List.{list_all}
 use Rattle.std.specs.Str.{IsUtf8}
@@ -48,11 +49,11 @@ is_bare says direction c = is_of_direction direction (says.class c) && not (is_l
 abbrev pub are_bare : Data → Direction → List ℕ → Bool
 are_bare says direction text = list_all (is_bare says direction) (chars text)
 
--- no character of a text is a formatting character
+-- no character of a text is a formatting character or of class BN
 abbrev pub are_unformatted : Data → List ℕ → Bool
 are_unformatted says text = list_all (λ c. is_of_direction Either (says.class c)) (chars text)
 
--- an edit between the texts `left` and `right`: no character of the four texts is a bracket or against the direction
+-- an edit between the texts `left` and `right`: each character of these, of the removed and of the inserted text is bare
 pub record IsBareEdit (says : Data) (direction : Direction) (t : TextEdit) (left right : List ℕ) : Type 0 where
   pub left_is : are_bare says direction left ≡ true
   pub removed_is : are_bare says direction t.removed.now ≡ true
@@ -74,7 +75,7 @@ abbrev pub IsCutOffEdit : Data → TextEdit → Strong → Strong → Type 0
 IsCutOffEdit says t x y = IsBareEdit says (direction_between x.class y.class) t (drop x.stop t.near.now) (take y.start t.behind.now)
     ⊎ (IsBareEdit says Either t (drop x.stop t.near.now) (take y.start t.behind.now) × IsOpenEdit says t x y)
 
--- the edit's characters
+-- the edit as `bx_resolve` takes it, in characters
 abbrev pub edit_of : TextEdit → Edit
 edit_of t = record {
   before = chars t.front.now ++ chars t.near.now;
@@ -83,7 +84,7 @@ edit_of t = record {
   behind = chars t.behind.now;
 }
 
--- an edit that changes the body `old` into `new`
+-- the edit `t` changes the body `old` into `new`, and `t.ahead` counts the characters of its `front`
 pub record IsEditOf (old new : List ℕ) (t : TextEdit) : Type 0 where
   pub front_is : IsUtf8 t.front.now
   pub near_is : IsUtf8 t.near.now
@@ -93,11 +94,11 @@ pub record IsEditOf (old new : List ℕ) (t : TextEdit) : Type 0 where
   pub before : old ≡ t.front.now ++ (t.near.now ++ (t.removed.now ++ t.behind.now))
   pub after : new ≡ t.front.now ++ (t.near.now ++ (t.inserted.now ++ t.behind.now))
 
--- the characters before a row are counted
+-- the start `s` of a row counts the characters of the body before the row
 abbrev pub IsCounted : List ℕ → RowStart → Type 0
 IsCounted body s = s.chars ≡ length (chars (take s.offset body))
 
--- levels are unchanged
+-- the levels `now` are equal to `was`
 pub record AreAsBefore (was now : Levels) : Type 0 where
   pub paragraph_is : now.paragraph ≡ was.paragraph
   pub each_is : now.each.items ≡ was.each.items

@@ -1,4 +1,4 @@
--- The model of a paragraph's layout, and its rows.
+-- The model of a paragraph's layout, and its rows. `says` is what the tables say.
 use Rattle.std.specs.Prelude.{◌≡◌, ℕ, Bool, true, List, Option, IsUtf8, chars}
 use Rattle.bx_ucd.specs.Data.{Data}
 use Rattle.bx_terms.specs.Sizes.{is_side}
@@ -10,7 +10,7 @@ use Rattle.bx_rows.specs.RowStarts.{row_starts}
 use Rattle.bx_paragraph.specs.BodyRows.{BodyRow, body_rows, row_at}
 
 -- a body, the base direction, the window's columns (`w`), the paragraph level, the level of each character (`each`), the row starts, and
--- whether the body is known to have no formatting characters
+-- whether the body is known to have no formatting character and none of class BN
 pub record LayoutState : Type 0 where
   pub body : List ℕ
   pub base : Base
@@ -40,6 +40,6 @@ rows_by says l = body_rows says l.base l.w l.body
 abbrev pub row_by : Data → LayoutState → ℕ → BodyRow
 row_by says l k = row_at (rows_by says l) k
 
--- a property of the layout's rows, whatever the data
+-- the layout's rows have the property `P`, whatever the data
 abbrev pub OfRows : LayoutState → (List BodyRow → Type 0) → Type 0
 OfRows l P = (says : Data) → IsLayoutBy says l → P (rows_by says l)

@@ -1,4 +1,4 @@
--- The glyphs of a row, without the blanks that fill it.
+-- The glyphs of a row in a window of `w` columns, without the blanks that fill it. `says` is what the tables say.
 use Rattle.std.specs.Prelude.{ℕ, List}
 use Rattle.bx_ucd.specs.Data.{Data}
 use Rattle.bx_rows.specs.RowPicture.{Glyph, own_glyphs}

@@ -75,6 +75,7 @@ beside w r side offset = next_in offset (toward side (slot_offsets w r))
 abbrev pub reading_side : ℕ → Visual
 reading_side paragraph = elim (paragraph % 2) [ zero ↦ Right | suc _ ↦ Left ]
 
+-- the other side
 abbrev pub opposite : Visual → Visual
 opposite Right = Left
 opposite Left = Right
@@ -100,7 +101,7 @@ reads_on Left r = elim (r.paragraph % 2) [ zero ↦ false | suc _ ↦ true ]
 abbrev pub column_in : List Slot → ℕ → ℕ
 column_in ss offset = unwrap_or (option_map (λ s. s.column) (find (λ s. s.offset == offset) ss)) 1
 
--- the same in a row
+-- the leftmost column, from 1, of a row's slot at an offset; 1 if there is none
 abbrev pub column_of : ℕ → BodyRow → ℕ → ℕ
 column_of w r offset = column_in (row_slots w r) offset
 

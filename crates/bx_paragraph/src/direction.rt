@@ -6,7 +6,8 @@ ghost use Rattle.bx_paragraph.specs.declared.direction.Direction.TheVariants.{Ei
 
 use bx_ucd::{BidiData, Class};
 
-/// The characters that a text may have: all but formatting characters, or only those that keep a text in one direction.
+/// The characters that a text may have: all but formatting characters and those of class BN, or only those of them that keep a
+/// text in one direction.
 #[derive(Clone, Copy, PartialEq, Eq, Debug)]
 pub(crate) enum Direction {
     /// All but formatting characters and BN.
@@ -74,14 +75,14 @@ pub(crate) fn has_no_bracket<D: BidiData>(text: &str, tables: &D) -> bool
     text.chars().all(|c| is_no_bracket(c, tables))
 }
 
-/// Whether a character is not a formatting character.
+/// Whether a character is neither a formatting character nor of class BN.
 fn is_unformatted<D: BidiData>(c: char, tables: &D) -> bool
     ensures { result ≡ is_of_direction Either ((D.data tables.now).class c) }
 {
     is_of_direction(Direction::Either, tables.class(c))
 }
 
-/// Whether a text has no formatting characters.
+/// Whether a text has no formatting character and none of class BN.
 pub(crate) fn are_unformatted<D: BidiData>(text: &str, tables: &D) -> bool
     ensures { result ≡ are_unformatted (D.data tables.now) text.now }
 {

@@ -59,7 +59,8 @@ fn text_edit<'t>(
     }
 }
 
-/// Whether a body has no formatting characters. Checks each character unless that is known (`is_unformatted`).
+/// Whether a body has no formatting character and none of class BN. Checks each character unless that is known
+/// (`is_unformatted`).
 fn has_none<D: BidiData>(is_unformatted: bool, body: &str, tables: &D) -> bool
     requires { is_unformatted ≡ true → HasNoFormatting (D.data tables.now) (chars body.now) }
     ensures { result ≡ true → HasNoFormatting (D.data tables.now) (chars body.now) }
@@ -70,8 +71,8 @@ fn has_none<D: BidiData>(is_unformatted: bool, body: &str, tables: &D) -> bool
     are_unformatted(body, tables)
 }
 
-/// Updates the levels of a body for an edit, and returns whether the edited body is known to have no formatting characters.
-/// If strong characters cut off the edit, only the levels between them are resolved again.
+/// Updates the levels of a body for an edit, and returns whether the edited body is known to have no formatting character and
+/// none of class BN. If strong characters cut off the edit, only the levels between them are resolved again.
 ///
 /// Errors: `OutOfMemory`, and nothing has changed.
 fn edit_levels<D: BidiData>(

@@ -89,7 +89,7 @@ fn push_rest<D: BidiData>(
     Ok(())
 }
 
-/// Finds the row starts of the edited body, in place of the items of `starts`.
+/// Finds the row starts of the edited body and puts them in `starts`, in place of what it had.
 pub(crate) fn edited_starts<D: BidiData>(
     starts: &mut Vec<RowStart>,
     edit: &BodyEdit<'_>,

@@ -18,13 +18,15 @@ use std::marker::Model;
 #[derive(Drop)]
 pub struct ParagraphLayout {
     pub(crate) body: String,
+    /// The base direction that the levels are resolved under.
     pub(crate) base: Base,
     /// The window's columns.
     pub(crate) w: u16,
+    /// The paragraph level and the level of each character of the body, before L1.
     pub(crate) levels: Levels,
     /// The start of each row, at least one.
     pub(crate) starts: Vec<RowStart>,
-    /// Whether the body is known to have no formatting characters.
+    /// Whether the body is known to have no formatting character and none of class BN; only an edit finds out.
     pub(crate) is_unformatted: bool,
     /// The list that the next edit writes its row starts into.
     pub(crate) spare: Vec<RowStart>,
@@ -151,7 +153,7 @@ impl ParagraphLayout {
         starts_up_to(&self.starts, offset).saturating_sub(1)
     }
 
-    /// The offset in the body at which a row begins, in bytes.
+    /// The offset in the body, in bytes, at which row `row`, from 0, begins.
     pub fn first(&self, row: usize) -> usize
         requires { row < length self.now.starts }
         ensures { OfRows self.now (λ rows. result ≡ first_of (row_at rows row)) }
@@ -159,7 +161,7 @@ impl ParagraphLayout {
         self.starts[row].offset
     }
 
-    /// The number of the body's units before a row.
+    /// The number of the body's units before row `row`, from 0.
     pub fn units_ahead(&self, row: usize) -> usize
         requires { row < length self.now.starts }
         ensures { result ≡ slice_index_or (map (λ s. s.units) self.now.starts) row 0 }
@@ -167,7 +169,7 @@ impl ParagraphLayout {
         self.starts[row].units
     }
 
-    /// The allocator of its lists.
+    /// The allocator of the layout's lists.
     pub(crate) fn allocator(&self) -> Global {
         *self.starts.allocator()
     }

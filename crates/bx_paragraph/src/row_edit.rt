@@ -39,7 +39,8 @@ pub(crate) fn well_before(starts: &[RowStart], offset: usize, w: u16) -> Option<
     None
 }
 
-/// Whether the row `new` begins as far after `shift` as the row `old` after `stop`.
+/// Whether the row `new` begins as many bytes after the offset `shift`, where the edit ends in its text, as the row `old` after
+/// `stop`, where it ends in the old body.
 fn is_same_place(new: RowStart, old: RowStart, shift: usize, stop: usize) -> bool
     ensures { result ≡ true → IsSamePlace shift stop new old }
 {

@@ -18,7 +18,7 @@ use bx_terms::OutOfMemory;
 use bx_ucd::BidiData;
 
 impl<'a, 't, D: BidiData> LentRow<'a, 't, D> {
-    /// Whether it is the paragraph's last row.
+    /// Whether this is the paragraph's last row.
     pub(crate) fn is_last(&self) -> bool
         ensures { result ≡ (self.now.number + 1 == length self.now.paragraph.now.starts) }
     {

@@ -76,7 +76,8 @@ fn follow_within<D: BidiData>(
 }
 
 /// Updates levels, from the strong character `before` to the body's end, for an edit without a strong character after it. Returns
-/// false, and changes nothing, if one of the characters from there on, old or new, is a bracket or a formatting character.
+/// false, and changes nothing, if one of the characters from there on, old or new, is a bracket, a formatting character or of
+/// class BN.
 fn follow_behind<D: BidiData>(
     levels: &mut Levels,
     tables: &D,

@@ -41,8 +41,8 @@ abbrev pub Reads : ℕ → Class → List ℕ → ℕ → List ℕ → ℕ → T
 Reads paragraph class old waiting new next =
     (l : ℕ) (b : Bool) → settled_if b paragraph next new ≡ settled_if (trails (class, Some l) b) paragraph waiting old
 
--- what reading any character of a unit makes of them: `level` is None if X9 removes it; `is_known`: the unit's level was found
--- before
+-- what reading any character of a unit makes of `old` and `waiting`: `level` is the character's, None if X9 removes it;
+-- `is_known`: the unit's level was found before
 abbrev pub ReadsChar : ℕ → Class → Bool → Option ℕ → List ℕ → ℕ → List ℕ → ℕ → Type 0
 ReadsChar paragraph class is_known level old waiting new next =
     (n : ℕ) (counts : List ℕ) (cs : List CharLevel) → unit_from is_known paragraph old waiting (suc n) counts ((class, level) ∷ cs)

@@ -1,4 +1,5 @@
--- Runs of units that have one column each at any column of a row. Wrapping adds such a run to a row at once.
+-- Runs of units that have one column each at any column of a row. Wrapping adds such a run to a row at once. `says` is what the
+-- tables say, `w` the window's columns; offsets count bytes of the body.
 use Rattle.std.specs.Prelude.{◌≡◌, ℕ, ◌+◌, ◌≤◌, Bool, true, false, ⊤, List, [], ◌∷◌, ◌++◌, length, drop}
 use Rattle.std.specs.Str.{IsCharBoundary}
 use Rattle.bx_ucd.specs.Data.{Data}
@@ -7,7 +8,7 @@ use Rattle.bx_cells.specs.Units.{units_from}
 use Rattle.bx_rows.specs.declared.narrow_run.NarrowRun.{NarrowRun}
 use Rattle.bx_rows.specs.Wrapping.{columns_at, is_break, up_to_last}
 
--- each unit has one column
+-- each unit has one column, at whichever column `c` of the row it begins
 abbrev pub AreNarrow : ℕ → List Unit → Type 0
 AreNarrow w [] = ⊤
 AreNarrow w (u ∷ us) = ((c : ℕ) → columns_at w c u.face ≡ 1) × AreNarrow w us

@@ -1,4 +1,4 @@
--- The glyphs of a row of a body, by its number.
+-- The glyphs of a row of a body, by its number, in a window of `w` columns. `says` is what the tables say.
 use Rattle.std.specs.Prelude.{ℕ, List, Option}
 use Rattle.bx_ucd.specs.Data.{Data}
 use Rattle.bx_rows.specs.RowLevels.{row_levels}

@@ -1,4 +1,5 @@
 -- Plain rows, in which each unit is one character of one column, shown as itself. Their pictures have a short way in the code.
+-- Characters are codes (`c`, `cs`), `says` is what the tables say, `w` the window's columns.
 use Rattle.std.specs.Prelude.{◌≡◌, ◌⊎◌, ℕ, zero, suc, ◌+◌, ◌%◌, true, false, List, [], ◌∷◌, ◌++◌, map, length, take, drop, encode_utf8, encode_utf8_all, Option, None, Some}
 use Rattle.std.specs.List.{zip}
 use Rattle.bx_ucd.specs.Data.{Data}
@@ -13,7 +14,7 @@ use Rattle.bx_rows.specs.declared.drawn.Drawn.{Drawn}
 use Rattle.bx_rows.specs.RowPicture.{Glyph, glyph, is_own, mirrored_text, shown_text}
 use Rattle.bx_rows.specs.Shown.{glyph_of}
 
--- one unit per character, the first at the offset `at`
+-- one unit per character, the first at the offset `at`, in bytes
 abbrev pub single_units : ℕ → List ℕ → List Unit
 single_units at [] = []
 single_units at (c ∷ cs) =
@@ -40,11 +41,12 @@ leveled_glyphs says w cs levels forms = map (λ (c, at). leveled_glyph says w c 
 abbrev pub mirrored_glyph : Data → ℕ → ℕ → ℕ → Glyph
 mirrored_glyph says w c level = glyph (mirrored_text says w 1 level (encode_utf8 c)) 1 false
 
--- such glyphs of characters at their levels, in text order
+-- the glyphs of characters at their levels, mirrored but not joined at odd ones, in text order
 abbrev pub mirrored_glyphs : Data → ℕ → List ℕ → List ℕ → List Glyph
 mirrored_glyphs says w cs levels = map (λ (c, level). mirrored_glyph says w c level) (zip cs levels)
 
--- a glyph with the text `c`, its letter's form, if that is shown as itself in one column; None: the letter has no such form
+-- the glyph `g` of a letter with the letter's form `c` as its text, if that is shown as itself in one column; None: the letter
+-- has no such form
 abbrev pub formed_glyph : Data → ℕ → Glyph → Option ℕ → Glyph
 formed_glyph says w g None = g
 formed_glyph says w g (Some c) = elim (is_own 1 (face says w (encode_utf8 c))) [ true ↦ glyph (encode_utf8 c) g.columns g.negative | false ↦ g ]

@@ -1,5 +1,5 @@
 -- The levels of a row's units: L1 on the row's characters, and then one level for each unit. `each` has the level of each of
--- the body's characters, None for one that X9 removes; the others are kept.
+-- the body's characters, None for one that X9 removes; the others are kept. `says` is what the tables say.
 use Rattle.std.specs.Prelude.{ℕ, ◌&&◌, Bool, true, false, List, [], ◌∷◌, map, flat_map, length, take, drop, Option, Some, None, unwrap_or, chars}
 use Rattle.std.specs.List.{zip}
 use Rattle.bx_ucd.specs.Data.{Data}

@@ -1,5 +1,5 @@
 -- The picture of a row: the glyphs of its units in visual order, mirrored (L4) and joined at odd levels, and blanks up to the
--- window's edge. `w` is the window's columns.
+-- window's edge. `w` is the window's columns, `says` what the tables say.
 use Rattle.std.specs.Prelude.{ℕ, zero, suc, ◌+◌, ◌-◌, ◌%◌, ◌==◌, Bool, true, false, List, [], ◌∷◌, ◌++◌, map, length, take, sum, flat_map, replicate, slice_index_or, Option}
 use Rattle.std.specs.Prelude.{unwrap_or, chars, encode_utf8_all}
 use Rattle.std.specs.List.{zip}
@@ -46,7 +46,7 @@ mirrors_of says cs = map (λ c. unwrap_or (says.mirror c) c) cs
 abbrev pub mirror_image : Data → List ℕ → List ℕ
 mirror_image says text = encode_utf8_all (mirrors_of says (chars text))
 
--- the face shows its own text in n columns
+-- the face is the unit's own text, in `n` columns
 abbrev pub is_own : ℕ → Face → Bool
 is_own n (Own m) = m == n
 is_own n _ = false

@@ -1,4 +1,5 @@
--- The current row of a scan over units, and its invariants.
+-- The current row of a scan over a body's units, and its invariants. `says` is what the tables say, `w` the window's columns;
+-- offsets count bytes of the body, columns from 0.
 use Rattle.std.specs.Prelude.{◌≡◌, ℕ, zero, suc, ◌+◌, ◌-◌, ◌<◌, ◌≤◌, Bool, List, ◌∷◌, ◌++◌, map, length, take, drop, chars}
 use Rattle.std.specs.Str.{IsCharBoundary}
 use Rattle.bx_ucd.specs.Data.{Data}
@@ -10,7 +11,7 @@ use Rattle.bx_rows.specs.declared.start_search.RowStart.{RowStart}
 use Rattle.bx_rows.specs.RowStarts.{start_of}
 use Rattle.bx_rows.specs.Wrapping.{columns_at, fit_count_from, is_break, rows_from, up_to_last}
 
--- a unit begins in the window at a column, and ends in it
+-- a unit that begins at column `c` begins in the window and ends in it
 abbrev pub Fits : ℕ → ℕ → Unit → Type 0
 Fits w c u = (c < w) × (c + columns_at w c u.face ≤ w)
 
@@ -34,7 +35,8 @@ pub record IsScan (p : Unit → Bool) (w : ℕ) (here behind rest : List Unit) (
   pub within : columns ≤ w
   pub less : since ≤ columns
 
--- the current row, read up to the offset `at`: its offsets are in order, its columns fit, the characters before it are counted
+-- the current row, read up to the offset `at`: its offsets are in order, its columns fit, and its start counts the characters
+-- before the row
 pub record IsInOrder (w : ℕ) (body : List ℕ) (s : Scan) (at : ℕ) : Type 0 where
   pub start : IsCharBoundary body s.start.offset
   pub next : IsCharBoundary body s.next
@@ -65,7 +67,8 @@ with_run s n zero next =
 with_run s n (suc m) next =
     record { start = s.start; next = next; columns = s.columns + n; last = s.last + s.count + suc m; count = n - suc m; since = n - suc m }
 
--- the unit has the extent's columns and break, and is a body's unit there, before `rest`
+-- The unit `u` has the columns of the extent `e`, and allows a break if `e` does. It is the body's unit at the offset `e.start`,
+-- and `rest` are the units after it.
 pub record HasExtent (says : Data) (w : ℕ) (body : List ℕ) (e : Extent) (u : Unit) (rest : List Unit) : Type 0 where
   pub columns : (c : ℕ) → columns_at w c u.face ≡ columns_at w c e.face
   pub breaks : is_break says body u ≡ e.is_break

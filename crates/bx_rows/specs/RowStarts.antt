@@ -1,4 +1,5 @@
--- The starts of a body's rows, by which a row is read without those before it.
+-- The starts of a body's rows, by which a row is read without those before it. `us` are the body's units, `w` is the window's
+-- columns, `says` what the tables say.
 use Rattle.std.specs.Prelude.{◌≡◌, ℕ, zero, suc, ◌-◌, List, [], map, length, take, drop, chars, slice_get, Option, Some, None}
 use Rattle.std.specs.Str.{IsCharBoundary}
 use Rattle.bx_ucd.specs.Data.{Data}

@@ -1,4 +1,4 @@
--- The glyph that a `Drawn` of the code is, and what marks and rows must be for a picture to be drawn.
+-- The glyph that a `Drawn` of the code is, and what marks and rows must be for a picture to be drawn in `w` columns.
 use Rattle.std.specs.Prelude.{◌≡◌, ◌≤◌, ℕ, true, ⊤, List, length}
 use Rattle.std.specs.Cow.{cow_str_bytes}
 use Rattle.bx_terms.specs.Characters.{is_ascii_printable}

@@ -170,7 +170,7 @@ fn mirrored_or_own<'a, D: BidiData>(
     }
 }
 
-/// The text shown at a level: mirrored and then joined if the level is odd. `at`: the text's place in its body; `columns`:
+/// The text shown at a level: mirrored and then joined if the level is odd. `at`: where the text stands in its body; `columns`:
 /// those of its face, which what is shown takes too.
 fn shown_text<'a, D: BidiData>(
     alloc: Global,
@@ -198,7 +198,7 @@ fn shown_text<'a, D: BidiData>(
     }
 }
 
-/// Appends the glyphs of unit `number` of a row, from 0, whose place in the body is `at`. `columns`: those of each unit.
+/// Appends the glyphs of unit `number` of a row, from 0, which stands at `at` in the body. `columns`: those of each unit.
 pub(crate) fn push_unit<'a, D: BidiData>(
     glyphs: &mut Vec<Drawn<'a>>,
     alloc: Global,

@@ -24,8 +24,8 @@ use bx_ucd::{BidiData, Form};
 use std::alloc::{AllocError, Global};
 use std::borrow::CowStr;
 
-/// A text in the forms of its letters, if that is shown as itself in `columns` columns; else none. `shown`: the text mirrored,
-/// or itself; `at`: the text's place in its body.
+/// A text in the forms of its letters; None if that is not shown as itself in `columns` columns. `shown`: the text mirrored, or
+/// itself; `at`: where the text stands in its body.
 pub(crate) fn joined<D: BidiData>(
     alloc: Global,
     text: &str,
@@ -51,8 +51,8 @@ pub(crate) fn joined<D: BidiData>(
     Ok(Some(other))
 }
 
-/// Shows the glyph of a letter at an odd level in the letter's form, if that is shown as itself in one column. `at`: the
-/// letter's place in its body.
+/// Shows the glyph of a letter at an odd level in the letter's form, if that is shown as itself in one column. `at`: where the
+/// letter stands in its body.
 fn join_at<D: BidiData>(
     drawn: &mut Drawn<'_>,
     alloc: Global,

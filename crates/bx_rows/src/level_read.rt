@@ -1,8 +1,9 @@
 //! The levels of a row's units, read character by character in text order.
 //!
 //! By L1 a whitespace or isolate character gets the paragraph level if only such characters follow it, up to a segment
-//! separator or the row's end. So units whose first kept character is one wait until a later character decides. `found` has
-//! the levels of the units that are read; `waiting` is the index in it of the first unit that waits, its length if none does.
+//! separator or the row's end; a character that X9 removes does not count, the others are kept. So a unit whose first kept
+//! character is such a one waits until a later character decides. `found` has the levels of the units that are read; `waiting`
+//! is the index in it of the first unit that waits, its length if none does. `paragraph` is the paragraph level.
 ghost use Rattle.std.specs.Prelude.{◌≡◌, ◌≤◌, ◌<◌, ◌++◌, ◌∷◌, [], Bool, IfOk, List, None, chars, drop, get_or, length, map, ℕ};
 ghost use Rattle.std.specs.List.{zip};
 ghost use Rattle.bx_rows.specs.RowLevels.{is_segment_separator, is_trailing};

@@ -52,7 +52,7 @@ impl<'a, 't, D: BidiData> Lines<'a, 't, D> {
         self.starts[number]
     }
 
-    /// The place of a row's start in the body, whose characters' levels go with it.
+    /// Where a row starts in the body, with the levels of the body's characters.
     pub(crate) fn place(&self, start: RowStart) -> TextAt<'a, 'a>
         ensures offset { result.offset ≡ start.offset }
         ensures number { result.number ≡ start.chars }

@@ -95,7 +95,7 @@ fn fixed_mirror<'a, D: BidiData>(text: &str, tables: &D, w: u16) -> Option<&'a s
     fixed_text(mirror, tables, w)
 }
 
-/// The mirror image of a text, if it is shown as itself in `columns` columns; else none, and the text stays.
+/// The mirror image of a text; None if that is not shown as itself in `columns` columns, so that the text stays.
 pub(crate) fn mirrored<'a, D: BidiData>(
     alloc: Global,
     text: &str,

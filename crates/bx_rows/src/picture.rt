@@ -50,7 +50,7 @@ fn push_units<'a, D: BidiData>(
 {
     let units = row.units.as_slice();
     let first = row.lines.start(row.number);
-    // The place of each unit is counted from that of the unit before it in this order, which is mostly its neighbour.
+    // The characters before each unit are counted from the unit before it in this order, which is mostly its neighbour.
     let mut near = row.lines.place(first);
     for number in order {
         near = moved(near, units[*number].start);

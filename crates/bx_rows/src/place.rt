@@ -1,4 +1,4 @@
-//! Places of a body with the number of characters before each, counted from a place nearby.
+//! Where a text stands in its body (`TextAt`): the offset with the number of characters before it, counted from an offset nearby.
 ghost use Rattle.std.specs.Prelude.{◌≡◌, chars, length, take};
 ghost use Rattle.std.specs.Str.{IsCharBoundary};
 
@@ -18,7 +18,7 @@ fn number_at(text: &str, near: usize, number: usize, offset: usize) -> usize
     number - char_count(&text[offset..near])
 }
 
-/// The place at another offset of the body of `near`. Only the text between both places is read.
+/// Another offset of the body of `near` with the characters before it. Only the text between both is read.
 pub(crate) fn moved<'t, 'e>(near: TextAt<'t, 'e>, offset: usize) -> TextAt<'t, 'e>
     requires from { IsCharBoundary near.body.text.now near.offset }
     requires number { near.number ≡ length (chars (take near.offset near.body.text.now)) }

@@ -75,7 +75,7 @@ fn columns_left(w: u16, count: usize) -> u16
 }
 
 impl<'a, 't, D: BidiData> Lines<'a, 't, D> {
-    /// The picture of row `number`, from 0, if each of its units is one character of one column. Other rows give none.
+    /// The picture of row `number`, from 0, if each of its units is one character of one column; None for other rows.
     pub(crate) fn plain_picture(
         &self,
         alloc: Global,

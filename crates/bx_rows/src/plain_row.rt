@@ -42,7 +42,8 @@ fn is_single<D: BidiData>(c: char, kind: Simple, tables: &D, w: u16) -> bool
     is_own(simple_face(c, columns, false, tables, w), 1)
 }
 
-/// Whether a common character is a unit of one column with its own text, like `is_single`; false for all others.
+/// Whether a common character (`common_kind`: printable ASCII, Hebrew and most Arabic letters) is a unit of one column with
+/// its own text, like `is_single`; false for all others.
 #[inline(always)]
 pub(crate) fn is_plain<D: BidiData>(c: char, tables: &D, w: u16) -> bool
     ensures begin { result ≡ true → begins c ≡ true }
@@ -51,7 +52,8 @@ pub(crate) fn is_plain<D: BidiData>(c: char, tables: &D, w: u16) -> bool
     is_single(c, common_kind(c), tables, w)
 }
 
-/// Whether a simple character is a unit of one column with its own text, like `is_single`; false for all others.
+/// Whether a simple character, one whose kind `simple_kind` knows, is a unit of one column with its own text, like
+/// `is_single`; false for all others.
 pub(crate) fn is_narrow<D: BidiData>(c: char, tables: &D, w: u16) -> bool
     ensures begin { result ≡ true → begins c ≡ true }
     ensures face { result ≡ true → simple_face (D.data tables.now) w c false ≡ Own 1 }
@@ -59,7 +61,7 @@ pub(crate) fn is_narrow<D: BidiData>(c: char, tables: &D, w: u16) -> bool
     is_single(c, simple_kind(c), tables, w)
 }
 
-/// The class of a character that `is_plain` takes; none for any other.
+/// The class of a character that `is_plain` takes; None for any other.
 #[inline(always)]
 fn plain_class<D: BidiData>(c: char, tables: &D, w: u16) -> Option<Class>
     ensures begin { IfSome result (λ k. begins c ≡ true) }
@@ -99,7 +101,7 @@ fn is_cluster_end(text: &str) -> bool
     matches!(simple_kind(c), Simple::Begins(_))
 }
 
-/// The first character of a text, its bytes, and the text after it.
+/// The first character of a text, its bytes, and the text after it; None if the text is empty.
 #[inline(always)]
 fn first_part(text: &str) -> Option<(char, &str, &str)>
     ensures { MatchOption result (length text.now ≡ 0) (λ r.
@@ -110,8 +112,8 @@ fn first_part(text: &str) -> Option<(char, &str, &str)>
 }
 
 impl<'a, 't, D: BidiData> Lines<'a, 't, D> {
-    /// The glyphs, not mirrored yet, and the levels by L1 of the first `count` units, or all, from a row's start on; none if a
-    /// unit is not a single character of one column, or its character has no level.
+    /// The glyphs, not mirrored yet, and the levels by L1 of the first `count` units from a row's start on, or of all if there
+    /// are fewer; None if a unit is not a single character of one column, or X9 removes its character.
     pub(crate) fn plain_row(
         &self,
         alloc: Global,

@@ -29,6 +29,7 @@ pub(crate) struct Extent {
 /// The current row: the units read since its start. A break follows each unit after which a row may end.
 #[derive(Clone, Copy)]
 pub(crate) struct Scan {
+    /// Where the row starts in the body.
     pub(crate) start: RowStart,
     /// The offset after the last break, or the row's start if it has none.
     pub(crate) next: usize,
@@ -56,7 +57,7 @@ pub(crate) fn new_scan(start: RowStart) -> Scan
     }
 }
 
-/// Whether a face fits at a column.
+/// Whether a face fits in a row of which `columns` columns are taken.
 #[inline(always)]
 fn fits(columns: u16, face: Face, w: u16) -> bool
     requires { columns ≤ w }
@@ -143,7 +144,8 @@ pub(crate) fn take_run(scan: Scan, run: NarrowRun, body: &str, at: usize, w: u16
     }
 }
 
-/// Ends a row without units, since the next unit is wider than the window, and starts a row after that unit.
+/// Ends a row without units, since the next unit is wider than the window, and starts a row after that unit. No unit is so wide
+/// unless the window has no columns.
 fn pass(
     starts: &mut Vec<RowStart>,
     scan: Scan,

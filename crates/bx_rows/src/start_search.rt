@@ -69,7 +69,8 @@ fn extent<D: BidiData>(body: &str, at: usize, tables: &D, w: u16) -> Extent
     }
 }
 
-/// Whether the character at an offset is common and has one column.
+/// Whether the character at an offset is common (`common_kind`: printable ASCII, Hebrew and most Arabic letters) and has one
+/// column.
 #[inline(always)]
 fn may_begin_run(body: &str, at: usize) -> bool
     requires { IsCharBoundary body.now at }

@@ -9,14 +9,15 @@ use bx_resolve::Levels;
 use bx_ucd::BidiData;
 use std::alloc::{AllocError, Global};
 
-/// The number of a text's characters, counted from its start.
+/// The number of a text's characters, which are counted one by one.
 pub fn char_count(text: &str) -> usize
     ensures { result ≡ length (chars text.now) }
 {
     text.chars().count()
 }
 
-/// The levels of a row's units. `chars`: the number of the body's characters before them. Reads nothing before the row.
+/// The levels of a row's units, by L1. `chars`: the number of the body's characters before them; `levels`: those of the body's
+/// characters. Reads nothing before the row.
 pub fn each_level<D: BidiData>(
     alloc: Global,
     body: &str,

@@ -1,5 +1,6 @@
 -- Laws of pictures with joined letters: beside the picture without them, and by what each letter joins. `each` has the level of
--- each of the body's characters, None for one that X9 removes; `w` is the window's columns.
+-- each of the body's characters, None for one that X9 removes; `us` are a row's units, `levels` theirs; `w` is the window's
+-- columns, `says` what any tables say.
 use Rattle.std.specs.Prelude.{◌≡◌, ◌⊎◌, ◌+◌, ◌%◌, ◌<◌, ℕ, Bool, false, true, All, HoldsAt, List, [], ◌∷◌, ◌++◌, Option, None, Some, chars, encode_utf8_all, flat_map}
 use Rattle.std.specs.Prelude.{length, map, replicate, reverse, slice_index_or, take, unwrap_or}
 use Rattle.std.specs.Str.{IsUtf8}

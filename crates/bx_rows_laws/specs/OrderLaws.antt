@@ -1,4 +1,5 @@
--- Laws of the visual order and the picture of every row. An order lists the numbers of a row's units, from 0, from left to right.
+-- Laws of the visual order and the picture of every row, with the units `us`, in a window of `w` columns. An order lists the
+-- numbers of a row's units, from 0, from left to right. `says` is what any tables say.
 use Rattle.std.specs.Prelude.{◌≡◌, ◌⊎◌, ◌+◌, ◌-◌, ◌%◌, ◌<◌, ◌≤◌, ℕ, All, Contains, HoldsAt, IsPermutation, List, ◌∷◌, ◌++◌, [], Option, flat_map, length, replicate, slice_index_or}
 use Rattle.std.specs.List.{between, range_with_len}
 use Rattle.bx_ucd.specs.Data.{Data}
@@ -32,7 +33,7 @@ abbrev pub LowestLevelsOrder : Type 0
 LowestLevelsOrder = (levels : List ℕ) (i j lowest : ℕ) → i < j → j < length levels → IsLowest lowest (between i (j + 1) levels)
     → IsOrderAt lowest (visual levels) i j
 
--- two units of one level, with no lower level between them
+-- units `i` and `j` have the level `n`, and no unit between them a lower one
 pub record AreAtLevel (n : ℕ) (levels : List ℕ) (i j : ℕ) : Type 0 where
   pub one : HoldsAt (λ l. l ≡ n) levels i
   pub other : HoldsAt (λ l. l ≡ n) levels j

@@ -1,4 +1,6 @@
--- Joined letters on the screen: at most units of transparent characters stand between them.
+-- Joined letters on the screen: at most units of transparent characters (joining type T) stand between them. `us` are a row's
+-- units, by their numbers from 0; `each` has the level of each of the body's characters, None for one that X9 removes; `says` is
+-- what any tables say.
 use Rattle.std.specs.Prelude.{◌≡◌, ◌+◌, ◌%◌, ◌<◌, ℕ, false, true, All, HoldsAt, IsUtf8, List, [], ◌∷◌, ◌++◌, Option, Some, chars, flat_map, length, map, slice_index_or, take}
 use Rattle.std.specs.List.{zip}
 use Rattle.bx_ucd.specs.Data.{Data}
@@ -23,7 +25,7 @@ pub record Touch (order : List ℕ) (i j : ℕ) : Type 0 where
 abbrev pub EqualOddLevelsTouch : Type 0
 EqualOddLevelsTouch = (levels : List ℕ) (i j n : ℕ) → i < j → j < length levels → n % 2 ≡ 1 → AreAtLevel n levels i j → Touch (visual levels) i j
 
--- the joining type and the level of a character
+-- the joining type and the level of a character, given by its code and level
 abbrev pub joiner : Data → ℕ × Option ℕ → Joiner
 joiner says c = (says.joining c.0, c.1)
 

@@ -22,7 +22,7 @@ is_item bs = matches_any items bs
 abbrev pub begins_item : List ℕ → Bool
 begins_item bs = begins_any items bs
 
--- the length of the longest prefix that begins an item, at most n
+-- the length of the longest prefix that begins an item, at most `n`
 abbrev pub beginning_up_to : ℕ → List ℕ → ℕ
 beginning_up_to zero bs = 0
 beginning_up_to (suc n) bs = if begins_item (take (suc n) bs) then suc n else beginning_up_to n bs
@@ -52,11 +52,11 @@ pub record Cut : Type 0 where
   pub tokens : List Token
   pub rest : List ℕ
 
--- the token before the tokens of the rest
+-- the cut `c` of the bytes that follow a token, with the token before its tokens
 abbrev pub with_token : Token → Cut → Cut
 with_token token c = record { tokens = token ∷ c.tokens; rest = c.rest }
 
--- the tokens of bytes, in which each printable character is a run of its own, in at most n cuts (each takes a byte or more)
+-- the tokens of bytes, in which each printable character is a run of its own, in at most `n` cuts (each takes a byte or more)
 abbrev pub cut_within : ℕ → List ℕ → Cut
 cut_within zero bs = record { tokens = []; rest = bs }
 cut_within (suc n) [] = record { tokens = []; rest = [] }
@@ -74,12 +74,12 @@ pub record Cutting : Type 0 where
   pub run : List ℕ
   pub rest : List ℕ
 
--- a run, if it has characters
+-- the token of a run; none if the run has no characters
 abbrev pub run_token : List ℕ → List Token
 run_token [] = []
 run_token (b ∷ bs) = Run (b ∷ bs) ∷ []
 
--- tokens before the tokens of the rest
+-- the cutting `c` of the bytes that follow some tokens, with these before its tokens
 abbrev pub with_tokens : List Token → Cutting → Cutting
 with_tokens tokens c = record { tokens = tokens ++ c.tokens; run = c.run; rest = c.rest }
 

@@ -5,7 +5,7 @@ use Rattle.bx_grid.specs.Picture.{IsIdle}
 use Rattle.bx_grid.specs.Terminal.{Terminal, all_unknown, after_command, reads, run_put}
 use Rattle.bx_grid.specs.Tokens.{command}
 
--- the terminal after a token: a run puts its glyphs, and a sequence obeys the command after CSI
+-- the terminal `t` after a token: a run puts its glyphs, and a sequence has its command obeyed, which the bytes after CSI tell
 abbrev pub token_done : Terminal → Token → Terminal
 token_done t (Run text) = run_put t t.position t.negative text
 token_done t (Sequence bytes) = after_command t (command (drop 2 bytes))
@@ -31,6 +31,7 @@ token_bytes (Other bytes) = bytes
 abbrev pub TokensMakeBytes : Type 0
 TokensMakeBytes = (bs : List ℕ) → let c : Cutting = cutting bs in flat_map token_bytes c.tokens ++ (c.run ++ c.rest) ≡ bs
 
+-- the first token is a run
 abbrev pub begins_with_run : List Token → Bool
 begins_with_run (Run text ∷ tokens) = true
 begins_with_run _ = false

@@ -8,6 +8,7 @@ use Rattle.bx_terminal.specs.Uncut.{AreUncutRows}
 use Rattle.bx_bytes.specs.declared.fate.Fate.TheVariants.{Waits}
 use Rattle.bx_terminal.specs.declared.live.Live.TheInside.{Inside}
 
+-- the terminal whose state the fields `s` of a `Live` are
 abbrev pub terminal_of : Inside → Terminal
 terminal_of s = record {
   height = s.height;

@@ -4,7 +4,7 @@ use Rattle.bx_grid.specs.Terminal.{Terminal}
 use Rattle.bx_grid.specs.Picture.{PictureState, Shows}
 use Rattle.bx_terminal.specs.declared.screen.Screen.TheInside.{Inside}
 
--- the value of a screen: None once it has failed
+-- the value of a screen with the fields `s`: None once it has failed
 abbrev pub terminal_if_live : Inside → Option Terminal
 terminal_if_live s = if s.failed then None else Some s.live
 

@@ -3,8 +3,8 @@
 use Rattle.std.specs.Prelude.{◌≡◌, ◌+◌, ◌⊎◌, ℕ, zero, suc, List, [], ◌∷◌, take, drop}
 use Rattle.bx_grid.specs.Columns.{Col, columns_after, columns_before}
 
--- two adjacent columns: a glyph that extends past the first continues in the second, and one that began before the second is
--- in the first
+-- two adjacent columns, `x` left of `y`: a glyph that extends past the first continues in the second, and one that began before
+-- the second is in the first
 pub record Meet (x y : Col) : Type 0 where
   pub onward : (columns_after x ≡ 0) ⊎ (columns_after x ≡ columns_after y + 1)
   pub back : (columns_before y ≡ 0) ⊎ (columns_before y ≡ columns_before x + 1)

@@ -5,13 +5,13 @@ use Rattle.std.specs.Str.{chars}
 use Rattle.unicode_width.specs.Width.{char_width}
 use Rattle.bx_terms.specs.Characters.{is_within}
 
--- the width is told, and is no column
+-- a width in columns is known, and is 0
 abbrev pub takes_none : Option ℕ → Bool
 takes_none (Some columns) = columns == 0
 takes_none None = false
 
--- it takes no column, and is below the variation selectors (U+FE00), which change the width of the character before them; up
--- to U+00A0 are ASCII, controls and the no-break space
+-- the character takes no column, and is below the variation selectors (U+FE00), which change the width of the character before
+-- them; up to U+00A0 are ASCII, controls and the no-break space
 abbrev pub is_still : ℕ → Bool
 is_still c = (nat_lt 0xA0 c && nat_lt c 0xFE00) && takes_none (char_width false c)
 

@@ -33,7 +33,7 @@ pub(crate) fn fill_unknown(columns: &mut [Column])
     }
 }
 
-/// The number of columns that the glyph has after this one.
+/// The number of columns that the column's glyph has after this one; 0 if the column is unknown.
 fn columns_after(column: &Column) -> u16
     ensures { result ≡ columns_after (seen column.now) }
 {
@@ -47,7 +47,7 @@ fn columns_after(column: &Column) -> u16
     }
 }
 
-/// The number of columns that the glyph has before this one.
+/// The number of columns that the column's glyph has before this one; 0 if the column is unknown.
 fn columns_before(column: &Column) -> u16
     ensures { result ≡ columns_before (seen column.now) }
 {

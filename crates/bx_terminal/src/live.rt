@@ -111,7 +111,8 @@ impl Live {
         }
     }
 
-    /// Obeys `CSI 2 J`: blanks all, if the rendition is normal. The position is then unknown.
+    /// Obeys `CSI 2 J`: if the rendition is normal, blanks all, and the position is then unknown; else the whole state becomes
+    /// unknown.
     fn clear(&mut self)
         ensures { self.new ≡ after_clear self.old self.old.negative }
     {
@@ -124,7 +125,8 @@ impl Live {
         }
     }
 
-    /// Obeys `CSI K`: blanks the row from the cursor on, if the rendition is normal. The position is then unknown.
+    /// Obeys `CSI K`: if the position is known and the rendition is normal, blanks the row from the cursor on, and the position
+    /// is then unknown; else the whole state becomes unknown.
     fn erase(&mut self)
         ensures { self.new ≡ after_erase self.old self.old.position self.old.negative }
     {
@@ -143,6 +145,7 @@ impl Live {
         }
     }
 
+    /// Obeys the command of a control sequence.
     #[inline(always)]
     fn obey(&mut self, command: Command)
         ensures { self.new ≡ after_command self.old command }
@@ -192,7 +195,7 @@ impl Live {
         Ok(())
     }
 
-    /// Puts the run's glyphs at a row and a column, from 0.
+    /// Puts the run's glyphs at a row and a column, from 0, and empties the run. Keeps the run's buffer for the next run.
     fn put_run(&mut self, row: u16, column: u16, negative: bool) -> Result<(), AllocError>
         requires { (row < self.old.height) × (column < self.old.width) }
         ensures { OnOk result (self.new ≡ glyphs_put self.old (row, column) (run_columns negative self.old.run)) }
@@ -205,7 +208,7 @@ impl Live {
         Ok(())
     }
 
-    /// Puts the run's glyphs, if it is not empty.
+    /// Puts the run's glyphs, if it is not empty; where position or rendition is unknown, the whole state becomes unknown.
     #[inline(always)]
     fn end_run(&mut self) -> Result<(), AllocError>
         ensures { OnOk result (self.new ≡ run_ended self.old) }
@@ -242,7 +245,7 @@ impl Live {
         self.end_run()
     }
 
-    /// Reads the last byte of a character.
+    /// Reads the last byte of a character, which joins the run; a control makes the whole state unknown.
     fn end_character(&mut self, byte: u8) -> Result<(), AllocError>
         requires { fate_in characters (self.old.half_read ++ byte ∷ []) ≡ Fate.Ends }
         ensures { OnOk result (self.new ≡ character_read self.old (self.old.half_read ++ byte ∷ [])) }
@@ -257,7 +260,7 @@ impl Live {
         Ok(())
     }
 
-    /// Reads the last byte of a sequence.
+    /// Reads the last byte of a sequence, and obeys it.
     fn end_sequence(&mut self, byte: u8) -> Result<(), AllocError>
         requires { self.old.half_read ++ byte ∷ [] ≡ 0x1B ∷ 0x5B ∷ drop 2 (self.old.half_read ++ byte ∷ []) }
         ensures { OnOk result (self.new ≡ token_read self.old (self.old.half_read ++ byte ∷ [])) }
@@ -269,7 +272,7 @@ impl Live {
         Ok(())
     }
 
-    /// Reads a byte where no token is half read.
+    /// Reads a byte where no token is half read. An ESC ends the run; a byte that begins no token makes the whole state unknown.
     fn begin(&mut self, byte: u8) -> Result<(), AllocError>
         requires { self.old.half_read ≡ [] }
         ensures { OnOk result (self.new ≡ after_first_byte self.old byte) }
@@ -287,7 +290,8 @@ impl Live {
         Ok(())
     }
 
-    /// Reads a byte after a half-read token.
+    /// Reads a byte after a half-read token. If it breaks the token, the whole state becomes unknown, and the byte is read as a
+    /// first one.
     fn go_on(&mut self, byte: u8) -> Result<(), AllocError>
         requires { 0 < length self.old.half_read }
         ensures { OnOk result (self.new ≡ after_next_byte self.old byte (fate (self.old.half_read ++ byte ∷ []))) }
@@ -309,6 +313,7 @@ impl Live {
         Ok(())
     }
 
+    /// Reads one byte.
     fn read_byte(&mut self, byte: u8) -> Result<(), AllocError>
         ensures { OnOk result (self.new ≡ byte_read self.old byte) }
     {

@@ -10,14 +10,14 @@ use bx_grid::Command;
 /// A control sequence of parameter bytes and a final byte: its command, and its length in bytes, with ESC and `[`.
 #[derive(Clone, Copy)]
 pub struct Sequence {
-    /// What it does.
+    /// What the sequence does.
     pub command: Command,
     /// Number of bytes.
     pub len: usize,
 }
 
-/// The move at the start of `body`, the bytes after CSI, if it gives both its numbers (`LINE;COLUMNH`). Reads each number
-/// once.
+/// The move at the start of `body`, the bytes after CSI, if it gives both its numbers (`LINE;COLUMNH`); None for any other start.
+/// Reads each number once.
 fn move_in(body: &[u8]) -> Option<Sequence>
     ensures { IfSome result (λ s. BeginWithSequence (0x1B ∷ 0x5B ∷ body.now) s.command s.len) }
 {

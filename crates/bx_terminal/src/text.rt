@@ -31,7 +31,7 @@ fn is_two(lead: u8, last: u8) -> bool
     0x80 <= last
 }
 
-/// Whether a second byte may follow the lead byte of three: refuses overlong forms and surrogates.
+/// Whether a second byte may follow the lead byte of a character of three bytes: refuses overlong forms and surrogates.
 #[inline(always)]
 fn is_second(lead: u8, second: u8) -> bool
     ensures { result ≡ is_second lead second }

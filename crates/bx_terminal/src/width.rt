@@ -43,14 +43,14 @@ fn is_still(c: char) -> bool
     }
 }
 
-/// Whether all characters are still.
+/// Whether all characters are still (`is_still`).
 fn are_still(text: &str) -> bool
     ensures { result ≡ list_all is_still (chars text.now) }
 {
     text.chars().all(|c| is_still(c))
 }
 
-/// The text's first character, if it is above U+00A0 and all that follow are still.
+/// The text's first character, if it is above U+00A0 and all that follow are still; else None.
 fn base(text: &str) -> Option<char>
     ensures { IfSome result (λ c. IsBase text.now c) }
 {
@@ -74,7 +74,7 @@ fn is_letter(c: char) -> bool
         || ('\u{620}' <= c && c <= '\u{64A}')
 }
 
-/// Width of a character in columns; none for a control.
+/// Width of a character in columns; None for a control.
 #[inline(always)]
 #[tactic(auto, using(crate::proofs::Marks::letter_narrow))]
 fn char_width(c: char) -> Option<usize>
@@ -86,7 +86,8 @@ fn char_width(c: char) -> Option<usize>
     c.width()
 }
 
-/// Width of a text that is not all from SPACE to TILDE. A character followed by still ones takes one look-up.
+/// Width in columns of a text that is not all from SPACE to TILDE. A character followed by still ones (`is_still`) takes one
+/// look-up.
 #[tactic(auto, using(crate::proofs::Still::width_of_base))]
 fn other_width(text: &str) -> usize
     requires { are_ascii_printable text.now ≡ false }

@@ -6,6 +6,6 @@ use Rattle.bx_paragraph.specs.BodyRows.{BodyRow, last_offset, offsets_of}
 abbrev pub body_places : List BodyRow → List ℕ
 body_places rows = flat_map offsets_of rows
 
--- the first of them at or after an offset, or the last
+-- the first place of the body at or after an offset; the last place, if there is none
 abbrev pub place_in_body : List BodyRow → ℕ → ℕ
 place_in_body rows offset = unwrap_or (find (nat_le offset) (body_places rows)) (last_offset (body_places rows))

@@ -1,4 +1,5 @@
--- The model of a text's layout: cached paragraphs, laid out under its base direction, for its width or an earlier one.
+-- The model of a view, and of the paragraphs that it caches: each is laid out under the view's base direction, in its width or
+-- in an earlier one. `says` is what the tables say.
 use Rattle.std.specs.Prelude.{◌≡◌, ℕ, ◌<◌, ◌≤◌, ◌⊎◌, true, List, length, sum_by, All, HoldsAt}
 use Rattle.bx_ucd.specs.Data.{Data}
 use Rattle.bx_terms.specs.Sizes.{is_side}
@@ -6,21 +7,22 @@ use Rattle.bx_terms.specs.declared.base.Base.{Base}
 use Rattle.bx_paragraph.specs.Layout.{IsLayoutBy, LayoutState, rows_by}
 use Rattle.bx_view.specs.Standing.{body_at, rows_in}
 
+-- a view: the base direction, the window's columns (`w`), and the cached paragraphs, the oldest first
 pub record ViewState : Type 0 where
   pub base : Base
   pub w : ℕ
   pub cache : List LayoutState
 
--- a paragraph laid out by the data, under a base direction, in any width
+-- the layout `l` is by what the tables say, under a base direction, in any width
 pub record IsCached (says : Data) (base : Base) (l : LayoutState) : Type 0 where
   pub base_is : l.base ≡ base
   pub rows : IsLayoutBy says l
 
--- the most paragraphs that are cached: more than the rows of any window
+-- the most paragraphs that are cached, a choice: more than the rows of any window (500), each of which may be a paragraph
 abbrev pub most_cached : ℕ
 most_cached = 512
 
--- not too many paragraphs, laid out by the data under a base direction
+-- at most `most_cached` paragraphs, laid out by what the tables say, under a base direction
 pub record AreCached (says : Data) (base : Base) (cache : List LayoutState) : Type 0 where
   pub few : length cache ≤ most_cached
   pub laid_out : All (IsCached says base) cache
@@ -33,11 +35,11 @@ cached_bytes cache = sum_by (λ l. length l.body) cache
 abbrev pub FitsLimit : ℕ → List LayoutState → Type 0
 FitsLimit limit cache = (cached_bytes cache ≤ limit) ⊎ (length cache ≡ 1)
 
--- the cached paragraphs are not too many, and are laid out by the data
+-- the view `v` caches at most `most_cached` paragraphs, laid out by what the tables say
 abbrev pub IsViewBy : Data → ViewState → Type 0
 IsViewBy says v = AreCached says v.base v.cache
 
--- only the cached paragraphs changed: they are still not too many, and laid out by the data
+-- only the cached paragraphs changed: they are still at most `most_cached`, and laid out by what the tables say
 pub record Keeps (says : Data) (old new : ViewState) : Type 0 where
   pub base : new.base ≡ old.base
   pub w : new.w ≡ old.w
@@ -54,7 +56,7 @@ pub record Caches (body : List ℕ) (w : ℕ) (cache : List LayoutState) (i : �
   pub body_is : HoldsAt (λ l. l.body ≡ body) cache i
   pub w_is : HoldsAt (λ l. l.w ≡ w) cache i
 
--- the layout of paragraph `number` of a text
+-- the layout `l` of paragraph `number`, from 0, of a text has the view's width and the rows that the definitions give
 pub record IsOfText (says : Data) (v : ViewState) (text : List ℕ) (number : ℕ) (l : LayoutState) : Type 0 where
   pub side : is_side v.w ≡ true
   pub by : IsLayoutBy says l

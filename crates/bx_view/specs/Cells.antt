@@ -1,4 +1,5 @@
--- The cell of a place: one slot of one row, in the column at which the glyphs of its unit begin.
+-- The cell of a place: one slot of one row, in the column at which the glyphs of its unit begin. `says` is what the tables say,
+-- `w` the window's columns; columns count from 1, the numbers of units and of rows (`k`) from 0.
 use Rattle.std.specs.Prelude.{◌≡◌, ◌≢◌, ◌⊎◌, ℕ, zero, suc, ◌+◌, ◌-◌, ◌%◌, ◌<◌, ◌==◌, true, List, [], ◌∷◌, ◌++◌, length, count_by, sum_by, flat_map}
 use Rattle.std.specs.Prelude.{replicate, slice_index_or, Contains, HoldsAt, IsPermutation, MatchOption, Option}
 use Rattle.bx_ucd.specs.Data.{Data}
@@ -25,7 +26,8 @@ pub record HasOneSlot (w : ℕ) (rows : List TextRow) (place : ℕ) : Type 0 whe
 abbrev pub glyphs_of : Data → ℕ → BodyRow → ℕ → List Glyph
 glyphs_of says w r number = slice_index_or (unit_glyphs says w r.body r.each r.units (unit_columns w 0 r.units) r.levels) number []
 
--- the glyphs of a row left of a unit: its blanks in a paragraph of odd level, then the glyphs of the units `numbers`
+-- the glyphs of a row left of a unit: the row's blanks in a paragraph of odd level, then the glyphs of the units `numbers`, from
+-- left to right
 abbrev pub glyphs_before : Data → ℕ → BodyRow → List ℕ → List Glyph
 glyphs_before says w r numbers =
     elim (r.paragraph % 2) [ zero ↦ [] | suc _ ↦ replicate (w - columns_used w r.units) blank ] ++ flat_map (glyphs_of says w r) numbers
@@ -43,13 +45,13 @@ pub record IsUnitCell (says : Data) (w : ℕ) (r : TextRow) (place column : ℕ)
   pub shown : text_row_glyphs says w r ≡ glyphs_before says w r.row before ++ (glyphs_of says w r.row number ++ rest)
   pub column_is : column ≡ sum_by (λ g. g.columns) (glyphs_before says w r.row before) + 1
 
--- the place is the paragraph's end, and its slot's column is past all units
+-- the place is the paragraph's end, and its slot's column is next to the row's units, or the window's last on that side
 pub record IsEndCell (w : ℕ) (r : TextRow) (place column : ℕ) : Type 0 where
   pub last : r.row.is_last ≡ true
   pub place_is : place ≡ r.start + length r.row.body
   pub column_is : column ≡ end_column w r.row
 
--- what tables say, with other mirrors, joining types and forms
+-- what the tables say, but with these mirrors, joining types and forms of letters
 abbrev pub with_looks : Data → (ℕ → Option ℕ) → (ℕ → Joining) → (ℕ → Form → Option ℕ) → Data
 with_looks says mirror joining form = record says { mirror = mirror; joining = joining; form = form }
 

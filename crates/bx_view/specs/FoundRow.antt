@@ -1,4 +1,4 @@
--- Rows found by a layout.
+-- Rows found by a view (`v`). `says` is what the tables say, row numbers (`n`) count from 0.
 use Rattle.std.specs.Prelude.{◌≡◌, ℕ, ◌+◌, ◌-◌, ◌<◌, true, List, length, Option, MatchOption}
 use Rattle.bx_ucd.specs.Data.{Data}
 use Rattle.bx_terms.specs.Sizes.{is_side}
@@ -7,8 +7,8 @@ use Rattle.bx_view.specs.Caching.{Caches, IsViewBy, ViewState}
 use Rattle.bx_view.specs.Standing.{IsRow, body_at, start_at}
 use Rattle.bx_view.specs.TextRows.{TextRow, row_at, text_rows}
 
--- `at` is row `n` of the text, and its paragraph is cached; the width is within its limits, and all cached paragraphs are laid
--- out by the data
+-- `at` is row `n` of the text, and its paragraph is cached, in the view's width; this is within its limits, and all cached
+-- paragraphs are laid out by what the tables say
 pub record StandsOn (says : Data) (v : ViewState) (text : List ℕ) (at : RowAt) (n : ℕ) : Type 0 where
   pub by : IsViewBy says v
   pub side : is_side v.w ≡ true
@@ -16,12 +16,12 @@ pub record StandsOn (says : Data) (v : ViewState) (text : List ℕ) (at : RowAt)
   pub is : IsRow says v.base v.w text at.paragraph at.row n
   pub cached_is : Caches (body_at says text at.paragraph) v.w v.cache at.cached
 
--- the row after row `n` of the text, and none after the last
+-- `next` is the row after row `n` of the text, None after the last
 abbrev pub IsNext : Data → ViewState → List ℕ → ℕ → Option RowAt → Type 0
 IsNext says v text n next =
     MatchOption next (n + 1 ≡ length (text_rows says v.base v.w text)) (λ b. StandsOn says v text b (n + 1))
 
--- the row before row `n` of the text, and none before the first
+-- `before` is the row before row `n` of the text, None before the first
 abbrev pub IsBefore : Data → ViewState → List ℕ → ℕ → Option RowAt → Type 0
 IsBefore says v text n before = MatchOption before (n ≡ 0) (λ b. (0 < n) × StandsOn says v text b (n - 1))
 
@@ -33,6 +33,6 @@ IsSameAtEnd old new found = MatchOption found (new ≡ old) (λ _. Unit {0})
 abbrev pub rows_by : Data → ViewState → List ℕ → List TextRow
 rows_by says v text = text_rows says v.base v.w text
 
--- a property of the found row, whatever its number
+-- the found row has the property `P`, whatever its number
 abbrev pub OfRow : Data → ViewState → List ℕ → RowAt → (TextRow → Type 0) → Type 0
 OfRow says v text at P = (n : ℕ) → StandsOn says v text at n → P (row_at (rows_by says v text) n)

@@ -1,4 +1,4 @@
--- Laws of the places of every text, in every window.
+-- Laws of the places of every text, in every window of `w` columns. `says` is what the tables say.
 use Rattle.std.specs.Prelude.{◌≡◌, ℕ, ◌+◌, ◌-◌, ◌<◌, ◌≤◌, List, length, slice_get, Some, IfSome, All, Contains, IsCharBoundary}
 use Rattle.std.specs.Int.{abs_diff}
 use Rattle.std.specs.List.{concat}
@@ -30,12 +30,12 @@ pub record IsLeastPlace (says : Data) (text : List ℕ) (offset place : ℕ) : T
   pub not_before : offset ≤ place
   pub least : (p : ℕ) → IsTextPlace says text p → offset ≤ p → place ≤ p
 
--- the place from an offset on is the least place not before it, and from past the text's end on the end
+-- `from` gives for each offset the least place not before it, and for one past the text's end that end
 pub record FindsLeastPlace (says : Data) (text : List ℕ) (from : ℕ → ℕ) : Type 0 where
   pub inside : (offset : ℕ) → offset ≤ length text → IsLeastPlace says text offset (from offset)
   pub past : (offset : ℕ) → length text < offset → from offset ≡ length text
 
--- each move leads from an offset with the property `P` to one with it
+-- each move leads from a place with the property `P` to one with it, and what finds a place from any offset finds one with it
 pub record MovesKeep (says : Data) (text : List ℕ) (w : ℕ) (rows : List TextRow) (P : ℕ → Type 0) : Type 0 where
   pub from : (offset : ℕ) → P (place_from rows offset)
   pub at : (offset : ℕ) → P (place_at rows offset)
@@ -62,8 +62,8 @@ pub record IsGreatestBefore (stops : List ℕ) (place stop : ℕ) : Type 0 where
   pub before : stop < place
   pub greatest : (o : ℕ) → Contains stops o → o < place → o ≤ stop
 
--- A step forward leads to the least stop after the place, and stays only at the text's end. A step back leads to the
--- greatest stop before it, and stays only at the text's start.
+-- `stops` are the offsets at which a way has stops. A step forward leads to the least stop after the place, and stays only at the
+-- text's end. A step back leads to the greatest stop before it, and stays only at the text's start.
 pub record StepsOn (text : List ℕ) (stops : Logical → List ℕ) (step : Logical → ℕ → ℕ) : Type 0 where
   pub forward : (place : ℕ) → place < length text → IsLeastBehind (stops Forward) place (step Forward place)
   pub back : (place : ℕ) → 0 < place → IsGreatestBefore (stops Back) place (step Back place)
@@ -78,7 +78,7 @@ WordsGoOn says text step = StepsOn text (λ way. text_stops says way text) step
 abbrev pub PlacesGoOn : Data → List ℕ → (Logical → ℕ → ℕ) → Type 0
 PlacesGoOn says text step = StepsOn text (λ _. text_places says text) step
 
--- the row of a place is one of the `t` rows from row `k` on
+-- the row of a place is one of the `t` rows from row `k`, counted from 0, on
 abbrev pub IsShownFrom : List TextRow → ℕ → ℕ → ℕ → Type 0
 IsShownFrom rows place t k = (k ≤ row_of rows place) × (row_of rows place < k + t)
 

@@ -1,4 +1,4 @@
--- The cursor's moves, from place to place.
+-- The cursor's moves, from place to place, in rows of `w` columns. Row numbers (`k`) count from 0, columns from 1.
 use Rattle.std.specs.Prelude.{ℕ, zero, suc, ◌+◌, ◌-◌, ◌==◌, nat_le, nat_lt, min, Bool, true}
 use Rattle.std.specs.Prelude.{false, List, length, reverse, find, slice_get, Option, Some, None, option_map, unwrap_or}
 use Rattle.bx_ucd.specs.Data.{Data}
@@ -18,7 +18,7 @@ use Rattle.bx_view.specs.Words.{step_word}
 abbrev pub place_from : List TextRow → ℕ → ℕ
 place_from rows offset = unwrap_or (find (nat_le offset) (places rows)) (last_offset (places rows))
 
--- the place of an offset: the last one at or before it
+-- the place of an offset: the last one at or before it; 0 is a place of every text
 abbrev pub place_at : List TextRow → ℕ → ℕ
 place_at rows offset = unwrap_or (find (λ p. nat_le p offset) (reverse (places rows))) 0
 
@@ -48,8 +48,8 @@ abbrev pub row_before : List TextRow → ℕ → Option TextRow
 row_before rows zero = None
 row_before rows (suc k) = slice_get rows k
 
--- past the last slot of row `k` on a side: from its reading end to the next row's reading start, from its reading start to
--- the previous row's reading end
+-- The place past the last slot of row `k` on a side: on the side that the row is read toward, the next row's reading start, on
+-- the other the previous row's reading end; None if there is no such row.
 abbrev pub past : ℕ → List TextRow → Visual → ℕ → Option ℕ
 past w rows side k = elim (reads_on side (row_at rows k).row) [ true ↦ start_of w (row_after rows k) | false ↦ end_of w (row_before rows k) ]
 
@@ -64,7 +64,7 @@ step_visual w rows side place =
 abbrev pub entry_in : ℕ → TextRow → ℕ → Option ℕ
 entry_in w r column = place_in r (entry w r.row column)
 
--- from a place to row `k`, which is entered in a column; in its own row, the place itself
+-- from a place to row `k`, which is entered in a column; in the place's own row, the place itself
 abbrev pub to_row : ℕ → List TextRow → ℕ → ℕ → ℕ → ℕ
 to_row w rows column place k = elim (k == row_of rows place) [
   | true ↦ place
@@ -96,7 +96,7 @@ row_home rows place = first (row_at rows (row_of rows place))
 abbrev pub row_end : List TextRow → ℕ → ℕ
 row_end rows place = let r = row_at rows (row_of rows place) in r.start + last_of r.row
 
--- the way by words toward a side, from whether the paragraph is read toward it
+-- the way of a move by words toward a side: forward if the paragraph is read toward that side (true), else back
 abbrev pub word_way : Bool → Logical
 word_way true = Forward
 word_way false = Back
@@ -105,7 +105,7 @@ word_way false = Back
 abbrev pub word_towards : Data → List ℕ → List TextRow → Visual → ℕ → ℕ
 word_towards says text rows side place = step_word says text (word_way (reads_on side (row_at rows (row_of rows place)).row)) place
 
--- any of these moves in the rows of a text
+-- the place to which a move leads, in the rows of a text; `says` is what the tables say
 abbrev pub moved : Data → List ℕ → ℕ → List TextRow → Move → ℕ → ℕ
 moved says text w rows (moves.Logical way) place = step_logical rows way place
 moved says text w rows (moves.Visual side) place = step_visual w rows side place

@@ -1,4 +1,4 @@
--- The numbers of a place's paragraph, and of its unit in the paragraph.
+-- The numbers of a place's paragraph, and of its unit in the paragraph. `says` is what the tables say.
 use Rattle.std.specs.Prelude.{ℕ, ◌+◌, nat_lt, true, List, [], count_by, map, slice_index_or}
 use Rattle.unicode_segmentation.specs.Grapheme.{graphemes}
 use Rattle.unicode_segmentation.specs.Segments.{with_offsets}

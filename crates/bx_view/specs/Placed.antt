@@ -6,8 +6,10 @@ use Rattle.bx_paragraph.specs.LentRow.{row}
 use Rattle.bx_view.specs.TextRows.{TextRow, text_row}
 
 module _ {D : Type 0} {g : Ghosts D} (s : LentRow D g) where
+  -- the row as one of the text, in which its paragraph's body begins at the offset `s.start`
   abbrev pub placed : TextRow
   placed = text_row s.start (row s)
 
+  -- the window's columns
   abbrev pub columns : ℕ
   columns = s.paragraph.now.w

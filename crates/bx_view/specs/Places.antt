@@ -1,4 +1,5 @@
--- The places of a text, from its paragraphs and clusters alone: without window, direction and rows.
+-- The places of a text, from its paragraphs and clusters alone: without window, direction and rows. `says` is what the tables
+-- say, a text its bytes.
 use Rattle.std.specs.Prelude.{ℕ, ◌+◌, true, List, [], ◌∷◌, ◌++◌, length, flat_map, Contains}
 use Rattle.bx_ucd.specs.Data.{Data}
 use Rattle.unicode_segmentation.specs.Grapheme.{graphemes}

@@ -1,4 +1,5 @@
--- The position of a place: the column of its cell, and its numbers.
+-- The position of a place: the column of its cell, its paragraph's number, and its unit's in the paragraph, all from 1. `says` is
+-- what the tables say.
 use Rattle.std.specs.Prelude.{◌≡◌, ℕ, ◌+◌, List}
 use Rattle.bx_ucd.specs.Data.{Data}
 use Rattle.bx_view.specs.declared.position.Position.{Position}

@@ -1,4 +1,5 @@
--- A paragraph of a text by its number, and the numbers of its rows in the text.
+-- A paragraph of a text by its number, and the numbers of its rows in the text, all from 0. `says` is what the tables say, `w`
+-- the window's columns.
 use Rattle.std.specs.Prelude.{◌≡◌, ℕ, ◌+◌, ◌<◌, ◌≤◌, List, [], length, take, slice_index_or, slice_range}
 use Rattle.bx_ucd.specs.Data.{Data}
 use Rattle.bx_terms.specs.declared.base.Base.{Base}
@@ -12,19 +13,19 @@ use Rattle.bx_view.specs.TextRows.{rows_from}
 abbrev pub count : Data → List ℕ → ℕ
 count says text = length (paragraphs says text)
 
--- paragraph `number`, from 0
+-- paragraph `number`; an empty one if there is none
 abbrev pub paragraph_at : Data → List ℕ → ℕ → Paragraph
 paragraph_at says text number = slice_index_or (paragraphs says text) number (bare [])
 
--- its body
+-- the body of paragraph `number`
 abbrev pub body_at : Data → List ℕ → ℕ → List ℕ
 body_at says text number = (paragraph_at says text number).body
 
--- the offset at which its body begins
+-- the offset at which the body of paragraph `number` begins
 abbrev pub start_at : Data → List ℕ → ℕ → ℕ
 start_at says text number = total (take number (lengths says text))
 
--- its body is the text's bytes from `a` to `b`
+-- the body of paragraph `number` is the text's bytes from `a` to `b`
 pub record IsSpan (says : Data) (text : List ℕ) (number a b : ℕ) : Type 0 where
   pub there : number < count says text
   pub start : a ≡ start_at says text number
@@ -33,11 +34,11 @@ pub record IsSpan (says : Data) (text : List ℕ) (number a b : ℕ) : Type 0 wh
   pub order : a ≤ b
   pub within : b ≤ length text
 
--- its rows
+-- the rows of paragraph `number`
 abbrev pub rows_in : Data → Base → ℕ → List ℕ → ℕ → List BodyRow
 rows_in says base w text number = body_rows says base w (body_at says text number)
 
--- the number of rows of the paragraphs before it
+-- the number of rows of the paragraphs before paragraph `number`
 abbrev pub rows_ahead : Data → Base → ℕ → List ℕ → ℕ → ℕ
 rows_ahead says base w text number = length (rows_from says base w 0 (take number (paragraphs says text)))
 

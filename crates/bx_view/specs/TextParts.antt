@@ -1,4 +1,4 @@
--- A part of a text, from one offset up to another, and the units of a row that begin in it.
+-- A part of a text, from the offset `part.0` up to `part.1`, and the units that begin in it of a row in `w` columns.
 use Rattle.std.specs.Prelude.{ℕ, ◌+◌, nat_le, nat_lt, Bool, false, ◌&&◌, List, filter, Option, Some, None}
 use Rattle.bx_paragraph.specs.declared.slot.Slot.{Slot}
 use Rattle.bx_paragraph.specs.Slots.{covering, row_slots}
@@ -9,12 +9,12 @@ use Rattle.bx_view.specs.TextRows.{TextRow}
 abbrev pub is_in : ℕ × ℕ → ℕ → Bool
 is_in part offset = nat_le part.0 offset && nat_lt offset part.1
 
--- an offset, if there is one, lies in it
+-- there is an offset, and it lies in the part
 abbrev pub is_some_in : ℕ × ℕ → Option ℕ → Bool
 is_some_in part None = false
 is_some_in part (Some offset) = is_in part offset
 
--- a column of a row, from 1, is one of a unit that begins in a part of the text
+-- a column of a row, from 1, belongs to a unit that begins in a part of the text
 abbrev pub is_covered : ℕ → ℕ × ℕ → TextRow → ℕ → Bool
 is_covered w part r column = is_some_in part (place_in r (covering w r.row column))
 

@@ -1,4 +1,5 @@
--- The rows of a whole text in a window of `w` columns, numbered from 0. Offsets count bytes of the text.
+-- The rows of a whole text in a window of `w` columns, numbered from 0. Offsets count bytes of the text. `says` is what the
+-- tables say.
 use Rattle.std.specs.Prelude.{ℕ, ◌+◌, ◌-◌, List, [], ◌∷◌, ◌++◌, map, flat_map, slice_index_or, Contains}
 use Rattle.bx_ucd.specs.Data.{Data}
 use Rattle.bx_terms.specs.declared.base.Base.{Base}
@@ -13,6 +14,7 @@ pub record TextRow : Type 0 where
   pub start : ℕ
   pub row : BodyRow
 
+-- a row of a text, by the offset at which its paragraph's body begins and the row of that body
 abbrev pub text_row : ℕ → BodyRow → TextRow
 text_row start r = record { start = start; row = r }
 

@@ -1,4 +1,5 @@
--- Words of a text: from its paragraphs, its clusters and the classes of its characters alone, without window and rows.
+-- Words of a text: from its paragraphs, its clusters and the classes of its characters alone, without window and rows. `says` is
+-- what the tables say.
 use Rattle.std.specs.Prelude.{ℕ, ◌+◌, nat_lt, Bool, true, false, not, ◌&&◌, List, [], ◌∷◌, ◌++◌, map, length, reverse, find, unwrap_or, chars}
 use Rattle.bx_ucd.specs.Data.{Data}
 use Rattle.bx_terms.specs.Characters.{is_direction_mark}
@@ -10,7 +11,8 @@ use Rattle.bx_index.specs.Positions.{bytes_of}
 use Rattle.bx_view.specs.declared.moves.Logical.{Logical}
 use Rattle.bx_view.specs.declared.moves.Logical.TheVariants.{Back, Forward}
 
--- a class of the characters of words
+-- The classes of UAX #9 whose characters make words, a choice: those of letters (L, R, AL), numbers (EN, AN), marks (NSM) and
+-- joiners (BN).
 abbrev pub is_word_class : Class → Bool
 is_word_class L = true
 is_word_class R = true
@@ -21,10 +23,11 @@ is_word_class NSM = true
 is_word_class BN = true
 is_word_class _ = false
 
--- words have no direction marks, whatever their class
+-- a character of a word, by its code: of such a class, and no direction mark, though Unicode gives these L, R and AL
 abbrev pub is_word_character : Data → ℕ → Bool
 is_word_character says c = is_word_class (says.class c) && not (is_direction_mark c)
 
+-- the first of some characters is one of a word
 abbrev pub begins_with_word : Data → List ℕ → Bool
 begins_with_word says [] = false
 begins_with_word says (c ∷ cs) = is_word_character says c
@@ -33,7 +36,7 @@ begins_with_word says (c ∷ cs) = is_word_character says c
 abbrev pub is_of_word : Data → List ℕ → Bool
 is_of_word says unit = begins_with_word says (chars unit)
 
--- an offset in front of others, if a condition holds
+-- the offset `at` in front of others, if a condition holds; else the others alone
 abbrev pub put_if : Bool → ℕ → List ℕ → List ℕ
 put_if true at others = at ∷ others
 put_if false at others = others
@@ -49,12 +52,13 @@ word_starts says inside at (u ∷ us) =
 abbrev pub body_words : Data → List ℕ → List ℕ
 body_words says body = word_starts says false 0 (graphemes true body)
 
--- the stops in a body on a way: the starts of its words with its end, and with its start
+-- the offsets of a body at which a move by words stops: forward at the starts of its words and at its end, back at its start and
+-- at the starts of its words
 abbrev pub body_stops : Data → Logical → List ℕ → List ℕ
 body_stops says Forward body = body_words says body ++ length body ∷ []
 body_stops says Back body = 0 ∷ body_words says body
 
--- the stops in paragraphs, of which the first begins at the offset `start`
+-- the stops in paragraphs, as offsets of a text in which the first begins at `start`
 abbrev pub stops_from : Data → Logical → ℕ → List Paragraph → List ℕ
 stops_from says way start [] = []
 stops_from says way start (p ∷ ps) = map (λ o. start + o) (body_stops says way p.body) ++ stops_from says way (start + bytes_of (lengths_of p)) ps

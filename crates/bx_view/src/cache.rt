@@ -16,10 +16,10 @@ use std::alloc::{AllocError, Global};
 use std::marker::Model;
 use std::ops::Range;
 
-// More than the rows of any window.
+// A choice: more than the rows of any window (500), each of which may be a paragraph.
 const MOST_CACHED: usize = 512;
 
-// The least limit for all cached bodies, in bytes, so that typing into a small text does not evict its pages.
+// The least limit for all cached bodies, in bytes, a choice: typing into a small text seldom evicts paragraphs that are shown.
 const LEAST_LIMIT: usize = 65_536;
 
 /// Whether there is a cached paragraph at index `i` and its body is the text's in a span.
@@ -149,7 +149,7 @@ pub(crate) fn add<D: BidiData>(
     Ok(cache.len() - 1)
 }
 
-/// Rewraps a cached paragraph to `w` columns if it has another width. Its levels are kept.
+/// Rewraps the cached paragraph at index `i` to `w` columns if it has another width. Its levels are kept.
 ///
 /// Errors: `OutOfMemory`, and nothing has changed.
 pub(crate) fn lay_out_in<D: BidiData>(
@@ -173,8 +173,8 @@ pub(crate) fn lay_out_in<D: BidiData>(
     Ok(())
 }
 
-/// Applies an edit, which replaces a range of bytes with `new`, to a cached paragraph, and returns whether it did. A range
-/// that cuts a character changes nothing.
+/// Applies an edit, which replaces a range of the body's bytes with `new`, to the cached paragraph at index `i`, and returns
+/// whether it did. A range that cuts a character changes nothing.
 ///
 /// Errors: `OutOfMemory`, and nothing has changed.
 pub(crate) fn edit_in<D: BidiData>(

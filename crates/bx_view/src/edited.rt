@@ -21,7 +21,7 @@ use bx_index::separates;
 use bx_paragraph::{LentRow, ParagraphLayout};
 use bx_ucd::BidiData;
 
-/// A range of bytes in the body of a cached paragraph.
+/// A range of bytes in the body of a cached paragraph, from the offset `start` up to `stop`.
 #[derive(Clone, Copy)]
 pub struct CachedRange {
     // the paragraph's index among the cached ones
@@ -44,7 +44,8 @@ fn is_after_begin(first: usize, offset: usize) -> bool
     first == 0 || first < offset
 }
 
-/// The first place of a paragraph at or after an offset of its body; the last place, if there is none.
+/// The first place of a paragraph at or after an offset of its body; the last place, if there is none. Both are offsets of the
+/// body.
 fn place_in_body<D: BidiData>(
     paragraph: &ParagraphLayout,
     offset: usize,
@@ -74,10 +75,10 @@ fn place_in_body<D: BidiData>(
 }
 
 impl View {
-    /// Applies a pending edit, which replaces the bytes from `start` to `stop`, to its cached paragraph, and returns the place
-    /// after the edit. None if the paragraph is not cached, if the edit exceeds it or inserts a separator, and at the start of
-    /// a paragraph other than the first, where a CR and an LF may join into one separator. The paragraphs are then laid out
-    /// again when they are needed.
+    /// Applies an edit that the text is about to get, which replaces its bytes from `start` to `stop` with `new`, to the cached
+    /// paragraph, and returns the place after the edit. None, with nothing applied, if the paragraph is not cached, if the range
+    /// exceeds it or cuts a character, or if `new` has a separator. None too, with the edit applied, at the start of a paragraph
+    /// other than the text's first, where a CR before it and an LF may join into one separator.
     pub fn edit<D: BidiData>(
         &mut self,
         source: &Source<'_, D>,
@@ -116,8 +117,8 @@ impl View {
         Ok(Some(first + place))
     }
 
-    /// A range of the text as a range of a cached paragraph; none if the paragraph is not cached or the range exceeds it.
-    /// Allocates nothing.
+    /// A range of the text as a range of a cached paragraph, for `follow_edit` once the text has changed. None if the paragraph
+    /// is not cached or the range exceeds it. Allocates nothing.
     pub fn cached_range<D: BidiData>(
         &mut self,
         source: &Source<'_, D>,
@@ -138,7 +139,9 @@ impl View {
         })
     }
 
-    /// Applies an edit, which replaces a range with `new`, to a cached paragraph, unless `new` contains a separator.
+    /// Applies an edit, which replaces a range with `new`, to the cached paragraph that `cached_range` just found: once the view
+    /// has searched again, another may have its index. Nothing changes if `new` contains a separator or the range cuts a
+    /// character.
     pub fn follow_edit<D: BidiData>(
         &mut self,
         range: CachedRange,

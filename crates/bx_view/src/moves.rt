@@ -26,7 +26,7 @@ pub enum Move {
     /// Up or down by a number of rows, at most to the first or the last row: to the start of the unit that covers the
     /// cursor's column, else to the row's reading end.
     Rows(Vertical, usize),
-    /// Likewise by a number of rows, in a column, from 1, in place of the cursor's.
+    /// Up or down as `Rows`, but to the unit that covers the given column, from 1, instead of the cursor's.
     RowsIn(Vertical, usize, u16),
     /// To the row's first offset.
     RowHome,

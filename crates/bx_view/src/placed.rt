@@ -23,7 +23,7 @@ fn last_at(offsets: &[usize], offset: usize) -> Option<usize>
     offsets.iter().rev().copied().find(|o| *o <= offset)
 }
 
-/// The place at an offset of the paragraph's body.
+/// The place at an offset of the paragraph's body, if there is an offset.
 pub fn place_of<D: BidiData>(row: &LentRow<'_, '_, D>, offset: Option<usize>) -> Option<usize>
     requires { IfSome offset (λ o. row.now.start + o < 2 ^ 64) }
     ensures { result ≡ place_in (placed row.now) offset }

@@ -10,7 +10,8 @@ use crate::view::View;
 use bx_paragraph::Slot;
 use bx_ucd::BidiData;
 
-/// Keeps the slots of units that begin from `start` up to `stop`, offsets of the body.
+/// Keeps the slots of units that begin from `start` up to `stop`, offsets of the body. The slot of the paragraph's end, the only
+/// one without columns, goes.
 fn keep_in(slots: &mut Vec<Slot>, start: usize, stop: usize)
     ensures { slots.new.items ≡ filter (λ s. nat_lt 0 s.columns && is_in (start, stop) s.offset) slots.old.items }
 {

@@ -24,8 +24,8 @@ pub struct Located {
 }
 
 impl View {
-    /// The top row, nearest to the one at the offset `old`, from which `t` rows include the row `at`; and the number of rows
-    /// from it down to `at`.
+    /// The top row, nearest to the one that begins at the offset `old`, from which `t` rows include the row `at`; and the number
+    /// of rows from it down to `at`.
     fn top_above<D: BidiData>(
         &mut self,
         source: &Source<'_, D>,

@@ -26,7 +26,9 @@ use std::marker::Model;
 #[derive(Drop)]
 pub struct View {
     pub(crate) base: Base,
+    // the window's columns
     pub(crate) w: u16,
+    // the paragraphs in the order in which they were added, some still in an earlier width
     pub(crate) cache: Vec<ParagraphLayout>,
     // the index of the cached paragraph found last
     pub(crate) recent: usize,
@@ -107,7 +109,8 @@ impl View {
         self.w = w;
     }
 
-    /// The index of the cached paragraph with a body of the text. Lays it out if it is not cached.
+    /// The index of the cached paragraph whose body is the text's in a span, in the view's width. Lays it out if it is not
+    /// cached.
     pub fn find<D: BidiData>(
         &mut self,
         source: &Source<'_, D>,
@@ -133,7 +136,7 @@ impl View {
         Ok(i)
     }
 
-    /// The cached paragraph at index `cached`.
+    /// The cached paragraph at index `cached`, which has the body of the text's paragraph `number`, from 0.
     pub fn paragraph<D: BidiData>(
         &self,
         source: &Source<'_, D>,
@@ -273,7 +276,7 @@ impl View {
         Ok(before)
     }
 
-    /// The row before `at`, if there is one, for many steps in turn: the walk is at the paragraph of `at`, and goes along.
+    /// Like `row_before`, for many steps in turn: `walk`, which is at the paragraph of `at`, goes along.
     pub fn row_before_along<D: BidiData>(
         &mut self,
         source: &Source<'_, D>,

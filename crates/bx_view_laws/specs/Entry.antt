@@ -1,4 +1,5 @@
--- The slot by which a row is entered in a column, and the place that a move by rows leads to. Columns count from 1.
+-- The slot by which a row is entered in a column, and the place that a move by rows leads to, in rows of `w` columns. Columns
+-- count from 1, the numbers of rows from 0.
 use Rattle.std.specs.Prelude.{◌≡◌, ◌≢◌, ◌⊎◌, ℕ, ◌+◌, ◌<◌, ◌≤◌, true, false, List, length, All, Contains}
 use Rattle.bx_paragraph.specs.declared.slot.Slot.{Slot}
 use Rattle.bx_paragraph.specs.Slots.{covers, row_slots}
@@ -25,8 +26,8 @@ pub record IsEntry (w : ℕ) (r : TextRow) (column place : ℕ) : Type 0 where
   pub place_is : r.start + slot.offset ≡ place
   pub enters : Covers (row_slots w r.row) column slot ⊎ IsNearest (row_slots w r.row) column slot
 
--- A move by rows to another row enters it in the given column; Up, Down and the pages give the column of the place's cell, which
--- is one of the window's. A move to the place's own row stays at the place.
+-- A move by `n` rows to another row, `k`, enters it in the given column; Up, Down and the pages give the column of the place's
+-- cell, which is one of the window's (`own`). A move to the place's own row stays at the place.
 pub record RowsGoOn (w : ℕ) (rows : List TextRow) : Type 0 where
   pub own : (place : ℕ) → (1 ≤ cell_of w rows place) × (cell_of w rows place ≤ w)
   pub enters : (way : Vertical) (n column place k : ℕ) → 1 ≤ column → column ≤ w → k ≡ row_away (length rows) way n (row_of rows place)

@@ -1,4 +1,5 @@
--- Parts of the laws of places: what holds in every window, and the greatest place at or before an offset.
+-- Parts of the laws of places: what holds in every window, and the greatest place at or before an offset. `says` is what any
+-- tables say.
 use Rattle.std.specs.Prelude.{◌≡◌, ℕ, ◌-◌, ◌≤◌, true, List, IsUtf8}
 use Rattle.bx_ucd.specs.Data.{Data}
 use Rattle.bx_terms.specs.Sizes.{is_side}
