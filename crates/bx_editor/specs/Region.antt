@@ -41,7 +41,7 @@ after_mark e =
 abbrev pub without_mark : Editor → Editor
 without_mark e = record e { mark = None; soft = Off }
 
--- Copy holds the region, or the line if the region is empty; if both are empty, the held text stays
+-- Copy makes the region the held text, or the line if the region is empty; if both are empty, the held text stays
 abbrev pub after_copy : Data → Editor → Editor
 after_copy d e =
     if is_empty (region e)
@@ -50,7 +50,7 @@ after_copy d e =
     else record e { mark = None; soft = Off; held = bytes_in e (line d e); message = Some LineCopied })
     else record e { mark = None; soft = Off; held = bytes_in e (region e); message = Some Copied }
 
--- Cut holds the same part, and removes it from the text
+-- Cut does the same as Copy, and removes that part from the text
 abbrev pub after_cut : Data → Editor → Editor
 after_cut d e =
     if is_empty (taken d e)

@@ -13,7 +13,7 @@ selecting e None soft = record e { mark = Some e.place; soft = Fresh }
 selecting e (Some mark) Old = record e { soft = Fresh }
 selecting e (Some mark) _ = e
 
--- Select
+-- the effect of Select
 abbrev pub after_select : Editor → Editor
 after_select e = selecting e e.mark e.soft
 
@@ -21,7 +21,7 @@ abbrev pub is_soft : Soft → Bool
 is_soft Off = false
 is_soft _ = true
 
--- an old selection is taken off, as a move and a key that asks for a place do first
+-- the mark, and below its softness, once an old selection is taken off: what a move and a key that asks for a place do first
 abbrev pub mark_left : Soft → Option ℕ → Option ℕ
 mark_left Old mark = None
 mark_left soft mark = mark
@@ -37,11 +37,12 @@ unselected e = record e { mark = mark_left e.soft e.mark; soft = soft_left e.sof
 abbrev pub is_selection : Editor → Bool
 is_selection e = is_soft e.soft && not (is_empty (region e))
 
--- the softness that a key which the user presses leaves: fresh behind Select and Repaint alone
+-- the softness once another key than Select and Repaint is pressed
 abbrev pub aged : Soft → Soft
 aged Fresh = Old
 aged soft = soft
 
+-- the softness that a key which the user presses leaves
 abbrev pub soft_behind : Key → Soft → Soft
 soft_behind Select soft = soft
 soft_behind Repaint soft = soft

@@ -1,4 +1,4 @@
-//! The keys of a search.
+//! What the keys do while the query is asked for, and FindNext outside a search. `search_keys.rt` says which key does what.
 ghost use Rattle.std.specs.Prelude.{◌≡◌, ◌==◌, not, length, IfOk, IfSome, OnErr, OnOk};
 ghost use Rattle.bx_view.specs.Places.{IsTextPlace};
 ghost use Rattle.bx_editor.specs.Editor.{cleared};
@@ -47,7 +47,7 @@ impl<D: BidiData + Drop> Editor<D> {
         self.end_search();
     }
 
-    /// Moves the cursor to where a match is, and sets the message. Allocates nothing.
+    /// Moves the cursor to where a search led, if anywhere, and sets its message. How far the search is stays. Allocates nothing.
     pub(crate) fn settle_at(&mut self, landing: Landing)
         requires place { IfSome landing.place (IsTextPlace (D.data self.old.tables) self.old.editor.content.text) }
         ensures { self.new ≡ record self.old { editor = landed (cleared self.old.editor) landing } }
@@ -58,7 +58,7 @@ impl<D: BidiData + Drop> Editor<D> {
         self.typing = Typing::Off;
     }
 
-    /// Moves the cursor to where a search led, and sets its message.
+    /// The same, and the query counts as typed: the next letter is appended to it.
     fn land(&mut self, landing: Landing)
         requires origin { IsTextPlace (D.data self.old.tables) self.old.editor.content.text self.old.editor.origin }
         requires place { IfSome landing.place (IsTextPlace (D.data self.old.tables) self.old.editor.content.text) }
