@@ -54,7 +54,8 @@ fn edit_file<'a, R: Read + Drop, W: Write, S: Store>(
     Ok(())
 }
 
-/// Stores the text recovered from a journal, and writes a line: what FILE holds compared with it, and the number of keys.
+/// Stores the text recovered from a journal, and writes a line: what FILE holds compared with it, and the number of keys. A FILE
+/// that does not exist counts as empty.
 fn recover_to<'a, W: Write, S: Store>(
     rt: &HostRuntime,
     options: &Options<'a>,

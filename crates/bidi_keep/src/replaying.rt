@@ -79,7 +79,7 @@ fn bytes_in(around: Around<'_>, session: &Session, part: Part) -> Result<Vec<u8>
     session.read(around.rt, part)?.ok_or(UNREADABLE)
 }
 
-/// FILE's bytes; no bytes where it is not a plain file or cannot be read.
+/// FILE's bytes; no bytes where it does not exist, is not a plain file or cannot be read: then it is compared as an empty text.
 fn bytes_of_file(around: Around<'_>, file: &str) -> Vec<u8> {
     match read_plain(around.rt, file) {
         Ok(bytes) => bytes,

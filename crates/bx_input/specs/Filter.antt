@@ -53,6 +53,7 @@ abbrev pub ended : Bool → Option Row → Step
 ended is_open None = step_to (Within [] false) start_told
 ended is_open (Some r) = step_to (Outside [] false) (apart_from is_open r.becomes)
 
+-- there are no bytes
 abbrev pub is_empty : List ℕ → Bool
 is_empty [] = true
 is_empty (b ∷ bs) = false
@@ -75,7 +76,7 @@ module _ (erases_by_delete : Bool) where
   step_by Ends waiting is_open b = ended is_open (row_of erases_by_delete (waiting ++ b ∷ []))
   step_by Breaks waiting is_open b = broken waiting is_open b
 
--- ---- within a paste; `paste_fate` (`Paste.antt`) says the same of the sequences that are known there
+-- ---- within a paste; `paste_fate` (`Paste.antt`) says the same of the sequences that are known within one
 
 -- a byte where none waits
 abbrev pub fresh_in_paste : Fate → Bool → ℕ → Step

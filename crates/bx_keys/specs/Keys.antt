@@ -17,7 +17,7 @@ use Rattle.bx_keys.specs.declared.notice.Notice.TheVariants as notices
 
 -- ---- the key of an item
 
--- CTRL with B, F, H, I, J, M, L, Q, S, Y and Z, and DELETE (7F)
+-- Ctrl with B, F, H, I, J, M, L, Q, S, Y and Z, and DELETE (7F)
 abbrev pub control_keys : List (ℕ × Key)
 control_keys =
     (0x02, Back) ∷ (0x06, Forward) ∷ (0x08, Erase) ∷ (0x7F, Erase) ∷ (0x09, Insert 0x09) ∷ (0x0A, Insert 0x0A)

@@ -2,7 +2,8 @@
 
 use crate::notice::Notice;
 
-/// A command of the user, or what the host tells.
+/// A command of the user, or what the host tells. In a search or a question some keys answer it: `answer_of` in `bx_editor`'s
+/// specs/Keys.antt says which.
 #[derive(Clone, Copy, PartialEq, Eq, Debug)]
 pub enum Key {
     /// Inserts the character at the place.
@@ -71,7 +72,7 @@ pub enum Key {
     DeleteWord,
     /// Goes to the next match, and no search stays on.
     FindNext,
-    /// Ends a search; where none is on, removes the mark.
+    /// Gives up a search or a question; where none is on, removes the mark.
     Cancel,
     /// Removes the last point (a nonspacing mark or zero-width joiner) of the unit before the place, else that unit.
     ErasePoint,
@@ -87,9 +88,9 @@ pub enum Key {
     PageOn,
     /// Begins a selection at the place, or goes on with one, so that the next move keeps the mark.
     Select,
-    /// Takes back all edits since the latest run of typing began.
+    /// Takes back all edits since the latest run began.
     UndoRun,
-    /// Makes again what the latest UndoRun took back.
+    /// Makes again the edits that were taken back, up to where the next run begins.
     RedoRun,
     /// Asks for a line.
     GoTo,

@@ -64,6 +64,7 @@ appends (part ∷ parts) = Append part ∷ appends parts
 abbrev pub turn_actions : LoggedTurn → List Action
 turn_actions logged = Read (read_in logged.turn) ∷ (appends logged.parts ++ Write logged.turn.written ∷ Flush ∷ [])
 
+-- the actions of turns in sequence
 abbrev pub turns_actions : List LoggedTurn → List Action
 turns_actions [] = []
 turns_actions (logged ∷ more) = turn_actions logged ++ turns_actions more

@@ -29,7 +29,8 @@ pub record Paints (d : Data) (before : List ℕ) (old : Option PictureState) (ne
   -- until the session's end the cursor is on the cell of its place
   pub cursor : new.editor.ended ≡ false → StandsOnItsCell d new.editor new.top (picture d new.editor new.top)
 
--- bytes that do so were appended, where `known` is the picture that the screen was taken to show, None for unknown content
+-- bytes that paint the session's picture were appended, where `known` is the picture that the screen was taken to show, None for
+-- unknown content
 abbrev pub QueuesPicture : Data → List ℕ → Option PictureState → Session → Type 0
 QueuesPicture d before known new = (bytes : List ℕ) × Paints d before known new bytes
 

@@ -1,4 +1,5 @@
--- The session's state, and its changes: an editor, the input that waits for more, and the bytes queued for the terminal.
+-- The session's state, and its changes: an editor, the input that waits for more, and the bytes queued for the terminal. `d` is
+-- Unicode's data, `s` the session before, `b` a byte of input.
 use Rattle.std.specs.Prelude.{ℕ, Bool, true, false, not, ◌&&◌, ◌||◌, is_some, List, [], ◌∷◌, ◌++◌, drop, Option, Some, None, if◌then◌else◌}
 use Rattle.bx_terms.specs.declared.base.Base.{Base}
 use Rattle.bx_keys.specs.declared.key.Key.{Key}
@@ -154,6 +155,7 @@ session_after_replayed d ask seek s Save = record s { editor = after_passed_save
 session_after_replayed d asks.Off Off s Quit = record s { editor = after_passed_quit s.editor }
 session_after_replayed d ask seek s key = session_after_key d None s key
 
+-- the same for a byte's key, if it completes one
 abbrev pub after_replayed_key : Data → Session → Option Key → Session
 after_replayed_key d s None = s
 after_replayed_key d s (Some key) = session_after_replayed d s.editor.ask s.editor.seek s key

@@ -1,4 +1,5 @@
--- The world, which is a session, the bytes in transit, the window and the terminal, and its changes.
+-- The world, which is a session, the line (the bytes in transit to the terminal), the window and the terminal, and its changes. `w`
+-- is the world before, `s` a session, `b` a byte of input.
 use Rattle.std.specs.Prelude.{ℕ, ◌*◌, Bool, true, false, ◌&&◌, ◌==◌, List, [], ◌++◌, take, drop, replicate, Option, Some, None, option_map}
 use Rattle.bx_keys.specs.declared.key.Key.{Key}
 use Rattle.bx_keys.specs.declared.key.Key.TheVariants.{Size}

@@ -52,7 +52,7 @@ fn mark_after<A>(told: &mut bool, after: bool, answer: &Result<A, Refused>)
     }
 }
 
-/// Converts a session's answer to a step's.
+/// The answer of a step, from the session's answer to its call.
 fn answer_of<A: Drop>(answer: Result<A, Refused>) -> Result<(), StepFault>
     ensures { result ≡ answers.answer_of answer }
 {
