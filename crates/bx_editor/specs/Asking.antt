@@ -21,11 +21,12 @@ use Rattle.bx_editor.specs.Putting.{is_paste, only_paste}
 use Rattle.bx_editor.specs.Region.{is_empty, region}
 use Rattle.bx_editor.specs.Wrapping.{after_wrapping}
 
--- the most characters of an answer. A line's numbers then stay below 10^18, so they fit in 64 bits (`bx_asking/src/line.rt`); the
--- greatest code is 10FFFF
+-- the most characters of the answer that names a line: its numbers then stay below 10^18, so they fit in 64 bits
+-- (`bx_asking/src/line.rt`)
 abbrev pub longest_line : ℕ
 longest_line = 16
 
+-- the most characters of the answer that writes a code: the greatest is 10FFFF
 abbrev pub longest_code : ℕ
 longest_code = 6
 

@@ -25,6 +25,7 @@ use Rattle.bx_runs.specs.Runs.{edited}
 use Rattle.bx_ucd.specs.Data.{Data}
 use Rattle.bx_terms.specs.Sizes.{is_side}
 
+-- an editor's state, without Unicode's tables; which row is shown first is the session's
 pub record Editor : Type 0 where
   -- the text, with its past and its future
   pub content : Edited
@@ -185,6 +186,7 @@ abbrev pub after_redo : Editor → List Edit → Editor
 after_redo e [] = record e { message = Some messages.NothingToRedo }
 after_redo e (edit ∷ future) = with_step e (redone e.content) edit.after.place true
 
+-- one edit is undone, or redone
 abbrev pub after_step : HistoryStep → Editor → Editor
 after_step steps.Undo e = after_undo e e.content.past
 after_step steps.Redo e = after_redo e e.content.future
@@ -227,6 +229,7 @@ help_behind _ = messages.Help
 abbrev pub after_help : Editor → Option Message → Editor
 after_help e told = record e { message = Some (help_behind told) }
 
+-- the window gets this size, in rows and columns
 abbrev pub with_size : Editor → ℕ → ℕ → Editor
 with_size e height width = record e { height = height; width = width }
 

@@ -20,12 +20,13 @@ use Rattle.bx_editor.specs.Runs.{after_run_step}
 use Rattle.bx_editor.specs.Search.{after_beginning, after_find_next}
 use Rattle.bx_editor.specs.Selecting.{after_select, unselected}
 
+-- what a key does
 pub data Effect : Type 0 where
   -- a character is typed; a line is begun; the held text is put in
   Types : ℕ → Effect
   BeginsLine : Effect
   Puts : Effect
-  -- the bytes from one offset to another are removed: such removals after one another are one run, but a word's is a run of its own
+  -- the bytes from one offset to another are removed: removals of one kind after one another are one run, but a word's is its own
   Removes : Removal → ℕ → ℕ → Effect
   RemovesWord : ℕ → ℕ → Effect
   -- one edit, or a run of edits, is undone or redone

@@ -45,11 +45,13 @@ point_before d e =
 
 -- ---- the moves by which the code removes: none leads past the place
 
+-- by a unit or to a word's start, back
 abbrev pub goes_back : Move → Bool
 goes_back (Logical Back) = true
 goes_back (Word Back) = true
 goes_back _ = false
 
+-- by a unit or to a word's start, forward
 abbrev pub goes_on : Move → Bool
 goes_on (Logical Forward) = true
 goes_on (Word Forward) = true

@@ -86,6 +86,7 @@ effect_of d e Name = AsksName
 effect_of d e Tell = Tells
 effect_of d e _ = Rests
 
+-- the editor after a key, outside a search and a question
 abbrev pub after_pressing : Data → Option StoreFault → Before → Editor → Key → Editor
 after_pressing d fault was e key = by d fault was e (effect_of d e key)
 
@@ -103,6 +104,7 @@ pub data Answer : Type 0 where
   Stays : Answer
   Ends : Answer
 
+-- what each key means so; in a question Next, Previous and Replaces are as Ends
 abbrev pub answer_of : Key → Answer
 answer_of (Insert c) = Letter c
 answer_of NewLine = Letter 0xA
@@ -135,6 +137,7 @@ after_seeking d fault was e key = answered d fault was e key (answer_of key)
 
 -- ---- while the other text is asked for: a key answers, or ends the search and does what it always does
 
+-- Next and Previous begin another search, and Replaces shows the first match
 abbrev pub answered_other : Data → Option StoreFault → Before → Editor → Key → Answer → Editor
 answered_other d fault was e key (Letter c) = with_typing (after_other_letter d was.typing e c) (only_paste was.typing)
 answered_other d fault was e key Shortens = after_shorter_other e
@@ -147,6 +150,7 @@ answered_other d fault was e key Ends = after_pressing d fault was (without_sear
 
 -- ---- while a match is shown: a key replaces it, passes it over, or ends replacing and does what it always does
 
+-- Previous begins another search, and Replaces replaces this match and all that follow
 abbrev pub answered_match : Data → Option StoreFault → Before → Editor → Key → Answer → Editor
 answered_match d fault was e key (Letter c) = with_typing (after_match_letter d was.typing e c) (only_paste was.typing)
 answered_match d fault was e key Shortens = e

@@ -14,6 +14,7 @@ use Rattle.bx_editor.specs.Editor.{Editor, rows, text_height}
 use Rattle.bx_editor.specs.Replacing.{seen}
 use Rattle.bx_editor.specs.Status.{status_columns}
 
+-- a picture of spaces, with the cursor in its first column
 abbrev pub blank_picture : ℕ → ℕ → PictureState
 blank_picture height width = record { height = height; width = width; columns = replicate (height * width) blank; row = 0; column = 0 }
 

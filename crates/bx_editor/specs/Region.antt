@@ -28,6 +28,7 @@ taken d e = if is_empty (region e) then line d e else region e
 
 -- ---- the keys
 
+-- there is a mark, and it is at the place
 abbrev pub is_at_mark : Option ℕ → ℕ → Bool
 is_at_mark None place = false
 is_at_mark (Some mark) place = mark == place

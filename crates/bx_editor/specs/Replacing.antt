@@ -89,6 +89,7 @@ abbrev pub seen_in : Data → Editor → Seek → ℕ × ℕ
 seen_in d e Replacing = (e.place, match_stop d e)
 seen_in d e _ = region e
 
+-- this part as the editor's search stands
 abbrev pub seen : Data → Editor → ℕ × ℕ
 seen d e = seen_in d e e.seek
 

@@ -51,6 +51,7 @@ is_no_letter d c = (c == 0x9) || is_separator (d.class c)
 abbrev pub nothing_sought : Landing
 nothing_sought = record { place = None; message = None }
 
+-- the query stands nowhere in the text: the cursor stays
 abbrev pub not_found : Landing
 not_found = record { place = None; message = Some NotFound }
 
@@ -79,6 +80,7 @@ landed e landing = record e { place = unwrap_or landing.place e.place; message =
 abbrev pub landing_from : Data → ℕ → Editor → Landing
 landing_from d x e = forward d (reading e.aim) (rows d e) e.content.text x (sought d e)
 
+-- the query is sought forward from `x`, and the cursor goes where that leads
 abbrev pub search_from : Data → ℕ → Editor → Editor
 search_from d x e = landed e (landing_from d x e)
 

@@ -17,19 +17,22 @@ selecting e (Some mark) _ = e
 abbrev pub after_select : Editor → Editor
 after_select e = selecting e e.mark e.soft
 
+-- the mark is a selection's
 abbrev pub is_soft : Soft → Bool
 is_soft Off = false
 is_soft _ = true
 
--- the mark, and below its softness, once an old selection is taken off: what a move and a key that asks for a place do first
+-- the mark, once an old selection is taken off
 abbrev pub mark_left : Soft → Option ℕ → Option ℕ
 mark_left Old mark = None
 mark_left soft mark = mark
 
+-- the softness, once an old selection is taken off
 abbrev pub soft_left : Soft → Soft
 soft_left Old = Off
 soft_left soft = soft
 
+-- an old selection is taken off, as moves and the keys that begin a search, go to the next match or ask for a line do first
 abbrev pub unselected : Editor → Editor
 unselected e = record e { mark = mark_left e.soft e.mark; soft = soft_left e.soft }
 

@@ -1,4 +1,5 @@
-//! What the keys do while the query is asked for, and FindNext outside a search. `search_keys.rt` says which key does what.
+//! The calls by which a search begins, goes on and is given up, and FindNext outside a search. `keys.rt` and `search_keys.rt` say
+//! which key makes which call.
 ghost use Rattle.std.specs.Prelude.{◌≡◌, ◌==◌, not, length, IfOk, IfSome, OnErr, OnOk};
 ghost use Rattle.bx_view.specs.Places.{IsTextPlace};
 ghost use Rattle.bx_editor.specs.Editor.{cleared};
@@ -58,7 +59,8 @@ impl<D: BidiData + Drop> Editor<D> {
         self.typing = Typing::Off;
     }
 
-    /// The same, and the query counts as typed: the next letter is appended to it.
+    /// Moves the cursor to where a search led, if anywhere, and sets its message. The query counts as typed: the next letter is
+    /// appended to it.
     fn land(&mut self, landing: Landing)
         requires origin { IsTextPlace (D.data self.old.tables) self.old.editor.content.text self.old.editor.origin }
         requires place { IfSome landing.place (IsTextPlace (D.data self.old.tables) self.old.editor.content.text) }

@@ -15,7 +15,7 @@ use bx_ucd::BidiData;
 use itoa::Buffer;
 use std::alloc::{AllocError, Global};
 
-/// The text of `status_line`, in a function of its own for that one's second clause.
+/// Writes the text that `status_line` returns.
 fn write_line(
     alloc: Global,
     changed: bool,

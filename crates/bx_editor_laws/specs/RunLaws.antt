@@ -20,10 +20,11 @@ use Rattle.bx_editor_laws.specs.Laws.{after_typing, IsUnmarkedAt}
 
 -- ---- a run, edit by edit
 
--- how many edits are undone until none is left or a run begins; how many are redone until all are or the next run begins
+-- how many edits are undone until none is left or a run begins
 abbrev pub undos : Editor → ℕ
 undos e = length e.content.past - undone e.runs (length e.content.past)
 
+-- how many edits are redone until none is left or the next run begins
 abbrev pub redos : Editor → ℕ
 redos e = redone e.runs (length e.content.past) (length e.content.future) - length e.content.past
 

@@ -101,6 +101,7 @@ at_end (Outside waiting is_open) = waiting
 at_end (Within waiting after_return) = pasted_part waiting
 
 module _ (erases_by_delete : Bool) where
+  -- a byte in any state
   abbrev pub step : State → ℕ → Step
   step (Outside waiting is_open) b = step_by erases_by_delete (fate (waiting ++ b ∷ [])) waiting is_open b
   step (Within waiting after_return) b = paste_step_by (paste_fate (waiting ++ b ∷ [])) waiting after_return b

@@ -31,6 +31,7 @@ short_escapes =
     ∷ (escape ∷ One 0x5C 0x7E ∷ [])
     ∷ []
 
+-- each way to make an item, as a row of pieces: `One` is a byte of a range, `Many` any number of such bytes
 abbrev pub items : List (List Piece)
 items = single_bytes ++ long_characters ++ (control_sequence ∷ single_shift ∷ long_escape ∷ short_escapes)
 

@@ -155,6 +155,7 @@ decoding bs = decoding_within (length bs) bs
 
 -- ---- one byte more
 
+-- the first of some keys, if there is one
 abbrev pub first_key : List Key → Option Key
 first_key [] = None
 first_key (key ∷ keys) = Some key

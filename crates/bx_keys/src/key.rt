@@ -72,7 +72,7 @@ pub enum Key {
     DeleteWord,
     /// Goes to the next match, and no search stays on.
     FindNext,
-    /// Gives up a search or a question; where none is on, removes the mark.
+    /// Gives up a search or a question, or ends replacing; where none is on, removes the mark.
     Cancel,
     /// Removes the last point (a nonspacing mark or zero-width joiner) of the unit before the place, else that unit.
     ErasePoint,

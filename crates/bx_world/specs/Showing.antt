@@ -50,10 +50,11 @@ begins_sequence (b ∷ rest) = b == 0x1B
 abbrev pub NoRunInSequence : Terminal → Type 0
 NoRunInSequence t = begins_sequence t.half_read ≡ true → t.run ≡ []
 
--- the terminal, or the editor, has these rows and columns
+-- the terminal has these rows and columns
 abbrev pub HasSize : ℕ → ℕ → Terminal → Type 0
 HasSize height width t = (t.height ≡ height) × (t.width ≡ width)
 
+-- the editor has these rows and columns
 abbrev pub FitsWindow : ℕ → ℕ → Editor → Type 0
 FitsWindow height width e = (e.height ≡ height) × (e.width ≡ width)
 

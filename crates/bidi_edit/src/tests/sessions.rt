@@ -53,6 +53,7 @@ struct Given {
 }
 
 impl Given {
+    /// Parses the fields before the `=` of a line.
     fn of_fields(alloc: Global, text: &str) -> Result<Given, Fail> {
         let mut fields = text.split('|');
         let rows = side_of(fields.next().ok_or("no rows")?)?;
