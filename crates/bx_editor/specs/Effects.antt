@@ -1,4 +1,4 @@
--- What keys do outside a search and a question, in kinds: each key has one.
+-- What keys do outside a search and a question, in kinds: each key has one. `e` is the editor.
 use Rattle.std.specs.Prelude.{ℕ, Bool, Option, Some}
 use Rattle.bx_store.specs.declared.store.StoreFault.{StoreFault}
 use Rattle.bx_ucd.specs.Data.{Data}
@@ -26,7 +26,8 @@ pub data Effect : Type 0 where
   Types : ℕ → Effect
   BeginsLine : Effect
   Puts : Effect
-  -- the bytes from one offset to another are removed: removals of one kind after one another are one run, but a word's is its own
+  -- the bytes from one offset to another are removed: removals of one kind after one another are one run, but each of a word is a
+  -- run of its own
   Removes : Removal → ℕ → ℕ → Effect
   RemovesWord : ℕ → ℕ → Effect
   -- one edit, or a run of edits, is undone or redone

@@ -1,5 +1,5 @@
 -- The column, from 1, that LineUp, LineDown, PageBack and PageOn keep: the cursor's before the first of them. Up, Down, PageUp and
--- PageDown, which keep none, are in Keys.antt.
+-- PageDown, which keep none, are in Keys.antt. `d` is Unicode's data, `e` the editor.
 use Rattle.std.specs.Prelude.{ℕ, Option, Some, None, unwrap_or}
 use Rattle.bx_keys.specs.declared.key.Key.{Key}
 use Rattle.bx_keys.specs.declared.key.Key.TheVariants.{LineUp, LineDown, PageBack, PageOn, Repaint, Select}

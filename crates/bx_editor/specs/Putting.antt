@@ -1,5 +1,5 @@
 -- What is typed or put in: characters, line ends, the held text; a selection gives way to it. `d` is Unicode's data, `e` the editor,
--- `new` a text in UTF-8.
+-- `new` a text in UTF-8, `c` a character.
 use Rattle.std.specs.Prelude.{ℕ, ◌∷◌, [], ◌==◌, ◌&&◌, Bool, true, false, List, length, encode_utf8, Some, if◌then◌else◌}
 use Rattle.bx_text.specs.Edits.{fits, splice}
 use Rattle.bx_ucd.specs.Data.{Data}

@@ -1,4 +1,5 @@
--- The region between the mark and the cursor's place, and the keys that mark, copy and cut.
+-- The region between the mark and the cursor's place, and the keys that mark, copy and cut. `d` is Unicode's data, `e` the
+-- editor.
 use Rattle.std.specs.Prelude.{ℕ, ◌==◌, min, max, Bool, false, List, slice_range, Option, Some, None, unwrap_or, if◌then◌else◌}
 use Rattle.bx_ucd.specs.Data.{Data}
 use Rattle.bx_document.specs.Line as lines

@@ -1,5 +1,5 @@
 -- Replacing: the other text is asked for, and then each match is replaced or passed over, or all that follow are replaced. Offsets
--- and places count bytes of the text. `d` is Unicode's data, `e` the editor, `at` the offset of a match.
+-- and places count bytes of the text. `d` is Unicode's data, `e` the editor, `at` the offset of a match, `c` a character.
 use Rattle.std.specs.Prelude.{ℕ, ◌+◌, ◌==◌, not, ◌&&◌, Bool, true, false, List, length, Option, Some, None, if◌then◌else◌}
 use Rattle.bx_ucd.specs.Data.{Data}
 use Rattle.bx_find.specs.Matches.{first_from}

@@ -1,4 +1,4 @@
--- Undo and redo by runs of edits.
+-- Undo and redo by runs of edits. `e` is the editor, `n` a length of the past: its number of edits.
 use Rattle.std.specs.Prelude.{ℕ, ◌+◌, ◌-◌, ◌==◌, not, Bool, true, length, Option, Some, None}
 use Rattle.bx_text.specs.declared.change.Change.{Change}
 use Rattle.bx_document.specs.History.{next_changes, stepped_times}

@@ -1,4 +1,5 @@
--- The keys of a search. Offsets and places count bytes of the text. `d` is Unicode's data, `e` the editor, `x` an offset.
+-- The keys of a search. Offsets and places count bytes of the text. `d` is Unicode's data, `e` the editor, `x` an offset, `c` a
+-- character.
 use Rattle.std.specs.Prelude.{ℕ, ◌==◌, ◌||◌, nat_lt, Bool, List, [], ◌∷◌, length, find, chars}
 use Rattle.std.specs.Prelude.{Option, Some, None, unwrap_or, if◌then◌else◌}
 use Rattle.bx_ucd.specs.Data.{Data}

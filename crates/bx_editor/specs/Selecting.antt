@@ -1,4 +1,4 @@
--- Selections: a mark that a plain move takes off again.
+-- Selections: a mark that a plain move takes off again. `e` is the editor.
 use Rattle.std.specs.Prelude.{ℕ, Bool, true, false, not, ◌&&◌, Option, Some, None}
 use Rattle.bx_keys.specs.declared.key.Key.{Key}
 use Rattle.bx_keys.specs.declared.key.Key.TheVariants.{Select, Repaint}

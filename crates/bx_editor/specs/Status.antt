@@ -1,4 +1,5 @@
--- The status row: whether there are unsaved changes, the cursor's position, a message, and the prompt of a search or of a question.
+-- The status row: whether there are unsaved changes, the cursor's position, a message, and the prompt of a search or of a
+-- question. `d` is Unicode's data, `e` the editor.
 use Rattle.std.specs.Prelude.{ℕ, ◌+◌, nat_le, Bool, List, [], ◌++◌, Option, Some, None, codes, decimal, if◌then◌else◌}
 use Rattle.bx_terms.specs.declared.base.Base.TheVariants.{Auto, Ltr, Rtl}
 use Rattle.bx_keys.specs.declared.notice.Notice as told

@@ -1,4 +1,4 @@
--- The region between two characters that isolate, embed or override it.
+-- The region between two characters that isolate, embed or override it. `d` is Unicode's data, `e` the editor.
 use Rattle.std.specs.Prelude.{ℕ, ◌+◌, ◌==◌, Bool, false, List, length, encode_utf8, if◌then◌else◌, Some, [], chars}
 use Rattle.std.specs.List.{list_any}
 use Rattle.bx_ucd.specs.Data.{Data}

@@ -132,6 +132,7 @@ impl<D: BidiData + Drop> Editor<D> {
             return self.new_line();
         }
         let kind = Kind::of(self.document.class(c));
+        // a character has at most four bytes
         let mut buffer = [0; 4];
         let new = c.encode_utf8(&mut buffer);
         self.type_text(new, kind)

@@ -1,4 +1,5 @@
--- The filter's step for a byte, and its output for input, in two states: outside a paste, and within one.
+-- The filter's step for a byte, and its output for input, in two states: outside a paste, and within one. `b` is a byte, `bs` are
+-- bytes, `s` is a state.
 use Rattle.std.specs.Prelude.{ℕ, Bool, true, false, not, ◌&&◌, ◌||◌, ◌==◌, List, [], ◌∷◌, ◌++◌, Option, Some, None, if◌then◌else◌}
 use Rattle.std.specs.Str.{bytes_eq}
 use Rattle.bx_bytes.specs.Pattern.{is_within}
@@ -48,7 +49,7 @@ abbrev pub apart_from : Bool → List ℕ → List ℕ
 apart_from is_open [] = if is_open then 0x18 ∷ [] else []
 apart_from is_open (b ∷ bs) = if is_open && not (b == 0x1B) then 0x18 ∷ b ∷ bs else b ∷ bs
 
--- a known sequence is whole: the bytes of its row go out, or a paste starts
+-- a known sequence is whole: the bytes of its row go out, or without a row, which only a paste's start has not, a paste starts
 abbrev pub ended : Bool → Option Row → Step
 ended is_open None = step_to (Within [] false) start_told
 ended is_open (Some r) = step_to (Outside [] false) (apart_from is_open r.becomes)

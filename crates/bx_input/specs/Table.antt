@@ -1,5 +1,5 @@
 -- The sequences that terminals send for keys, and the bytes that the editor gets in their place: those by which `bx_keys`
--- (specs/Keys.antt) knows the row's key.
+-- (specs/Keys.antt) knows the row's key. `r` is a row, `bs` are bytes.
 use Rattle.std.specs.Prelude.{ℕ, Bool, true, false, List, [], ◌∷◌, ◌++◌, map, find, codes, Option, if◌then◌else◌}
 use Rattle.std.specs.Str.{bytes_eq}
 use Rattle.bx_bytes.specs.Fate.{fate_in}

@@ -1,4 +1,5 @@
--- The items that input is made of: control characters, characters, and escape sequences (ECMA-35, 13; ECMA-48, 5.4).
+-- The items that input is made of: control characters, characters, and escape sequences (ECMA-35, 13; ECMA-48, 5.4). `bs` are
+-- bytes.
 use Rattle.std.specs.Prelude.{ℕ, Bool, List, [], ◌∷◌, ◌++◌}
 use Rattle.bx_bytes.specs.Pattern.{Piece, One, Many, matches_any, begins_any}
 use Rattle.bx_bytes.specs.Utf8.{long_characters}

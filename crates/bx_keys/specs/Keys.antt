@@ -1,4 +1,5 @@
--- The key of each item, and the keys of input: what a decoder gives.
+-- The key of each item, and the keys of input: what a decoder gives. `b` is a byte, `bs` are bytes, `rest` bytes that wait; of a
+-- size, `h` are the rows, `w` the columns.
 use Rattle.bx_terms.specs.Sizes.{is_side, largest_side}
 use Rattle.std.specs.Prelude.{ℕ, zero, suc, ◌-◌, ◌≤◌, max, Bool, ◌&&◌, nat_le, ◌==◌, List, [], ◌∷◌, ◌++◌, length, slice_index, take, drop, Option, Some, None}
 use Rattle.std.specs.Prelude.{find, option_map, option_to_list, codes, if◌then◌else◌}

@@ -1,5 +1,6 @@
 -- What an edited file holds, compared with the replay of a journal (`FileText`), and the text that is recovered. Where another
--- program changed FILE, the text is recovered as a new file. `d` is Unicode's data, `s` the session before the journal.
+-- program changed FILE, the text is recovered as a new file. `d` is Unicode's data, `b` what a session starts with (but in
+-- `texts_at_saves` a byte), `s` the session before the journal.
 use Rattle.std.specs.Prelude.{◌≡◌, ◌≢◌, ◌↔◌, ℕ, Bool, true, false, IsTrue, List, [], ◌∷◌, Contains, length}
 use Rattle.bx_ucd.specs.Data.{Data}
 use Rattle.bx_keys.specs.Keys.{keys_from}

@@ -1,4 +1,5 @@
--- The effect of queued bytes on a terminal.
+-- The effect of queued bytes on a terminal. `d` is Unicode's data, `s` a session, `e` an editor, `t` a terminal, `b` a byte of
+-- input.
 use Rattle.std.specs.Prelude.{◌≡◌, ℕ, false, List, ◌++◌, Option, Some, None, IfSome}
 use Rattle.bx_grid.specs.Picture.{PictureState, AreWholeTokens, IsIdle, IsPicture, Shows}
 use Rattle.bx_grid.specs.Terminal.{Terminal, reads}

@@ -1,6 +1,6 @@
 -- Runs of a session over a reader, a writer and a store. Names without a prime are of before, those with one of after. Of a
 -- reader the bytes are given that it has left, of a writer those that it has; None if they are not known. `d` is Unicode's data,
--- `mid` what is between two steps.
+-- `mid` what is between two steps, `a` a byte with the answer to it.
 use Rattle.std.specs.Prelude.{◌≡◌, ◌≢◌, ◌≤◌, ◌<◌, length, ℕ, true, false, List, [], ◌∷◌, ◌++◌, map, Option, Result, Ok, Err, OnOk}
 use Rattle.std.specs.Io.KnownBytes.{Appends, Consumes, IsAtEnd}
 use Rattle.bx_ucd.specs.Data.{Data}

@@ -1,4 +1,5 @@
--- The store after a byte, and the meaning of each answer to a byte or a told size.
+-- The store after a byte, and the meaning of each answer to a byte or a told size. `d` is Unicode's data, `s` a session, `b` a
+-- byte of input.
 use Rattle.std.specs.Prelude.{◌≡◌, ℕ, Bool, true, false, List, Option, Some, None, option_map, Result, Ok, Err}
 use Rattle.bx_keys.specs.declared.key.Key.{Key}
 use Rattle.bx_grid.specs.Picture.{is_size}

@@ -1,4 +1,5 @@
--- A second painting: where none is owed, it changes nothing, so a byte that completes no key needs none.
+-- A second painting: where none is owed, it changes nothing, so a byte that completes no key needs none. `d` is Unicode's data,
+-- `s` a session, `b` a byte; `fault` is why a Save failed, None if it succeeded.
 use Rattle.std.specs.Prelude.{◌≡◌, ℕ, false, List, Option}
 use Rattle.bx_terms.specs.declared.base.Base.{Base}
 use Rattle.bx_store.specs.declared.store.StoreFault.{StoreFault}

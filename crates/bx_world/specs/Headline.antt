@@ -1,4 +1,5 @@
 -- The headline of the proofs: what a schedule makes of a file, from the keys typed to the text, the store, and the picture seen.
+-- `d` is Unicode's data.
 use Rattle.std.specs.Prelude.{◌≡◌, ℕ, ◌+◌, ◌<◌, true, false, List, [], Result, IfSome, IsSome}
 use Rattle.bx_terms.specs.declared.base.Base.{Base}
 use Rattle.bx_keys.specs.Keys.{keys_from}

@@ -1,4 +1,5 @@
--- The picture that a world's terminal shows, and will show once it has read all bytes in transit.
+-- The picture that a world's terminal shows, and will show once it has read all bytes in transit. `d` is Unicode's data, `w` a
+-- world, `s` its session, `e` an editor, `t` a terminal.
 use Rattle.std.specs.Prelude.{◌≡◌, ℕ, Bool, true, false, List, [], ◌∷◌, ◌==◌, IfSome, Option, Some, None}
 use Rattle.bx_grid.specs.Picture.{PictureState, IsIdle, Shows}
 use Rattle.bx_grid.specs.Terminal.{Terminal, reads}

@@ -1,4 +1,5 @@
--- The world after a step, by its answer, and after a list of steps. `d` is Unicode's data; an answer that a step never gives has ⊥.
+-- The world after a step, by its answer, and after a list of steps. `d` is Unicode's data, `b` a byte of input; an answer that a
+-- step never gives has ⊥.
 use Rattle.std.specs.Prelude.{◌≡◌, ◌≢◌, ℕ, Bool, true, false, List, [], ◌∷◌, take, drop, Option, Result, Ok, Err, IsSome}
 use Rattle.std.specs.List.{AllByRecursion}
 use Rattle.bx_grid.specs.Picture.{is_size}
