@@ -13,7 +13,7 @@ use bx_terms::is_side;
 use std::alloc::AllocError;
 use std::io::{self, ErrorKind};
 
-/// Why a session cannot be replayed.
+/// Why a session cannot be replayed: the keeper's type in one of this crate, to which `?` can convert other faults.
 #[derive(Clone, Copy)]
 struct Fault(ReplayFault);
 

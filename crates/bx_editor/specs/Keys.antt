@@ -104,7 +104,7 @@ pub data Answer : Type 0 where
   Stays : Answer
   Ends : Answer
 
--- what each key means so; in a question Next, Previous and Replaces are as Ends
+-- what each key means as an answer; in a question Next, Previous and Replaces are as Ends
 abbrev pub answer_of : Key → Answer
 answer_of (Insert c) = Letter c
 answer_of NewLine = Letter 0xA
@@ -121,7 +121,7 @@ answer_of Replace = Replaces
 answer_of Repaint = Stays
 answer_of _ = Ends
 
--- after a letter a paste goes on, but no run
+-- the editor after an answer; after a letter a paste goes on, but no run
 abbrev pub answered : Data → Option StoreFault → Before → Editor → Key → Answer → Editor
 answered d fault was e key (Letter c) = with_typing (after_sought_letter d was.typing e c) (only_paste was.typing)
 answered d fault was e key Shortens = after_shortening d e

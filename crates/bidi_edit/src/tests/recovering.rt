@@ -54,6 +54,7 @@ fn a_journal_beside_its_file(rt: HostRuntime) -> Result<(), Fail> {
 
 #[test]
 fn a_text_that_cannot_be_stored(rt: HostRuntime) -> Result<(), Fail> {
+    // its first call fails
     let mut store = MemoryStore::new(rt.alloc(), Some(1));
     let replayed = recover_beside(rt.alloc(), &mut store, b"x", b"ab")?;
     assert_eq!(rt; replayed, Err(RecoveryFault::Unwritten));
