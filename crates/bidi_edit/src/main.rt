@@ -71,7 +71,7 @@ fn recover_to<'a, W: Write, S: Store>(
     }
 }
 
-/// The start of a session over these files, with `text` as the opened text; None if FILE does not exist.
+/// The start of a session over these files. `text` is the opened text; None if FILE does not exist.
 fn beginning_of<'a>(
     rt: &HostRuntime,
     options: &Options<'_>,

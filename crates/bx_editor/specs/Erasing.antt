@@ -33,7 +33,7 @@ removed_on d typing how e start stop =
 abbrev pub after_erasing : Data → Typing → Removal → Editor → ℕ → ℕ → Editor
 after_erasing d typing how e start stop = or_selection d e (removed_on d typing how e start stop)
 
--- the same by EraseWord or DeleteWord: each removal is a run
+-- the bytes from `start` to `stop` are removed by EraseWord or DeleteWord, as a run of their own, or a selection in their place
 abbrev pub after_erasing_word : Data → Editor → ℕ → ℕ → Editor
 after_erasing_word d e start stop = or_selection d e (after_removing d e start stop false)
 

@@ -34,7 +34,7 @@ abbrev pub is_at_mark : Option ℕ → ℕ → Bool
 is_at_mark None place = false
 is_at_mark (Some mark) place = mark == place
 
--- Mark sets the mark at the place, or removes it if it is there already
+-- Mark sets the mark at the place, or removes it if it is at the place already
 abbrev pub after_mark : Editor → Editor
 after_mark e =
     if is_at_mark e.mark e.place then record e { mark = None; soft = Off; message = Some MarkOff } else record e { mark = Some e.place; soft = Off; message = Some MarkSet }
@@ -52,7 +52,7 @@ after_copy d e =
     else record e { mark = None; soft = Off; held = bytes_in e (line d e); message = Some LineCopied })
     else record e { mark = None; soft = Off; held = bytes_in e (region e); message = Some Copied }
 
--- Cut does the same as Copy, and removes that part from the text
+-- Cut makes the part that Copy would take the held text, and removes it from the text
 abbrev pub after_cut : Data → Editor → Editor
 after_cut d e =
     if is_empty (taken d e)

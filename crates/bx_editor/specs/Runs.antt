@@ -12,7 +12,7 @@ abbrev pub run_goal : HistoryStep → Editor → ℕ
 run_goal Undo e = run_start e.runs (length e.content.past)
 run_goal Redo e = run_end e.runs (length e.content.past) (length e.content.past + length e.content.future)
 
--- how many edits are undone, or redone, to get there
+-- how many edits are undone, or redone, for that
 abbrev pub run_length : HistoryStep → Editor → ℕ
 run_length Undo e = length e.content.past - run_goal Undo e
 run_length Redo e = run_goal Redo e - length e.content.past

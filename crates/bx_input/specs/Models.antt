@@ -70,7 +70,7 @@ Tells erases_by_delete (after.Digit digit) read = (fate read ≡ Ends) × (becom
 Tells erases_by_delete after.Pastes read = (fate read ≡ Ends) × (row_of erases_by_delete read ≡ None)
 Tells erases_by_delete after.Breaks read = fate read ≡ Breaks
 
--- `AfterInPaste` tells the same within a paste
+-- `AfterInPaste` tells what the bytes `read` are, within a paste
 abbrev pub TellsInPaste : AfterInPaste → List ℕ → Type 0
 TellsInPaste (after_in_paste.Waits tail) read = (paste_fate read ≡ Waits) × (tail_bytes tail ≡ read)
 TellsInPaste after_in_paste.Drops read = (paste_fate read ≡ Ends) × (bytes_eq read paste_end ≡ false)

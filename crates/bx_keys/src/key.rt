@@ -78,13 +78,13 @@ pub enum Key {
     ErasePoint,
     /// Begins a new line with the text's own line end.
     NewLine,
-    /// One row up, in the column of the first of such moves.
+    /// One row up, in the kept column: the cursor's before the first of LineUp, LineDown, PageBack and PageOn in sequence.
     LineUp,
-    /// One row down, in the column of the first of such moves.
+    /// One row down, in the kept column, which is told at LineUp.
     LineDown,
-    /// A screen of rows up, in the column of the first of such moves.
+    /// A screen of rows up, in the kept column, which is told at LineUp.
     PageBack,
-    /// A screen of rows down, in the column of the first of such moves.
+    /// A screen of rows down, in the kept column, which is told at LineUp.
     PageOn,
     /// Begins a selection at the place, or goes on with one, so that the next move keeps the mark.
     Select,

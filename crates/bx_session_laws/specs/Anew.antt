@@ -12,8 +12,8 @@ use Rattle.bx_editor.specs.Editor.{HasRows}
 abbrev pub StaysPainted : Data → Session → Type 0
 StaysPainted d s = s.painting_owed ≡ false → with_painting d s ≡ s
 
--- This holds at opening, and each of these calls preserves it, whether it succeeds or is refused (a refused painting is then
--- owed).
+-- `StaysPainted` holds at opening, and each of these calls preserves it, whether it succeeds or is refused (a refused painting is
+-- then owed).
 pub record AlwaysStaysPainted : Type 0 where
   pub opening : (d : Data) (text : List ℕ) (height width : ℕ) (base : Base) → HasRows (at_opening d text height width base).editor
       → StaysPainted d (at_opening d text height width base)

@@ -62,7 +62,7 @@ abbrev pub told_after : ℕ → ℕ → Bool → Option Key → Bool
 told_after height width told (Some (Size rows columns)) = (height == rows) && (width == columns)
 told_after height width told _ = told
 
--- the same in this world
+-- the flag `told` after a key in this world
 abbrev pub told_after_key : World → Option Key → Bool
 told_after_key w key = told_after w.height w.width w.told key
 

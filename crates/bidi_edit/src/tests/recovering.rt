@@ -11,7 +11,7 @@ use std::alloc::Global;
 use std::io::{self, ErrorKind, Read, Write};
 use std::test::Fail;
 
-/// The start of a session of that text with the bytes of a journal. In these `\x13` is Save, and `\x11` Quit.
+/// The start of a session of the text `ab` with the bytes of a journal. In these `\x13` is Save, and `\x11` Quit.
 fn beginning<'a>(alloc: Global, keys: &'a [u8]) -> Result<Beginning<'a>, Fail> {
     Ok(Beginning {
         alloc,
