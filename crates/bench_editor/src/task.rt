@@ -12,13 +12,13 @@ const LEFT: &str = "\u{1b}[D";
 
 const PAGE_UP: &str = "\u{1b}[5~";
 
-/// CTRL and S.
+/// Ctrl and S.
 const SAVE: &str = "\u{13}";
 
-/// CTRL and L.
+/// Ctrl and L.
 const REPAINT: &str = "\u{c}";
 
-/// Tells a window of 79 columns.
+/// Tells a window of 79 columns: the rows are `ROWS` of typist.rt.
 const NARROWER: &str = "\u{1b}[8;24;79t";
 
 /// Tells a window of 80 columns again.

@@ -13,12 +13,12 @@ const ROWS: u16 = 24;
 /// The columns of the window.
 const COLUMNS: u16 = 80;
 
-/// CTRL and F, the key that moves one place forward in the text.
+/// Ctrl and F, the key that moves one place forward in the text.
 const FORWARD: &str = "\u{6}";
 
 pub(crate) const PAGE_DOWN: &str = "\u{1b}[6~";
 
-/// The number of characters from the start of a line to its middle: half of some 84.
+/// The number of characters from the start of a line to its middle: about half of some 84 (`LEAST` of texts.rt).
 const HALF_LINE: usize = 40;
 
 /// A session with its store.

@@ -1,5 +1,5 @@
 -- The start, the end and the result of a run of the program. Names without a prime are of before a run, those with one of after
--- it.
+-- it. `d` is Unicode's data, `b` what the session starts with.
 use Rattle.std.specs.Prelude.{◌≡◌, ℕ, Bool, true, false, List, Option, Result, Ok, Err}
 use Rattle.bx_ucd.specs.Data.{Data}
 use Rattle.bx_cli.specs.declared.unicode.UnicodeFiles.{UnicodeFiles}

@@ -6,7 +6,7 @@ use std::{fmt, fs};
 /// What the system tells of a file, by which another look can tell whether it is the same one, unchanged.
 #[derive(Clone, Copy, PartialEq, Eq)]
 pub struct Look {
-    /// The numbers of its device and of its inode there.
+    /// The numbers of its device and of its inode on that.
     device: u64,
     inode: u64,
     /// Its size in bytes.

@@ -54,7 +54,8 @@ fn edit_file<'a, R: Read + Drop, W: Write, S: Store>(
     Ok(())
 }
 
-/// Stores the text recovered from a journal, and writes a line: what FILE holds compared with it, and the number of keys.
+/// Stores the text recovered from a journal, and writes a line: what FILE holds compared with it, and the number of keys. A FILE
+/// that does not exist counts as empty.
 fn recover_to<'a, W: Write, S: Store>(
     rt: &HostRuntime,
     options: &Options<'a>,
@@ -70,7 +71,7 @@ fn recover_to<'a, W: Write, S: Store>(
     }
 }
 
-/// The start of a session over these files, with `text` as the opened text; None if FILE does not exist.
+/// The start of a session over these files. `text` is the opened text; None if FILE does not exist.
 fn beginning_of<'a>(
     rt: &HostRuntime,
     options: &Options<'_>,

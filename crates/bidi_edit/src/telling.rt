@@ -14,7 +14,7 @@ const SENTENCES: JournalNotes<'static> = JournalNotes {
     kept: "bidi_edit: the journal is kept again\n",
 };
 
-/// The notes on a journal, as words.
+/// The notes on a journal, as words that the keeper reads (`bx_keep/src/program_word.rt`).
 const WORDS: JournalNotes<'static> = JournalNotes {
     lost: "j lost\0",
     kept: "j kept\0",
@@ -46,7 +46,7 @@ pub fn tell_look(rt: &HostRuntime, before: Option<Look>, after: Option<Look>) {
     };
 }
 
-/// A fault as a word, without its end.
+/// A fault as a word that the keeper reads (`bx_keep/src/program_word.rt`), without the NUL at its end.
 #[derive(Drop)]
 struct Word<'a>(ProgramFault<'a>);
 

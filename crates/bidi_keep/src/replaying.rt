@@ -13,7 +13,7 @@ use bx_terms::is_side;
 use std::alloc::AllocError;
 use std::io::{self, ErrorKind};
 
-/// Why a session cannot be replayed.
+/// Why a session cannot be replayed: the keeper's type in one of this crate, to which `?` can convert other faults.
 #[derive(Clone, Copy)]
 struct Fault(ReplayFault);
 
@@ -79,7 +79,7 @@ fn bytes_in(around: Around<'_>, session: &Session, part: Part) -> Result<Vec<u8>
     session.read(around.rt, part)?.ok_or(UNREADABLE)
 }
 
-/// FILE's bytes; no bytes where it is not a plain file or cannot be read.
+/// FILE's bytes; no bytes where it does not exist, is not a plain file or cannot be read: then it is compared as an empty text.
 fn bytes_of_file(around: Around<'_>, file: &str) -> Vec<u8> {
     match read_plain(around.rt, file) {
         Ok(bytes) => bytes,

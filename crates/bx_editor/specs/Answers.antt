@@ -5,12 +5,14 @@ use Rattle.bx_asking.specs.declared.question.Ask.TheVariants.{Name, Code}
 use Rattle.bx_document.specs.QueryRow.{IsNarrow}
 use Rattle.bx_editor.specs.Asking.{longest_code, longest_line}
 
--- the most characters that an answer has
+-- the most characters of the answer to a question. A name has none, since its one letter answers. Without a question (`Off`) the
+-- answer is that to the latest one, which may have been a line
 abbrev pub limit_of : Ask → ℕ
 limit_of Name = 0
 limit_of Code = longest_code
 limit_of _ = longest_line
 
+-- what the user may have typed, in UTF-8, as the answer to a question
 pub record IsAnswer (ask : Ask) (answer : List ℕ) : Type 0 where
   pub short : length (chars answer) ≤ limit_of ask
   pub narrow : All IsNarrow (chars answer)

@@ -1,4 +1,5 @@
--- Going to a line, and characters by name or code: what is asked, and how it is answered.
+-- Going to a line, and characters by name or code: what is asked, and how it is answered. `d` is Unicode's data, `e` the editor;
+-- `typing` is what the key before left.
 use Rattle.std.specs.Prelude.{ℕ, ◌+◌, ◌==◌, false, List, [], length, chars, encode_utf8, unwrap_or, Option, Some, None, if◌then◌else◌}
 use Rattle.bx_ucd.specs.Data.{Data}
 use Rattle.bx_asking.specs.declared.line.Target.{Target}
@@ -20,14 +21,16 @@ use Rattle.bx_editor.specs.Putting.{is_paste, only_paste}
 use Rattle.bx_editor.specs.Region.{is_empty, region}
 use Rattle.bx_editor.specs.Wrapping.{after_wrapping}
 
--- the most characters of an answer: of a line, and of a code
+-- the most characters of the answer that names a line: its numbers then stay below 10^18, so they fit in 64 bits
+-- (`bx_asking/src/line.rt`)
 abbrev pub longest_line : ℕ
 longest_line = 16
 
+-- the most characters of the answer that writes a code: the greatest is 10FFFF
 abbrev pub longest_code : ℕ
 longest_code = 6
 
--- something is asked, and the answer is empty
+-- `ask` is asked, with an empty answer
 abbrev pub asking : Editor → Ask → Editor
 asking e ask = record e { ask = ask; answer = [] }
 
@@ -40,20 +43,22 @@ with_answer e answer = record e { answer = answer }
 
 -- ---- a line
 
--- the place of the numbers; without a first number, in the place's own paragraph
+-- the place of the paragraph and the unit whose numbers, from 1, the answer has; without a paragraph's number, of that unit of the
+-- paragraph where the cursor is
 abbrev pub target_place : Data → Editor → Target → ℕ
 target_place d e target =
     place_of d e.content.text (unwrap_or target.paragraph (paragraph_number d e.content.text e.place + 1)) target.unit
 
+-- the cursor goes to the place that an answer names; it stays where the answer has no digit
 abbrev pub gone_to : Data → Editor → Option Target → Editor
 gone_to d e None = e
 gone_to d e (Some target) = with_place e (target_place d e target)
 
--- the question is answered
+-- the question for a line is answered
 abbrev pub after_going : Data → Editor → Editor
 after_going d e = gone_to d (without_ask e) (asked (chars e.answer))
 
--- a typed character; a paste's line end answers nothing
+-- a character `c` is typed as part of the answer; LF goes to the line, but in a paste LF does nothing
 abbrev pub after_line_letter : Data → Typing → Editor → ℕ → Editor
 after_line_letter d typing e c =
     if c == 0xA
@@ -62,18 +67,21 @@ after_line_letter d typing e c =
 
 -- ---- a character by name
 
--- a character is put in as Insert puts one, but it takes no selection's place
+-- `c` is put in at the place as Insert puts it, but begins a run, and a selection's text stays
 abbrev pub with_character : Data → Editor → ℕ → Editor
 with_character d e c =
     if fits e.content.text e.place e.place (encode_utf8 c)
     then with_typing (with_insertion d e (encode_utf8 c) false) (after_insertion typings.Off (kind_of (d.class c)))
     else record e { message = Some TextFull }
 
--- the character that a letter names, around the region if it begins what another ends
+-- the character `c` that a letter names is put in: with `closer`, which ends what `c` begins, around the region if there is one;
+-- else `c` alone at the place
 abbrev pub after_named : Data → Editor → ℕ → Option ℕ → Editor
 after_named d e c None = with_character d e c
 after_named d e c (Some closer) = if is_empty (region e) then with_character d e c else after_wrapping d e c closer
 
+-- a letter is typed as the answer to the question for a name, with the character that it names; where it names none it may ask for
+-- a code, LF ends the question, and any other does nothing
 abbrev pub after_name_letter : Data → Editor → ℕ → Option ℕ → Editor
 after_name_letter d e letter (Some c) = after_named d (without_ask e) c (closing letter)
 after_name_letter d e letter None =
@@ -81,10 +89,12 @@ after_name_letter d e letter None =
 
 -- ---- a character by code
 
+-- the character whose code the answer writes is put in, if it writes one
 abbrev pub after_code : Data → Editor → Option ℕ → Editor
 after_code d e None = record e { message = Some NoSuchCharacter }
 after_code d e (Some c) = with_character d e c
 
+-- a hexadecimal digit is typed as part of the code, or LF, which ends it; any other character does nothing
 abbrev pub after_code_letter : Data → Editor → ℕ → Editor
 after_code_letter d e letter =
     if letter == 0xA
@@ -93,11 +103,11 @@ after_code_letter d e letter =
 
 -- ---- any question
 
--- what is pasted answers no question for a character
+-- `new`, but what is pasted answers no question for a character
 abbrev pub unless_paste : Typing → Editor → Editor → Editor
 unless_paste typing e new = if is_paste typing then with_typing e typing else new
 
--- a typed character; `typing` tells what the key before left
+-- a character is typed while something is asked
 abbrev pub after_answer_letter : Data → Typing → Ask → Editor → ℕ → Editor
 after_answer_letter d typing Off e c = e
 after_answer_letter d typing Line e c = with_typing (after_line_letter d typing e c) (only_paste typing)

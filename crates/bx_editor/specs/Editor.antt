@@ -1,4 +1,4 @@
--- The editor's state, and its changes. Offsets and places count bytes of the text.
+-- The editor's state, and its changes. Offsets and places count bytes of the text. `d` is Unicode's data, `e` the editor.
 use Rattle.std.specs.Prelude.{ℕ, ◌+◌, ◌-◌, Bool, true, false, not, ◌||◌, nat_le, nat_lt, List, [], ◌∷◌, length, Option, Some, None, if◌then◌else◌, ◌≡◌, IsUtf8}
 use Rattle.bx_terms.specs.declared.base.Base.{Base}
 use Rattle.bx_terms.specs.declared.base.Base.TheVariants.{Auto, Ltr, Rtl}
@@ -25,6 +25,7 @@ use Rattle.bx_runs.specs.Runs.{edited}
 use Rattle.bx_ucd.specs.Data.{Data}
 use Rattle.bx_terms.specs.Sizes.{is_side}
 
+-- an editor's state, without Unicode's tables; which row is shown first is the session's
 pub record Editor : Type 0 where
   -- the text, with its past and its future
   pub content : Edited
@@ -121,12 +122,14 @@ text_height height = if nat_le 2 height then height - 1 else 1
 
 -- ---- edits: each that changes the text removes the mark and ends the search
 
--- an edit made at a smaller length of the past loses the text that was stored
+-- `stored` once an edit was made where the past has `n` edits: a stored text with a longer past is reached no more, since an edit
+-- drops what could be redone
 abbrev pub stored_behind : ℕ → Option ℕ → Option ℕ
 stored_behind n None = None
 stored_behind n (Some stored) = if nat_lt n stored then None else Some stored
 
--- the text, with its past and future, once it was edited at the place `place`; the edit goes on with the run before, or begins one
+-- the editor once the text was edited: `content` with its past and future, and the cursor's new place. `goes_on`: the edit goes on
+-- with the run before; else it begins one
 abbrev pub with_edit : Editor → Edited → ℕ → Bool → Editor
 with_edit e content place goes_on =
     let n = length e.content.past in
@@ -168,11 +171,12 @@ with_exchange d e start stop (b ∷ bs) = with_insertion_at d (with_removal d e 
 
 -- ---- undo and redo
 
--- the text after undoing or redoing, with the cursor at this place
+-- the text after undoing or redoing, with the cursor at this place. `changed`: it counts as changed
 abbrev pub with_step : Editor → Edited → ℕ → Bool → Editor
 with_step e content place changed = record e { content = content; place = place; mark = None; soft = softness.Off; seek = seeks.Off; changed = changed }
 
--- the latest edit is undone, and the cursor returns to its place before it
+-- the latest edit is undone, and the cursor returns to its place before it. One edit undone or redone counts as a change, even where
+-- it gives the stored text again
 abbrev pub after_undo : Editor → List Edit → Editor
 after_undo e [] = record e { message = Some messages.NothingToUndo }
 after_undo e (edit ∷ past) = with_step e (undone e.content) edit.before.place true
@@ -182,6 +186,7 @@ abbrev pub after_redo : Editor → List Edit → Editor
 after_redo e [] = record e { message = Some messages.NothingToRedo }
 after_redo e (edit ∷ future) = with_step e (redone e.content) edit.after.place true
 
+-- one edit is undone, or redone
 abbrev pub after_step : HistoryStep → Editor → Editor
 after_step steps.Undo e = after_undo e e.content.past
 after_step steps.Redo e = after_redo e e.content.future
@@ -205,22 +210,26 @@ after_quit e again =
     then record e { quit_before = true; ended = true }
     else record e { quit_before = true; message = Some messages.Unsaved }
 
+-- the next base direction in the cycle Auto, Ltr, Rtl
 abbrev pub next_base : Base → Base
 next_base Auto = Ltr
 next_base Ltr = Rtl
 next_base Rtl = Auto
 
+-- paragraphs get this base direction, and it is told
 abbrev pub with_base : Editor → Base → Editor
 with_base e base = record e { base = base; message = Some (messages.Direction base) }
 
--- the control keys are listed, or the others, if the message before listed the first ones
+-- the first list of keys, or the second one if the message before was the first
 abbrev pub help_behind : Option Message → Message
 help_behind (Some messages.Help) = messages.MoreHelp
 help_behind _ = messages.Help
 
+-- `told`: the message before
 abbrev pub after_help : Editor → Option Message → Editor
 after_help e told = record e { message = Some (help_behind told) }
 
+-- the window gets this size, in rows and columns
 abbrev pub with_size : Editor → ℕ → ℕ → Editor
 with_size e height width = record e { height = height; width = width }
 

@@ -1,4 +1,4 @@
--- What keys do outside a search, in kinds: each key has one.
+-- What keys do outside a search and a question, in kinds: each key has one. `e` is the editor.
 use Rattle.std.specs.Prelude.{ℕ, Bool, Option, Some}
 use Rattle.bx_store.specs.declared.store.StoreFault.{StoreFault}
 use Rattle.bx_ucd.specs.Data.{Data}
@@ -20,23 +20,27 @@ use Rattle.bx_editor.specs.Runs.{after_run_step}
 use Rattle.bx_editor.specs.Search.{after_beginning, after_find_next}
 use Rattle.bx_editor.specs.Selecting.{after_select, unselected}
 
+-- what a key does
 pub data Effect : Type 0 where
   -- a character is typed; a line is begun; the held text is put in
   Types : ℕ → Effect
   BeginsLine : Effect
   Puts : Effect
-  -- the bytes from one offset to another are removed: by removals that go on with their like, or by themselves
+  -- the bytes from one offset to another are removed: removals of one kind after one another are one run, but each of a word is a
+  -- run of its own
   Removes : Removal → ℕ → ℕ → Effect
   RemovesWord : ℕ → ℕ → Effect
   -- one edit, or a run of edits, is undone or redone
   Steps : HistoryStep → Effect
   StepsRun : HistoryStep → Effect
-  -- the cursor goes to a place, or by rows in the kept column
+  -- the cursor goes to a place, or by a number of rows in the kept column
   Goes : ℕ → Effect
   GoesByRows : Vertical → ℕ → Effect
+  -- the mark is set, or removed where it is; a selection begins or goes on; the mark is removed
   Marks : Effect
   Selects : Effect
   Unmarks : Effect
+  -- the region, or the line if it is empty, is held; Cuts removes it too
   Copies : Effect
   Cuts : Effect
   -- a search begins, or the next match is sought
@@ -44,6 +48,7 @@ pub data Effect : Type 0 where
   SeeksNext : Effect
   Saves : Effect
   Quits : Effect
+  -- the next base direction is taken; the next list of keys is shown
   Turns : Effect
   Helps : Effect
   -- a line is asked for, or a character's name; what stands at the place is told
@@ -62,7 +67,8 @@ pub record Before : Type 0 where
 abbrev pub before : Editor → Before
 before e = record { again = e.quit_before; message = e.message; typing = e.typing }
 
--- the effect on an editor whose message is cleared. `fault`: why a Save failed, None if it succeeded
+-- the effect on an editor whose message is cleared. `d`: Unicode's data; `fault`: why a Save failed, None if it succeeded; `was`:
+-- what the key before left
 abbrev pub by : Data → Option StoreFault → Before → Editor → Effect → Editor
 by d fault was e (Types c) = after_character d was.typing e c
 by d fault was e BeginsLine = after_new_line d was.typing e

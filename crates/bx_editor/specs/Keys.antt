@@ -1,4 +1,5 @@
--- The effect of each key on the editor's state.
+-- The effect of each key on the editor's state. `d`: Unicode's data; `fault`: why a Save failed, None if it succeeded; `was`: what
+-- the key before left; `e`: the editor, from which `after_user` clears that.
 use Rattle.std.specs.Prelude.{ℕ, Bool, true, false, List, [], ◌∷◌, length, Option}
 use Rattle.bx_keys.specs.declared.key.Key.{Key}
 use Rattle.bx_keys.specs.declared.key.Key.TheVariants.{Insert, Erase, Delete, Back, Forward, Up, Down, Right, Left, RowHome, RowEnd, PageUp, PageDown}
@@ -33,8 +34,9 @@ use Rattle.bx_editor.specs.Replacing.{after_replacing_all, after_shorter_other, 
 use Rattle.bx_editor.specs.Search.{after_find, after_find_back, after_giving_up, after_shortening, without_search}
 use Rattle.bx_editor.specs.Selecting.{soft_behind}
 
--- ---- outside a search
+-- ---- outside a search and a question
 
+-- what a key does, with its offsets; the last clause is Repaint's, since a size, a notice and a paste's ends do not come here
 abbrev pub effect_of : Data → Editor → Key → Effect
 effect_of d e (Insert c) = Types c
 effect_of d e NewLine = BeginsLine
@@ -84,11 +86,14 @@ effect_of d e Name = AsksName
 effect_of d e Tell = Tells
 effect_of d e _ = Rests
 
+-- the editor after a key, outside a search and a question
 abbrev pub after_pressing : Data → Option StoreFault → Before → Editor → Key → Editor
 after_pressing d fault was e key = by d fault was e (effect_of d e key)
 
--- ---- in a search: a key answers it, or ends it and does what it always does
+-- ---- while the query is asked for: a key answers, or does what it always does and ends the search
 
+-- what a key means where something is asked: a character is typed, the last one removed, all given up, the next or the previous
+-- match sought, matches replaced, nothing done, or its usual effect taken
 pub data Answer : Type 0 where
   Letter : ℕ → Answer
   Shortens : Answer
@@ -99,6 +104,7 @@ pub data Answer : Type 0 where
   Stays : Answer
   Ends : Answer
 
+-- what each key means as an answer; in a question Next, Previous and Replaces are as Ends
 abbrev pub answer_of : Key → Answer
 answer_of (Insert c) = Letter c
 answer_of NewLine = Letter 0xA
@@ -115,7 +121,7 @@ answer_of Replace = Replaces
 answer_of Repaint = Stays
 answer_of _ = Ends
 
--- a paste goes on behind a letter of the query
+-- the editor after an answer; after a letter a paste goes on, but no run
 abbrev pub answered : Data → Option StoreFault → Before → Editor → Key → Answer → Editor
 answered d fault was e key (Letter c) = with_typing (after_sought_letter d was.typing e c) (only_paste was.typing)
 answered d fault was e key Shortens = after_shortening d e
@@ -131,6 +137,7 @@ after_seeking d fault was e key = answered d fault was e key (answer_of key)
 
 -- ---- while the other text is asked for: a key answers, or ends the search and does what it always does
 
+-- Next and Previous begin another search, and Replaces shows the first match
 abbrev pub answered_other : Data → Option StoreFault → Before → Editor → Key → Answer → Editor
 answered_other d fault was e key (Letter c) = with_typing (after_other_letter d was.typing e c) (only_paste was.typing)
 answered_other d fault was e key Shortens = after_shorter_other e
@@ -143,6 +150,7 @@ answered_other d fault was e key Ends = after_pressing d fault was (without_sear
 
 -- ---- while a match is shown: a key replaces it, passes it over, or ends replacing and does what it always does
 
+-- Previous begins another search, and Replaces replaces this match and all that follow
 abbrev pub answered_match : Data → Option StoreFault → Before → Editor → Key → Answer → Editor
 answered_match d fault was e key (Letter c) = with_typing (after_match_letter d was.typing e c) (only_paste was.typing)
 answered_match d fault was e key Shortens = e
@@ -153,7 +161,7 @@ answered_match d fault was e key Replaces = after_replacing_all d e
 answered_match d fault was e key Stays = with_typing e was.typing
 answered_match d fault was e key Ends = after_pressing d fault was (without_search e) key
 
--- ---- in a search of either kind
+-- ---- in any state of a search
 
 abbrev pub after_searching : Data → Option StoreFault → Before → Seek → Editor → Key → Editor
 after_searching d fault was Off e key = after_pressing d fault was e key
@@ -177,6 +185,7 @@ after_asking d fault was e key = answered_question d fault was e key (answer_of 
 
 -- ---- any key
 
+-- a question has the key before a search has
 abbrev pub after_any : Data → Option StoreFault → Before → Ask → Seek → Editor → Key → Editor
 after_any d fault was asks.Off seek e key = after_searching d fault was seek e key
 after_any d fault was _ _ e key = after_asking d fault was e key
@@ -204,7 +213,7 @@ after_keys d fault e (key ∷ keys) = after_keys d fault (after_key d fault e ke
 
 -- ---- kinds of keys
 
--- a key that edits, undoes, redoes, moves, copies or finds: the keys that may run out of memory
+-- a key that edits, undoes, redoes, moves, copies or finds: only such a key may be refused for want of memory
 abbrev pub is_edit_or_move : Key → Bool
 is_edit_or_move Save = false
 is_edit_or_move Quit = false
@@ -231,7 +240,7 @@ abbrev pub is_size_key : Key → Bool
 is_size_key (Size height width) = true
 is_size_key _ = false
 
--- a key that tells what the user did not type
+-- a key by which the terminal or the host tells something, and which the user does not press
 abbrev pub is_told_key : Key → Bool
 is_told_key (Size height width) = true
 is_told_key (Notice notice) = true
@@ -239,7 +248,7 @@ is_told_key PasteStart = true
 is_told_key PasteEnd = true
 is_told_key _ = false
 
--- a key after which the screen's content counts as unknown
+-- a key after which the screen's content counts as unknown, so that all of it is painted
 abbrev pub asks_for_whole : Key → Bool
 asks_for_whole Repaint = true
 asks_for_whole (Size height width) = true

@@ -1,4 +1,4 @@
--- What holds in each state of a search.
+-- What holds in each state of a search. `d` is Unicode's data, `at` the offset of a match.
 use Rattle.std.specs.Prelude.{◌≡◌, ◌≢◌, ℕ, ◌+◌, ◌-◌, ◌≤◌, Bool, true, false, List, [], length, chars}
 use Rattle.bx_terms.specs.Sizes.{largest_text}
 use Rattle.bx_ucd.specs.Data.{Data}
@@ -24,11 +24,13 @@ pub record IsAsked (d : Data) (aim : Aim) (query : List ℕ) (count : ℕ) : Typ
   pub some : letters d (reading aim) (chars query) ≢ []
   pub none : count ≡ 0
 
--- a match that is shown is one, and no more were replaced than a text has bytes
+-- a match begins at the offset `at`, and the number of the replaced matches with that of the bytes from `at` on is at most the
+-- greatest length of a text, so that it can count all matches that follow
 pub record IsAtMatch (d : Data) (aim : Aim) (query text : List ℕ) (at count : ℕ) : Type 0 where
   pub here : MatchesAt d (reading aim) (letters d (reading aim) (chars query)) text at
   pub few : count + (length text - at) ≤ largest_text
 
+-- what holds, in each state, of the match's offset and the number of the replaced matches
 abbrev pub StandsAt : Data → Aim → List ℕ → List ℕ → Seek → ℕ → ℕ → Type 0
 StandsAt d aim query text WithBegun at count = IsAsked d aim query count
 StandsAt d aim query text WithTyped at count = IsAsked d aim query count

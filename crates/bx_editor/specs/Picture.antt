@@ -1,4 +1,5 @@
--- The picture of an editor's state: the text rows from the top on, the status row, and the cursor.
+-- The picture of an editor's state: the text rows from the top on, the status row, and the cursor, whose row and column count from
+-- 0. `d` is Unicode's data, `e` the editor, `top` the offset whose row is shown first.
 use Rattle.std.specs.Prelude.{◌≡◌, ℕ, ◌+◌, ◌-◌, ◌*◌, List, ◌++◌, replicate, if◌then◌else◌}
 use Rattle.bx_view.specs.Cells.{HasCell, HasOneSlot}
 use Rattle.bx_view.specs.TextRows.{IsPlace, TextRow, row_of, cell_of}
@@ -13,11 +14,12 @@ use Rattle.bx_editor.specs.Editor.{Editor, rows, text_height}
 use Rattle.bx_editor.specs.Replacing.{seen}
 use Rattle.bx_editor.specs.Status.{status_columns}
 
+-- a picture of spaces, with the cursor in its first column
 abbrev pub blank_picture : ℕ → ℕ → PictureState
 blank_picture height width = record { height = height; width = width; columns = replicate (height * width) blank; row = 0; column = 0 }
 
--- the picture of a text of these rows, from the row of the offset `top` on, with the region, or the match that is shown, in the other
--- rendition
+-- the picture of a text whose rows are `all`, from the row of the offset `top` on, with the region, or the match that is shown, in
+-- the other rendition: negative, or normal where that is negative
 abbrev pub text_picture : Data → Editor → ℕ → List TextRow → PictureState
 text_picture d e top all = record {
   height = e.height;
@@ -27,7 +29,7 @@ text_picture d e top all = record {
   column = cell_of e.width all e.place - 1;
 }
 
--- the picture, blank once the session has ended
+-- the picture, blank once Quit has ended the editor
 abbrev pub picture : Data → Editor → ℕ → PictureState
 picture d e top = if e.ended then blank_picture e.height e.width else text_picture d e top (rows d e)
 

@@ -1,4 +1,5 @@
--- What is typed or put in: characters, line ends, the held text; a selection gives way to it.
+-- What is typed or put in: characters, line ends, the held text; a selection gives way to it. `d` is Unicode's data, `e` the editor,
+-- `new` a text in UTF-8, `c` a character.
 use Rattle.std.specs.Prelude.{ℕ, ◌∷◌, [], ◌==◌, ◌&&◌, Bool, true, false, List, length, encode_utf8, Some, if◌then◌else◌}
 use Rattle.bx_text.specs.Edits.{fits, splice}
 use Rattle.bx_ucd.specs.Data.{Data}
@@ -27,7 +28,7 @@ has_room e new = fits e.content.text (yielding e).0 (yielding e).1 new
 abbrev pub with_selection_replaced : Data → Editor → List ℕ → Editor
 with_selection_replaced d e new = with_insertion d (with_removal d e (region e).0 (region e).1 false) new true
 
--- bytes are put in; without room the text stays as it is
+-- bytes are put in, in the run before if `goes_on` and nothing is selected; without room the text stays as it is
 abbrev pub put_in : Data → Editor → List ℕ → Bool → Editor
 put_in d e new goes_on =
     if has_room e new
@@ -36,6 +37,7 @@ put_in d e new goes_on =
 
 -- ---- typing
 
+-- a paste is being read
 abbrev pub is_paste : Typing → Bool
 is_paste Paste = true
 is_paste Pasting = true

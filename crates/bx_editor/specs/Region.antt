@@ -1,4 +1,5 @@
--- The region between the mark and the cursor's place, and the keys that mark, copy and cut.
+-- The region between the mark and the cursor's place, and the keys that mark, copy and cut. `d` is Unicode's data, `e` the
+-- editor.
 use Rattle.std.specs.Prelude.{ℕ, ◌==◌, min, max, Bool, false, List, slice_range, Option, Some, None, unwrap_or, if◌then◌else◌}
 use Rattle.bx_ucd.specs.Data.{Data}
 use Rattle.bx_document.specs.Line as lines
@@ -28,11 +29,12 @@ taken d e = if is_empty (region e) then line d e else region e
 
 -- ---- the keys
 
+-- there is a mark, and it is at the place
 abbrev pub is_at_mark : Option ℕ → ℕ → Bool
 is_at_mark None place = false
 is_at_mark (Some mark) place = mark == place
 
--- Mark sets the mark at the place, or removes it if it is there already
+-- Mark sets the mark at the place, or removes it if it is at the place already
 abbrev pub after_mark : Editor → Editor
 after_mark e =
     if is_at_mark e.mark e.place then record e { mark = None; soft = Off; message = Some MarkOff } else record e { mark = Some e.place; soft = Off; message = Some MarkSet }
@@ -41,7 +43,7 @@ after_mark e =
 abbrev pub without_mark : Editor → Editor
 without_mark e = record e { mark = None; soft = Off }
 
--- Copy holds the region, or the line if the region is empty; if both are empty, the held text stays
+-- Copy makes the region the held text, or the line if the region is empty; if both are empty, the held text stays
 abbrev pub after_copy : Data → Editor → Editor
 after_copy d e =
     if is_empty (region e)
@@ -50,7 +52,7 @@ after_copy d e =
     else record e { mark = None; soft = Off; held = bytes_in e (line d e); message = Some LineCopied })
     else record e { mark = None; soft = Off; held = bytes_in e (region e); message = Some Copied }
 
--- Cut holds the same part, and removes it from the text
+-- Cut makes the part that Copy would take the held text, and removes it from the text
 abbrev pub after_cut : Data → Editor → Editor
 after_cut d e =
     if is_empty (taken d e)

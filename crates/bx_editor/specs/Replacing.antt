@@ -1,5 +1,5 @@
 -- Replacing: the other text is asked for, and then each match is replaced or passed over, or all that follow are replaced. Offsets
--- and places count bytes of the text.
+-- and places count bytes of the text. `d` is Unicode's data, `e` the editor, `at` the offset of a match, `c` a character.
 use Rattle.std.specs.Prelude.{ℕ, ◌+◌, ◌==◌, not, ◌&&◌, Bool, true, false, List, length, Option, Some, None, if◌then◌else◌}
 use Rattle.bx_ucd.specs.Data.{Data}
 use Rattle.bx_find.specs.Matches.{first_from}
@@ -20,7 +20,7 @@ use Rattle.bx_editor.specs.Search.{after_letter, is_no_letter, kept, landed, lan
 
 -- ---- the question for the other text
 
--- at a match the other text is asked for, and none is replaced yet
+-- where a match was found the other text is asked for, and no match is replaced yet; else the query is asked for still
 abbrev pub asked_at : Option ℕ → Editor → Editor
 asked_at None e = record e { seek = Typed }
 asked_at (Some place) e = record e { seek = WithBegun; count = 0 }
@@ -44,23 +44,24 @@ after_sought_letter d typing e c =
 
 -- ---- the other text
 
--- the most characters that it has
+-- the most characters that it has: as many as the query has, by `LONGEST_QUERY` of the code
 abbrev pub longest_other : ℕ
 longest_other = 64
 
+-- the other text was typed
 abbrev pub with_other : Editor → List ℕ → Editor
 with_other e other = record e { other = other; seek = WithTyped }
 
--- the first offset, at or after x, at which the query stands
+-- the first offset, at or after `x`, at which the query stands
 abbrev pub next_match : Data → Editor → ℕ → Option ℕ
 next_match d e x = first_from d (reading e.aim) (sought d e) e.content.text x
 
--- a match is shown
+-- the match at an offset is shown, if there is one
 abbrev pub shown_at : Editor → Option ℕ → Editor
 shown_at e None = e
 shown_at e (Some at) = record e { seek = Replacing; at = at }
 
--- the match of the place is shown
+-- the first match from the place on is shown: the search led to it
 abbrev pub after_showing : Data → Editor → Editor
 after_showing d e = shown_at e (next_match d e e.place)
 
@@ -78,15 +79,17 @@ after_shorter_other e = with_other e (shortened (kept e.seek e.other))
 
 -- ---- the match that is shown
 
--- the offset behind it
+-- the offset behind the match that is shown
 abbrev pub match_stop : Data → Editor → ℕ
 match_stop d e = match_end d (reading e.aim) (sought d e) e.content.text e.at
 
--- the part of the text in the other rendition: the units of the match while it is shown, else the region
+-- the part of the text in the other rendition (negative, or normal where that is negative): the units of the match while it is
+-- shown, else the region
 abbrev pub seen_in : Data → Editor → Seek → ℕ × ℕ
 seen_in d e Replacing = (e.place, match_stop d e)
 seen_in d e _ = region e
 
+-- this part as the editor's search stands
 abbrev pub seen : Data → Editor → ℕ × ℕ
 seen d e = seen_in d e e.seek
 
@@ -94,11 +97,12 @@ seen d e = seen_in d e e.seek
 abbrev pub after_ending : Editor → Editor
 after_ending e = record e { seek = Off; message = Some (Replaced e.count) }
 
+-- the match at an offset is shown, with the cursor at its place; if there is none, replacing ends
 abbrev pub at_match : Data → Editor → Option ℕ → Editor
 at_match d e None = after_ending e
 at_match d e (Some at) = record e { seek = Replacing; at = at; place = place_at (rows d e) at }
 
--- on to the first match from an offset on; if there is none, replacing ends
+-- on to the first match from the offset `z` on; if there is none, replacing ends
 abbrev pub on_from : Data → ℕ → Editor → Editor
 on_from d z e = at_match d e (next_match d e z)
 
@@ -108,18 +112,19 @@ on_from d z e = at_match d e (next_match d e z)
 abbrev pub with_matches_replaced : Data → Editor → ℕ → List ℕ → ℕ → Editor
 with_matches_replaced d e stop new n = record (with_exchange d e e.at stop new) { origin = 0; count = e.count + n }
 
--- the match gives way to the other text, behind which the next one is sought; without room nothing does
+-- the match gives way to the other text, and the next one is sought behind that; without room a message is set instead
 abbrev pub after_replacing : Data → Editor → Editor
 after_replacing d e =
     if fits e.content.text e.at (match_stop d e) e.other
     then on_from d (e.at + length e.other) (with_matches_replaced d e (match_stop d e) e.other 1)
     else record e { message = Some TextFull }
 
--- the next match behind `stop` and its place, in the text in which the bytes from this match to `stop` have given way to `new`
+-- the offset of a match of `text`, and its place
 abbrev pub placed_in : Data → Editor → List ℕ → Option ℕ → Option (ℕ × ℕ)
 placed_in d e text None = None
 placed_in d e text (Some at) = Some (at, place_at (rows_of d e text) at)
 
+-- the next match behind `new`, and its place, in the text in which the bytes from this match to `stop` have given way to `new`
 abbrev pub next_behind : Data → Editor → ℕ → List ℕ → Option (ℕ × ℕ)
 next_behind d e stop new =
     let text = splice e.content.text e.at stop new in

@@ -1,4 +1,4 @@
--- Undo and redo by runs of edits.
+-- Undo and redo by runs of edits. `e` is the editor, `n` a length of the past: its number of edits.
 use Rattle.std.specs.Prelude.{ℕ, ◌+◌, ◌-◌, ◌==◌, not, Bool, true, length, Option, Some, None}
 use Rattle.bx_text.specs.declared.change.Change.{Change}
 use Rattle.bx_document.specs.History.{next_changes, stepped_times}
@@ -12,7 +12,7 @@ abbrev pub run_goal : HistoryStep → Editor → ℕ
 run_goal Undo e = run_start e.runs (length e.content.past)
 run_goal Redo e = run_end e.runs (length e.content.past) (length e.content.past + length e.content.future)
 
--- how many edits that takes
+-- how many edits are undone, or redone, for that
 abbrev pub run_length : HistoryStep → Editor → ℕ
 run_length Undo e = length e.content.past - run_goal Undo e
 run_length Redo e = run_goal Redo e - length e.content.past
@@ -22,7 +22,7 @@ abbrev pub is_changed_at : ℕ → Option ℕ → Bool
 is_changed_at n None = true
 is_changed_at n (Some stored) = not (n == stored)
 
--- the one change that they make; without any, a message
+-- the text after the one change that these edits make; a message where there are none
 abbrev pub by_run : HistoryStep → Editor → Option Change → Editor
 by_run step e None = record e { message = Some (nothing_left step) }
 by_run step e (Some change) =

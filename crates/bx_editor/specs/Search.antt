@@ -1,4 +1,5 @@
--- The keys of a search. Offsets and places count bytes of the text.
+-- The keys of a search. Offsets and places count bytes of the text. `d` is Unicode's data, `e` the editor, `x` an offset, `c` a
+-- character.
 use Rattle.std.specs.Prelude.{ℕ, ◌==◌, ◌||◌, nat_lt, Bool, List, [], ◌∷◌, length, find, chars}
 use Rattle.std.specs.Prelude.{Option, Some, None, unwrap_or, if◌then◌else◌}
 use Rattle.bx_ucd.specs.Data.{Data}
@@ -37,7 +38,7 @@ kept Begun text = []
 kept WithBegun text = []
 kept _ text = text
 
--- the most characters that a query has
+-- the most characters that a query has: a choice, which docs/bidi_edit.1 tells and for which `bx_find/src/query.rt` has room
 abbrev pub longest_query : ℕ
 longest_query = 64
 
@@ -51,6 +52,7 @@ is_no_letter d c = (c == 0x9) || is_separator (d.class c)
 abbrev pub nothing_sought : Landing
 nothing_sought = record { place = None; message = None }
 
+-- the query stands nowhere in the text: the cursor stays
 abbrev pub not_found : Landing
 not_found = record { place = None; message = Some NotFound }
 
@@ -59,25 +61,27 @@ abbrev pub match_or : List TextRow → Option Message → Landing → Option ℕ
 match_or rows message otherwise None = otherwise
 match_or rows message otherwise (Some offset) = record { place = Some (place_at rows offset); message = message }
 
--- the first match at or after an offset, else the text's first
+-- the first match at or after `x`, else the text's first; `r` is how letters are read, the list the query's letters
 abbrev pub forward : Data → Reading → List TextRow → List ℕ → ℕ → List ℕ → Landing
 forward d r rows text x [] = nothing_sought
 forward d r rows text x (c ∷ cs) =
     match_or rows None (match_or rows (Some FromStart) not_found (first_from d r (c ∷ cs) text 0)) (first_from d r (c ∷ cs) text x)
 
--- the last match before an offset, else the text's last
+-- the last match before `x`, else the text's last
 abbrev pub backward : Data → Reading → List TextRow → List ℕ → ℕ → List ℕ → Landing
 backward d r rows text x [] = nothing_sought
 backward d r rows text x (c ∷ cs) =
     match_or rows None (match_or rows (Some FromEnd) not_found (last_before d r (c ∷ cs) text (length text))) (last_before d r (c ∷ cs) text x)
 
+-- the cursor goes where a search leads, and its message is set
 abbrev pub landed : Editor → Landing → Editor
 landed e landing = record e { place = unwrap_or landing.place e.place; message = landing.message }
 
--- the query is sought forward from an offset
+-- where the query leads, sought forward from `x`
 abbrev pub landing_from : Data → ℕ → Editor → Landing
 landing_from d x e = forward d (reading e.aim) (rows d e) e.content.text x (sought d e)
 
+-- the query is sought forward from `x`, and the cursor goes where that leads
 abbrev pub search_from : Data → ℕ → Editor → Editor
 search_from d x e = landed e (landing_from d x e)
 
@@ -99,6 +103,7 @@ without_search e = record e { seek = Off }
 abbrev pub after_giving_up : Editor → Editor
 after_giving_up e = record e { seek = Off; place = e.origin }
 
+-- the query was typed
 abbrev pub with_query : Editor → List ℕ → Editor
 with_query e query = record e { query = query; seek = Typed }
 

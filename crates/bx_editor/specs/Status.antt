@@ -1,4 +1,5 @@
--- The status row: whether there are unsaved changes, the cursor's position, a message, and the prompt of a search or of a question.
+-- The status row: whether there are unsaved changes, the cursor's position, a message, and the prompt of a search or of a
+-- question. `d` is Unicode's data, `e` the editor.
 use Rattle.std.specs.Prelude.{ℕ, ◌+◌, nat_le, Bool, List, [], ◌++◌, Option, Some, None, codes, decimal, if◌then◌else◌}
 use Rattle.bx_terms.specs.declared.base.Base.TheVariants.{Auto, Ltr, Rtl}
 use Rattle.bx_keys.specs.declared.notice.Notice as told
@@ -28,6 +29,7 @@ abbrev pub failed_text : Option SaveCause → List ℕ
 failed_text None = codes "save failed"
 failed_text (Some cause) = codes "save failed: " ++ cause_text cause
 
+-- the words of a notice of the host
 abbrev pub notice_text : told.Notice → List ℕ
 notice_text notices.NoSpace = codes "no copy is kept: no space"
 notice_text notices.FolderGone = codes "no copy is kept: folder gone"
@@ -39,6 +41,7 @@ notice_text notices.Recovered = codes "recovered"
 notice_text notices.RecoveredAside = codes "recovered beside: see the end"
 notice_text notices.InPlace = codes "saves overwrite it in place"
 
+-- the words of a message; what is before or in place of them is in `shown_text`
 abbrev pub message_text : Message → List ℕ
 message_text Saved = codes "saved"
 message_text (SaveFailed cause) = failed_text cause
@@ -66,12 +69,13 @@ message_text (Replaced n) = codes " replaced"
 message_text (Notice notice) = notice_text notice
 message_text Told = []
 
--- what stands at the cursor's place is read from the state, and the number of replaced matches stands before the words
+-- a message as it is shown: `told` is what stands at the cursor's place, and the number of replaced matches stands before the words
 abbrev pub shown_text : List ℕ → Message → List ℕ
 shown_text told Told = told
 shown_text told (Replaced n) = decimal n ++ message_text (Replaced n)
 shown_text told message = message_text message
 
+-- the message after a blank, if there is one
 abbrev pub message_part : List ℕ → Option Message → List ℕ
 message_part told None = []
 message_part told (Some message) = codes " " ++ shown_text told message
@@ -100,7 +104,7 @@ search_prompt aim WithBegun = codes " with: "
 search_prompt aim WithTyped = codes " with: "
 search_prompt aim Replacing = codes " Enter replace ^W next F4 all ^C end"
 
--- behind it the query or the other text
+-- behind a search's prompt the query or the other text
 abbrev pub search_glyphs : Data → List ℕ → List ℕ → Seek → List Glyph
 search_glyphs d query other Off = []
 search_glyphs d query other Begun = query_glyphs d query
@@ -109,6 +113,7 @@ search_glyphs d query other WithBegun = query_glyphs d other
 search_glyphs d query other WithTyped = query_glyphs d other
 search_glyphs d query other Replacing = []
 
+-- the prompt of a question
 abbrev pub prompt_text : Ask → List ℕ
 prompt_text asks.Off = []
 prompt_text asks.Line = codes " line: "
@@ -124,6 +129,6 @@ prompt_glyphs d e ask = letter_glyphs (prompt_text ask) ++ typed_glyphs e.answer
 abbrev pub status_glyphs : Data → Editor → List Glyph
 status_glyphs d e = letter_glyphs (status_text d e) ++ prompt_glyphs d e e.ask
 
--- the status row of a window of more than one row
+-- the columns of the status row, which only a window of at least two rows has
 abbrev pub status_columns : Data → Editor → List Col
 status_columns d e = if nat_le 2 e.height then glyph_row e.width (status_glyphs d e) else []

@@ -1,4 +1,4 @@
--- What stands at the cursor's place.
+-- What stands at the cursor's place. `d` is Unicode's data, `e` the editor.
 use Rattle.std.specs.Prelude.{ℕ, ◌==◌, List, length, chars, codes, slice_range, if◌then◌else◌}
 use Rattle.bx_ucd.specs.Data.{Data}
 use Rattle.bx_asking.specs.Told.{told_text}

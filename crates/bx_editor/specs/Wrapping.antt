@@ -1,4 +1,4 @@
--- The region between two characters that isolate, embed or override it.
+-- The region between two characters that isolate, embed or override it. `d` is Unicode's data, `e` the editor.
 use Rattle.std.specs.Prelude.{ℕ, ◌+◌, ◌==◌, Bool, false, List, length, encode_utf8, if◌then◌else◌, Some, [], chars}
 use Rattle.std.specs.List.{list_any}
 use Rattle.bx_ucd.specs.Data.{Data}
@@ -19,7 +19,8 @@ spans_lines d e = list_any (λ c. is_separator (d.class c)) (chars (bytes_in e (
 abbrev pub cursor_end : Editor → RegionEnd
 cursor_end e = if e.place == (region e).0 then Start else Stop
 
--- `closer` is put in behind the region and then `opener` before it, two edits of one run; the cursor stays at its end of the region
+-- `closer` is put in behind the region and then `opener` before it, both in UTF-8: two edits of one run. The cursor stays at its
+-- end of the region; between the edits its place is behind `closer`
 abbrev pub with_wrap : Data → Editor → List ℕ → List ℕ → Editor
 with_wrap d e opener closer =
     let start = (region e).0 in
@@ -28,6 +29,7 @@ with_wrap d e opener closer =
     let after = place_after d e (wrapped_text e.content.text start stop opener closer) (wrapped_end (cursor_end e) start stop opener) in
     with_edit e (wrapped e.content start stop opener closer e.place between after) after false
 
+-- the region is put between two characters; where it spans lines, or the text has no room, a message is set instead
 abbrev pub after_wrapping : Data → Editor → ℕ → ℕ → Editor
 after_wrapping d e opener closer =
     if spans_lines d e

@@ -22,7 +22,8 @@ use bx_runs::{Kind, Typing};
 use bx_terms::OutOfMemory;
 use bx_ucd::BidiData;
 
-/// The most characters of the answer to a question.
+/// The most characters of the answer to a question: `longest_line` and `longest_code` of specs/Asking.antt, where their reasons are.
+/// A name has none, since its one letter answers; without a question the answer is the latest one.
 fn limit_of(ask: Ask) -> usize
     ensures { result ≡ limit_of ask }
 {
@@ -50,7 +51,7 @@ impl<D: BidiData + Drop> Editor<D> {
         self.ask = Ask::Off;
     }
 
-    /// Appends a character to the answer, unless it has its limit.
+    /// Appends a character to the answer, unless it has as many as it may.
     fn lengthen(&mut self, c: char) -> Result<(), OutOfMemory>
         requires narrow { IsNarrow c }
         ensures ok { OnOk result (self.new ≡ record self.old {
@@ -65,7 +66,7 @@ impl<D: BidiData + Drop> Editor<D> {
         Ok(())
     }
 
-    /// The place of a paragraph and a unit in it; without a paragraph, in the place's own.
+    /// The place of a paragraph and a unit in it; without a paragraph, of that unit of the paragraph where the cursor is.
     fn place_of(&mut self, target: Target) -> Result<usize, OutOfMemory>
         ensures same { self.new ≡ self.old }
         ensures place { IfOk result (λ o. o ≡ target_place (D.data self.old.tables) self.old.editor target) }
@@ -113,13 +114,14 @@ impl<D: BidiData + Drop> Editor<D> {
         Ok(())
     }
 
-    /// Puts a character in as Insert does, but in no selection's place.
+    /// Puts a character in at the place, as the beginning of a run; a selection's text stays.
     fn put_character(&mut self, c: char) -> Result<(), OutOfMemory>
         ensures ok { OnOk result (self.new ≡ record self.old {
           editor = with_character (D.data self.old.tables) (cleared self.old.editor) c;
         }) }
         ensures err { OnErr result (self.new ≡ self.old) }
     {
+        // a character has at most four bytes
         let mut buffer = [0; 4];
         let new = c.encode_utf8(&mut buffer);
         let kind = Kind::of(self.document.class(c));
@@ -133,7 +135,7 @@ impl<D: BidiData + Drop> Editor<D> {
         Ok(())
     }
 
-    /// Puts the character that a letter names in, around the region if it begins what another character ends.
+    /// Puts in `c`, which a letter names; if it begins what another character ends, puts both around the region, if there is one.
     fn put_named(&mut self, letter: char, c: char) -> Result<(), OutOfMemory>
         ensures ok { OnOk result (self.new ≡ record self.old {
           editor = after_named (D.data self.old.tables) (cleared self.old.editor) c (closing letter);
@@ -185,7 +187,7 @@ impl<D: BidiData + Drop> Editor<D> {
         }
     }
 
-    /// Takes a digit of a code, or its end.
+    /// Takes a digit of a code, or LF, which ends it.
     fn answer_code(&mut self, letter: char) -> Result<(), OutOfMemory>
         requires ask { self.old.editor.ask ≡ Ask.Code }
         ensures ok { OnOk result (self.new ≡ record self.old {

@@ -4,7 +4,7 @@ ghost use Rattle.std.specs.Prelude.{◌≡◌, None};
 use crate::seek::Seek;
 use crate::soft::Soft;
 
-/// The cursor's place, the mark, how a selection stands and how far a search is.
+/// The cursor's place and the mark's, in bytes of the text, how fresh a selection is and how far a search is.
 #[derive(Clone, Copy)]
 pub(crate) struct Cursor {
     pub(crate) place: usize,

@@ -22,7 +22,8 @@ use bx_ucd::BidiData;
 use std::marker::Model;
 
 /// A text under edit, the cursor's place in it, the mark, the text copied or cut last, the query of a search, and the message
-/// of the last key, in a window of rows and columns.
+/// of the last key, in a window of rows and columns. `specs/Editor.antt` says what each field means and counts; `view` says which
+/// of its fields are in `document`, `cursor` and `past`. 64: `LONGEST_QUERY`.
 #[derive(Drop)]
 pub struct Editor<D: BidiData + Drop> {
     pub(crate) document: Document<D>,
@@ -129,7 +130,7 @@ impl<D: BidiData + Drop> Editor<D> {
         self.ended
     }
 
-    /// Whether there was an edit since the opening or the last save. Allocates nothing.
+    /// Whether there was an edit since the opening or the last save, or the text is not the stored one. Allocates nothing.
     pub fn changed(&self) -> bool
         ensures { result ≡ self.now.editor.changed }
     {

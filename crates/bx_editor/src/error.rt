@@ -7,7 +7,7 @@ pub enum OpenError {
     /// The file has more than 16,777,216 bytes.
     #[error("file too long")]
     TooLong,
-    /// The length in bytes of the longest UTF-8 prefix of the file.
+    /// The file is not UTF-8: its longest UTF-8 prefix has this many bytes.
     #[error("not UTF-8 at byte {0}")]
     NotUtf8(usize),
     /// A side of the window is not from 1 to 500.

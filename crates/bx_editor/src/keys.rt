@@ -71,7 +71,7 @@ impl<D: BidiData + Drop> Editor<D> {
         self.quit_before = true;
     }
 
-    /// Lists the control keys, or the others, if the message listed the first ones.
+    /// Shows the first list of keys, or the second one if the first is the message.
     fn help(&mut self)
         ensures { self.new ≡ record self.old { editor = after_help (cleared self.old.editor) self.old.editor.message } }
     {
@@ -135,7 +135,7 @@ impl<D: BidiData + Drop> Editor<D> {
         Ok(())
     }
 
-    /// Applies a key, in a search or outside.
+    /// Applies a key that the user presses: in a question, in a search, or outside both.
     fn press_any(&mut self, key: Key) -> Result<(), OutOfMemory>
         requires no_save { is_save key ≡ false }
         requires typed { is_told_key key ≡ false }
@@ -154,7 +154,7 @@ impl<D: BidiData + Drop> Editor<D> {
         }
     }
 
-    /// Applies a key outside a search.
+    /// Applies a key outside a search and a question.
     pub(crate) fn press(&mut self, key: Key) -> Result<(), OutOfMemory>
         requires no_save { is_save key ≡ false }
         requires typed { is_told_key key ≡ false }

@@ -44,7 +44,7 @@ pub(crate) fn has_letters<D: BidiData + Drop>(
     document.query(reading, query).is_some()
 }
 
-/// Leads to the place of a match.
+/// Leads to the place of the match at `offset`, with this message.
 fn at_match<D: BidiData + Drop>(
     document: &mut Document<D>,
     offset: usize,

@@ -34,9 +34,9 @@ pub enum Message {
     /// The match was found from the text's end: there is none before the place.
     FromEnd,
     NotFound,
-    /// The control keys.
+    /// The first list of keys.
     Help,
-    /// The other control keys.
+    /// The second list of keys.
     MoreHelp,
     /// The region spans lines, and is not put between two characters.
     MoreThanOneLine,
@@ -50,6 +50,7 @@ pub enum Message {
     Notice(Notice),
 }
 
+/// The words of `SaveFailed`.
 fn failed_text(cause: Option<SaveCause>) -> &'static str
     ensures { result.now ≡ failed_text cause }
 {
@@ -70,6 +71,7 @@ fn failed_text(cause: Option<SaveCause>) -> &'static str
     }
 }
 
+/// The words of a notice.
 fn notice_text(notice: Notice) -> &'static str
     ensures { result.now ≡ notice_text notice }
 {
@@ -87,7 +89,7 @@ fn notice_text(notice: Notice) -> &'static str
 }
 
 impl Message {
-    /// The message's words in the status row, without a number that stands before them.
+    /// The message's words in the status row, without the number before those of `Replaced`, and none for `Told`.
     pub fn text(self) -> &'static str
         ensures { result.now ≡ message_text self }
     {

@@ -13,7 +13,7 @@ use bx_terms::OutOfMemory;
 use bx_ucd::BidiData;
 use bx_view::{Move, Vertical};
 
-/// The kept column behind a key that the user pressed: kept by moves from row to row, by Select and by Repaint.
+/// The kept column, from 1, behind a key that the user pressed; None if that forgets it.
 pub(crate) fn goal_behind(key: Key, goal: Option<u16>) -> Option<u16>
     ensures { result ≡ goal_behind key goal }
 {
@@ -82,7 +82,7 @@ impl<D: BidiData + Drop> Editor<D> {
         }
     }
 
-    /// Goes up or down by `n` rows in the kept column, which becomes the cursor's if none is kept.
+    /// Goes up or down by `n` rows in the kept column; if none is kept, in the cursor's, which is kept then.
     pub(crate) fn move_by_rows(&mut self, way: Vertical, n: usize) -> Result<(), OutOfMemory>
         ensures ok { OnOk result (self.new ≡ record self.old {
           editor = after_row_move (D.data self.old.tables) (unselected (cleared self.old.editor)) way n;

@@ -89,7 +89,7 @@ impl<D: BidiData + Drop> Editor<D> {
         Ok(())
     }
 
-    /// Shows the match of the place. Allocates nothing.
+    /// Shows the first match from the place on, to which the search led. Allocates nothing.
     pub(crate) fn show_match(&mut self)
         requires asked { asks_other self.old.editor.seek ≡ true }
         ensures { self.new ≡ record self.old { editor = after_showing (D.data self.old.tables) (cleared self.old.editor) } }

@@ -5,7 +5,8 @@ ghost use Rattle.bx_editor.specs.Editor.{stored_behind};
 
 use bx_runs::Runs;
 
-/// The length of the past at which the text is the stored one, once an edit was made at the length `n`.
+/// The length of the past at which the text is the stored one, once an edit was made at the length `n`, which drops what could be
+/// redone; None if no undo or redo leads to that text any more.
 fn stored_behind(n: usize, stored: Option<usize>) -> Option<usize>
     ensures { result ≡ stored_behind n stored }
 {

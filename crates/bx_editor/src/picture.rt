@@ -61,9 +61,8 @@ impl<D: BidiData + Drop> Editor<D> {
     }
 
     /// Scrolls from the offset `top` to the cursor and draws the window, with the region, or the match that is shown, in the other
-    /// rendition. Returns the
-    /// offset of the new top row, and the picture. It is drawn on `page`, a grid of the window's size. Rows that `page` shows
-    /// already are not written again.
+    /// rendition. Returns the offset of the new top row, and the picture. It is drawn on `page`, a grid of the window's size. Rows
+    /// that `page` shows already are not written again. Once the editor has ended all is blank, with the cursor in the first cell.
     pub fn picture(
         &mut self,
         alloc: Global,

@@ -12,7 +12,7 @@ use bx_terms::OutOfMemory;
 use bx_ucd::BidiData;
 use std::mem;
 
-/// Whether a paste is read.
+/// Whether a paste is being read.
 pub(crate) fn is_paste(typing: Typing) -> bool
     ensures { result ≡ is_paste typing }
 {
@@ -62,7 +62,7 @@ impl<D: BidiData + Drop> Editor<D> {
         let Some(place) = self.document.replace(start, stop, new, self.cursor.place)? else {
             return Ok(false);
         };
-        // The second edit goes on with the first one's run: it changes neither the runs nor what is stored once more.
+        // Two edits are noted as one: the second goes on with the first one's run, and changes neither `runs` nor `stored`.
         self.past.edited(n, false);
         self.cursor.settle(place);
         Ok(true)
@@ -88,7 +88,7 @@ impl<D: BidiData + Drop> Editor<D> {
         Ok(room)
     }
 
-    /// Types bytes of a kind.
+    /// Types `new`, whose characters are of one kind.
     fn type_text(&mut self, new: &str, kind: Kind) -> Result<(), OutOfMemory>
         ensures ok { OnOk result (self.new ≡ record self.old {
           editor = typed (D.data self.old.tables) self.old.editor.typing (cleared self.old.editor) new.now kind;
@@ -105,7 +105,7 @@ impl<D: BidiData + Drop> Editor<D> {
         Ok(())
     }
 
-    /// Types the line end of the text without the part that gives way.
+    /// Types a line end, as the text has it without the selection that gives way to it.
     pub(crate) fn new_line(&mut self) -> Result<(), OutOfMemory>
         ensures ok { OnOk result (self.new ≡ record self.old {
           editor = after_new_line (D.data self.old.tables) self.old.editor.typing (cleared self.old.editor);
@@ -132,6 +132,7 @@ impl<D: BidiData + Drop> Editor<D> {
             return self.new_line();
         }
         let kind = Kind::of(self.document.class(c));
+        // a character has at most four bytes
         let mut buffer = [0; 4];
         let new = c.encode_utf8(&mut buffer);
         self.type_text(new, kind)

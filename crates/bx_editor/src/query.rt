@@ -6,7 +6,8 @@ use crate::aim::Aim;
 use crate::seek::Seek;
 use bx_find::Reading;
 
-/// The most characters that a query, or another text, has.
+/// The most characters of the query, and of the other text: `longest_query` and `longest_other` of the specs. A choice, which
+/// docs/bidi_edit.1 tells; `bx_find/src/query.rt` has room for the letters of so many.
 pub(crate) const LONGEST_QUERY: usize = 64;
 
 /// How letters are read: widely to be found, closely to be replaced.

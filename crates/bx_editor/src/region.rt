@@ -67,7 +67,7 @@ impl<D: BidiData + Drop> Editor<D> {
         (start, stop)
     }
 
-    /// Copies the bytes from `start` to `stop`, and clears the mark.
+    /// Makes the bytes from `start` to `stop` the held text, removes the mark, and sets the message.
     fn hold(&mut self, start: usize, stop: usize, message: Message) -> Result<(), OutOfMemory>
         requires range { IsRange self.old.editor.content.text start stop }
         ensures ok { OnOk result (self.new ≡ record self.old {

@@ -52,7 +52,7 @@ impl<D: BidiData + Drop> Editor<D> {
         }
     }
 
-    /// The first match at or after an offset. Allocates nothing.
+    /// The offset of the first match at or after `x`. Allocates nothing.
     fn next_match(&self, x: usize) -> Option<usize>
         requires shown { self.now.editor.seek ≡ Seek.Replacing }
         requires bounds { IsCharBoundary self.now.editor.content.text x }
@@ -130,7 +130,7 @@ impl<D: BidiData + Drop> Editor<D> {
         else {
             return Ok(false);
         };
-        // A second edit goes on with the first one's run: it changes neither the runs nor what is stored once more.
+        // One or two edits are noted as one: a second one goes on with the first one's run, and changes neither `runs` nor `stored`.
         self.past.edited(n, false);
         self.cursor.settle(place);
         self.origin = 0;

@@ -10,7 +10,7 @@ use bx_runs::Typing;
 use bx_ucd::BidiData;
 
 impl<D: BidiData + Drop> Editor<D> {
-    /// Passes over a Quit of a journal, outside a search: it ends what any key ends. Allocates nothing.
+    /// Passes over a Quit of a journal, outside a search and a question: it ends what any key ends. Allocates nothing.
     pub fn pass_quit(&mut self)
         ensures { self.new ≡ record self.old { editor = after_passed_quit self.old.editor } }
     {
@@ -19,8 +19,8 @@ impl<D: BidiData + Drop> Editor<D> {
         self.goal = None;
     }
 
-    /// Passes over a Save of a journal: it ends a search and what any key ends. No undo counts as leading to the stored text, since
-    /// a journal does not tell whether the save succeeded. Allocates nothing.
+    /// Passes over a Save of a journal: it ends a search, a question and what any key ends. No undo counts as leading to the stored
+    /// text, since a journal does not tell whether the save succeeded. Allocates nothing.
     pub fn pass_save(&mut self)
         ensures { self.new ≡ record self.old { editor = after_passed_save self.old.editor } }
     {
@@ -30,8 +30,8 @@ impl<D: BidiData + Drop> Editor<D> {
         self.past.stored = None;
     }
 
-    /// Ends a replay: no search is on, the next edit begins a run, and the text is the stored one unless it counts as changed. No
-    /// memory.
+    /// Ends a replay: no search is on, nothing is asked, the next edit begins a run, and the text is the stored one unless it counts
+    /// as changed. Allocates nothing.
     pub fn end_replay(&mut self)
         ensures { self.new ≡ record self.old { editor = at_replay_end self.old.editor } }
     {

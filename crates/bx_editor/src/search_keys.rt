@@ -18,7 +18,7 @@ use bx_terms::OutOfMemory;
 use bx_ucd::BidiData;
 
 impl<D: BidiData + Drop> Editor<D> {
-    /// Applies a character that is typed in a search; a paste goes on behind it.
+    /// Applies a character that is typed while the query is asked for; a paste goes on behind it.
     fn answer(&mut self, c: char) -> Result<(), OutOfMemory>
         requires origin { IsTextPlace (D.data self.old.tables) self.old.editor.content.text self.old.editor.origin }
         requires queried { is_queried self.old.editor.seek ≡ true }
@@ -41,7 +41,7 @@ impl<D: BidiData + Drop> Editor<D> {
         Ok(())
     }
 
-    /// Applies a key in a search, before the other text is asked for.
+    /// Applies a key while the query is asked for.
     pub(crate) fn press_in_search(&mut self, key: Key) -> Result<(), OutOfMemory>
         requires no_save { is_save key ≡ false }
         requires typed { is_told_key key ≡ false }

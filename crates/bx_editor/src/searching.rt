@@ -1,4 +1,5 @@
-//! The keys of a search.
+//! The calls by which a search begins, goes on and is given up, and FindNext outside a search. `keys.rt` and `search_keys.rt` say
+//! which key makes which call.
 ghost use Rattle.std.specs.Prelude.{◌≡◌, ◌==◌, not, length, IfOk, IfSome, OnErr, OnOk};
 ghost use Rattle.bx_view.specs.Places.{IsTextPlace};
 ghost use Rattle.bx_editor.specs.Editor.{cleared};
@@ -47,7 +48,7 @@ impl<D: BidiData + Drop> Editor<D> {
         self.end_search();
     }
 
-    /// Moves the cursor to where a match is, and sets the message. Allocates nothing.
+    /// Moves the cursor to where a search led, if anywhere, and sets its message. How far the search is stays. Allocates nothing.
     pub(crate) fn settle_at(&mut self, landing: Landing)
         requires place { IfSome landing.place (IsTextPlace (D.data self.old.tables) self.old.editor.content.text) }
         ensures { self.new ≡ record self.old { editor = landed (cleared self.old.editor) landing } }
@@ -58,7 +59,8 @@ impl<D: BidiData + Drop> Editor<D> {
         self.typing = Typing::Off;
     }
 
-    /// Moves the cursor to where a search led, and sets its message.
+    /// Moves the cursor to where a search led, if anywhere, and sets its message. The query counts as typed: the next letter is
+    /// appended to it.
     fn land(&mut self, landing: Landing)
         requires origin { IsTextPlace (D.data self.old.tables) self.old.editor.content.text self.old.editor.origin }
         requires place { IfSome landing.place (IsTextPlace (D.data self.old.tables) self.old.editor.content.text) }

@@ -18,7 +18,7 @@ pub(crate) fn is_soft(soft: Soft) -> bool
     }
 }
 
-/// The softness once another key than Select was pressed.
+/// The softness once another key than Select and Repaint was pressed.
 pub(crate) fn aged(soft: Soft) -> Soft
     ensures { result ≡ aged soft }
 {

@@ -6,8 +6,8 @@ pub enum Soft {
     /// No selection: there is no mark, or Mark set it.
     #[default]
     Off,
-    /// Select was pressed last: the next move goes on selecting.
+    /// Select was pressed last, but for Repaint: the next move goes on selecting.
     Fresh,
-    /// A key was pressed since: the next move without Select takes the mark off.
+    /// Another key was pressed since: the next move without Select takes the mark off.
     Old,
 }

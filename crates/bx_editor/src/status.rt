@@ -15,7 +15,7 @@ use bx_ucd::BidiData;
 use itoa::Buffer;
 use std::alloc::{AllocError, Global};
 
-/// Writes the text of the status row, but no message.
+/// Writes the text that `status_line` returns.
 fn write_line(
     alloc: Global,
     changed: bool,
@@ -50,6 +50,7 @@ pub(crate) fn status_line(
     Ok(line)
 }
 
+/// The prompt before the query.
 fn query_prompt(aim: Aim) -> &'static str
     ensures text { result.now ≡ query_prompt aim }
     ensures printable { are_ascii_printable result.now ≡ true }
@@ -60,6 +61,7 @@ fn query_prompt(aim: Aim) -> &'static str
     }
 }
 
+/// The prompt of a search, empty if none is on.
 fn search_prompt(aim: Aim, seek: Seek) -> &'static str
     ensures text { result.now ≡ search_prompt aim seek }
     ensures printable { are_ascii_printable result.now ≡ true }
@@ -98,6 +100,7 @@ fn draw_search<D: BidiData + Drop>(
     }
 }
 
+/// The prompt of a question, empty if nothing is asked.
 fn prompt_text(ask: Ask) -> &'static str
     ensures text { result.now ≡ prompt_text ask }
     ensures printable { are_ascii_printable result.now ≡ true }

@@ -26,7 +26,7 @@ fn write_replaced(line: &mut String, count: usize) -> Result<(), OutOfMemory>
 }
 
 impl<D: BidiData + Drop> Editor<D> {
-    /// Writes the characters of the unit at the place with their classes, and its level; at the text's end, that.
+    /// Writes the characters of the unit at the place with their classes, and its level; at the text's end, "end of text".
     ///
     /// Errors: `OutOfMemory`, and a part is written.
     fn write_told(&mut self, line: &mut String) -> Result<(), OutOfMemory>

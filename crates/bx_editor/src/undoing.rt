@@ -27,7 +27,8 @@ fn is_changed_at(n: usize, stored: Option<usize>) -> bool
 }
 
 impl<D: BidiData + Drop> Editor<D> {
-    /// Undoes or redoes an edit; if there is none, sets a message.
+    /// Undoes or redoes an edit, and counts the text as changed even where it is the stored one again; if there is none, sets a
+    /// message.
     pub(crate) fn step(&mut self, step: HistoryStep) -> Result<(), OutOfMemory>
         ensures ok { OnOk result (self.new ≡ record self.old { editor = after_step step (cleared self.old.editor) }) }
         ensures err { OnErr result (self.new ≡ self.old) }

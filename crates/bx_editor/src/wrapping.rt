@@ -46,6 +46,7 @@ impl<D: BidiData + Drop> Editor<D> {
         }
         let (start, stop) = self.region();
         let end = self.cursor_end();
+        // a character has at most four bytes
         let (mut front, mut back) = ([0; 4], [0; 4]);
         let front = opener.encode_utf8(&mut front);
         let back = closer.encode_utf8(&mut back);

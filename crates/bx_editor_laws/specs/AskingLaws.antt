@@ -1,4 +1,5 @@
--- Laws of questions and their answers, of what an answer puts in, and of what is told of a unit.
+-- Laws of questions and their answers, of what an answer puts in, and of what is told of a unit. `d`, `e` and `new` are as in
+-- Laws.antt; `says`, too, is the data of Unicode's tables.
 use Rattle.std.specs.Prelude.{◌≡◌, ◌≢◌, ◌⊎◌, ℕ, ◌+◌, ◌==◌, ◌||◌, ◌<◌, ◌≤◌, Bool, true, false, List, [], ◌∷◌, ◌++◌, length, map, take, drop, count_by}
 use Rattle.std.specs.Prelude.{chars, codes, decimal, encode_utf8, Option, Some, None, All, IsUtf8, if◌then◌else◌}
 use Rattle.std.specs.List.{concat}
@@ -265,7 +266,7 @@ pub record ShowsPrompt (d : Data) (e : Editor) : Type 0 where
   pub answer : IsAnswer e.ask e.answer
   pub glyphs : e.ask ≢ Off → All IsShown (prompt_glyphs d e e.ask)
 
--- whatever was typed over an opened text
+-- answer and prompt are so whatever was typed over an opened text
 abbrev pub PromptsAreShown : Type 0
 PromptsAreShown =
     (d : Data) (text : List ℕ) (height width : ℕ) (base : Base) (typed : List (Key × Option StoreFault))
@@ -293,7 +294,7 @@ pub record TellsUnit (d : Data) (e : Editor) : Type 0 where
 abbrev pub TellsWhatStands : Type 0
 TellsWhatStands = (d : Data) (e : Editor) → HasRows e → TellsUnit d e
 
--- Tell shows this after the numbers on the status row, and leaves text, place, held text and mark
+-- Tell shows what is told of the place after the numbers on the status row, and leaves text, place, held text and mark
 abbrev pub TellShows : Type 0
 TellShows =
     (d : Data) (e : Editor) → let new = after_key d None e Tell in

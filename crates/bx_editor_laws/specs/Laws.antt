@@ -170,17 +170,19 @@ pub record Seeks (d : Data) (e : Editor) : Type 0 where
   pub on : is_queried e.seek ≡ true
   pub letters : sought d e ≢ []
 
--- no match of the query begins at or after the offset x; none begins before it
+-- no match of the query begins at or after the offset `x`
 abbrev pub NoneFrom : Data → Editor → ℕ → Type 0
 NoneFrom d e x = (i : ℕ) → x ≤ i → ¬ (MatchesAt d (reading e.aim) (sought d e) e.content.text i)
 
+-- no match of the query begins before the offset `x`
 abbrev pub NoneBefore : Data → Editor → ℕ → Type 0
 NoneBefore d e x = (i : ℕ) → i < x → ¬ (MatchesAt d (reading e.aim) (sought d e) e.content.text i)
 
--- the cursor went to the place of the offset, with this message or none; it stayed, with the message that there is no match
+-- the cursor went to the place of the offset, with this message or none
 abbrev pub WentTo : Data → Editor → Editor → Option Message → ℕ → Type 0
 WentTo d e new message offset = (new.place ≡ place_at (rows d e) offset) × (new.message ≡ message)
 
+-- the cursor stayed, with the message that there is no match
 abbrev pub Stayed : Editor → Editor → Type 0
 Stayed e new = (new.place ≡ e.place) × (new.message ≡ Some NotFound)
 
@@ -201,10 +203,11 @@ FindBackGoesToPrevious =
     ⊎ ((NoneBefore d e e.place × ((at : ℕ) × IsLast d (reading e.aim) (sought d e) e.content.text end at × WentTo d e new (Some FromEnd) at))
     ⊎ (NoneBefore d e end × Stayed e new))
 
--- a key that begins a search where none is on; a key that gives up a search that is on
+-- a key that begins a search where none is on
 abbrev pub BeginsSearch : Key → Type 0
 BeginsSearch key = (key ≡ Find) ⊎ ((key ≡ FindBack) ⊎ (key ≡ Replace))
 
+-- a key that gives up a search that is on
 abbrev pub GivesUp : Key → Type 0
 GivesUp key = (key ≡ Quit) ⊎ ((key ≡ Copy) ⊎ (key ≡ Cancel))
 

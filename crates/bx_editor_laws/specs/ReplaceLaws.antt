@@ -1,4 +1,5 @@
--- Laws of replacing: the match that is shown, and what Enter, Find and Replace make of it and of those after it.
+-- Laws of replacing: the match that is shown, and what Enter, Find and Replace make of it and of those after it. `d`, `e` and `new`
+-- are as in Laws.antt.
 use Rattle.std.specs.Prelude.{◌≡◌, ◌⊎◌, ℕ, ◌+◌, ◌<◌, ◌≤◌, true, false, List, [], ◌∷◌, ◌++◌, length, take, drop, slice_range, chars, All, Contains, IsUtf8, Option, Some, None}
 use Rattle.bx_terms.specs.Sizes.{largest_text}
 use Rattle.bx_terms.specs.declared.base.Base.{Base}

@@ -1,4 +1,4 @@
--- Laws of runs of edits, and of the text that was stored.
+-- Laws of runs of edits, and of the text that was stored. `d`, `e` and `new` are as in Laws.antt.
 use Rattle.std.specs.Prelude.{◌≡◌, ◌≢◌, ℕ, ◌+◌, ◌-◌, ◌&&◌, ◌<◌, ◌≤◌, false, List, [], ◌∷◌, ◌++◌, length, map, replicate, encode_utf8_all, All, Option, None, is_none, if◌then◌else◌}
 use Rattle.bx_terms.specs.Sizes.{largest_text}
 use Rattle.bx_terms.specs.declared.base.Base.{Base}
@@ -20,10 +20,11 @@ use Rattle.bx_editor_laws.specs.Laws.{after_typing, IsUnmarkedAt}
 
 -- ---- a run, edit by edit
 
--- how many edits are undone until none is left or a run begins; how many are redone until all are or the next run begins
+-- how many edits are undone until none is left or a run begins
 abbrev pub undos : Editor → ℕ
 undos e = length e.content.past - undone e.runs (length e.content.past)
 
+-- how many edits are redone until none is left or the next run begins
 abbrev pub redos : Editor → ℕ
 redos e = redone e.runs (length e.content.past) (length e.content.future) - length e.content.past
 
@@ -34,7 +35,7 @@ pub record IsManySteps (d : Data) (e : Editor) (key one : Key) (n : ℕ) (edits 
   pub some : edits ≢ [] → 0 < n
   pub none : edits ≡ [] → after_key d None e key ≡ after_key d None e one
 
--- both keys that step over a run are such
+-- UndoRun and RedoRun step so over a run
 pub record RunsAreSteps (d : Data) (e : Editor) : Type 0 where
   pub undo : IsManySteps d e UndoRun Undo (undos e) e.content.past
   pub redo : IsManySteps d e RedoRun Redo (redos e) e.content.future
@@ -59,7 +60,7 @@ pub record RunsAreMirrored (d : Data) (e : Editor) : Type 0 where
   pub undo_place : BeginsAt e.runs (all_edits e) (length e.content.past) → (edit : Edit) (future : List Edit) → e.content.future ≡ edit ∷ future
       → IsUnmarkedAt edit.before.place (after_keys d None e (RedoRun ∷ UndoRun ∷ []))
 
--- after anything that was typed over an opened text
+-- UndoRun and RedoRun mirror each other so after anything that was typed over an opened text
 abbrev pub RedoRunMirrorsUndoRun : Type 0
 RedoRunMirrorsUndoRun =
     (d : Data) (text : List ℕ) (height width : ℕ) (base : Base) (typed : List (Key × Option StoreFault))

@@ -1,4 +1,4 @@
--- Laws of selections, and of the marks of a paste.
+-- Laws of selections, and of the keys PasteStart and PasteEnd, the marks of a paste. `d`, `e` and `new` are as in Laws.antt.
 use Rattle.std.specs.Prelude.{◌≡◌, ◌≢◌, ℕ, ◌+◌, ◌==◌, ◌&&◌, ◌≤◌, ◌<◌, Bool, true, false, List, [], ◌∷◌, ◌++◌, length, take, drop, encode_utf8, unwrap_or, Option, Some, None, if◌then◌else◌}
 use Rattle.bx_terms.specs.Sizes.{largest_text}
 use Rattle.bx_keys.specs.declared.key.Key.{Key}
@@ -149,7 +149,7 @@ pub record ChangesTypingAlone (d : Data) (e new : Editor) : Type 0 where
   pub rest_is : new ≡ record e { typing = new.typing }
   pub picture_is : (top : ℕ) → picture d new top ≡ picture d e top
 
--- the keys at the start and the end of a paste do so
+-- the keys at the start and the end of a paste change `typing` alone
 pub record PasteMarksChangeTyping (d : Data) (fault : Option StoreFault) (e : Editor) : Type 0 where
   pub start : ChangesTypingAlone d e (after_key d fault e PasteStart)
   pub end : ChangesTypingAlone d e (after_key d fault e PasteEnd)

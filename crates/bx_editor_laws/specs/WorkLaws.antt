@@ -1,4 +1,5 @@
--- Laws of ErasePoint, FindNext, and the moves that keep their column.
+-- Laws of ErasePoint, FindNext, and the moves that keep their column. `d`, `e` and `new` are as in Laws.antt; `r` is a row of the
+-- text, `w` the window's columns.
 use Rattle.std.specs.Prelude.{◌≡◌, ◌≢◌, ℕ, ◌+◌, ◌<◌, ◌≤◌, true, false, [], ◌∷◌, ◌++◌, length, take, drop, replicate, None, Contains}
 use Rattle.bx_keys.specs.declared.key.Key.TheVariants.{ErasePoint, Find, FindNext, LineDown, LineUp}
 use Rattle.bx_ucd.specs.Data.{Data}
@@ -73,7 +74,7 @@ pub record LineMovesLeadBack (d : Data) (e : Editor) (n : ℕ) : Type 0 where
   pub above : n ≤ row_of (rows d e) e.place
       → LeadsBack d e n (after_keys d None e (replicate n LineUp ++ replicate n LineDown))
 
--- they do so outside a search, where no column is kept
+-- these moves lead back so outside a search, where no column is kept
 abbrev pub LineMovesGoBack : Type 0
 LineMovesGoBack =
     (d : Data) (e : Editor) (n : ℕ) → HasRows e → e.seek ≡ Off → e.goal ≡ None → IsTextPlace d e.content.text e.place → LineMovesLeadBack d e n

@@ -1,4 +1,5 @@
--- The filter's step for a byte, and its output for input, in two states: outside a paste, and within one.
+-- The filter's step for a byte, and its output for input, in two states: outside a paste, and within one. `b` is a byte, `bs` are
+-- bytes, `s` is a state.
 use Rattle.std.specs.Prelude.{ℕ, Bool, true, false, not, ◌&&◌, ◌||◌, ◌==◌, List, [], ◌∷◌, ◌++◌, Option, Some, None, if◌then◌else◌}
 use Rattle.std.specs.Str.{bytes_eq}
 use Rattle.bx_bytes.specs.Pattern.{is_within}
@@ -48,11 +49,12 @@ abbrev pub apart_from : Bool → List ℕ → List ℕ
 apart_from is_open [] = if is_open then 0x18 ∷ [] else []
 apart_from is_open (b ∷ bs) = if is_open && not (b == 0x1B) then 0x18 ∷ b ∷ bs else b ∷ bs
 
--- a known sequence is whole: the bytes of its row go out, or a paste starts
+-- a known sequence is whole: the bytes of its row go out, or without a row, which only a paste's start has not, a paste starts
 abbrev pub ended : Bool → Option Row → Step
 ended is_open None = step_to (Within [] false) start_told
 ended is_open (Some r) = step_to (Outside [] false) (apart_from is_open r.becomes)
 
+-- there are no bytes
 abbrev pub is_empty : List ℕ → Bool
 is_empty [] = true
 is_empty (b ∷ bs) = false
@@ -75,7 +77,7 @@ module _ (erases_by_delete : Bool) where
   step_by Ends waiting is_open b = ended is_open (row_of erases_by_delete (waiting ++ b ∷ []))
   step_by Breaks waiting is_open b = broken waiting is_open b
 
--- ---- within a paste; `paste_fate` (`Paste.antt`) says the same of the sequences that are known there
+-- ---- within a paste; `paste_fate` (`Paste.antt`) says the same of the sequences that are known within one
 
 -- a byte where none waits
 abbrev pub fresh_in_paste : Fate → Bool → ℕ → Step
@@ -100,6 +102,7 @@ at_end (Outside waiting is_open) = waiting
 at_end (Within waiting after_return) = pasted_part waiting
 
 module _ (erases_by_delete : Bool) where
+  -- a byte in any state
   abbrev pub step : State → ℕ → Step
   step (Outside waiting is_open) b = step_by erases_by_delete (fate (waiting ++ b ∷ [])) waiting is_open b
   step (Within waiting after_return) b = paste_step_by (paste_fate (waiting ++ b ∷ [])) waiting after_return b

@@ -57,6 +57,7 @@ bytes_of output = output.before.now ++ (output.key.now ++ option_to_list output.
 abbrev pub becomes_of : Bool → List ℕ → Option (List ℕ)
 becomes_of erases_by_delete read = option_map (λ (r : Row). r.becomes) (row_of erases_by_delete read)
 
+-- the bytes begin with ESC
 abbrev pub BeginsByEscape : List ℕ → Type 0
 BeginsByEscape bs = slice_index bs 0 ≡ 0x1B
 
@@ -69,7 +70,7 @@ Tells erases_by_delete (after.Digit digit) read = (fate read ≡ Ends) × (becom
 Tells erases_by_delete after.Pastes read = (fate read ≡ Ends) × (row_of erases_by_delete read ≡ None)
 Tells erases_by_delete after.Breaks read = fate read ≡ Breaks
 
--- the same of `AfterInPaste`, within a paste
+-- `AfterInPaste` tells what the bytes `read` are, within a paste
 abbrev pub TellsInPaste : AfterInPaste → List ℕ → Type 0
 TellsInPaste (after_in_paste.Waits tail) read = (paste_fate read ≡ Waits) × (tail_bytes tail ≡ read)
 TellsInPaste after_in_paste.Drops read = (paste_fate read ≡ Ends) × (bytes_eq read paste_end ≡ false)

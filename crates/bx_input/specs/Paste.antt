@@ -1,4 +1,5 @@
--- The text of a paste: what of its bytes goes to the editor.
+-- The text of a paste: what of its bytes goes to the editor. `b` is a byte, `bs` are bytes; from `kept_character` on `c` is a
+-- character, `cs` are characters.
 use Rattle.std.specs.Prelude.{ℕ, Bool, false, ◌&&◌, ◌||◌, ◌==◌, List, [], ◌∷◌, ◌++◌, flat_map, if◌then◌else◌}
 use Rattle.bx_bytes.specs.Fate.{fate_in}
 use Rattle.bx_bytes.specs.Pattern.{Piece, One, is_within}
@@ -34,7 +35,8 @@ pasted_after after_return (b ∷ c ∷ bs) =
 abbrev pub pasted : List ℕ → List ℕ
 pasted bs = pasted_after false bs
 
--- The same character by character, where the bytes are UTF-8. The control characters are those of C0 and C1, and DELETE.
+-- The output for a character of a paste in UTF-8: TAB and new lines stay, other control characters, those of C0 and C1 and DELETE,
+-- are dropped.
 abbrev pub kept_character : Bool → ℕ → List ℕ
 kept_character after_return c =
     if c == 0x0D then 0x0A ∷ []

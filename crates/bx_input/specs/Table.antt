@@ -1,4 +1,5 @@
--- The sequences that terminals send for keys, and the bytes that the editor gets in their place.
+-- The sequences that terminals send for keys, and the bytes that the editor gets in their place: those by which `bx_keys`
+-- (specs/Keys.antt) knows the row's key. `r` is a row, `bs` are bytes.
 use Rattle.std.specs.Prelude.{ℕ, Bool, true, false, List, [], ◌∷◌, ◌++◌, map, find, codes, Option, if◌then◌else◌}
 use Rattle.std.specs.Str.{bytes_eq}
 use Rattle.bx_bytes.specs.Fate.{fate_in}
@@ -87,7 +88,7 @@ shifted_rxvt_keys =
 abbrev shifted_st_keys : List Row
 shifted_st_keys = selecting_row (csi (codes "2J")) (csi (codes "H")) RowHome ∷ selecting_row (csi (codes "2K")) (csi (codes "F")) RowEnd ∷ []
 
--- Left, Right, Home and End with Shift and CTRL, of xterm, tmux and screen
+-- Left, Right, Home and End with Shift and Ctrl, of xterm, tmux and screen
 abbrev shifted_control_keys : List Row
 shifted_control_keys =
     selecting_row (csi (codes "1;6D")) (csi (codes "76~")) WordLeft
@@ -100,7 +101,7 @@ shifted_control_keys =
 abbrev delete_keys : List Row
 delete_keys = row (csi (codes "P")) (csi (codes "3~")) Delete ∷ []
 
--- Delete with CTRL, of xterm, tmux and screen; of rxvt; of st
+-- Delete with Ctrl, of xterm, tmux and screen; of rxvt; of st
 abbrev delete_word_keys : List Row
 delete_word_keys =
     row (csi (codes "3;5~")) (csi (codes "89~")) DeleteWord
@@ -108,7 +109,7 @@ delete_word_keys =
     ∷ row (csi (codes "M")) (csi (codes "89~")) DeleteWord
     ∷ []
 
--- the key that erases, with ALT
+-- the key that erases, with Alt
 abbrev erase_word_keys : List Row
 erase_word_keys =
     row (0x1B ∷ 0x7F ∷ []) (csi (codes "88~")) EraseWord
@@ -162,7 +163,7 @@ replace_keys =
     ∷ row (csi (codes "[D")) (csi (codes "85~")) Replace
     ∷ []
 
--- Left and Right with CTRL, of xterm, tmux and screen; of rxvt; of terminals that leave out 1 and the semicolon
+-- Left and Right with Ctrl, of xterm, tmux and screen; of rxvt; of terminals that leave out 1 and the semicolon
 abbrev word_keys : List Row
 word_keys =
     row (csi (codes "1;5D")) (csi (codes "76~")) WordLeft
@@ -173,7 +174,7 @@ word_keys =
     ∷ row (csi (codes "5C")) (csi (codes "77~")) WordRight
     ∷ []
 
--- Home and End with CTRL, of xterm, tmux and screen; of rxvt
+-- Home and End with Ctrl, of xterm, tmux and screen; of rxvt
 abbrev text_end_keys : List Row
 text_end_keys =
     row (csi (codes "1;5H")) (csi (codes "78~")) TextStart
@@ -197,7 +198,7 @@ escape_rows =
     ++ (delete_word_keys
     ++ (erase_word_keys ++ (direction_keys ++ (keypad_digits ++ (help_keys ++ (find_keys ++ (replace_keys ++ (word_keys ++ text_end_keys))))))))))))
 
--- the rows whose sequence is one control byte: CTRL with @ (or the space bar), C, G, K, R, T, V, W, X, Y, Z and the
+-- the rows whose sequence is one control byte: Ctrl with @ (or the space bar), C, G, K, R, T, V, W, X, Y, Z and the
 -- backslash, and Enter
 abbrev pub control_rows : List Row
 control_rows =
@@ -217,7 +218,7 @@ control_rows =
     ∷ []
 
 -- The key that erases gives 7F or 08. Where the terminal's own erase character is 7F, 08 comes from another one, mostly that
--- key with CTRL.
+-- key with Ctrl.
 abbrev pub erase_rows : Bool → List Row
 erase_rows erases_by_delete =
     row (0x7F ∷ []) (csi (codes "94~")) ErasePoint
@@ -232,7 +233,7 @@ byte_rows erases_by_delete = control_rows ++ erase_rows erases_by_delete
 abbrev pub rows : Bool → List Row
 rows erases_by_delete = escape_rows ++ byte_rows erases_by_delete
 
--- the two marks that a terminal puts around a paste
+-- the two marks that a terminal puts around a paste (xterm's bracketed paste)
 abbrev pub paste_start : List ℕ
 paste_start = csi (codes "200~")
 

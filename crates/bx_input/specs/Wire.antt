@@ -9,7 +9,7 @@ abbrev pub read_by : Action → List ℕ
 read_by (Read bytes) = bytes
 read_by _ = []
 
--- the bytes that it wrote
+-- the bytes that an action wrote
 abbrev pub written_by : Action → List ℕ
 written_by (Write bytes) = bytes
 written_by (WriteFailed bytes) = bytes

@@ -1,7 +1,7 @@
 //! A filter between a terminal and the editor: turns the sequences that terminals send into those that the editor reads.
 //!
 //! Terminals send bytes that the editor has no key for, or has an older one for than the key that they come from: arrows,
-//! Page Up and Page Down, the Home and End of rxvt, keys with Shift, ALT or CTRL, the keys that erase, Enter, the Delete of
+//! Page Up and Page Down, the Home and End of rxvt, keys with Shift, Alt or Ctrl, the keys that erase, Enter, the Delete of
 //! st, F1 to F4, the keypad's digits, and pastes. `specs/Table.antt` has the table. All else passes unchanged, broken
 //! sequences too. A paste becomes text between two keys that tell its start and its end: of its control bytes only TAB and
 //! LF are left, so it can neither save nor quit nor move nor erase, nor set a mark, cut or search.

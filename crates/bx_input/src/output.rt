@@ -6,8 +6,8 @@
 pub struct Output {
     /// The waiting bytes that go out unchanged, at most five (CSI 200).
     pub before: &'static [u8],
-    /// The bytes of one or two keys after them, at most ten (Select and one more, each of five).
+    /// The bytes of one or two keys, which go out after `before`: at most ten (Select and one more, each of five).
     pub key: &'static [u8],
-    /// The byte after them, if any.
+    /// The byte that goes out last, if any.
     pub byte: Option<u8>,
 }

@@ -16,7 +16,9 @@ pub trait Pipe {
     /// Whether an action leads from one state of the pipe to another.
     ghost did: { Self → Action → Self → Type 0 };
 
-    /// Reads at most 256 bytes to the front of the buffer, and returns their number, which is 0 at the end of the input.
+    /// Reads at most 256 bytes to the front of the buffer, and returns their number, which is 0 at the end of the input. With 256
+    /// the output of a read stays below 1,300 bytes, which a pipe of Linux takes whole, so that no size told by the host gets
+    /// into it.
     fn read(&mut self, buffer: &mut [u8; 256]) -> Result<usize, PipeFault>
         ensures bound { IfOk result (λ count. count ≤ length buffer.new) }
         ensures most { IfOk result (λ count. count ≤ 256) }

@@ -5,7 +5,7 @@ use Rattle.std.proofs.lemmas.List.{length-take-le, take-append-drop}
 use Rattle.bx_keys.specs.Waiting.{IsWaiting}
 use Rattle.bx_keys.specs.declared.decoder.Decoder.TheInside.{Inside}
 
--- the bytes that wait, or the first 12 of them
+-- the bytes that wait, or the first 12 of them: what a decoder `d` holds
 abbrev pub head_bytes : Inside → List ℕ
 head_bytes d = take d.len d.bytes
 

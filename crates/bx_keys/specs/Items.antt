@@ -1,4 +1,5 @@
--- The items that input is made of: control characters, characters, and escape sequences (ECMA-35, 13; ECMA-48, 5.4).
+-- The items that input is made of: control characters, characters, and escape sequences (ECMA-35, 13; ECMA-48, 5.4). `bs` are
+-- bytes.
 use Rattle.std.specs.Prelude.{ℕ, Bool, List, [], ◌∷◌, ◌++◌}
 use Rattle.bx_bytes.specs.Pattern.{Piece, One, Many, matches_any, begins_any}
 use Rattle.bx_bytes.specs.Utf8.{long_characters}
@@ -31,6 +32,7 @@ short_escapes =
     ∷ (escape ∷ One 0x5C 0x7E ∷ [])
     ∷ []
 
+-- each way to make an item, as a row of pieces: `One` is a byte of a range, `Many` any number of such bytes
 abbrev pub items : List (List Piece)
 items = single_bytes ++ long_characters ++ (control_sequence ∷ single_shift ∷ long_escape ∷ short_escapes)
 

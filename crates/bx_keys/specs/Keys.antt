@@ -1,4 +1,5 @@
--- The key of each item, and the keys of input: what a decoder gives.
+-- The key of each item, and the keys of input: what a decoder gives. `b` is a byte, `bs` are bytes, `rest` bytes that wait; of a
+-- size, `h` are the rows, `w` the columns.
 use Rattle.bx_terms.specs.Sizes.{is_side, largest_side}
 use Rattle.std.specs.Prelude.{ℕ, zero, suc, ◌-◌, ◌≤◌, max, Bool, ◌&&◌, nat_le, ◌==◌, List, [], ◌∷◌, ◌++◌, length, slice_index, take, drop, Option, Some, None}
 use Rattle.std.specs.Prelude.{find, option_map, option_to_list, codes, if◌then◌else◌}
@@ -17,7 +18,7 @@ use Rattle.bx_keys.specs.declared.notice.Notice.TheVariants as notices
 
 -- ---- the key of an item
 
--- CTRL with B, F, H, I, J, M, L, Q, S, Y and Z, and DELETE (7F)
+-- Ctrl with B, F, H, I, J, M, L, Q, S, Y and Z, and DELETE (7F)
 abbrev pub control_keys : List (ℕ × Key)
 control_keys =
     (0x02, Back) ∷ (0x06, Forward) ∷ (0x08, Erase) ∷ (0x7F, Erase) ∷ (0x09, Insert 0x09) ∷ (0x0A, Insert 0x0A)
@@ -155,6 +156,7 @@ decoding bs = decoding_within (length bs) bs
 
 -- ---- one byte more
 
+-- the first of some keys, if there is one
 abbrev pub first_key : List Key → Option Key
 first_key [] = None
 first_key (key ∷ keys) = Some key

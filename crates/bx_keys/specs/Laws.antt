@@ -1,4 +1,4 @@
--- Laws of items, of bytes that wait, of input in pieces and of the parts of input.
+-- Laws of items, of bytes that wait, of input in pieces and of the parts of input. `bs` are bytes.
 use Rattle.std.specs.Prelude.{◌≡◌, ◌↔◌, ℕ, ◌≤◌, List, [], ◌∷◌, ◌++◌, length, take, filter, flat_map, option_to_list}
 use Rattle.std.specs.List.{concat}
 use Rattle.bx_bytes.specs.declared.fate.Fate.{Fate}

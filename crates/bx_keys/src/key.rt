@@ -2,7 +2,8 @@
 
 use crate::notice::Notice;
 
-/// A command of the user, or what the host tells.
+/// A command of the user, or what the host tells. In a search or a question some keys answer it: `answer_of` in `bx_editor`'s
+/// specs/Keys.antt says which.
 #[derive(Clone, Copy, PartialEq, Eq, Debug)]
 pub enum Key {
     /// Inserts the character at the place.
@@ -71,25 +72,25 @@ pub enum Key {
     DeleteWord,
     /// Goes to the next match, and no search stays on.
     FindNext,
-    /// Ends a search; where none is on, removes the mark.
+    /// Gives up a search or a question, or ends replacing; where none is on, removes the mark.
     Cancel,
     /// Removes the last point (a nonspacing mark or zero-width joiner) of the unit before the place, else that unit.
     ErasePoint,
     /// Begins a new line with the text's own line end.
     NewLine,
-    /// One row up, in the column of the first of such moves.
+    /// One row up, in the kept column: the cursor's before the first of LineUp, LineDown, PageBack and PageOn in sequence.
     LineUp,
-    /// One row down, in the column of the first of such moves.
+    /// One row down, in the kept column, which is told at LineUp.
     LineDown,
-    /// A screen of rows up, in the column of the first of such moves.
+    /// A screen of rows up, in the kept column, which is told at LineUp.
     PageBack,
-    /// A screen of rows down, in the column of the first of such moves.
+    /// A screen of rows down, in the kept column, which is told at LineUp.
     PageOn,
     /// Begins a selection at the place, or goes on with one, so that the next move keeps the mark.
     Select,
-    /// Takes back all edits since the latest run of typing began.
+    /// Takes back all edits since the latest run began.
     UndoRun,
-    /// Makes again what the latest UndoRun took back.
+    /// Makes again the edits that were taken back, up to where the next run begins.
     RedoRun,
     /// Asks for a line.
     GoTo,

@@ -6,6 +6,7 @@ ghost use Rattle.bx_keys.specs.Waiting.{fate};
 
 use bx_bytes::{Fate, character_fate};
 
+/// The byte with which each escape sequence begins.
 pub const ESC: u8 = 0x1B;
 
 /// The state after the waiting bytes and `byte`.

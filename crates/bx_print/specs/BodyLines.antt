@@ -1,4 +1,5 @@
--- The lines of one paragraph's rows, each after a line feed (10): so the paragraphs of a text are appended one by one.
+-- The lines of one paragraph's rows, each after a line feed (10): so the paragraphs of a text are appended one by one. `says` is
+-- Unicode's data, `w` the columns of a row.
 use Rattle.std.specs.Prelude.{ℕ, List, ◌∷◌, flat_map}
 use Rattle.bx_ucd.specs.Data.{Data}
 use Rattle.bx_terms.specs.declared.base.Base.{Base}

@@ -1,4 +1,4 @@
--- A printed text: its rows of `w` columns, each as a line of plain bytes.
+-- A printed text: its rows of `w` columns, each as a line of plain bytes. `says` is Unicode's data, `g` a glyph, `r` a row.
 use Rattle.std.specs.Prelude.{ℕ, ◌==◌, true, false, List, [], ◌∷◌, ◌++◌, if◌then◌else◌, flat_map}
 use Rattle.std.specs.List.{join_by}
 use Rattle.bx_ucd.specs.Data.{Data}

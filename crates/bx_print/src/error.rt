@@ -36,6 +36,7 @@ impl From<TextError> for PrintError {
 
     ghost from_gives = { λ e r. r ≡ OutOfMemory };
 
+    /// The calls converted so copy a part of an open text, which fails only when memory runs out; `print` tells `TooLong` itself.
     fn from(_error: TextError) -> Self {
         PrintError::OutOfMemory
     }

@@ -1,4 +1,4 @@
-//! The printed lines of a paragraph, which is laid out for it alone.
+//! The printed lines of a paragraph, which is laid out for this alone, and not kept.
 ghost use Rattle.std.specs.Prelude.{◌≡◌, ◌<◌, ◌++◌, OnErr, OnOk, length};
 ghost use Rattle.bx_paragraph.specs.Layout.{IsLayoutBy};
 ghost use Rattle.bx_view.specs.Source.{body_at, count};

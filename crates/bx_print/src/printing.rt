@@ -17,7 +17,7 @@ use bx_view::Source;
 use std::alloc::Global;
 use std::io::Write;
 
-/// Prints the paragraphs of a text. Lines wait in `pending`, which is empty at first, until there are many.
+/// Prints the paragraphs of a text. Lines wait in `pending`, which is empty at first, until `send_full` writes them.
 fn print_paragraphs<D: BidiData, W: Write>(
     pending: &mut Vec<u8>,
     source: &Source<'_, D>,

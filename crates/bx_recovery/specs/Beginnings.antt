@@ -1,4 +1,5 @@
--- The start of a session from the bytes of its files: Unicode's, the text and the journal.
+-- The start of a session from the bytes of its files: Unicode's, the text and the journal. `d` is Unicode's data, `b` what a
+-- session starts with, `s` the session.
 use Rattle.std.specs.Global.{Vec}
 use Rattle.std.specs.Prelude.{◌≡◌, ℕ, List, [], Option, Some, None, option_map, vec_items}
 use Rattle.bx_ucd.specs.Reading.{refusal, class_in_file, bracket_in_file, mirror_in_file, form_if_any, joining_if_any, texts_of}

@@ -1,5 +1,6 @@
 -- What an edited file holds, compared with the replay of a journal (`FileText`), and the text that is recovered. Where another
--- program changed FILE, the text is recovered as a new file.
+-- program changed FILE, the text is recovered as a new file. `d` is Unicode's data, `b` what a session starts with (but in
+-- `texts_at_saves` a byte), `s` the session before the journal.
 use Rattle.std.specs.Prelude.{◌≡◌, ◌≢◌, ◌↔◌, ℕ, Bool, true, false, IsTrue, List, [], ◌∷◌, Contains, length}
 use Rattle.bx_ucd.specs.Data.{Data}
 use Rattle.bx_keys.specs.Keys.{keys_from}
@@ -53,7 +54,8 @@ pub record RecoversFrom (d : Data) (s : Session) (journal file : List ℕ) (repl
   pub holds : HoldsBeside d s journal file replayed.held
   pub keys : s.editor.ended ≡ false → replayed.keys ≡ length (keys_from s.rest journal)
 
--- The text recovered from this start and its journal was stored, by tables that agree with these files; `replayed` as above.
+-- The text recovered from this start and its journal was stored, by tables that agree with these files. `replayed` tells what a file
+-- of the bytes `file` holds, and the number of keys in the journal.
 pub record Recovers (b : Beginning) (files : UnicodeFiles) (file : List ℕ) (replayed : Replayed) (store store' : StoreState) : Type 0 where
   pub tables : Data
   pub answers : AreOfFiles tables files

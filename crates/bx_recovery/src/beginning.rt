@@ -25,7 +25,7 @@ pub struct Beginning<'a> {
     pub line: Option<u64>,
     /// Whether the text counts as changed from the start.
     pub unsaved: bool,
-    /// The bytes of the journal to replay; empty if there is none.
+    /// The bytes of the journal to replay, whole keys or not; empty if there is none.
     pub keys: &'a [u8],
     pub ghost has_rows: { is_side rows ≡ true },
     pub ghost has_cols: { is_side cols ≡ true },

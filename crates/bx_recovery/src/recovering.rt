@@ -13,7 +13,8 @@ use bx_session::Session;
 use bx_store::Store;
 use bx_ucd::BidiData;
 
-/// Replays keys in an opened session, compares the bytes `file` with its texts, and stores the replayed text.
+/// Replays the bytes `keys` of a journal in an opened session, compares the bytes `file` with its texts, and stores the replayed
+/// text.
 fn store_replayed<D: BidiData + Drop, S: Store>(
     store: &mut S,
     session: &mut Session<D>,
@@ -31,8 +32,8 @@ fn store_replayed<D: BidiData + Drop, S: Store>(
     }
 }
 
-/// Reads Unicode's files, opens a text, replays keys and stores the replayed text. Returns what the bytes `file` are, compared
-/// with the session's texts, and the number of keys.
+/// Reads Unicode's files, opens a text, replays the journal's keys and stores the replayed text. Returns what the bytes `file` are,
+/// compared with the session's texts, and the number of keys.
 ///
 /// Errors, in this order: `Tables`; `Open`; `OutOfMemory`; `Unwritten` if the store fails. The store's content is unchanged.
 pub fn recover<S: Store>(

@@ -47,7 +47,7 @@ impl fmt::Display for Replayed {
     }
 }
 
-/// Replays keys without painting.
+/// Replays the bytes `keys` of a journal without painting.
 ///
 /// Errors: `OutOfMemory`; the keys before the refused one are applied.
 pub fn replay<D: BidiData + Drop>(
@@ -71,7 +71,7 @@ pub fn replay<D: BidiData + Drop>(
 struct Met {
     /// Whether the file is the text at the start or at a Save.
     is_known: bool,
-    /// The number of keys.
+    /// The number of whole keys in the bytes so far.
     keys: u64,
 }
 
@@ -113,7 +113,8 @@ fn held_by(is_same: bool, is_known: bool) -> FileText
     }
 }
 
-/// Replays keys over a text, and compares a file's bytes with the text at the start, at each Save and at the end.
+/// Replays the bytes `keys` of a journal over a text, and compares a file's bytes with the text at the start, at each Save and at
+/// the end.
 ///
 /// Errors: `OutOfMemory`, as in [`replay`].
 pub fn replay_beside<D: BidiData + Drop>(

@@ -1,5 +1,5 @@
 -- What a run does to its device, in order: each part of the input is in the journal's hands before it is obeyed, and a read comes
--- only after all output has gone out.
+-- only after all output has gone out. `d` is Unicode's data.
 use Rattle.std.specs.Prelude.{◌≡◌, ◌⊎◌, ℕ, List, [], ◌∷◌, ◌++◌, length, map, None, Result, Ok, Err}
 use Rattle.std.specs.List.{concat}
 use Rattle.bx_ucd.specs.Data.{Data}
@@ -64,6 +64,7 @@ appends (part ∷ parts) = Append part ∷ appends parts
 abbrev pub turn_actions : LoggedTurn → List Action
 turn_actions logged = Read (read_in logged.turn) ∷ (appends logged.parts ++ Write logged.turn.written ∷ Flush ∷ [])
 
+-- the actions of turns in sequence
 abbrev pub turns_actions : List LoggedTurn → List Action
 turns_actions [] = []
 turns_actions (logged ∷ more) = turn_actions logged ++ turns_actions more

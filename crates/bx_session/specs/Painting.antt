@@ -1,4 +1,5 @@
--- The effect of queued bytes on a terminal.
+-- The effect of queued bytes on a terminal. `d` is Unicode's data, `s` a session, `e` an editor, `t` a terminal, `b` a byte of
+-- input.
 use Rattle.std.specs.Prelude.{◌≡◌, ℕ, false, List, ◌++◌, Option, Some, None, IfSome}
 use Rattle.bx_grid.specs.Picture.{PictureState, AreWholeTokens, IsIdle, IsPicture, Shows}
 use Rattle.bx_grid.specs.Terminal.{Terminal, reads}
@@ -29,7 +30,8 @@ pub record Paints (d : Data) (before : List ℕ) (old : Option PictureState) (ne
   -- until the session's end the cursor is on the cell of its place
   pub cursor : new.editor.ended ≡ false → StandsOnItsCell d new.editor new.top (picture d new.editor new.top)
 
--- bytes that do so were appended, where `known` is the picture that the screen was taken to show, None for unknown content
+-- bytes that paint the session's picture were appended, where `known` is the picture that the screen was taken to show, None for
+-- unknown content
 abbrev pub QueuesPicture : Data → List ℕ → Option PictureState → Session → Type 0
 QueuesPicture d before known new = (bytes : List ℕ) × Paints d before known new bytes
 

@@ -5,6 +5,7 @@ use Rattle.bx_keys.specs.declared.key.Key.{Key}
 use Rattle.bx_keys.specs.declared.key.Key.TheVariants.{Quit}
 use Rattle.bx_keys.specs.Keys.{head_of, key_after, rest_after}
 
+-- there is a key, and it is Quit
 abbrev pub is_quit : Option Key → Bool
 is_quit (Some Quit) = true
 is_quit key = false

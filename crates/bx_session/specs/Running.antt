@@ -1,5 +1,6 @@
 -- Runs of a session over a reader, a writer and a store. Names without a prime are of before, those with one of after. Of a
--- reader the bytes are given that it has left, of a writer those that it has; None if they are not known.
+-- reader the bytes are given that it has left, of a writer those that it has; None if they are not known. `d` is Unicode's data,
+-- `mid` what is between two steps, `a` a byte with the answer to it.
 use Rattle.std.specs.Prelude.{◌≡◌, ◌≢◌, ◌≤◌, ◌<◌, length, ℕ, true, false, List, [], ◌∷◌, ◌++◌, map, Option, Result, Ok, Err, OnOk}
 use Rattle.std.specs.Io.KnownBytes.{Appends, Consumes, IsAtEnd}
 use Rattle.bx_ucd.specs.Data.{Data}
@@ -41,7 +42,7 @@ pub record Sent (old new : Session) (writer writer' : Option (List ℕ)) (writte
   pub order : old.pending ≡ written ++ new.pending
   pub session : new ≡ record old { pending = new.pending }
 
--- the length of a run's buffer: the most bytes that a read gives
+-- the length of a run's buffer, the most bytes that a read gives: a choice
 abbrev pub read_size : ℕ
 read_size = 256
 

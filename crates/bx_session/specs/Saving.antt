@@ -1,4 +1,5 @@
--- The store after a byte, and the meaning of each answer to a byte or a told size.
+-- The store after a byte, and the meaning of each answer to a byte or a told size. `d` is Unicode's data, `s` a session, `b` a
+-- byte of input.
 use Rattle.std.specs.Prelude.{◌≡◌, ℕ, Bool, true, false, List, Option, Some, None, option_map, Result, Ok, Err}
 use Rattle.bx_keys.specs.declared.key.Key.{Key}
 use Rattle.bx_grid.specs.Picture.{is_size}
@@ -50,7 +51,7 @@ abbrev pub is_edit_or_move_key : Option Key → Bool
 is_edit_or_move_key None = false
 is_edit_or_move_key (Some key) = is_edit_or_move key
 
--- the session after a byte, by the answer; `fault`: why a Save failed, None if it succeeded
+-- the session after a byte `b`, by the answer, which is never `Size`; `fault`: why a Save failed, None if it succeeded
 abbrev pub AfterByte : Data → Option StoreFault → Session → ℕ → Result Status Refused → Session → Type 0
 AfterByte d fault old b (Ok status) new = (new ≡ after_byte d fault old b) × (status ≡ status_of new)
 AfterByte d fault old b (Err refused.Edit) new = (new ≡ after_spending old b) × (is_edit_or_move_key (key_of_byte old b) ≡ true)
@@ -62,7 +63,7 @@ abbrev pub Feeds : Data → Session → StoreState → ℕ → Result Status Ref
 Feeds d old store b result new store' =
     (fault : Option StoreFault) × StoreAfter (is_save_byte old b) fault old.editor.content.text store store' × AfterByte d fault old b result new
 
--- the session after it was told the window's size, by the answer
+-- the session after it was told the window's size, by the answer, which is never `Edit`
 abbrev pub ToldBy : {A : Type 0} → Data → Session → ℕ → ℕ → Result A Refused → Session → Type 0
 ToldBy d old height width (Ok _) new = (is_size height width ≡ true) × (new ≡ after_told d old height width)
 ToldBy d old height width (Err refused.Size) new = (is_size height width ≡ false) × (new ≡ old)

@@ -1,4 +1,5 @@
--- The session's state, and its changes: an editor, the input that waits for more, and the bytes queued for the terminal.
+-- The session's state, and its changes: an editor, the input that waits for more, and the bytes queued for the terminal. `d` is
+-- Unicode's data, `s` the session before, `b` a byte of input.
 use Rattle.std.specs.Prelude.{ℕ, Bool, true, false, not, ◌&&◌, ◌||◌, is_some, List, [], ◌∷◌, ◌++◌, drop, Option, Some, None, if◌then◌else◌}
 use Rattle.bx_terms.specs.declared.base.Base.{Base}
 use Rattle.bx_keys.specs.declared.key.Key.{Key}
@@ -110,7 +111,7 @@ session_after_key d fault s key =
     let e = after_key d fault s.editor key in
     record s { editor = e; known = known_after s.known key e }
 
--- the same for a byte's key, if it completes one
+-- a byte's key, if it completes one, is applied, and not yet painted
 abbrev pub session_after_any : Data → Option StoreFault → Session → Option Key → Session
 session_after_any d fault s None = s
 session_after_any d fault s (Some key) = session_after_key d fault s key
@@ -154,6 +155,7 @@ session_after_replayed d ask seek s Save = record s { editor = after_passed_save
 session_after_replayed d asks.Off Off s Quit = record s { editor = after_passed_quit s.editor }
 session_after_replayed d ask seek s key = session_after_key d None s key
 
+-- the session after the key of a journal's byte, if it completes one
 abbrev pub after_replayed_key : Data → Session → Option Key → Session
 after_replayed_key d s None = s
 after_replayed_key d s (Some key) = session_after_replayed d s.editor.ask s.editor.seek s key
@@ -196,7 +198,7 @@ unpainted_after_told s height width = record s { editor = with_size s.editor hei
 abbrev pub after_told : Data → Session → ℕ → ℕ → Session
 after_told d s height width = with_painting d (unpainted_after_told s height width)
 
--- the same where the painting was refused
+-- the session after a told size whose painting was refused
 abbrev pub owing_after_told : Session → ℕ → ℕ → Session
 owing_after_told s height width = with_painting_owed (unpainted_after_told s height width)
 

@@ -29,7 +29,7 @@ LeavesOthers ReadFailed old new = (new.recorder.now ≡ old.recorder.now) × (ne
 LeavesOthers (Append bytes) old new = (new.reader.now ≡ old.reader.now) × (new.writer.now ≡ old.writer.now)
 LeavesOthers _ old new = (new.reader.now ≡ old.reader.now) × (new.recorder.now ≡ old.recorder.now)
 
--- what one action does to them; a read of no bytes comes only at the end of the input
+-- what one action does to reader, recorder and writer; a read of no bytes comes only at the end of the input
 pub record DidWired {R J W : Type 0} (remaining : R → Option (List ℕ)) (contents : J → Option (List ℕ)) (failures : J → ℕ)
     (out : W → Option (List ℕ)) (old : Wired R J W) (action : Action) (new : Wired R J W) : Type 0 where
   pub moves : HasMoved remaining contents failures out old new (read_by action) (kept_by action) (written_by action)

@@ -16,7 +16,8 @@ pub trait Device {
     /// Whether an action leads from one state of the device to another.
     ghost did: { Self → Action → Self → Type 0 };
 
-    /// Reads at most 256 bytes to the front of the buffer, and returns their number, which is 0 at the end of the input.
+    /// Reads at most 256 bytes (`read_size` of specs/Running.antt) to the front of the buffer, and returns their number, which is 0
+    /// at the end of the input.
     fn read(&mut self, buffer: &mut [u8; 256]) -> Result<usize, DeviceFault>
         ensures bound { IfOk result (λ count. count ≤ length buffer.new) }
         ensures most { IfOk result (λ count. count ≤ 256) }

@@ -138,7 +138,7 @@ impl<D: BidiData + Drop> Session<D> {
     /// Handles a byte of input. A byte that completes no key allocates nothing if no painting is owed.
     ///
     /// Errors: `Edit` if memory runs out for the key: its bytes are consumed, and nothing else has changed. `Paint` if it runs
-    /// out while painting: the key is applied, and the queue is unchanged.
+    /// out while painting: the key is applied, the queue is unchanged, and the painting is owed.
     pub fn feed<S: Store>(&mut self, byte: u8, store: &mut S) -> Result<Status, Refused>
         ensures after_byte { Feeds (D.data self.old.tables) self.old.session (store_state S.contents S.faults store.old) byte result
             self.new.session (store_state S.contents S.faults store.new) }
@@ -161,8 +161,8 @@ impl<D: BidiData + Drop> Session<D> {
 
     /// Sets the window's size, in rows and columns, and paints the screen whole.
     ///
-    /// Errors: `Size` if a side is not from 1 to 500: nothing has changed. `Paint` if memory runs out: the size is set, and
-    /// the queue is unchanged.
+    /// Errors: `Size` if a side is not from 1 to 500: nothing has changed. `Paint` if memory runs out: the size is set, the queue
+    /// is unchanged, and the painting is owed.
     pub fn told(&mut self, height: u16, width: u16) -> Result<(), Refused>
         ensures told { ToldBy (D.data self.old.tables) self.old.session height width result self.new.session }
         ensures tables { self.new.tables ≡ self.old.tables }

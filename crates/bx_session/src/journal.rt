@@ -94,7 +94,7 @@ impl<W: Write + Drop> Journal for WrittenJournal<W> {
     }
 }
 
-/// Writes all bytes and flushes.
+/// Writes all bytes and flushes: `WrittenJournal`'s call, but for its count of failures.
 ///
 /// Errors: `JournalFault` if the writer fails or takes no byte, or if the flush fails: then all bytes count as appended.
 fn write_out<W: Write>(writer: &mut W, bytes: &[u8]) -> Result<(), JournalFault>

@@ -1,4 +1,5 @@
--- A second painting: where none is owed, it changes nothing, so a byte that completes no key needs none.
+-- A second painting: where none is owed, it changes nothing, so a byte that completes no key needs none. `d` is Unicode's data,
+-- `s` a session, `b` a byte; `fault` is why a Save failed, None if it succeeded.
 use Rattle.std.specs.Prelude.{◌≡◌, ℕ, false, List, Option}
 use Rattle.bx_terms.specs.declared.base.Base.{Base}
 use Rattle.bx_store.specs.declared.store.StoreFault.{StoreFault}
@@ -11,8 +12,8 @@ use Rattle.bx_editor.specs.Editor.{HasRows}
 abbrev pub StaysPainted : Data → Session → Type 0
 StaysPainted d s = s.painting_owed ≡ false → with_painting d s ≡ s
 
--- This holds at opening, and each of these calls preserves it, whether it succeeds or is refused (a refused painting is then
--- owed).
+-- `StaysPainted` holds at opening, and each of these calls preserves it, whether it succeeds or is refused (a refused painting is
+-- then owed).
 pub record AlwaysStaysPainted : Type 0 where
   pub opening : (d : Data) (text : List ℕ) (height width : ℕ) (base : Base) → HasRows (at_opening d text height width base).editor
       → StaysPainted d (at_opening d text height width base)

@@ -1,5 +1,5 @@
 -- Recovery: what the replay of a session's bytes gives back. `had` and `old` are of the session that was run, `replayed` is the
--- one that replays its bytes.
+-- one that replays its bytes. `d` is Unicode's data, `e` an editor, `s` a session, `b` what a session starts with.
 use Rattle.std.specs.Prelude.{◌≡◌, ◌≢◌, ◌⊎◌, ℕ, true, false, List, [], All, Err, Option, Some, None, IfSome}
 use Rattle.bx_terms.specs.declared.base.Base.{Base}
 use Rattle.bx_keys.specs.Keys.{decoding}

@@ -1,4 +1,5 @@
--- The events of a schedule: input bytes with the keys that they complete, and told sizes.
+-- The events of a schedule: input bytes with the keys that they complete, and told sizes. `d` is Unicode's data, `e` the editor
+-- before, `s` a step with its answer.
 use Rattle.std.specs.Prelude.{◌≡◌, ◌≢◌, ℕ, suc, Bool, true, false, ◌&&◌, is_some, List, [], ◌∷◌, ◌++◌, Option, Some, None}
 use Rattle.std.specs.Prelude.{option_to_list, Result, Err, if◌then◌else◌}
 use Rattle.bx_keys.specs.declared.key.Key.{Key}

@@ -1,4 +1,5 @@
 -- The headline of the proofs: what a schedule makes of a file, from the keys typed to the text, the store, and the picture seen.
+-- `d` is Unicode's data.
 use Rattle.std.specs.Prelude.{◌≡◌, ℕ, ◌+◌, ◌<◌, true, false, List, [], Result, IfSome, IsSome}
 use Rattle.bx_terms.specs.declared.base.Base.{Base}
 use Rattle.bx_keys.specs.Keys.{keys_from}
@@ -30,7 +31,7 @@ pub record Follows {A : Type 0} (d : Data) (old : World) (store : StoreState) (s
   pub failures : store'.faults.count < greatest → store'.faults.count ≡ store.faults.count + failed_saves events
 
 -- The headline, for a session's first editor state and the bytes of a journal, if any. The events are the bytes up to the
--- session's end and the told sizes, each with its answer. The journal's keys and then theirs are the keys that the input
+-- session's end and the told sizes, each with its answer. The journal's keys and then the events' are the keys that the input
 -- grammar gives for all bytes as a whole. The state is the result of the accepted keys and told sizes, in order, from the
 -- first state. Each successful save stored the text at that moment. If the session was told the window's last size, the
 -- last call was accepted and all bytes are read, the terminal shows exactly the picture of that state. Until the session's
@@ -49,7 +50,7 @@ pub record Headline {A : Type 0} (d : Data) (start : Editor) (journal : List ℕ
   pub live : HasMemory schedule → IsSome new.screen
   -- if the last call was accepted, no painting is owed
   pub owes : is_last_accepted true schedule ≡ true → new.session.painting_owed ≡ false
-  -- this holds with bytes unread or pending, and whatever sizes were told
+  -- the cursor stands so with bytes unread or pending too, and whatever sizes were told
   pub cursor : new.session.painting_owed ≡ false → new.session.editor.ended ≡ false
       → StandsOnItsCell d (after_events d start events) new.session.top (picture d (after_events d start events) new.session.top)
 

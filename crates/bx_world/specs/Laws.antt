@@ -1,5 +1,6 @@
 -- Laws of runs in a world. A run is a schedule of its session's world, so the contracts of schedules apply to the program. Names
--- without a prime are of before a run, those with one of after it.
+-- without a prime are of before a run, those with one of after it. `d` is Unicode's data, `s` a session, `b` what it starts with,
+-- `t` a terminal.
 use Rattle.std.specs.Prelude.{◌≡◌, ℕ, true, List, [], ◌∷◌, ◌++◌, length, Option, Ok}
 use Rattle.bx_keys.specs.Keys.{decoding}
 use Rattle.bx_grid.specs.Picture.{IsIdle, Shows}

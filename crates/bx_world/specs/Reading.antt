@@ -1,4 +1,5 @@
--- The bytes that the terminal reads in a schedule, and when a picture that is queued is seen, also in the middle of a schedule.
+-- The bytes that the terminal reads in a schedule, and when a picture that is queued is seen, also in the middle of a schedule. `w`
+-- is the world before a step.
 use Rattle.std.specs.Prelude.{◌≡◌, ℕ, Bool, true, false, ◌||◌, List, [], ◌∷◌, ◌++◌, length, take, Result, IfSome}
 use Rattle.bx_grid.specs.Picture.{Shows}
 use Rattle.bx_ucd.specs.Data.{Data}
@@ -33,7 +34,7 @@ is_change (Told height width) answer = false
 is_change (Send count) answer = false
 is_change (Read count) answer = false
 
--- whether a step of a schedule did
+-- whether a step of a schedule resized the window
 abbrev pub is_window_changed : {A : Type 0} → List (Step × Result A StepFault) → Bool
 is_window_changed [] = false
 is_window_changed (s ∷ more) = is_change s.0 s.1 || is_window_changed more

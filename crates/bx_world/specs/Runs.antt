@@ -30,6 +30,7 @@ Schedule = List (Step × Result (Unit {0}) StepFault)
 abbrev pub steps_of_turn : Turn → Schedule
 steps_of_turn turn = map (λ a. (Byte a.0, answer_of a.1)) turn.fed ++ (Send (length turn.written), Ok tt) ∷ []
 
+-- the steps of turns in sequence
 abbrev pub steps_of_turns : List Turn → Schedule
 steps_of_turns [] = []
 steps_of_turns (turn ∷ more) = steps_of_turn turn ++ steps_of_turns more
@@ -76,9 +77,9 @@ begins_at s t = record {
   told = (t.height == s.editor.height) && (t.width == s.editor.width);
 }
 
--- A schedule from that world ends with this session, and the headline holds: if the session was told the window's last
--- size, the last call was accepted and all bytes are read, the terminal shows the picture of the start state as changed by
--- the keys.
+-- A schedule that begins with the session `begun` at the terminal `t` ends with the session `s`, and the headline holds: if the
+-- session was told the window's last size, the last call was accepted and all bytes are read, the terminal shows the picture of the
+-- start state as changed by the keys.
 pub record RunsInWindow (d : Data) (b : Beginning) (begun s : Session) (store store' : StoreState) (t : Terminal) (schedule : Schedule)
     : Type 0 where
   pub new : World

@@ -1,4 +1,5 @@
--- The picture that a world's terminal shows, and will show once it has read all bytes in transit.
+-- The picture that a world's terminal shows, and will show once it has read all bytes in transit. `d` is Unicode's data, `w` a
+-- world, `s` its session, `e` an editor, `t` a terminal.
 use Rattle.std.specs.Prelude.{◌≡◌, ℕ, Bool, true, false, List, [], ◌∷◌, ◌==◌, IfSome, Option, Some, None}
 use Rattle.bx_grid.specs.Picture.{PictureState, IsIdle, Shows}
 use Rattle.bx_grid.specs.Terminal.{Terminal, reads}
@@ -50,10 +51,11 @@ begins_sequence (b ∷ rest) = b == 0x1B
 abbrev pub NoRunInSequence : Terminal → Type 0
 NoRunInSequence t = begins_sequence t.half_read ≡ true → t.run ≡ []
 
--- the terminal, or the editor, has these rows and columns
+-- the terminal has these rows and columns
 abbrev pub HasSize : ℕ → ℕ → Terminal → Type 0
 HasSize height width t = (t.height ≡ height) × (t.width ≡ width)
 
+-- the editor has these rows and columns
 abbrev pub FitsWindow : ℕ → ℕ → Editor → Type 0
 FitsWindow height width e = (e.height ≡ height) × (e.width ≡ width)
 

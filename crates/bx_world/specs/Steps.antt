@@ -1,4 +1,5 @@
--- The world after a step, by its answer, and after a list of steps.
+-- The world after a step, by its answer, and after a list of steps. `d` is Unicode's data, `b` a byte of input; an answer that a
+-- step never gives has ⊥.
 use Rattle.std.specs.Prelude.{◌≡◌, ◌≢◌, ℕ, Bool, true, false, List, [], ◌∷◌, take, drop, Option, Result, Ok, Err, IsSome}
 use Rattle.std.specs.List.{AllByRecursion}
 use Rattle.bx_grid.specs.Picture.{is_size}
@@ -82,6 +83,7 @@ PlaysTo d old store [] new store' = (new ≡ old) × (store' ≡ store)
 PlaysTo d old store (s ∷ more) new store' =
     (mid : World) × (mid_store : StoreState) × StepsTo d old store s.0 s.1 mid mid_store × PlaysTo d mid mid_store more new store'
 
+-- the step was accepted
 abbrev pub is_ok : {A : Type 0} → Result A StepFault → Bool
 is_ok (Ok _) = true
 is_ok (Err fault) = false
@@ -94,7 +96,7 @@ accepted_after before (Window height width) answer = before
 accepted_after before (Send count) answer = before
 accepted_after before (Read count) answer = before
 
--- whether the last byte or told size of a schedule was accepted
+-- whether the last byte or told size of a schedule was accepted; `before` if it has none
 abbrev pub is_last_accepted : {A : Type 0} → Bool → List (Step × Result A StepFault) → Bool
 is_last_accepted before [] = before
 is_last_accepted before (s ∷ more) = is_last_accepted (accepted_after before s.0 s.1) more

@@ -1,4 +1,5 @@
--- The world, which is a session, the bytes in transit, the window and the terminal, and its changes.
+-- The world, which is a session, the line (the bytes in transit to the terminal), the window and the terminal, and its changes. `w`
+-- is the world before, `s` a session, `b` a byte of input.
 use Rattle.std.specs.Prelude.{ℕ, ◌*◌, Bool, true, false, ◌&&◌, ◌==◌, List, [], ◌++◌, take, drop, replicate, Option, Some, None, option_map}
 use Rattle.bx_keys.specs.declared.key.Key.{Key}
 use Rattle.bx_keys.specs.declared.key.Key.TheVariants.{Size}
@@ -61,7 +62,7 @@ abbrev pub told_after : ℕ → ℕ → Bool → Option Key → Bool
 told_after height width told (Some (Size rows columns)) = (height == rows) && (width == columns)
 told_after height width told _ = told
 
--- the same in this world
+-- the flag `told` after a key in this world
 abbrev pub told_after_key : World → Option Key → Bool
 told_after_key w key = told_after w.height w.width w.told key
 

@@ -20,7 +20,7 @@ pub fn runs_keep_headline()
     ensures { HeadlineOfRuns }
 {}
 
-/// The headline for such a run in a window whose size changes meanwhile.
+/// The headline for a run, as `runs_keep_headline` has it, in a window whose size changes meanwhile.
 pub fn windows_keep_headline()
     ensures { HeadlineInChangingWindows }
 {}

@@ -13,7 +13,7 @@ pub enum Step {
     Window(u16, u16),
     /// The session is told a size, in rows and columns.
     Told(u16, u16),
-    /// At most this number of pending bytes go to the line.
+    /// At most this number of the session's pending bytes go to the line, the bytes in transit to the terminal.
     Send(usize),
     /// The terminal reads at most this number of bytes from the line.
     Read(usize),

@@ -52,7 +52,7 @@ fn mark_after<A>(told: &mut bool, after: bool, answer: &Result<A, Refused>)
     }
 }
 
-/// Converts a session's answer to a step's.
+/// The answer of a step, from the session's answer to its call.
 fn answer_of<A: Drop>(answer: Result<A, Refused>) -> Result<(), StepFault>
     ensures { result ≡ answers.answer_of answer }
 {
@@ -181,7 +181,7 @@ impl<D: BidiData + Drop> World<D> {
     {
         read_some(&mut self.screen, &mut self.line, count)
     }
-    /// Takes a step.
+    /// Makes the call of a step, and returns its answer.
     fn answer<S: Store>(&mut self, step: Step, store: &mut S) -> Result<(), StepFault>
         ensures steps { StepsTo (D.data self.old.tables) self.old.world (store_state S.contents S.faults store.old) step result
             self.new.world (store_state S.contents S.faults store.new) }

@@ -17,8 +17,8 @@ use bx_ucd::BidiData;
 use std::alloc::Global;
 use std::marker::Model;
 
-/// A session, the bytes in transit to the terminal, the window's size, and the terminal. After any steps, a terminal that
-/// has read all bytes in transit shows the picture last painted, if the session was told the window's last size.
+/// A session, the line (the bytes in transit to the terminal), the window's size, and the terminal. After any steps, a terminal
+/// that has read the line and what is pending shows the picture last painted, if the session was told the window's last size.
 #[derive(Drop)]
 pub struct World<D: BidiData + Drop> {
     // the session, whose pending bytes go to the line
@@ -63,7 +63,7 @@ impl<D: BidiData + Drop> Model for World<D> {
 }
 
 impl<D: BidiData + Drop> World<D> {
-    /// Opens a file's bytes in a window of `height` rows and `width` columns, with an empty line and a terminal of unknown
+    /// Opens a file's bytes in a window of `height` rows and `width` columns, with no bytes in transit and a terminal of unknown
     /// content. An error drops the bytes and the tables.
     ///
     /// Errors, in this order: `TooLong` above 16,777,216 bytes; `NotUtf8` with the length of the longest UTF-8 prefix;
@@ -107,7 +107,7 @@ impl<D: BidiData + Drop> World<D> {
         &self.session
     }
 
-    /// The bytes sent and not yet read.
+    /// The bytes sent to the terminal and not yet read by it.
     pub fn line(&self) -> &[u8]
         ensures { result.now ≡ self.now.world.line }
     {

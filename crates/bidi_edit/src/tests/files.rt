@@ -82,6 +82,7 @@ fn outcome_of_check<'a>(
 
 #[test]
 fn the_first_file_that_cannot_be_read(rt: HostRuntime) {
+    // Unicode's files, FILE, and the path that is told
     for (unicode, file, path) in [
         (three("not here", "/", "/"), "/", "not here"),
         (three(EMPTY, "not here", "/"), "/", "not here"),

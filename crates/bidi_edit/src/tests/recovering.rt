@@ -11,7 +11,7 @@ use std::alloc::Global;
 use std::io::{self, ErrorKind, Read, Write};
 use std::test::Fail;
 
-/// The start of a session of that text with the bytes of a journal. In these `\x13` is Save, and `\x11` Quit.
+/// The start of a session of the text `ab` with the bytes of a journal. In these `\x13` is Save, and `\x11` Quit.
 fn beginning<'a>(alloc: Global, keys: &'a [u8]) -> Result<Beginning<'a>, Fail> {
     Ok(Beginning {
         alloc,
@@ -54,6 +54,7 @@ fn a_journal_beside_its_file(rt: HostRuntime) -> Result<(), Fail> {
 
 #[test]
 fn a_text_that_cannot_be_stored(rt: HostRuntime) -> Result<(), Fail> {
+    // its first call fails
     let mut store = MemoryStore::new(rt.alloc(), Some(1));
     let replayed = recover_beside(rt.alloc(), &mut store, b"x", b"ab")?;
     assert_eq!(rt; replayed, Err(RecoveryFault::Unwritten));

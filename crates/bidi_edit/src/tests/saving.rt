@@ -46,6 +46,7 @@ fn a_new_text_is_kept(rt: HostRuntime) {
 
 #[test]
 fn a_save_that_fails_leaves_the_text_changed(rt: HostRuntime) -> Result<(), Fail> {
+    // its first call fails
     let mut store = MemoryStore::new(rt.alloc(), Some(1));
     let file = Vec::from_slice(rt.alloc(), b"ab")?;
     let outcome = save(rt.alloc(), &mut store, Some(file));

@@ -53,6 +53,7 @@ struct Given {
 }
 
 impl Given {
+    /// Parses the fields before the `=` of a line.
     fn of_fields(alloc: Global, text: &str) -> Result<Given, Fail> {
         let mut fields = text.split('|');
         let rows = side_of(fields.next().ok_or("no rows")?)?;
@@ -124,7 +125,7 @@ fn is_saved(alloc: Global, contents: &[u8], field: &str, given: &str) -> Result<
     Ok(file != "none" && are_bytes(alloc, contents, file)?)
 }
 
-/// The name of the first result that differs from the recorded session's; None if none does.
+/// The name of the first result that differs from the recorded session's, of which `session` is the line; None if none does.
 fn fault_of(
     alloc: Global,
     written: &mut Vec<u8>,
