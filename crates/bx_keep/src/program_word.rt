@@ -75,7 +75,7 @@ pub fn read_program_word(word: &[u8]) -> Option<ProgramWord<'_>> {
     match str::from_utf8(word).ok()? {
         "o -" => Some(ProgramWord::Opened(None)),
         "o changed" => Some(ProgramWord::Changed),
-        // the program may say it without a line
+        // the program does not always know the line: the first one is told then
         "f not-utf8" => Some(ProgramWord::Fault(Fault::NotUtf8(1))),
         "j lost" => Some(ProgramWord::JournalLost),
         "j kept" => Some(ProgramWord::JournalKept),

@@ -17,7 +17,7 @@ pub struct SessionsFolder {
     pub path: Option<String>,
     /// The judged folder; None if it is not there, or is not to be trusted.
     pub sessions: Option<Sessions>,
-    /// Why no session can be kept.
+    /// Why no session can be kept; None if one can, or if the folder is not made yet.
     pub unkept: Option<Unkept>,
 }
 

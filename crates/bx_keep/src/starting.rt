@@ -18,7 +18,7 @@ pub const LOST: &str = " (what is typed is not kept now: save it)";
 /// The text in place of a FILE that cannot be read.
 const EMPTY: &str = "/dev/null";
 
-/// The text of the title.
+/// The text of the terminal's title: FILE's last name, the main keys (`^S` is Ctrl-S), and a note.
 pub fn title_of(alloc: Global, file: &str, note: &str) -> Result<String, AllocError> {
     let name = match file.rsplit_once('/') {
         Some((_, name)) => name,
@@ -82,7 +82,7 @@ fn add_part(
     Ok(add_option(alloc, words, option, path.as_str())?)
 }
 
-/// Adds the words that name the session's files.
+/// Adds the words that name the session's files, and that its text counts as unsaved.
 fn add_session(
     around: Around<'_>,
     words: &mut Vec<String>,

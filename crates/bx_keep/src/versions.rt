@@ -41,7 +41,7 @@ fn look(rt: &HostRuntime, tables: &Tables) -> io::Result<Versions> {
     Versions::look(rt, VERSION, files.as_slice())
 }
 
-/// A version that kept no session, for what replays none.
+/// The version without any file, for calls that replay no session: it equals none that a session notes.
 pub fn no_versions(rt: &HostRuntime) -> Result<Versions, Stop> {
     match Versions::look(rt, VERSION, &[]) {
         Ok(versions) => Ok(versions),

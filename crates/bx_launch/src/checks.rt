@@ -8,7 +8,7 @@ use std::alloc::{AllocError, Global};
 use std::fs;
 use std::rt::Files;
 
-/// How many bytes longer than a file's name the name of its draft is: FILE.bx.
+/// How many bytes longer than a file's name the name of its first draft, FILE.bx, is.
 const DRAFT: u64 = 3;
 
 /// The longest name that most file systems take, where the system does not tell.

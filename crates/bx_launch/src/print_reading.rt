@@ -142,7 +142,7 @@ impl<'a> Before<'a> {
     }
 }
 
-/// What all the words say, after these options.
+/// What all the words say; `options` were read before `--print`.
 fn before_of<'a>(words: &'a [Vec<u8>], options: Options) -> Result<Before<'a>, WordFault<'a>> {
     let mut before = Before {
         file: None,

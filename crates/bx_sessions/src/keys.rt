@@ -24,21 +24,21 @@ pub enum After {
     Notice,
 }
 
-/// Whether a control sequence goes on with a byte.
+/// Whether a control sequence goes on with a byte: a digit or a semicolon, the parameters that the journal's keys have.
 fn is_parameter(byte: u8) -> bool
     ensures { result ≡ is_parameter byte }
 {
     (b'0' <= byte && byte <= b'9') || byte == b';'
 }
 
-/// Whether a control sequence ends with a byte.
+/// Whether a control sequence ends with a byte: a letter or the tilde, as those of the journal's keys do.
 fn is_final(byte: u8) -> bool
     ensures { result ≡ is_final byte }
 {
     (b'A' <= byte && byte <= b'Z') || (b'a' <= byte && byte <= b'z') || byte == b'~'
 }
 
-/// What a byte is that begins a key.
+/// What the last bytes are after a byte that begins a key.
 fn behind_first(byte: u8) -> After
     ensures { result ≡ behind_first byte }
 {
@@ -65,7 +65,7 @@ fn next(after: After, byte: u8) -> After
     }
 }
 
-/// The number of keys with a byte that begins a character, or goes on with one.
+/// The number of keys with one more byte of a character: one that goes on with a character (80 to BF in UTF-8) adds none.
 fn with_first(count: usize, byte: u8) -> usize
     requires { count + 1 < 2 ^ 64 }
     ensures value { result ≡ with_first count byte }
@@ -78,7 +78,7 @@ fn with_first(count: usize, byte: u8) -> usize
     }
 }
 
-/// The number of keys without a size that was counted as one, and without the Save before it.
+/// The number of keys without a size that was counted as one, and, if `saved`, without the Save right before it.
 fn without_size(saved: bool, count: usize) -> usize
     ensures value { result ≡ without_size saved count }
     ensures most { result ≤ count }

@@ -48,7 +48,7 @@ pub enum Part {
 }
 
 impl Part {
-    /// Its name.
+    /// The file's name in the folder.
     pub fn name(self) -> &'static str {
         match self {
             Part::Text => "text",

@@ -12,7 +12,7 @@ use std::time::SystemTime;
 /// The permissions of a session's files: for the user alone.
 const FOR_USER_ALONE: u32 = 0o600;
 
-/// The most bytes of a file that is neither a text nor a journal.
+/// The most bytes of a file that is neither a text nor a journal: more than the longest of them, a path, can have.
 const LARGEST_NOTE: u64 = 65_536;
 
 /// A session's folder.
@@ -163,7 +163,7 @@ impl Session {
         self.write_at(rt, path.as_str(), bytes)
     }
 
-    /// Makes a new file at a path in the folder.
+    /// Makes a new file at a path in the folder and syncs it. Errors: as `write_new`.
     fn write_at(&self, rt: &HostRuntime, path: &str, bytes: &[u8]) -> io::Result<()> {
         if !self.is_there(rt) {
             return Err(ErrorKind::NotFound.into());

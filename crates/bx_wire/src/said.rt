@@ -43,7 +43,7 @@ pub enum Said {
     Retry,
     /// A notice for the editor's last row, by its number.
     Notice,
-    /// The permissions that no new file of the program gets, in octal.
+    /// The permissions that no new file of the program gets, its umask, in octal.
     Mask,
 }
 
