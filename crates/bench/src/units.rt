@@ -14,10 +14,10 @@ use unicode_segmentation::UnicodeSegmentation;
 /// The window's width in columns.
 const WIDTH: u16 = 80;
 
-/// Number of characters by which a line exceeds its minimum length; one line in eight is wider than the window.
+/// Number of characters by which a line exceeds its minimum length; of `ascii` one line in eight is wider than the window.
 const TURNS: [usize; 8] = [0, 4, 1, 5, 3, 20, 2, 6];
 
-/// The words that a text repeats, and the minimum length of its lines in characters.
+/// The words that a text repeats, and one less than the minimum length of its lines, in characters.
 fn words_of(name: &str) -> Option<(&'static str, usize)> {
     Some(match name {
         "ascii" => (
@@ -54,7 +54,7 @@ fn words_of(name: &str) -> Option<(&'static str, usize)> {
     })
 }
 
-/// A text of at least `bytes` bytes, in lines.
+/// A text of at least `bytes` bytes, in lines of more than `least` characters.
 fn text(alloc: Global, words: &str, least: usize, bytes: usize) -> Result<String, AllocError> {
     let mut text = String::new(alloc);
     let mut line: usize = 0;

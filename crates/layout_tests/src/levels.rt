@@ -23,7 +23,7 @@ fn add_level(text: &mut String, alloc: Global, level: Option<u8>) -> Result<(), 
     Ok(())
 }
 
-/// Levels in a line's notation.
+/// Levels in a line's notation; a hyphen for no characters.
 fn shown(alloc: Global, each: &[Level]) -> Result<String, Fail> {
     let mut text = String::new(alloc);
     for level in each {

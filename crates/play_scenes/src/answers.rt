@@ -144,7 +144,7 @@ impl Answers {
         add_text(&mut self.text, store.contents(), file)
     }
 
-    /// Whether `play` gave the same answers and the same final state.
+    /// Whether `play` gave the same answers and the same final state. `play` finds no text once the session has ended.
     pub fn agrees_with(&self, play: &Answers) -> bool {
         self.plain.as_str() == play.plain.as_str()
             && self.ending.as_str() == play.ending.as_str()

@@ -23,7 +23,7 @@ const TOPS: &str = "0 12 3 6
 6 0 9 0
 0 13 9 0";
 
-/// Whether the top follows a place as a line says.
+/// Whether the top follows a place as a line says, where `t` rows are shown.
 fn follows(whole: &Whole, line: &str) -> Result<bool, Fail> {
     let mut numbers = line.split(' ');
     let top = numbers.next().ok_or("no top")?.parse()?;

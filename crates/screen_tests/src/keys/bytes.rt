@@ -29,6 +29,7 @@ enum Beginning {
     ThreeOfFourBytes,
 }
 
+/// All beginnings.
 const BEGINNINGS: [Beginning; 9] = [
     Beginning::Escape,
     Beginning::Csi,
@@ -93,7 +94,7 @@ fn effect_after_escape(byte: u8) -> Effect {
     }
 }
 
-/// The effect of a byte after CSI.
+/// The effect of a byte after CSI: parameter and intermediate bytes wait, a final byte ends the sequence (ECMA-48, 5.4).
 fn effect_after_csi(byte: u8) -> Effect {
     match byte {
         0x20..=0x3F => Effect::Waits,
