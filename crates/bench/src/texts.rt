@@ -79,7 +79,8 @@ fn before_a_number(alloc: Global, count: usize) -> Result<String, AllocError> {
     Ok(body)
 }
 
-/// A text of `count` characters that repeats 60 opening brackets, a thousand blanks, a Hebrew letter and 60 closing brackets.
+/// A text of `count` characters that repeats 60 opening brackets, a thousand blanks, a Hebrew letter and 60 closing brackets;
+/// `k` is the number of characters of this repetition so far.
 fn deep_brackets(alloc: Global, count: usize) -> Result<String, AllocError> {
     let mut body = String::new(alloc);
     let mut k: usize = 0;
@@ -125,8 +126,8 @@ fn blanks_inside(alloc: Global, count: usize) -> Result<String, AllocError> {
     Ok(body)
 }
 
-/// A text of `count` characters that repeats 62 nested isolates: 62 FSI, and 62 PDI. Each FSI takes two levels at most, so all
-/// have one (UAX #9, BD2: 125 is the largest).
+/// A text of `count` characters that repeats 62 nested isolates: 62 FSI, and 62 PDI; `k` is the number of characters of this
+/// repetition so far. Each FSI takes two levels at most, so all have one (UAX #9, BD2: 125 is the largest).
 fn deep_isolates(alloc: Global, count: usize) -> Result<String, AllocError> {
     let mut body = String::new(alloc);
     let mut k: usize = 0;

@@ -7,7 +7,7 @@ use std::io::{self, ErrorKind, Write};
 use std::os::unix::fs::OpenOptionsExt;
 use std::time::Instant;
 
-/// The byte of the key Save.
+/// The byte of the key Save, Ctrl-S.
 const SAVE: u8 = 0x13;
 
 /// Number of seconds after the last sync at which a flush syncs again.

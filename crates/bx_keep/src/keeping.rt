@@ -42,7 +42,7 @@ struct AsRead<'a> {
     rt: &'a HostRuntime,
     /// FILE's path.
     path: &'a str,
-    /// FILE, opened before the program started: a save that replaces FILE leaves its bytes in it.
+    /// FILE, opened before the program started: where a save replaces FILE, the old bytes are still there.
     handle: Option<&'a File>,
     /// FILE's look, as the program said.
     look: Look,

@@ -1,4 +1,5 @@
-//! What the program says: the words that the host hands on from the program's standard error.
+//! What the program says: the words that the host hands on from the program's standard error, as `bidi_edit/src/telling.rt`
+//! writes them.
 
 use bx_sessions::Look;
 use std::str;

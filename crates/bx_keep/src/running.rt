@@ -29,11 +29,11 @@ pub struct Running<'a> {
     pub begun: Begun,
     /// The text as it was opened.
     pub text: Text,
-    /// FILE, opened before the program started; None once the session has its text.
+    /// FILE, opened before the program started; None if that failed or was not needed, and once the program said what it read.
     handle: Option<File>,
-    /// FILE as the program read it; None if it was not there.
+    /// FILE as the program read it; None if it was not there, or the program has not said yet.
     pub look: Option<Look>,
-    /// Why the program ended, as it said.
+    /// Why the program ended, as it said; None if it said nothing of that.
     pub ended: Option<Ended>,
     /// The journal could not be written, and is not whole again.
     pub is_journal_lost: bool,
@@ -43,7 +43,7 @@ pub struct Running<'a> {
     pub trouble: Option<Notice>,
     /// There was room for keys a second ago, while the journal was lost already; else false.
     pub had_room: bool,
-    /// The size of the journal on the disk, in bytes.
+    /// The size of the journal when it was last synced, in bytes; 0 before the first time.
     pub synced: u64,
 }
 

@@ -1,4 +1,4 @@
-//! The program's command line, and the terminal's title.
+//! The program's command line, in the options of `bx_command/src/words.rt`, and the terminal's title.
 
 use crate::around::Around;
 use crate::beginning::Begun;
@@ -12,7 +12,7 @@ use std::io;
 /// The title's note where unsaved text is not kept.
 pub const UNKEPT: &str = " (unsaved text is not kept)";
 
-/// The title's note where the journal cannot be written.
+/// The title's note where the session has the text as opened, and keys are not kept at the moment.
 pub const LOST: &str = " (what is typed is not kept now: save it)";
 
 /// The text in place of a FILE that cannot be read.

@@ -100,7 +100,8 @@ impl Destination {
         Ok(())
     }
 
-    /// The line that tells of files with names of drafts, which a killed save leaves; None if no such file is there.
+    /// The line that tells of files with names of drafts (`ENDINGS` of `bx_store/src/draft.rt`), which a killed save leaves; None
+    /// if no such file is there.
     pub fn leftovers(&self, rt: &impl Files, alloc: Global) -> Result<Option<String>, AllocError> {
         let target = self.target.as_str();
         let mut names = String::new(alloc);

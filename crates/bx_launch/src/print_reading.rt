@@ -45,7 +45,7 @@ enum Word<'a> {
     Name,
 }
 
-/// A word that begins with `-`, where it is an option with its value, as `--cols=72`.
+/// What a word is that begins with `-` and is no option by itself: one with its value, as `--cols=72`, or unknown.
 fn option_of(word: &[u8]) -> Word<'_> {
     if let Some(value) = word.strip_prefix(b"--cols=") {
         Word::Has(Valued::Columns, value)

@@ -1,4 +1,4 @@
-//! Printing: the check of a file, and the words of the printing program.
+//! Printing: the check of a file, and the words of the printing program, `bidi_print`.
 
 use crate::call::PrintCall;
 use crate::fault::{FileCause, FileFault};

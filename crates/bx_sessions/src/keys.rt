@@ -3,10 +3,10 @@
 ghost use Rattle.std.specs.Prelude.{◌≡◌, ◌+◌, ◌<◌, ◌≤◌, ◌^◌};
 ghost use Rattle.bx_sessions.specs.Keys.{behind_first, counted, is_final, is_parameter, keys_in, next, with_first, without_size};
 
-/// The byte of the key Save.
+/// The byte of the key Save, Ctrl-S.
 const SAVE: u8 = 0x13;
 
-/// The byte that begins a control sequence, before a bracket.
+/// The byte that begins a control sequence, before a `[`.
 const ESCAPE: u8 = 0x1b;
 
 /// What the last bytes of a journal are, as far as the next byte may belong to the same key.
@@ -18,9 +18,9 @@ pub enum After {
     Save,
     /// An Escape, and whether a Save is right before it.
     Escape(bool),
-    /// The beginning of a control sequence, and whether a Save is right before it.
+    /// The beginning of a control sequence (ESC and `[`, maybe parameters), and whether a Save is right before it.
     Sequence(bool),
-    /// The beginning of a notice of the host.
+    /// The beginning of a notice of the host: a control sequence with a `>`.
     Notice,
 }
 

@@ -8,7 +8,7 @@ use std::path::Path;
 /// The user's number of root.
 pub const ROOT: u32 = 0;
 
-/// The name of the folder of sessions in the user's state folder.
+/// The name of the folder of sessions in the user's state folder, which the manual tells.
 const OWN_NAME: &str = "bidi_edit";
 
 /// The user, and the folders that variables of the environment name; None for a variable that is not set.

@@ -22,7 +22,7 @@ pub struct Watch<'a, R: Files> {
     path: String,
     /// The path without links that saves go to; None if it could not be resolved yet.
     target: Option<String>,
-    /// The place without a file that the path led to when a look last failed for that.
+    /// The place, without a file, to which the path led when a look last failed since it led elsewhere; None if none did.
     elsewhere: Option<String>,
     /// The file's metadata when last seen; None if it never was.
     seen: Option<Metadata>,
@@ -150,7 +150,8 @@ impl<'a, R: Files> Watch<'a, R> {
         }
     }
 
-    /// Whether the path led to this place at first, or once before when a look failed for that.
+    /// Whether the path led to this place at first, or when a look last failed since it led elsewhere. Any place is known as long
+    /// as the path could not be resolved.
     fn is_known_place(&self, place: &str) -> bool {
         let is_first = match &self.target {
             Some(target) => target.as_str() == place,

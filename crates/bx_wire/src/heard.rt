@@ -42,14 +42,14 @@ pub enum Heard {
     Second,
     /// A word of the program.
     ProgramWord,
-    /// The signal that ended the host, in decimal.
+    /// The number of the signal that ended the host, in decimal.
     Signal,
     /// The program's exit status, in decimal; 128 plus the signal's number where a signal ended it.
     Status,
 }
 
 impl Heard {
-    /// The letter that begins such a message.
+    /// The letter that begins such a message, as the host sends it (docs/ARCHITECTURE.md).
     pub fn letter(self) -> u8
         ensures { result ≡ letter_of self }
     {

@@ -48,7 +48,7 @@ pub enum Said {
 }
 
 impl Said {
-    /// The letter that begins such a message.
+    /// The letter that begins such a message, as the host reads it (docs/ARCHITECTURE.md).
     pub fn letter(self) -> u8
         ensures { result ≡ letter_of_said self }
     {

@@ -15,7 +15,8 @@ enum Effect {
     ReadAfresh,
 }
 
-/// The beginnings of items that come before the byte.
+/// The beginnings of items that come before the byte: of escape sequences, and of characters of two to four bytes in UTF-8, whose
+/// first bytes are `bytes_of`'s.
 #[derive(Clone, Copy, Debug)]
 enum Beginning {
     Escape,
@@ -128,6 +129,7 @@ fn effect_after(beginning: Beginning, byte: u8) -> Effect {
             0x80..=0xBF => inserts(0xC0 + (u32::from(byte) - 0x80)),
             _ => Effect::ReadAfresh,
         },
+        // after E0 (Unicode, table 3-7)
         Beginning::ThreeBytes => match byte {
             0xA0..=0xBF => Effect::Waits,
             _ => Effect::ReadAfresh,
@@ -137,6 +139,7 @@ fn effect_after(beginning: Beginning, byte: u8) -> Effect {
             0x80..=0xBF => inserts(0x2000 + (u32::from(byte) - 0x80)),
             _ => Effect::ReadAfresh,
         },
+        // after F0 (Unicode, table 3-7)
         Beginning::FourBytes => match byte {
             0x90..=0xBF => Effect::Waits,
             _ => Effect::ReadAfresh,
