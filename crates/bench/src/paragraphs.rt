@@ -1,7 +1,8 @@
 //! The index of paragraphs: the time of building it, and of following edits.
 //!
-//! The text has BYTES bytes, in lines of LINE bytes. Each edit inserts a line feed in the text's middle, or removes the whole
-//! text and undoes that.
+//! TASK BYTES LINE [EDITS]. The text has BYTES bytes, in lines of LINE bytes. TASK is `build` (of the index), `walk` (over all
+//! paragraphs and back), or EDITS times `edit` (a line feed is inserted in the text's middle) or `restore` (the whole text is
+//! removed and that undone).
 
 ghost use Rattle.std.specs.Prelude.{◌≡◌, OnOk};
 ghost use Rattle.bx_index.specs.Paragraphs.{lengths};

@@ -1,5 +1,5 @@
-//! Units and rows of a text in lines: TASK TEXT BYTES TIMES, in a window of 80 columns. Each task includes splitting the text
-//! into lines.
+//! Units and rows of a text in lines: TASK TEXT BYTES TIMES, in a window of 80 columns, with the tasks of `named` and the texts of
+//! `words_of`. Each task includes splitting the text into lines.
 
 use crate::outcome::{Outcome, number};
 use anyhow::{Context, Result, bail};

@@ -149,8 +149,8 @@ impl Running<'_> {
             || (status != 0 && kept.session.has(self.around.rt, Part::Unsaved))
     }
 
-    /// What is known of the session, to settle its fate. On the way fills it if its text waits for room, and leaves the text
-    /// after its keys in it.
+    /// What is known of the session, to settle its fate. On the way fills it if its text waits for room, and leaves the replayed
+    /// text in it.
     fn left<P: Replayer>(&mut self, kept: &Kept, status: u64, is_torn: bool, replayer: &P) -> Left {
         let has_unsaved = self.has_unsaved(kept, status);
         let is_filled = (has_unsaved || is_torn) && self.fill_at_end(kept);

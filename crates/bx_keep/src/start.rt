@@ -17,8 +17,8 @@ pub struct Window {
 /// The window where the host tells none: as large as a VT100's.
 const USUAL_WINDOW: Window = Window { rows: 24, cols: 80 };
 
-/// What the host says at the start. Fields with the name of a variable of the environment have its value; one that is not UTF-8,
-/// but for BIDI_EDIT_DATA, counts as not set.
+/// What the host says at the start. Where a field's comment is the name of a variable of the environment, the field is its
+/// value; a value that is not UTF-8 counts as not set, but for BIDI_EDIT_DATA.
 #[derive(Drop)]
 pub struct Start {
     /// The words of the command line.

@@ -13,7 +13,7 @@ pub enum Stop {
     /// A cause to report on standard error, and the exit status.
     Cause(String, u8),
     OutOfMemory,
-    /// The host is gone, or speaks otherwise.
+    /// The host is gone, or said what is not expected of it.
     Gone,
 }
 

@@ -308,7 +308,7 @@ pub fn tell_cut<H: Host>(around: Around<'_>, host: &mut H, session: &Session) ->
     Ok(tell(host, alloc, line.as_str())?)
 }
 
-/// Tells that this version of the editor may replay the session's keys otherwise.
+/// Tells that the session's keys may make another text in this version of the editor.
 pub fn tell_unsure<H: Host>(around: Around<'_>, host: &mut H) -> Result<(), Stop> {
     Ok(tell(host, around.alloc(), UNSURE)?)
 }

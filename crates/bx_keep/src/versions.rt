@@ -1,4 +1,4 @@
-//! The version of the editor that keeps a session, since another one may replay its keys otherwise.
+//! The version of the editor that keeps a session, since the session's keys may make another text in another version.
 
 use crate::stop::Stop;
 use bx_launch::{Tables, VERSION};

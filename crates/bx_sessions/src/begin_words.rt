@@ -36,7 +36,7 @@ impl Begin {
         }
     }
 
-    /// What such words say; None if they are others.
+    /// What words of this form say; None if they have another form.
     pub fn parse(words: &str) -> Option<Begin> {
         let mut words = words.split_ascii_whitespace();
         let rows = words.next()?.parse().ok()?;

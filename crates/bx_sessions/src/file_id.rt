@@ -58,7 +58,7 @@ impl FileId {
         }
     }
 
-    /// The file that such words name; None if they are others.
+    /// The file that words of this form name; None if they have another form.
     pub fn parse(words: &str) -> Option<FileId> {
         let mut words = words.split_ascii_whitespace();
         let device = number_of(words.next())?;

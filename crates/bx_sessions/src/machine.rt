@@ -82,7 +82,7 @@ impl Process {
         format!(in alloc; "{number} {host} {boot}\n")
     }
 
-    /// The process that such words name; None if they are others.
+    /// The process that words of this form name; None if they have another form.
     pub fn parse(alloc: Global, words: &str) -> Result<Option<Process>, AllocError> {
         let mut words = words.split_ascii_whitespace();
         let (number, host, boot) = (words.next(), words.next(), words.next());

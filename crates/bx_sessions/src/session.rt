@@ -104,7 +104,8 @@ impl Session {
         }
     }
 
-    /// Whether the folder and all in it is the user's, and none is a link, a pipe or a device.
+    /// Whether nobody but the user owns or can write the folder, and all in it are plain files of the user's; false where that
+    /// cannot be seen.
     pub fn is_own(&self, rt: &HostRuntime, user: u32) -> bool {
         self.holds_own(rt, user).unwrap_or(false)
     }
@@ -119,7 +120,7 @@ impl Session {
         matches!(&self.look(rt, part), Ok(Some(_)))
     }
 
-    /// Whether each file in the folder is a plain file of the user's.
+    /// Whether the folder is one of the user's alone, and all in it are plain files of the user's.
     fn holds_own(&self, rt: &HostRuntime, user: u32) -> io::Result<bool> {
         if !is_own_folder(&rt.symlink_metadata(self.path())?, user) {
             return Ok(false);

@@ -9,7 +9,7 @@ use std::io::ErrorKind;
 pub enum SaveCause {
     /// The disk is full, or the user's share of it.
     NoSpace,
-    /// The system permits the user no such call.
+    /// The system does not permit the user a call that the save needs.
     NotPermitted,
     /// The folder on the path is gone, or is not a folder now.
     FolderGone,

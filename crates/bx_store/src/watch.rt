@@ -28,8 +28,9 @@ pub struct Watch<'a, R: Files> {
     seen: Option<Metadata>,
     /// Whether the next look is a fault, if the file is there.
     is_distrusted: bool,
-    /// The metadata of a file of which a rename loses at most other names: the file as first seen, or as last replaced by a
-    /// save. An access list and the like cannot be seen, but to give a file one changes its time of change.
+    /// The file's metadata when first seen, or when a save last replaced it: while it has these, a rename loses at most its other
+    /// names. An access list and the like cannot be seen, but to give a file one changes its time of change. None if there was
+    /// no file, or a rename would lose more.
     plain: Option<Metadata>,
 }
 

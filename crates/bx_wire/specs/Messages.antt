@@ -1,5 +1,5 @@
 -- The bytes of messages, and what reading one takes from a reader. `old` and `new` are the bytes that the reader still has,
--- before and after; None where it has no such model.
+-- before and after; None for a reader that does not model its bytes.
 use Rattle.std.specs.Prelude.{◌≡◌, ◌≤◌, ℕ, ◌+◌, eqb, false, List, [], ◌∷◌, ◌++◌, length, Option, Some, None, Result, Ok, Err}
 use Rattle.std.specs.Io.KnownBytes.{Consumes, IsAtEnd}
 use Rattle.std.specs.List.{list_any}
