@@ -1,5 +1,5 @@
-//! Units and rows of a text in lines: TASK TEXT BYTES TIMES, in a window of 80 columns, with the tasks of `named` and the texts of
-//! `words_of`. Each task includes splitting the text into lines.
+//! Units and rows of a text in lines: TASK TEXT BYTES TIMES, in a window of 80 columns, with the tasks of `named` and the texts
+//! of `words_of`. Each task includes splitting the text into lines.
 
 use crate::outcome::{Outcome, number};
 use anyhow::{Context, Result, bail};
@@ -121,7 +121,7 @@ impl Task {
     }
 }
 
-/// Runs a task on a line. Returns the number of bytes, units or rows.
+/// Runs a task on a line. Returns the number of bytes, units or rows, or 1 if the line has one row.
 fn once(alloc: Global, task: Task, line: &str, tables: &Tables) -> Result<usize> {
     match task {
         Task::Split => Ok(line.len()),
@@ -129,6 +129,7 @@ fn once(alloc: Global, task: Task, line: &str, tables: &Tables) -> Result<usize>
             let mut count: usize = 0;
             for cluster in line.graphemes(true) {
                 let shown = face(cluster, tables, WIDTH);
+                // a tab counts twice, so that the result depends on each face
                 count = count.wrapping_add(if shown == bx_cells::Face::Tab { 2 } else { 1 });
             }
             Ok(count)

@@ -65,7 +65,7 @@ fn next(after: After, byte: u8) -> After
     }
 }
 
-/// The number of keys with one more byte of a character: one that goes on with a character (80 to BF in UTF-8) adds none.
+/// The number of keys with one more byte that begins a key or goes on with a character; the latter (80 to BF in UTF-8) adds none.
 fn with_first(count: usize, byte: u8) -> usize
     requires { count + 1 < 2 ^ 64 }
     ensures value { result ≡ with_first count byte }

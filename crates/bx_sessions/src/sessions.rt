@@ -28,8 +28,8 @@ const TRIES: usize = 16;
 /// How the name of a folder begins into which an older editor replayed keys.
 const REPLAY: &str = ".replay.";
 
-/// A folder of sessions that was judged: it is not a link, it and all in it is the user's own, and nobody but the user and root
-/// can exchange it or write in it.
+/// A folder of sessions that was judged: it is not a link, it is the user's own, and nobody but the user and root can exchange
+/// it or write in it. What is in it is judged by `Session::is_own`.
 #[derive(Drop)]
 pub struct Sessions {
     /// Its path, with all links resolved.

@@ -196,7 +196,8 @@ impl<'a, R: Files> Watch<'a, R> {
 
     /// Resolves the path and notes the metadata found. Returns the path that saves go to, and whether a file exists there.
     ///
-    /// Errors: `NotPlain` if it is not a plain file, `Changed` if it changed since last seen or the path leads elsewhere.
+    /// Errors: `NotPlain` if it is not a plain file, `Changed` if it changed since last seen or the path leads elsewhere,
+    /// `FolderGone` as `place_of_saves`.
     pub fn look(&mut self) -> Result<(String, bool), StoreFault> {
         let place = target_of(self.files, self.allocator(), self.path.as_str())?;
         if !self.is_known_place(place.as_str()) {

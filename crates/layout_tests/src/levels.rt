@@ -1,4 +1,4 @@
-//! Worked examples and outside values, each public call with ample memory.
+//! Worked examples (`ROWS`), values of an independent model (`VECTORS`), and each public call with ample memory.
 mod rows;
 mod vectors;
 
