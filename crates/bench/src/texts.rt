@@ -127,7 +127,7 @@ fn blanks_inside(alloc: Global, count: usize) -> Result<String, AllocError> {
 }
 
 /// A text of `count` characters that repeats 62 nested isolates: 62 FSI, and 62 PDI; `k` is the number of characters of this
-/// repetition so far. Each FSI takes two levels at most, so all have one (UAX #9, BD2: 125 is the largest).
+/// repetition so far. 62 FSI of at most two levels each stay below level 125 (UAX #9, BD2), so none is too deep.
 fn deep_isolates(alloc: Global, count: usize) -> Result<String, AllocError> {
     let mut body = String::new(alloc);
     let mut k: usize = 0;

@@ -76,7 +76,7 @@ fn open_folder<H: Host>(
     }
 }
 
-/// Tells of the user's sessions in a folder that may have unsaved text.
+/// Tells of those sessions in a folder that are the user's and may have unsaved text.
 fn list_folder<H: Host>(around: Around<'_>, host: &mut H, sessions: &Sessions) -> Result<(), Stop> {
     let Ok(all) = sessions.all(around.rt) else {
         return Ok(());

@@ -39,7 +39,7 @@ pub struct Running<'a> {
     pub is_journal_lost: bool,
     /// The number of the signal that ended the host; None if none did.
     pub signal: Option<u64>,
-    /// Why no copy of what is typed is kept, as the user was told last; None if one is kept.
+    /// Why no copy of what is typed is kept, as the user was told last; None if one is kept, or the user wants none.
     pub trouble: Option<Notice>,
     /// There was room for keys a second ago, while the journal was lost already; else false.
     pub had_room: bool,
@@ -64,8 +64,8 @@ fn first_trouble(begun: &Begun) -> Option<Notice> {
     }
 }
 
-/// Syncs a journal, and the first time also its folder, which has its name. Returns whether the journal is on the disk; if not,
-/// the next second tries again.
+/// Syncs a journal, and the first time also the session's folder, which has the journal's name. Returns whether the journal is
+/// on the disk; if not, the next second tries again.
 fn sync_journal(rt: &HostRuntime, kept: &Kept, is_first: bool) -> bool {
     if is_first {
         // the journal's name is there, even if its folder is not synced

@@ -80,8 +80,8 @@ impl Found {
     }
 }
 
-/// Whether a session in this state counts as the file's. One that is not of the file's path now matters only while an editor
-/// has it open.
+/// Whether a session in this state counts as the file's. One that opened the file before it was renamed, or is not complete,
+/// counts only while an editor has it.
 fn counts(belonging: Belonging, state: State) -> bool {
     match belonging {
         Belonging::Path | Belonging::OtherName => true,

@@ -15,8 +15,8 @@ enum Effect {
     ReadAfresh,
 }
 
-/// The beginnings of items that come before the byte: of escape sequences, and of characters of two to four bytes in UTF-8, whose
-/// first bytes are `bytes_of`'s.
+/// The beginnings of items that come before the byte: of escape sequences, and of characters of two to four bytes in UTF-8.
+/// `bytes_of` has their bytes.
 #[derive(Clone, Copy, Debug)]
 enum Beginning {
     Escape,
