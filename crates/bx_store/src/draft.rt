@@ -20,7 +20,7 @@ pub const OWNERS_ALONE: u32 = 0o600;
 /// The permissions of a file that did not exist before; the system clears the bits in the user's umask.
 const NEW_FILE: u32 = 0o666;
 
-/// Buffer size of a draft, in bytes.
+/// Buffer size of a draft, in bytes: a choice, so that many small pieces take few writes.
 const BUFFER_SIZE: usize = 65_536;
 
 /// A file that gets the new text, in the folder of the file that it will replace.

@@ -17,7 +17,7 @@ message_bytes letter text = letter ∷ text ++ 0 ∷ []
 abbrev pub HasNoNul : List ℕ → Type 0
 HasNoNul text = list_any (λ b. eqb b 0) text ≡ false
 
--- the largest size of a message's text, in bytes
+-- the largest size of a message's text, in bytes: a choice (`LARGEST_MESSAGE` of `src/reading.rt`)
 abbrev pub largest_message : ℕ
 largest_message = 65536
 
