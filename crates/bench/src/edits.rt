@@ -1,5 +1,5 @@
-//! Edits of a text: the processor time of the last thousand, of undoing them, of opening and of copying. A turn is the
-//! number of an edit, from 0.
+//! Edits of a text: the processor time of the last thousand, of undoing them, of opening and of copying: TASK BYTES [EDITS],
+//! with the tasks of `run` and the offsets of `from_word`. A turn is the number of an edit, from 0.
 //!
 //! The edits insert or remove one byte at scattered offsets, type letters one after another, or insert each before all others.
 //! In `turning`, a letter goes to the next multiple of the golden ratio, as a fraction of the text's length. In `ranked`, its

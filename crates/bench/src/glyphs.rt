@@ -42,7 +42,7 @@ pub struct Glyph {
 }
 
 impl Glyph {
-    /// The script's usual glyph, or another one.
+    /// The script's usual glyph; if `other`, another one.
     pub fn of(script: Script, other: bool) -> Glyph
         ensures glyph { is_one_glyph result.text.now ≡ true }
         ensures counted { result.columns ≡ run_width result.text.now }

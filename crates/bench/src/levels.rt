@@ -1,5 +1,6 @@
-//! Levels of a paragraph: PATTERN CHARACTERS TIMES. The cost of a character is the difference of two runs that differ in TIMES
-//! alone, divided by the difference in characters. The time is linear if that cost does not depend on CHARACTERS.
+//! Levels of a paragraph: PATTERN CHARACTERS TIMES, with the patterns of `texts.rt`. The cost of a character is the difference of
+//! two runs that differ in TIMES alone, divided by the difference in characters. The time is linear if that cost does not depend
+//! on CHARACTERS.
 
 use crate::outcome::{Outcome, number};
 use crate::texts::text;

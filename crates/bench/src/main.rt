@@ -50,7 +50,7 @@ fn measure<R: CpuClock + AllocGlobal>(rt: &R, words: &[String]) -> Result<Outcom
     }
 }
 
-/// The runs of `each`.
+/// The runs of `each`, small enough to end at once. This crate's `stdout` has their lines.
 const EACH: [&str; 8] = [
     "text scattered 100000 2000",
     "paragraphs edit 10000 50 20",

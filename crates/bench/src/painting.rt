@@ -31,8 +31,8 @@ fn put_glyph(grid: &mut Grid, cell: Cell, glyph: Glyph, negative: bool) -> Resul
     Ok(())
 }
 
-/// Fills a line of 80 columns with glyphs except for its last five or six columns, a blank tail. If `marked`, the glyph at
-/// column 41, the middle, is another one, and negative.
+/// Fills a line of 80 columns with glyphs except for its last six columns, a blank tail. If `marked`, the glyph at column 41,
+/// the middle, is another one, and negative.
 fn put_line(grid: &mut Grid, script: Script, line: u16, marked: bool) -> Result<()> {
     let mut column = 1;
     while column < 75 {
@@ -44,8 +44,8 @@ fn put_line(grid: &mut Grid, script: Script, line: u16, marked: bool) -> Result<
     Ok(())
 }
 
-/// A picture full of glyphs except for the last five or six columns of each row. If `marked`, one glyph, in line 12, is
-/// another one, and negative.
+/// A picture of 24 rows and 80 columns, full of glyphs except for the last six columns of each row. If `marked`, one glyph, in
+/// line 12, the middle, is another one, and negative.
 fn full(alloc: Global, script: Script, marked: bool) -> Result<Picture> {
     let mut grid = Grid::blank(alloc, 24, 80)?;
     for line in 1..25 {

@@ -1,7 +1,8 @@
 //! The index of paragraphs: the time of building it, and of following edits.
 //!
-//! The text has BYTES bytes, in lines of LINE bytes. Each edit inserts a line feed in the text's middle, or removes the whole
-//! text and undoes that.
+//! TASK BYTES LINE [EDITS]. The text has BYTES bytes, in lines of LINE bytes. TASK is `build` (of the index), `walk` (over all
+//! paragraphs and back), or EDITS times `edit` (a line feed is inserted in the text's middle) or `restore` (the whole text is
+//! removed and that undone).
 
 ghost use Rattle.std.specs.Prelude.{◌≡◌, OnOk};
 ghost use Rattle.bx_index.specs.Paragraphs.{lengths};
@@ -36,6 +37,7 @@ fn edit<D: BidiData>(text: &mut Text, index: &mut Index, tables: &D) -> Result<(
     let at = len / 2;
     index.ready(1)?;
     let put = text.insert(at, "\n", at, at)?;
+    // the contract of `len` tells the proofs that the text is UTF-8
     let _still = text.len();
     index.edited(text, tables, &put);
     Ok(())
@@ -49,6 +51,7 @@ fn clear<D: BidiData>(text: &mut Text, index: &mut Index, tables: &D) -> Result<
     let len = text.len();
     index.ready(0)?;
     let change = text.remove(0, len, 0, 0)?;
+    // the contract of `len` tells the proofs that the text is UTF-8
     let _still = text.len();
     index.edited(text, tables, &change);
     Ok(())
@@ -61,19 +64,21 @@ fn take_back<D: BidiData>(text: &mut Text, index: &mut Index, tables: &D) -> Res
 {
     // reserves before the index does, so that the index frees memory at the heap's end
     text.ready(0)?;
+    // the contract of `len` tells the proofs that the text is UTF-8
     let _utf8 = text.len();
     let Some(next) = text.next_undo() else {
         return Ok(());
     };
     index.ready(next.added)?;
     if let Some(change) = text.undo()? {
+        // the contract of `len` tells the proofs that the text is UTF-8
         let _still = text.len();
         index.edited(text, tables, &change);
     }
     Ok(())
 }
 
-/// Removes the whole text and undoes that.
+/// Removes the whole text and undoes that, with the index following.
 fn restore<D: BidiData>(text: &mut Text, index: &mut Index, tables: &D) -> Result<()>
     requires { index.old.paragraphs ≡ lengths (D.data tables.now) text.old.edited.text }
     ensures { OnOk result (index.new.paragraphs ≡ lengths (D.data tables.now) text.new.edited.text) }

@@ -13,7 +13,7 @@ use bx_ucd::{BidiData, sample_tables};
 use std::alloc::Global;
 use std::time::CpuClock;
 
-/// The words that a text repeats.
+/// The words that a text repeats; those of `ascii` for other names.
 fn words_of(name: &str) -> &'static str {
     if name == "hebrew" {
         "\u{5e9}\u{5dc}\u{5d5}\u{5dd} \u{5e2}\u{5d5}\u{5dc}\u{5dd} "
@@ -45,7 +45,7 @@ fn each_row<D: BidiData>(layout: &ParagraphLayout, tables: &D, are_drawn: bool) 
     Ok(count)
 }
 
-/// Runs a task once. Returns the number of glyphs, slots or rows.
+/// Runs a task once; other words than `page` and `slots` count as `resolved`. Returns the number of glyphs, slots or rows.
 fn once<D: BidiData>(
     alloc: Global,
     task: &str,

@@ -61,13 +61,14 @@ pub(crate) fn repeated(alloc: Global, unit: &str, count: usize) -> Result<String
 /// A text of `count` characters: `start`, then pairs of brackets.
 fn pairs_behind(alloc: Global, start: &str, count: usize) -> Result<String, AllocError> {
     let mut body = String::from_str(alloc, start)?;
+    // the number of characters so far
     for k in start.chars().count()..count {
         body.push(if k % 2 == 0 { '(' } else { ')' })?;
     }
     Ok(body)
 }
 
-/// A Hebrew letter, then terminators, and a digit at the end.
+/// A text of `count` characters: a Hebrew letter, then European terminators, and a digit at the end.
 fn before_a_number(alloc: Global, count: usize) -> Result<String, AllocError> {
     let mut body = String::new(alloc);
     body.push('\u{5d0}')?;
@@ -78,7 +79,8 @@ fn before_a_number(alloc: Global, count: usize) -> Result<String, AllocError> {
     Ok(body)
 }
 
-/// A text of `count` characters that repeats 60 opening brackets, a thousand blanks, a Hebrew letter and 60 closing brackets.
+/// A text of `count` characters that repeats 60 opening brackets, a thousand blanks, a Hebrew letter and 60 closing brackets;
+/// `k` is the number of characters of this repetition so far.
 fn deep_brackets(alloc: Global, count: usize) -> Result<String, AllocError> {
     let mut body = String::new(alloc);
     let mut k: usize = 0;
@@ -97,7 +99,7 @@ fn deep_brackets(alloc: Global, count: usize) -> Result<String, AllocError> {
     Ok(body)
 }
 
-/// Two letters and 62 opening brackets, then closing brackets of another kind.
+/// A text of `count` characters: two letters and 62 opening brackets, then closing brackets of another kind.
 fn idle_closers(alloc: Global, count: usize) -> Result<String, AllocError> {
     let mut body = String::new(alloc);
     body.push_str("a\u{5d0}")?;
@@ -124,7 +126,8 @@ fn blanks_inside(alloc: Global, count: usize) -> Result<String, AllocError> {
     Ok(body)
 }
 
-/// Repeats 62 nested isolates: 62 FSI, and 62 PDI.
+/// A text of `count` characters that repeats 62 nested isolates: 62 FSI, and 62 PDI; `k` is the number of characters of this
+/// repetition so far. 62 FSI of at most two levels each stay below level 125 (UAX #9, BD2), so none is too deep.
 fn deep_isolates(alloc: Global, count: usize) -> Result<String, AllocError> {
     let mut body = String::new(alloc);
     let mut k: usize = 0;
@@ -135,14 +138,14 @@ fn deep_isolates(alloc: Global, count: usize) -> Result<String, AllocError> {
     Ok(body)
 }
 
-/// An opening bracket, then letters, ends of isolates and openings of isolates in turn.
+/// A text of `count` characters: an opening bracket, then letters, ends of isolates and openings of isolates in turn.
 fn opener_isolates(alloc: Global, count: usize) -> Result<String, AllocError> {
     let mut body = String::from_str(alloc, "(")?;
     body.push_str(repeated(alloc, "a\u{2069}\u{2067}", count.saturating_sub(1))?.as_str())?;
     Ok(body)
 }
 
-/// The text of a pattern.
+/// The text of a pattern, of `count` characters.
 pub fn text(alloc: Global, pattern: &str, count: usize) -> Result<String, AllocError> {
     match pattern {
         "deep" => deep_brackets(alloc, count),

@@ -1,5 +1,5 @@
-//! Units and rows of a text in lines: TASK TEXT BYTES TIMES, in a window of 80 columns. Each task includes splitting the text
-//! into lines.
+//! Units and rows of a text in lines: TASK TEXT BYTES TIMES, in a window of 80 columns, with the tasks of `named` and the texts
+//! of `words_of`. Each task includes splitting the text into lines.
 
 use crate::outcome::{Outcome, number};
 use anyhow::{Context, Result, bail};
@@ -14,10 +14,10 @@ use unicode_segmentation::UnicodeSegmentation;
 /// The window's width in columns.
 const WIDTH: u16 = 80;
 
-/// Number of characters by which a line exceeds its minimum length; one line in eight is wider than the window.
+/// Number of characters by which a line exceeds its minimum length; of `ascii` one line in eight is wider than the window.
 const TURNS: [usize; 8] = [0, 4, 1, 5, 3, 20, 2, 6];
 
-/// The words that a text repeats, and the minimum length of its lines in characters.
+/// The words that a text repeats, and one less than the minimum length of its lines, in characters.
 fn words_of(name: &str) -> Option<(&'static str, usize)> {
     Some(match name {
         "ascii" => (
@@ -54,7 +54,7 @@ fn words_of(name: &str) -> Option<(&'static str, usize)> {
     })
 }
 
-/// A text of at least `bytes` bytes, in lines.
+/// A text of at least `bytes` bytes, in lines of more than `least` characters.
 fn text(alloc: Global, words: &str, least: usize, bytes: usize) -> Result<String, AllocError> {
     let mut text = String::new(alloc);
     let mut line: usize = 0;
@@ -121,7 +121,7 @@ impl Task {
     }
 }
 
-/// Runs a task on a line. Returns the number of bytes, units or rows.
+/// Runs a task on a line. Returns the number of bytes, units or rows, or 1 if the line has one row.
 fn once(alloc: Global, task: Task, line: &str, tables: &Tables) -> Result<usize> {
     match task {
         Task::Split => Ok(line.len()),
@@ -129,6 +129,7 @@ fn once(alloc: Global, task: Task, line: &str, tables: &Tables) -> Result<usize>
             let mut count: usize = 0;
             for cluster in line.graphemes(true) {
                 let shown = face(cluster, tables, WIDTH);
+                // a tab counts twice, so that the result depends on each face
                 count = count.wrapping_add(if shown == bx_cells::Face::Tab { 2 } else { 1 });
             }
             Ok(count)

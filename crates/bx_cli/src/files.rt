@@ -52,7 +52,7 @@ pub fn text_of<'a>(rt: &HostRuntime, path: &'a str) -> Result<Option<Vec<u8>>, F
     read.map_err(|error| fault_of(path, error.kind()))
 }
 
-/// Size of the blocks in which a file is compared, in bytes.
+/// Size of the blocks in which a file is compared, in bytes: a choice, so that a long file takes little memory.
 const BLOCK: usize = 65_536;
 
 /// Whether the bytes that are left in a reader are `text`. Reads them into a buffer, a part at a time.

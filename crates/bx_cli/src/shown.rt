@@ -13,7 +13,7 @@ use std::fmt::{self, Display};
 #[derive(Clone, Copy, PartialEq, Eq, Debug)]
 pub struct Shown<'a>(pub &'a str);
 
-/// A text with the bytes of such characters as octal numbers, except its line ends.
+/// A text in which each byte of a character that a terminal would obey or hide is an octal number; line ends stay.
 #[derive(Clone, Copy, PartialEq, Eq, Debug)]
 pub struct Numbered<'a>(pub &'a str);
 
@@ -40,7 +40,8 @@ fn is_plain(c: char) -> bool
         || matches!(c, '_' | '.' | '/' | '+' | ',' | '@' | '%' | ':' | '=' | '-')
 }
 
-/// Whether a character is a control, changes directions, fills no column or is a tag. Joiners, used in Persian, do not count.
+/// Whether a terminal would obey a character, take it for a direction or show it in no column; `hidden_ranges` of
+/// `specs/Shown.antt` tells by which of Unicode's properties. Joiners, used in Persian, do not count.
 #[tactic(auto, unfolding(ucd_table::specs::Rows::in_ranges))]
 fn is_hidden(c: char) -> bool
     ensures { result ≡ is_hidden c }

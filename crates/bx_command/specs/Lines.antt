@@ -6,7 +6,7 @@ abbrev pub with_start : Bool → ℕ → List ℕ → List ℕ
 with_start true start starts = start ∷ starts
 with_start false start starts = starts
 
--- the offsets after the line feeds of bytes, of which the first has this offset
+-- the offsets after the line feeds among bytes, the first of which is at `offset`
 abbrev pub behind_feeds : ℕ → List ℕ → List ℕ
 behind_feeds offset [] = []
 behind_feeds offset (b ∷ bytes) = with_start (b == 0x0a) (offset + 1) (behind_feeds (offset + 1) bytes)

@@ -7,13 +7,13 @@ use std::io::{self, ErrorKind, Write};
 use std::os::unix::fs::OpenOptionsExt;
 use std::time::Instant;
 
-/// The byte of the key Save.
+/// The byte of the key Save, Ctrl-S.
 const SAVE: u8 = 0x13;
 
 /// Number of seconds after the last sync at which a flush syncs again.
 const WAIT: u64 = 1;
 
-/// The texts that are written to standard error, each with its end.
+/// The texts that are written to standard error, each with its line end or NUL.
 #[derive(Clone, Copy)]
 pub struct JournalNotes<'a> {
     /// The journal could not be written.

@@ -23,21 +23,21 @@ pub struct Options<'a> {
     pub check: bool,
     /// Whether the text counts as changed from the start.
     pub unsaved: bool,
-    /// The path of the journal that keys are appended to.
+    /// The path of the journal that keys are appended to; None if none is kept.
     pub journal: Option<&'a str>,
     /// The path of the mark, which has the whole text while a save overwrites FILE; None if saves replace FILE.
     pub in_place: Option<&'a str>,
     /// Whether saves overwrite FILE also without a mark; a draft beside FILE then has the whole text.
     pub itself: bool,
-    /// The path of the journal to replay.
+    /// The path of the journal to replay; None if none is.
     pub replay: Option<&'a str>,
-    /// The path to store the replayed text at, without a terminal.
+    /// The path to store the replayed text at, without a terminal; None to edit it.
     pub to: Option<&'a str>,
-    /// The cursor's first line, from 1.
+    /// The cursor's first line, from 1; None for the first.
     pub line: Option<u64>,
     /// The base direction of the paragraphs at first.
     pub direction: Base,
-    /// The text to write to standard output before the first painting.
+    /// The text to write to standard output before the first painting; None for none.
     pub before: Option<&'a str>,
     /// Whether faults and notes are written to standard error as words, each of which ends with NUL.
     pub words: bool,

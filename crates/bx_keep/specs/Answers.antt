@@ -3,7 +3,7 @@ use Rattle.std.specs.Prelude.{ℕ, List, [], ◌∷◌, ◌||◌, bytes_eq, code
 use Rattle.bx_keep.specs.declared.asking.Choice.{Choice}
 use Rattle.bx_keep.specs.declared.asking.Choice.TheVariants.{Recover, Delete, Later}
 
--- what an answer chooses for an unfinished session: its word or the word's first letter
+-- what an answer, in small letters, chooses for an unfinished session: a choice's word or the word's first letter
 abbrev pub choice_of : List ℕ → Option Choice
 choice_of answer =
     if bytes_eq answer (codes "r") || bytes_eq answer (codes "recover") then Some Recover

@@ -1,4 +1,4 @@
-//! Questions, which are asked again at any other answer (up to `u64::MAX` times: without end).
+//! Questions to the user, each asked until one of its answers is given (up to `u64::MAX` times: without end).
 
 ghost use Rattle.std.specs.Prelude.{◌≡◌};
 ghost use Rattle.bx_keep.specs.Answers.{choice_of};
@@ -7,7 +7,7 @@ use crate::stop::Stop;
 use bx_wire::Host;
 use std::alloc::Global;
 
-/// The exit status where the user goes no further.
+/// The exit status after a no, or after no answer (EXIT STATUS in docs/bidi_edit.1).
 const NO_FURTHER: u8 = 2;
 
 /// What to do with an unfinished session.
@@ -39,7 +39,7 @@ fn small(alloc: Global, answer: &str) -> Result<String, Stop> {
     Ok(small)
 }
 
-/// Whether an answer is a word or its first letter.
+/// Whether an answer is this word or the word's first letter.
 fn is_word(answer: &str, word: &str) -> bool {
     !answer.is_empty() && (answer == word || (answer.len() == 1 && word.starts_with(answer)))
 }
@@ -71,7 +71,7 @@ pub fn ask_to_go_on<H: Host>(host: &mut H, alloc: Global, question: &str) -> Res
     Err(Stop::Told(NO_FURTHER))
 }
 
-/// What an answer chooses; None if it is another one.
+/// What an answer chooses, by a choice's word or the word's first letter; None for all other answers.
 fn choice_of(answer: &[u8]) -> Option<Choice>
     ensures { result ≡ choice_of answer.now }
 {

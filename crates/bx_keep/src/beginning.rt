@@ -43,15 +43,15 @@ pub struct Begun {
     pub is_itself: bool,
     /// The user wants no session.
     pub is_unwanted: bool,
-    /// Why unsaved text is not kept.
+    /// Why unsaved text is not kept; None while it is kept.
     pub unkept: Option<Unkept>,
-    /// FILE, where its session goes on with a new file beside it.
+    /// FILE's name, where the session goes on with a new file beside FILE; else None.
     pub aside_of: Option<String>,
-    /// FILE's permissions in the session, where FILE is gone.
+    /// FILE's permissions as the session notes them, where FILE is gone; else None.
     pub lost_mode: Option<u32>,
 }
 
-/// FILE's permissions in a session, where FILE is gone and the session tells them.
+/// FILE's permissions as a session notes them; None where FILE is there, or the session does not tell.
 fn lost_mode(around: Around<'_>, edited: &Edited, kept: &Kept) -> Option<u32> {
     if edited.destination.is_there(around.rt) || !kept.session.has(around.rt, Part::Mode) {
         return None;
@@ -94,7 +94,7 @@ impl Begun {
         }
     }
 
-    /// Makes the session's folder; where that cannot be, `unkept` tells why.
+    /// Makes the session's folder; where that cannot be, `unkept` tells why. The session waits if FILE's text has no room there.
     fn make<H: Host>(
         &mut self,
         around: Around<'_>,
@@ -132,7 +132,8 @@ impl Begun {
         )
     }
 
-    /// Has the session wait where its folder has no room for FILE's text.
+    /// Has the session wait where its folder has no room for the text of FILE, which is at `path`. If the host cannot tell, there
+    /// is room.
     fn look_for_room<H: Host>(
         &mut self,
         around: Around<'_>,
@@ -152,7 +153,7 @@ impl Begun {
         Ok(())
     }
 
-    /// Gives a session up that waits for room, which a save into FILE itself needs at once.
+    /// Gives up a session that waits for room: a save into FILE itself needs the room at once.
     fn give_up(&mut self, around: Around<'_>) {
         if !self.is_waiting {
             return;
@@ -164,7 +165,7 @@ impl Begun {
         self.is_waiting = false;
     }
 
-    /// Notes in the session that its saves are written into FILE itself. Whether that can be.
+    /// Notes in the session that its saves are written into FILE itself. Returns whether it could; not if the session waits.
     fn note_in_place(&self, around: Around<'_>, edited: &Edited) -> bool {
         let path = edited.path().as_bytes();
         match &self.kept {
@@ -175,8 +176,8 @@ impl Begun {
         }
     }
 
-    /// Settles whether saves are written into FILE itself. The session's folder holds the whole text meanwhile; where there is
-    /// none, and the user forces it, FILE's own folder.
+    /// Settles whether saves are written into FILE itself. Meanwhile the session's folder holds the whole text; where there is no
+    /// session, and the user forces it, FILE's own folder does, unless the user cannot replace files there (`Protected`).
     ///
     /// Errors: the refusal of a FILE that needs a session and has none, unless it is forced.
     fn settle_in_place<H: Host>(
@@ -220,6 +221,7 @@ impl Begun {
         let (file, told, harm) = (Shown(edited.file()), reason.text(), reason.harm());
         let unkept = match &self.unkept {
             Some(unkept) => unkept.why.as_str(),
+            // the session is there, and `note_in_place` could not write in it
             None => "there is no room",
         };
         Ok(format!(in around.alloc();
@@ -227,7 +229,8 @@ impl Begun {
         )?)
     }
 
-    /// Tells that unsaved text is not kept, before the screen changes, and waits a second unless the user asked for that.
+    /// Tells that unsaved text is not kept, before the screen changes, and rings the bell and waits a second unless the user
+    /// asked for no session.
     fn tell_unkept<H: Host>(
         &self,
         around: Around<'_>,
@@ -269,7 +272,7 @@ impl Begun {
         Ok(begun)
     }
 
-    /// Goes on with a session.
+    /// Goes on with a session. It begins with the window of its first start, since its keys are replayed from there.
     ///
     /// Errors: as `fresh`.
     pub fn resume<H: Host>(

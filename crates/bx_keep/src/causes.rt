@@ -20,7 +20,7 @@ pub fn notice_of(kind: ErrorKind) -> Notice
     }
 }
 
-/// What a message adds about a file that cannot be written; empty where there is nothing to add.
+/// What a message adds about a file that cannot be written, by the kind of the fault; empty where there is nothing to add.
 pub fn cause_of(kind: ErrorKind) -> &'static str {
     match notice_of(kind) {
         Notice::NoSpace => ": no space",

@@ -11,7 +11,7 @@ use bx_wire::Host;
 use std::alloc::{AllocError, Global};
 use std::rt::Files;
 
-/// The exit status of a refusal that was reported before.
+/// The exit status of a refusal whose cause was told before.
 const REFUSED: u8 = 1;
 
 /// FILE, and where its sessions are.
@@ -114,7 +114,7 @@ impl Edited {
         self.destination.path.as_str()
     }
 
-    /// Repairs FILE after saves of ended sessions that were cut off. Returns whether FILE is whole.
+    /// Repairs FILE after saves of ended sessions that were cut off. Returns false if FILE is still torn.
     pub fn mend<H: Host>(&self, around: Around<'_>, host: &mut H) -> Result<bool, Stop> {
         let Some(sessions) = &self.sessions_folder.sessions else {
             return Ok(true);
@@ -161,8 +161,8 @@ impl Edited {
         saving.map_err(|fault| Stop::of_file(alloc, fault))
     }
 
-    /// Finds FILE, and refuses one that is not a plain file, and, unless that is forced, one that cannot be read or saved.
-    /// Repairs it.
+    /// Finds and repairs FILE. Refuses one that is not a plain file and, unless that is forced, one that cannot be read or saved,
+    /// or that is still torn.
     ///
     /// Errors: the refusal; `Gone`; `OutOfMemory`.
     pub fn check<H: Host>(

@@ -23,7 +23,7 @@ fn check_terminal(around: Around<'_>) -> Result<(), Stop> {
     }
 }
 
-/// Has the host start the program.
+/// Has the host start the program: its words, the title, the permissions that new files never get, the first notice, go.
 fn start<R: Read + Drop, W: Write + Drop>(
     wire: &mut Wire<R, W>,
     running: &Running<'_>,
@@ -67,7 +67,7 @@ fn run<R: Read + Drop, W: Write + Drop, P: Replayer>(
     }
 }
 
-/// Edits FILE with a session that goes on, or a new one.
+/// Edits FILE with a session that goes on (`taken`, whose file may be a new one beside FILE), or with a new session.
 fn edit_with<R: Read + Drop, W: Write + Drop, P: Replayer>(
     around: Around<'_>,
     wire: &mut Wire<R, W>,

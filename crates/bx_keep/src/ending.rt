@@ -15,11 +15,11 @@ use bx_sessions::{Kept, Look, Mended, Part, forget_dropped, mend, read_plain};
 use bx_wire::Host;
 use std::rt::Files;
 
-/// The message about a journal without its end.
+/// What the message about a kept session adds where its journal lacks its end.
 const CUT: &str = " up to where its journal could not be written";
 
-/// The largest journal whose text is put beside the keys after a signal, in bytes. Larger ones take too long for an end that is
-/// awaited.
+/// The largest journal, in bytes, that is replayed after a signal, to put its text beside the keys. Larger ones take too long
+/// for an end that is awaited: 100,000 keys may take ten seconds.
 const QUICK: u64 = 20_000;
 
 impl Running<'_> {
@@ -49,7 +49,7 @@ impl Running<'_> {
         }
     }
 
-    /// Whether FILE is no longer as the program read it.
+    /// Whether FILE is there, and no longer as the program read it.
     fn was_saved(&self) -> bool {
         match self.around.rt.metadata(self.edited.path()) {
             Ok(found) => self.look != Some(Look::of(&found)),
@@ -77,7 +77,8 @@ impl Running<'_> {
         }
     }
 
-    /// Repairs FILE after a save into it that was cut off. Returns whether FILE is still torn.
+    /// Repairs FILE after a save into it that was cut off. Returns whether FILE is still torn; where the session cannot be read,
+    /// whether it has a mark.
     fn mend<H: Host>(&self, host: &mut H, kept: &Kept) -> Result<bool, Stop> {
         let around = self.around;
         let Some(sessions) = &self.edited.sessions_folder.sessions else {
@@ -103,7 +104,7 @@ impl Running<'_> {
         status != 0 && !self.ended.as_ref().is_some_and(Ended::is_refusal)
     }
 
-    /// Tells that what was typed is not kept, if it was not saved.
+    /// Tells that what was typed is not kept, if there may be unsaved text. `cause` follows the word "since".
     fn tell_lost<H: Host>(&self, host: &mut H, status: u64, cause: &str) -> Result<(), Stop> {
         if !self.had_unsaved(status) {
             return Ok(());
@@ -148,7 +149,8 @@ impl Running<'_> {
             || (status != 0 && kept.session.has(self.around.rt, Part::Unsaved))
     }
 
-    /// What is known of the session. Fills it if its text waits for room, and leaves its text beside the keys.
+    /// What is known of the session, to settle its fate. On the way fills it if its text waits for room, and leaves the replayed
+    /// text in it.
     fn left<P: Replayer>(&mut self, kept: &Kept, status: u64, is_torn: bool, replayer: &P) -> Left {
         let has_unsaved = self.has_unsaved(kept, status);
         let is_filled = (has_unsaved || is_torn) && self.fill_at_end(kept);
@@ -213,7 +215,8 @@ impl Running<'_> {
         Ok(())
     }
 
-    /// Notes that the journal lacks its end. A full disk may still have room for another name.
+    /// Notes that the journal lacks its end, if it could not be written: by the part `Cut`, which on a full disk is a second name
+    /// of the part `Begin`, as there may be room for a name.
     fn note_cut(&self, kept: &Kept) {
         if !self.is_journal_lost || kept.session.note_that(self.around.rt, Part::Cut).is_ok() {
             return;
@@ -240,7 +243,7 @@ impl Running<'_> {
             .still_has(self.around.rt, files.as_slice())
     }
 
-    /// Replays the session, unless that takes too long, or other tables may make another text.
+    /// Replays the session; None if that fails, takes too long (`QUICK`), or other tables may make another text.
     fn replay<P: Replayer>(&self, kept: &Kept, replayer: &P) -> Option<Replay> {
         let is_long = self.signal.is_some() && self.journal_size(kept) > QUICK;
         if is_long || !self.has_same_tables() {
@@ -251,7 +254,8 @@ impl Running<'_> {
             .ok()
     }
 
-    /// Leaves the session's text beside its keys, for a recovery by another version. Whether FILE has the same text.
+    /// Leaves the session's text beside its keys, for a recovery by another version. Returns whether FILE has the same text;
+    /// false where the keys were not replayed.
     fn leave_text<P: Replayer>(&self, kept: &Kept, replayer: &P) -> bool {
         let Some(replayed) = self.replay(kept, replayer) else {
             return false;
@@ -291,7 +295,7 @@ impl Running<'_> {
         self.tell(host, line.as_str())
     }
 
-    /// Tells what is kept, and how it is had back.
+    /// Tells what is kept (`what` begins the line), and the command that gets it back (`behind` ends the line).
     fn tell_kept<H: Host>(&self, host: &mut H, what: &str, behind: &str) -> Result<(), Stop> {
         let file = Shown(self.edited.file());
         let part = if self.is_journal_lost { CUT } else { "" };

@@ -63,7 +63,7 @@ impl Ended {
         }
     }
 
-    /// The message, with the name of the program whose fault it is.
+    /// The message, which begins with `bidi-edit` where FILE is refused, else with the program's own name, `bidi_edit`.
     pub fn line(&self, rt: &HostRuntime, file: &str) -> Result<String, Stop> {
         let alloc = rt.alloc();
         if let Some(fault) = self.refusal(rt, file) {

@@ -3,10 +3,10 @@
 use std::alloc::{AllocError, Global};
 use std::rt::Files;
 
-/// How many names are tried. The next one is returned untried.
+/// The numbers in names are below this; the last name is returned untried.
 const TRIES: u32 = 10_000;
 
-/// Whether a path is free, also of a link that leads nowhere.
+/// Whether nothing is at a path, not even a link that leads nowhere.
 pub fn is_free(rt: &HostRuntime, path: &str) -> bool {
     rt.symlink_metadata(path).is_err()
 }

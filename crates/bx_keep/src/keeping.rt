@@ -11,7 +11,7 @@ use std::io;
 use std::os::unix::fs::MetadataExt;
 use std::rt::Files;
 
-/// How often FILE is copied, where the copy is not what the program read.
+/// How often FILE is copied at most, where the copy is not what the program read.
 const TRIES: u32 = 2;
 
 /// The bits of a mode that a session notes: no set-ID and sticky bits.
@@ -31,7 +31,7 @@ pub enum Text {
     Waiting(Vec<u8>),
     /// FILE was changed before it could be copied, so the session cannot be kept.
     Lost,
-    /// No session is kept. Whether all its lines ended with CR LF.
+    /// No session is kept. Whether FILE had lines, and all ended with CR LF.
     Unkept(bool),
 }
 
@@ -42,7 +42,7 @@ struct AsRead<'a> {
     rt: &'a HostRuntime,
     /// FILE's path.
     path: &'a str,
-    /// FILE, opened before the program started: a save that replaces FILE leaves its bytes in it.
+    /// FILE, opened before the program started: where a save replaces FILE, the old bytes are still there.
     handle: Option<&'a File>,
     /// FILE's look, as the program said.
     look: Look,
@@ -71,7 +71,7 @@ impl AsRead<'_> {
     }
 }
 
-/// FILE's text in memory, until there is room for it.
+/// FILE's text in memory, until there is room for it; the empty text if `read` is None.
 fn wait(around: Around<'_>, read: Option<&AsRead<'_>>) -> Text {
     match read {
         None => Text::Waiting(Vec::new(around.alloc())),
@@ -82,7 +82,8 @@ fn wait(around: Around<'_>, read: Option<&AsRead<'_>>) -> Text {
     }
 }
 
-/// Whether all lines of FILE end with CR LF.
+/// Whether FILE, as the program read it, has lines and all end with CR LF; false where there is no FILE, or it cannot be read
+/// so any more.
 fn has_all_crlf(read: Option<&AsRead<'_>>) -> bool {
     match read {
         None => false,
@@ -93,7 +94,8 @@ fn has_all_crlf(read: Option<&AsRead<'_>>) -> bool {
     }
 }
 
-/// Fills a session from a source.
+/// Fills a session with the text of a source, and notes what is known of FILE. Returns the look of the copied file, if the
+/// source is one.
 pub fn fill(
     around: Around<'_>,
     edited: &Edited,
@@ -144,7 +146,7 @@ fn copy(
     Text::Lost
 }
 
-/// Opens FILE before the program starts, whose saves may replace it. None where the session has its text, or FILE cannot be read.
+/// Opens FILE before the program starts, since saves may replace it. None where the session has its text, or FILE cannot be read.
 pub fn open_early(around: Around<'_>, edited: &Edited, begun: &Begun) -> Option<File> {
     if begun.is_resumed {
         return None;
@@ -152,7 +154,8 @@ pub fn open_early(around: Around<'_>, edited: &Edited, begun: &Begun) -> Option<
     open_plain(around.rt, edited.path()).ok()
 }
 
-/// Keeps the text that the program read, as it said. `handle` is what `open_early` gave.
+/// Keeps the text that the program read. `handle` is what `open_early` gave, `look` FILE's look as the program said; None if FILE
+/// was not there.
 pub fn keep_text(
     around: Around<'_>,
     edited: &Edited,

@@ -55,7 +55,7 @@ fn tell_session<H: Host>(around: Around<'_>, host: &mut H, session: &Session) ->
     Ok(())
 }
 
-/// The folder of sessions at a path, if it is there and used.
+/// The folder of sessions at a path; None if it is not there or cannot be used. Tells of one that others could change.
 fn open_folder<H: Host>(
     around: Around<'_>,
     host: &mut H,
@@ -76,7 +76,7 @@ fn open_folder<H: Host>(
     }
 }
 
-/// Tells of the sessions in a folder.
+/// Tells of those sessions in a folder that are the user's and may have unsaved text.
 fn list_folder<H: Host>(around: Around<'_>, host: &mut H, sessions: &Sessions) -> Result<(), Stop> {
     let Ok(all) = sessions.all(around.rt) else {
         return Ok(());
@@ -138,7 +138,7 @@ fn tell_all_forgotten<H: Host>(
     Ok(removed.len())
 }
 
-/// Removes the ended sessions of FILE.
+/// Removes the ended sessions of FILE, and tells of each; returns their number.
 fn forget_file<H: Host>(around: Around<'_>, host: &mut H, file: &str) -> Result<usize, Stop> {
     let edited = Edited::find_lost(around, host, file)?;
     let Some(sessions) = &edited.sessions_folder.sessions else {
@@ -151,7 +151,7 @@ fn forget_file<H: Host>(around: Around<'_>, host: &mut H, file: &str) -> Result<
     }
 }
 
-/// Removes the ended sessions of all files.
+/// Removes the ended sessions of all files, and tells of each; returns their number.
 fn forget_all<H: Host>(around: Around<'_>, host: &mut H) -> Result<usize, Stop> {
     let surroundings = around.start.surroundings();
     let folders = all_folders(around.rt, &surroundings)?;
@@ -167,7 +167,7 @@ fn forget_all<H: Host>(around: Around<'_>, host: &mut H) -> Result<usize, Stop> 
     Ok(count)
 }
 
-/// Removes dropped and ended sessions, of FILE or of all files, and tells what it removed.
+/// Removes dropped and ended sessions, of FILE or, where `file` is None, of all files, and tells what it removed.
 pub fn forget_sessions<H: Host>(
     around: Around<'_>,
     host: &mut H,

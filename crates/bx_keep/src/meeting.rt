@@ -15,9 +15,9 @@ use bx_wire::Host;
 /// What came of meeting FILE's sessions.
 #[derive(Drop)]
 pub struct Met {
-    /// The session that goes on.
+    /// The session that goes on; None if FILE is opened without one.
     pub taken: Option<Taken>,
-    /// The user was asked, which takes time.
+    /// The user was asked, so that FILE may have changed meanwhile.
     pub was_asked: bool,
 }
 
@@ -25,12 +25,12 @@ pub struct Met {
 enum Try {
     /// It is settled which session goes on, if any.
     Met(Met),
-    /// Another start of the editor has the session by now.
+    /// Another start of the editor has the session by now, so the sessions are looked for again.
     Again,
 }
 
-/// Tells that another window of the user's may have FILE open, and asks whether to go on. Only the user's own sessions are
-/// found.
+/// Tells that another window of the user's has FILE open (`is_live`), or may have it open where that cannot be seen from here,
+/// and asks whether to go on. Only the user's own sessions are found.
 pub fn ask_beside<H: Host>(
     around: Around<'_>,
     host: &mut H,
@@ -66,7 +66,7 @@ pub fn ask_beside<H: Host>(
     ask_to_go_on(host, alloc, "Edit it all the same")
 }
 
-/// Asks whether to go on beside a session that runs or may run; whether there was one to ask about.
+/// Asks whether to go on beside a session that runs or may run. Returns whether there was one to ask about.
 pub fn ask_beside_live<H: Host>(
     around: Around<'_>,
     host: &mut H,
@@ -118,7 +118,7 @@ fn ask_what_to_do<H: Host, P: Replayer>(
     })
 }
 
-/// Tells that a session was missed.
+/// Tells that another start of the editor took the session first.
 pub fn tell_missed<H: Host>(around: Around<'_>, host: &mut H) -> Result<(), Stop> {
     let line = "another start of the editor has that session by now";
     Ok(tell(host, around.alloc(), line)?)
@@ -158,9 +158,9 @@ fn meet_once<'a, H: Host, P: Replayer>(
     }
 }
 
-/// Asks about FILE's other sessions before FILE is opened.
+/// Asks about FILE's other sessions before FILE is opened, until it is settled which goes on, if any.
 ///
-/// Errors: what ends the start.
+/// Errors: what ends the start, as a no of the user.
 pub fn meet<H: Host, P: Replayer>(
     around: Around<'_>,
     host: &mut H,

@@ -11,13 +11,13 @@ const PERMISSIONS: u32 = 0o777;
 /// The bits of a mode for all but the owner.
 const FOR_OTHERS: u32 = 0o077;
 
-/// The permissions that no new file of the program gets, so that a recovered one is never wider than it was. The owner's stay,
-/// which the program needs.
+/// The permissions that no new file of the program gets (its umask), where FILE had `mode`: all that FILE did not give to
+/// others than its owner. The owner's are never among them: the program needs them.
 pub fn mask_for(mode: u32) -> u32 {
     !mode & FOR_OTHERS
 }
 
-/// Whether a new plain file has these permissions to get: it has one name, and others.
+/// Whether a file is to get these permissions: a plain file with one name, whose own permissions differ.
 fn wants(found: &Metadata, mode: u32) -> bool {
     found.is_file() && found.nlink() == 1 && found.mode() & PERMISSIONS != mode & PERMISSIONS
 }

@@ -11,7 +11,7 @@ use bx_wire::Host;
 use std::alloc::{AllocError, Global};
 use std::io::ErrorKind;
 
-/// The parts that are kept, the ends of their names, and what they are.
+/// The parts that are kept, the ends of their names (FILE.ENDING), and what messages call them.
 const PARTS: [(Part, &str, &str); 4] = [
     (Part::Text, "session-text", "the text as it was opened"),
     (Part::Journal, "session-journal", "the keys"),
@@ -34,7 +34,7 @@ pub fn unwritten(alloc: Global, path: &str, kind: ErrorKind) -> Result<Stop, All
     Ok(Stop::fault(alloc, line.as_str()))
 }
 
-/// The fault of a session's part that cannot be read.
+/// The fault of a session's part that cannot be read; `what` the part is, as in `PARTS`.
 fn unread(alloc: Global, session: &Session, what: &str) -> Result<Stop, AllocError> {
     let folder = Shown(session.path());
     let line = format!(in alloc;

@@ -35,7 +35,7 @@ fn check_bytes(rt: &HostRuntime, file: &str) -> Result<(), Stop> {
     Err(Stop::of_file(alloc, fault))
 }
 
-/// Has the host become the printing program.
+/// Has the host become the printing program. `columns`: of the terminal on standard output, 0 if it is none.
 ///
 /// Errors: a FILE that cannot be printed; `Gone`; `OutOfMemory`.
 pub fn print<R: Read + Drop, W: Write + Drop>(

@@ -1,4 +1,5 @@
-//! What the program says: the words that the host hands on from the program's standard error.
+//! What the program says: the words that the host hands on from the program's standard error, as `bidi_edit/src/telling.rt`
+//! writes them.
 
 use bx_sessions::Look;
 use std::str;
@@ -75,7 +76,7 @@ pub fn read_program_word(word: &[u8]) -> Option<ProgramWord<'_>> {
     match str::from_utf8(word).ok()? {
         "o -" => Some(ProgramWord::Opened(None)),
         "o changed" => Some(ProgramWord::Changed),
-        // the program may say it without a line
+        // the program does not always know the line: the first one is told then
         "f not-utf8" => Some(ProgramWord::Fault(Fault::NotUtf8(1))),
         "j lost" => Some(ProgramWord::JournalLost),
         "j kept" => Some(ProgramWord::JournalKept),

@@ -17,10 +17,10 @@ use bx_cli::Shown;
 use bx_sessions::{Found, LockFault, Part, Session, Sessions, find, write_new_file};
 use bx_wire::Host;
 
-/// The exit status of a refusal that was reported before.
+/// The exit status of a refusal whose cause was told before.
 const REFUSED: u8 = 1;
 
-/// The sessions of FILE, for a recovery.
+/// The sessions of the file at a path, for a recovery. Errors: a folder of sessions that cannot be read.
 fn find_all(around: Around<'_>, sessions: &Sessions, path: &str) -> Result<Found, Stop> {
     let target = around.target(path);
     match find(around.rt, sessions, &target, around.here) {
@@ -32,7 +32,7 @@ fn find_all(around: Around<'_>, sessions: &Sessions, path: &str) -> Result<Found
     }
 }
 
-/// The fault of a FILE without a session to recover.
+/// The fault of a FILE without a session to recover; where `is_live`, its only session is still running.
 fn no_session(around: Around<'_>, edited: &Edited, is_live: bool) -> Result<Stop, Stop> {
     let alloc = around.alloc();
     let file = Shown(edited.file());
@@ -74,7 +74,7 @@ fn is_none_here(found: &Found) -> bool {
     found.unfinished.is_none() && found.dropped.is_none()
 }
 
-/// Picks a session: an unfinished one, else one whose changes were dropped, else one of another machine.
+/// Picks a session: an unfinished one, else one whose changes were dropped, else one of another machine. Errors: `no_session`.
 fn pick(around: Around<'_>, edited: &Edited, found: Found) -> Result<Session, Stop> {
     let Found {
         live,
@@ -183,7 +183,8 @@ fn text_of<H: Host, P: Replayer>(
     }
 }
 
-/// The session whose text is stored elsewhere, which is locked.
+/// The session whose text is stored as another file. One of another machine is refused: only `--recover` without `--to` asks
+/// whether it has ended.
 fn session_to_store(around: Around<'_>, edited: &Edited, found: Found) -> Result<Session, Stop> {
     let alloc = around.alloc();
     let is_elsewhere = is_none_here(&found);
@@ -198,9 +199,9 @@ fn session_to_store(around: Around<'_>, edited: &Edited, found: Found) -> Result
     Ok(session)
 }
 
-/// Stores the text of FILE's session as a new file. The session stays.
+/// Stores the text of FILE's session as the new file `other`. The session stays.
 ///
-/// Errors: what cannot be done.
+/// Errors: where there is no session, `other` is there already, or its text cannot be had or stored.
 pub fn recover_elsewhere<H: Host, P: Replayer>(
     around: Around<'_>,
     host: &mut H,
@@ -225,7 +226,7 @@ pub fn recover_elsewhere<H: Host, P: Replayer>(
     store_session(around, host, &edited, &session, other, replayer)
 }
 
-/// Stores the text of a session as a new file.
+/// Stores the text of a session, locked meanwhile, as a new file, and tells so.
 fn store_session<H: Host, P: Replayer>(
     around: Around<'_>,
     host: &mut H,
@@ -246,7 +247,7 @@ fn store_session<H: Host, P: Replayer>(
     };
     let text = text_of(around, host, edited, session, replayer)?;
     let keys = number_of_keys(around, session);
-    // a session that does not tell FILE's permissions: for the user alone
+    // a session whose note of FILE's permissions cannot be read: for the user alone
     let mode = session.mode(around.rt).unwrap_or(0o600);
     store(around, other, text.as_slice(), mode)?;
     let (file, other) = (Shown(edited.file()), Shown(other));

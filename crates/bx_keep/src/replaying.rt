@@ -1,4 +1,4 @@
-//! Replays of a session's keys, which the keeper has done for it through a trait.
+//! Replays of a session's keys, as a trait, by which the program `bidi_keep` lends the keeper the editor.
 
 use crate::around::Around;
 use bx_sessions::Session;
@@ -8,7 +8,7 @@ use bx_sessions::Session;
 pub enum FoundText {
     /// The session's text.
     Same,
-    /// The text as it was opened, or one that the session saved.
+    /// The text as it was opened, or one that the session saved, or no FILE: no other's text can be lost by a save.
     Known,
     /// Another text.
     Foreign,
@@ -17,7 +17,7 @@ pub enum FoundText {
 /// A session's text after its keys, and what FILE has beside it.
 #[derive(Drop)]
 pub struct Replay {
-    /// What FILE has beside it.
+    /// What FILE has.
     pub found: FoundText,
     /// The text after the keys.
     pub text: Vec<u8>,
@@ -26,7 +26,7 @@ pub struct Replay {
 /// Why a session's keys cannot be replayed.
 #[derive(Clone, Copy, PartialEq, Eq, Debug)]
 pub enum ReplayFault {
-    /// A part of it is missing, or has another form than a session's.
+    /// A part of the session is missing, or has another form than a session's.
     Unreadable,
     OutOfMemory,
 }

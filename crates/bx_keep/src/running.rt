@@ -29,21 +29,21 @@ pub struct Running<'a> {
     pub begun: Begun,
     /// The text as it was opened.
     pub text: Text,
-    /// FILE, opened before the program started; None once the session has its text.
+    /// FILE, opened before the program started; None if that failed or was not needed, and once the program said what it read.
     handle: Option<File>,
-    /// FILE as the program read it; None if it was not there.
+    /// FILE as the program read it; None if it was not there, or the program has not said yet.
     pub look: Option<Look>,
-    /// Why the program ended, as it said.
+    /// Why the program ended, as it said; None if it said nothing of that.
     pub ended: Option<Ended>,
     /// The journal could not be written, and is not whole again.
     pub is_journal_lost: bool,
-    /// The signal that ended the host.
+    /// The number of the signal that ended the host; None if none did.
     pub signal: Option<u64>,
-    /// Why no copy of what is typed is kept, as the user has read.
+    /// Why no copy of what is typed is kept, as the user was told last; None if one is kept, or the user wants none.
     pub trouble: Option<Notice>,
     /// There was room for keys a second ago, while the journal was lost already; else false.
     pub had_room: bool,
-    /// The size of the journal on the disk, in bytes.
+    /// The size of the journal when it was last synced, in bytes; 0 before the first time.
     pub synced: u64,
 }
 
@@ -56,7 +56,7 @@ fn first_text(begun: &Begun) -> Text {
     }
 }
 
-/// Why no copy is kept, at first; None where the user wants none.
+/// Why no copy is kept, at first; None where one is, or the user wants none.
 fn first_trouble(begun: &Begun) -> Option<Notice> {
     match &begun.unkept {
         Some(unkept) if !begun.is_unwanted => Some(unkept.notice),
@@ -64,7 +64,8 @@ fn first_trouble(begun: &Begun) -> Option<Notice> {
     }
 }
 
-/// Syncs a journal, with its name at first. Returns whether it is on the disk; what is not is tried again.
+/// Syncs a journal, and the first time also the session's folder, which has the journal's name. Returns whether the journal is
+/// on the disk; if not, the next second tries again.
 fn sync_journal(rt: &HostRuntime, kept: &Kept, is_first: bool) -> bool {
     if is_first {
         // the journal's name is there, even if its folder is not synced
@@ -111,7 +112,7 @@ impl<'a> Running<'a> {
         Ok(title_of(self.around.alloc(), self.edited.file(), self.note())?)
     }
 
-    /// Keeps the text that the program read, unless the session has its own.
+    /// Keeps the text that the program read, unless the session goes on and so has its text.
     fn take_look(&mut self, look: Option<Look>) {
         self.look = look;
         let handle = self.handle.take();
@@ -143,7 +144,7 @@ impl<'a> Running<'a> {
         Ok(())
     }
 
-    /// Whether the session's folder is there, and is its own.
+    /// Whether the session's folder is still there, and not another one by its name.
     pub fn is_there(&self, kept: &Kept) -> bool {
         kept.session.is_there(self.around.rt)
     }
@@ -194,7 +195,7 @@ impl<'a> Running<'a> {
         }
     }
 
-    /// Syncs the journal, if it has grown. Returns the size on the disk.
+    /// Syncs the journal, if its size changed. Returns its size on the disk, in bytes.
     fn synced_size(&self) -> u64 {
         let Some(kept) = &self.begun.kept else {
             return 0;
@@ -215,7 +216,8 @@ impl<'a> Running<'a> {
         }
     }
 
-    /// The title's note.
+    /// The title's note: `UNKEPT` where no session has the text; `LOST` where one has it, or is about to get it, and keys are not
+    /// kept at the moment; empty where all is kept.
     fn note(&self) -> &'static str {
         match &self.text {
             _ if self.begun.is_unwanted => UNKEPT,
@@ -226,7 +228,7 @@ impl<'a> Running<'a> {
         }
     }
 
-    /// Has the program try its journal again, once there is room for it again.
+    /// Has the program try its journal again, once each time that there is room again.
     fn ask_again<R: Read + Drop, W: Write + Drop>(
         &mut self,
         wire: &mut Wire<R, W>,
@@ -273,7 +275,7 @@ impl<'a> Running<'a> {
         Ok(wire.say(Said::Done, "")?)
     }
 
-    /// Takes a message in. Returns the program's exit status, if it has ended.
+    /// Takes a message in. Returns the program's exit status, if it has ended; 1 where the host tells no number.
     fn take<R: Read + Drop, W: Write + Drop>(
         &mut self,
         wire: &mut Wire<R, W>,

@@ -38,7 +38,7 @@ fn no_tables(rt: &HostRuntime) -> Tables {
     }
 }
 
-/// The version of the editor, where sessions may be replayed.
+/// The version of the editor with its files, where sessions may be replayed; for other calls without files.
 fn versions_for(rt: &HostRuntime, call: &Call, tables: &Tables) -> Result<Versions, Stop> {
     match call {
         Call::List | Call::Forget(_) => no_versions(rt),
@@ -46,7 +46,7 @@ fn versions_for(rt: &HostRuntime, call: &Call, tables: &Tables) -> Result<Versio
     }
 }
 
-/// Tells the versions.
+/// Tells the versions of the editor, the toolchain and Unicode.
 fn tell_version<H: Host>(rt: &HostRuntime, host: &mut H, start: &Start) -> Result<(), Stop> {
     let tables = tables_of(rt, start, true)?;
     let classes = match fs::read(rt, tables.classes.as_str()) {
@@ -58,7 +58,7 @@ fn tell_version<H: Host>(rt: &HostRuntime, host: &mut H, start: &Start) -> Resul
     Ok(())
 }
 
-/// Tells that XDG_STATE_HOME is passed over, where it is not absolute.
+/// Tells that XDG_STATE_HOME is passed over, if it is set and not absolute.
 fn settle_state<H: Host>(rt: &HostRuntime, host: &mut H, start: &Start) -> Result<(), Stop> {
     let surroundings = start.surroundings();
     let (true, Some(path)) = (surroundings.has_relative_state(), surroundings.state_home) else {
@@ -71,7 +71,7 @@ fn settle_state<H: Host>(rt: &HostRuntime, host: &mut H, start: &Start) -> Resul
     Ok(warn(host, rt.alloc(), line.as_str())?)
 }
 
-/// Whether letters are to be shown apart.
+/// Whether letters are to be shown apart; true also for calls that show none.
 fn is_unjoined(call: &Call) -> bool {
     match call {
         Call::Edit(call) => call.options.is_unjoined,

@@ -17,11 +17,11 @@ pub struct SessionsFolder {
     pub path: Option<String>,
     /// The judged folder; None if it is not there, or is not to be trusted.
     pub sessions: Option<Sessions>,
-    /// Why no session can be kept.
+    /// Why no session can be kept; None if one can, or if the folder is not made yet.
     pub unkept: Option<Unkept>,
 }
 
-/// Why no session can be kept in a folder.
+/// Why no session can be kept in the folder at a path, by its fault.
 pub fn unkept_by(alloc: Global, path: &str, fault: &FolderFault) -> Result<Unkept, AllocError> {
     let notice = match fault {
         FolderFault::Distrusted(folder) => {
@@ -37,7 +37,7 @@ pub fn unkept_by(alloc: Global, path: &str, fault: &FolderFault) -> Result<Unkep
     Unkept::new(alloc, unwritable(alloc, path)?.as_str(), notice)
 }
 
-/// Why no session can be kept in a folder in which nothing can be made.
+/// Why no session can be kept in the folder at a path, in which nothing can be made.
 pub fn unwritable(alloc: Global, path: &str) -> Result<String, AllocError> {
     let path = Shown(path);
     format!(in alloc; "nothing can be written in {path}")

@@ -17,7 +17,8 @@ pub struct Window {
 /// The window where the host tells none: as large as a VT100's.
 const USUAL_WINDOW: Window = Window { rows: 24, cols: 80 };
 
-/// What the host says at the start. A variable that is not UTF-8 counts as not set.
+/// What the host says at the start. Where a field's comment is the name of a variable of the environment, the field is its
+/// value; a value that is not UTF-8 counts as not set, but for BIDI_EDIT_DATA.
 #[derive(Drop)]
 pub struct Start {
     /// The words of the command line.
@@ -53,7 +54,7 @@ fn text_of(alloc: Global, message: Message) -> String {
     String::from_utf8(message.text).unwrap_or(String::new(alloc))
 }
 
-/// The window that the words `ROWS COLUMNS` name.
+/// The window that the words `ROWS COLUMNS` of a message name; None if they are others.
 fn window_of(message: &Message) -> Option<Window> {
     let (rows, cols) = message.str()?.split_once(' ')?;
     Some(Window {
@@ -105,7 +106,7 @@ impl Start {
         Ok(())
     }
 
-    /// Takes a message in.
+    /// Takes a message in. Errors: `Gone` for one that is not said at the start.
     fn take(&mut self, alloc: Global, message: Message) -> Result<(), Stop> {
         match message.heard {
             Heard::Word => self.words.push(message.text)?,
@@ -153,7 +154,7 @@ impl Start {
     }
 }
 
-/// The user's number.
+/// The user's number that a message tells. Errors: `Gone` if it tells none.
 fn user_of(message: &Message) -> Result<u32, Stop> {
     match message.str() {
         Some(text) => text.parse().map_err(|_| Stop::Gone),

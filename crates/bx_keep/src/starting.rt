@@ -1,4 +1,4 @@
-//! The program's command line, and the terminal's title.
+//! The program's command line, in the options of `bx_command/src/words.rt`, and the terminal's title.
 
 use crate::around::Around;
 use crate::beginning::Begun;
@@ -12,13 +12,13 @@ use std::io;
 /// The title's note where unsaved text is not kept.
 pub const UNKEPT: &str = " (unsaved text is not kept)";
 
-/// The title's note where the journal cannot be written.
+/// The title's note where the session has the text as opened, and keys are not kept at the moment.
 pub const LOST: &str = " (what is typed is not kept now: save it)";
 
 /// The text in place of a FILE that cannot be read.
 const EMPTY: &str = "/dev/null";
 
-/// The text of the title.
+/// The text of the terminal's title: FILE's last name, the main keys (`^S` is Ctrl-S), and a note.
 pub fn title_of(alloc: Global, file: &str, note: &str) -> Result<String, AllocError> {
     let name = match file.rsplit_once('/') {
         Some((_, name)) => name,
@@ -82,7 +82,7 @@ fn add_part(
     Ok(add_option(alloc, words, option, path.as_str())?)
 }
 
-/// Adds the words that name the session's files.
+/// Adds the words that name the session's files, and that its text counts as unsaved.
 fn add_session(
     around: Around<'_>,
     words: &mut Vec<String>,

@@ -1,19 +1,19 @@
-//! Why the keeper ends before the program starts.
+//! Why the keeper ends early: mostly before the program starts, later only without memory or host.
 
 use bx_launch::{FileFault, TablesFault, TerminalFault};
 use bx_wire::{HostFault, WireFault};
 use std::alloc::{AllocError, AllocFailed, Global};
 use std::fmt::Display;
 
-/// Why the keeper ends before the program starts.
+/// Why the keeper ends early: mostly before the program starts, later only without memory or host.
 #[derive(Debug, Drop)]
 pub enum Stop {
-    /// All is reported; the exit status.
+    /// The cause was told already; the exit status.
     Told(u8),
     /// A cause to report on standard error, and the exit status.
     Cause(String, u8),
     OutOfMemory,
-    /// The host is gone, or speaks otherwise.
+    /// The host is gone, or said what is not expected of it.
     Gone,
 }
 

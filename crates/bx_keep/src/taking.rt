@@ -19,10 +19,10 @@ use bx_wire::Host;
 use std::io::{self, ErrorKind};
 use std::rt::Files;
 
-/// The exit status where a torn FILE stays torn.
+/// The exit status where a torn FILE stays torn, which was told.
 const TORN: u8 = 1;
 
-/// The message about keys that may have another effect now.
+/// The message about a session without a snapshot, whose keys may make another text in this version of the editor.
 const UNSURE: &str =
     "an editor of another version, or with other tables, kept that session, and not its text: the keys may make another one now";
 
@@ -33,7 +33,7 @@ pub struct Taken {
     pub kept: Kept,
     /// FILE, or a new file beside it.
     pub file: String,
-    /// FILE, where it goes on with a new file.
+    /// FILE, where the session goes on with a new file; else None.
     pub aside_of: Option<String>,
 }
 
@@ -157,7 +157,7 @@ impl<P: Replayer> Taking<'_, P> {
         Ok(Outcome::Opened)
     }
 
-    /// The file that a session goes on with: FILE, or a new one beside it, if FILE has a foreign content.
+    /// The new file beside FILE that a session goes on with, if FILE has another's text; None if it goes on with FILE.
     fn file_of<H: Host>(&self, host: &mut H, found: FoundText) -> Result<Option<String>, Stop> {
         let around = self.around;
         let (alloc, file) = (around.alloc(), self.edited.file());
@@ -173,7 +173,8 @@ impl<P: Replayer> Taking<'_, P> {
         Ok(Some(beside))
     }
 
-    /// Notes in the session that it goes on, with FILE or with a new file beside it.
+    /// Notes in the session that it goes on, with the new file `beside`, or with FILE; then the part `Beside` is erased, if FILE
+    /// is the session's `Path`. What was noted of the last run and its end is erased too.
     fn note<H: Host>(
         &self,
         host: &mut H,
@@ -199,7 +200,7 @@ impl<P: Replayer> Taking<'_, P> {
         self.written(session.put_process(around.rt, &process))
     }
 
-    /// Goes on with a session on FILE, or on a new file beside it.
+    /// Goes on with a session on FILE, or, where FILE has another's text, on a new file beside FILE.
     fn go_on<H: Host>(&self, host: &mut H, kept: Kept, found: FoundText) -> Result<Outcome, Stop> {
         let beside = self.file_of(host, found)?;
         self.note(
@@ -233,7 +234,8 @@ impl<P: Replayer> Taking<'_, P> {
         self.take_by_keys(host, kept)
     }
 
-    /// Starts a new session from the text that a session left. All of it counts as unsaved.
+    /// Starts a new session from the text that a session left (`Snapshot`), and removes the old one. The whole text counts as
+    /// unsaved.
     fn take_by_text<H: Host>(&self, host: &mut H, kept: Kept) -> Result<Outcome, Stop> {
         let around = self.around;
         let found = found_beside_text(around, &kept.session, self.edited.path());
@@ -262,7 +264,7 @@ impl<P: Replayer> Taking<'_, P> {
         self.go_on(host, renewed, found)
     }
 
-    /// Asks about a session whose keys cannot be replayed. It never keeps FILE from being opened.
+    /// Asks about a session whose keys cannot be replayed. FILE is opened in any case.
     fn ask_what_to_keep<H: Host>(&self, host: &mut H, session: &Session) -> Result<Outcome, Stop> {
         let alloc = self.around.alloc();
         let (file, folder) = (Shown(self.edited.file()), Shown(session.path()));
@@ -276,7 +278,7 @@ impl<P: Replayer> Taking<'_, P> {
     }
 }
 
-/// The kind of the system's fault, of a folder that cannot be used.
+/// The kind of the system's fault, of a folder that cannot be used; for one that is gone or distrusted the nearest kind.
 fn kind_of(fault: &FolderFault) -> ErrorKind {
     match fault {
         FolderFault::Io(error) => error.kind(),
@@ -285,7 +287,7 @@ fn kind_of(fault: &FolderFault) -> ErrorKind {
     }
 }
 
-/// Whether a session's path is this one.
+/// Whether a session notes this path as FILE's.
 fn is_of_path(around: Around<'_>, session: &Session, path: &str) -> bool {
     match session.note(around.rt, Part::Path) {
         Ok(Some(noted)) => noted.as_slice() == path.as_bytes(),
@@ -306,7 +308,7 @@ pub fn tell_cut<H: Host>(around: Around<'_>, host: &mut H, session: &Session) ->
     Ok(tell(host, alloc, line.as_str())?)
 }
 
-/// Tells of keys that may be replayed otherwise.
+/// Tells that the session's keys may make another text in this version of the editor.
 pub fn tell_unsure<H: Host>(around: Around<'_>, host: &mut H) -> Result<(), Stop> {
     Ok(tell(host, around.alloc(), UNSURE)?)
 }
@@ -319,9 +321,10 @@ fn has_bytes(around: Around<'_>, session: &Session, part: Part, bytes: &[u8]) ->
     }
 }
 
-/// What FILE has, beside the text that a session left.
+/// What FILE has, by the parts of a session that has a snapshot: that text, the opened or a saved one, or another.
 fn found_beside_text(around: Around<'_>, session: &Session, file: &str) -> FoundText {
     let Ok(bytes) = read_plain(around.rt, file) else {
+        // no FILE: no other's text is lost, so the session goes on with FILE itself
         return if around.rt.metadata(file).is_err() {
             FoundText::Known
         } else {

@@ -7,7 +7,7 @@ use bx_keys::Notice;
 use bx_sessions::{Kept, Part};
 use std::fs::{OpenFile, OpenOptions};
 
-/// Whether a cause is of a journal that cannot be written, which stays until the journal is kept again.
+/// Whether a cause told before may be one of a journal that cannot be written: it is told on until the journal is kept again.
 fn is_of_journal(notice: Notice) -> bool {
     !matches!(notice, Notice::FolderGone)
 }

@@ -1,4 +1,4 @@
-//! The version of the editor that keeps a session, since another one may replay its keys otherwise.
+//! The version of the editor that keeps a session, since the session's keys may make another text in another version.
 
 use crate::stop::Stop;
 use bx_launch::{Tables, VERSION};
@@ -41,7 +41,7 @@ fn look(rt: &HostRuntime, tables: &Tables) -> io::Result<Versions> {
     Versions::look(rt, VERSION, files.as_slice())
 }
 
-/// A version that kept no session, for what replays none.
+/// The version without any file, for calls that replay no session: it equals none that a session notes.
 pub fn no_versions(rt: &HostRuntime) -> Result<Versions, Stop> {
     match Versions::look(rt, VERSION, &[]) {
         Ok(versions) => Ok(versions),

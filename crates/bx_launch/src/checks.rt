@@ -8,7 +8,7 @@ use std::alloc::{AllocError, Global};
 use std::fs;
 use std::rt::Files;
 
-/// How many bytes longer than a file's name the name of its draft is: FILE.bx.
+/// How many bytes longer than a file's name the name of its first draft, FILE.bx, is.
 const DRAFT: u64 = 3;
 
 /// The longest name that most file systems take, where the system does not tell.
@@ -100,7 +100,8 @@ impl Destination {
         Ok(())
     }
 
-    /// The line that tells of files with names of drafts, which a killed save leaves; None if no such file is there.
+    /// The line that tells of files with names of drafts (`ENDINGS` of `bx_store/src/draft.rt`), which a killed save leaves; None
+    /// if no such file is there.
     pub fn leftovers(&self, rt: &impl Files, alloc: Global) -> Result<Option<String>, AllocError> {
         let target = self.target.as_str();
         let mut names = String::new(alloc);

@@ -18,7 +18,7 @@ pub struct Destination {
     pub file: String,
     /// The path that saves go to: FILE, or where its links lead.
     pub target: String,
-    /// The folder of the target, as a path from the same place.
+    /// The target's folder, relative or absolute as the target is.
     pub folder: String,
     /// The last name of the target.
     pub name: String,
@@ -39,7 +39,7 @@ fn split_path(path: &str) -> (&str, &str) {
     }
 }
 
-/// The path that the words of a link, which is at the path `link`, lead to.
+/// The path that a link leads to, which is at the path `link` and holds `words`.
 fn joined(alloc: Global, link: &str, words: &str) -> Result<String, AllocError> {
     match link.rsplit_once('/') {
         Some((folder, _)) if !words.starts_with('/') => format!(in alloc; "{folder}/{words}"),
@@ -79,7 +79,7 @@ fn followed(rt: &impl Files, alloc: Global, file: &str) -> Result<String, FileFa
     Err(FileFault::refused(alloc, file, FileCause::LeadsInCircle))
 }
 
-/// Refuses what is not a folder, or is not there.
+/// Refuses what is not a folder (`NotFolder`), or is not there (`NoFolder`).
 fn check_folder(rt: &impl Files, alloc: Global, folder: &str) -> Result<(), FileFault> {
     match kind_at(rt, folder) {
         Kind::Folder => Ok(()),

@@ -31,7 +31,8 @@ pub fn are_all_crlf(text: &[u8]) -> bool
     has_lines
 }
 
-/// The line about FILE's line ends, where its text was opened with CR LF alone and other line ends were put in since; else None.
+/// The line about FILE's line ends, where its text was opened with CR LF alone (`had_all_crlf`) and other line ends were put in
+/// since; else None.
 pub fn mixed_line(
     alloc: Global,
     file: &str,

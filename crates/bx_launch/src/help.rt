@@ -3,7 +3,7 @@
 use std::alloc::{AllocError, Global};
 use std::str;
 
-/// The editor's version.
+/// The editor's version, also told by CHANGELOG.md and docs/bidi_edit.1. Sessions note it (`Versions` of bx_sessions).
 pub const VERSION: &str = "0.4.0";
 
 /// The usage of the command line, without a line end.

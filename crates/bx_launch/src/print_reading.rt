@@ -45,7 +45,7 @@ enum Word<'a> {
     Name,
 }
 
-/// A word that begins with `-`, where it is an option with its value, as `--cols=72`.
+/// What a word is that begins with `-` and is no option by itself: one with its value, as `--cols=72`, or unknown.
 fn option_of(word: &[u8]) -> Word<'_> {
     if let Some(value) = word.strip_prefix(b"--cols=") {
         Word::Has(Valued::Columns, value)
@@ -142,7 +142,7 @@ impl<'a> Before<'a> {
     }
 }
 
-/// What all the words say, after these options.
+/// What all the words say; `options` were read before `--print`.
 fn before_of<'a>(words: &'a [Vec<u8>], options: Options) -> Result<Before<'a>, WordFault<'a>> {
     let mut before = Before {
         file: None,

@@ -1,4 +1,4 @@
-//! Printing: the check of a file, and the words of the printing program.
+//! Printing: the check of a file, and the words of the printing program, `bidi_print`.
 
 use crate::call::PrintCall;
 use crate::fault::{FileCause, FileFault};
@@ -13,7 +13,7 @@ use std::rt::Files;
 /// The columns of a row, where neither the command line nor a terminal tells.
 const USUAL_COLUMNS: u16 = 80;
 
-/// The columns of a row on a terminal of this width; 0 without a terminal.
+/// The columns of a row, from 1 to 500, on a terminal of `terminal` columns, which is 0 without a terminal.
 pub fn columns_on(terminal: u64) -> u16 {
     match u16::try_from(terminal) {
         Ok(0) => USUAL_COLUMNS,
@@ -41,7 +41,7 @@ pub fn check_print_file(
     Err(FileFault::refused(alloc, file, cause))
 }
 
-/// The words of the printing program, for a terminal of this many columns, 0 if there is none.
+/// The words of the printing program's command line, for a terminal of `terminal` columns, 0 if there is none.
 pub fn print_words(
     alloc: Global,
     call: &PrintCall,

@@ -72,7 +72,7 @@ enum Setting<'a> {
     Unknown(&'a [u8]),
 }
 
-/// A word that begins with `-`, where it is an option with its value, as `--line=7`.
+/// What a word is that begins with `-` and is no option by itself: one with its value, as `--line=7`, or unknown.
 fn setting_of(word: &[u8]) -> Setting<'_> {
     if let Some(value) = word.strip_prefix(b"--direction=") {
         Setting::Value(Valued::Direction, value)

@@ -13,7 +13,7 @@ is_parameter byte = is_within 0x30 0x39 byte || byte == 0x3b
 abbrev pub is_final : ℕ → Bool
 is_final byte = (is_within 0x41 0x5a byte || is_within 0x61 0x7a byte) || byte == 0x7e
 
--- a byte that begins a key
+-- what the last bytes are after a byte that begins a key
 abbrev pub behind_first : ℕ → After
 behind_first byte = if byte == 0x13 then Save else if byte == 0x1b then Escape false else Key
 
@@ -33,12 +33,12 @@ next Notice byte = if is_parameter byte then Notice else if is_final byte then K
 abbrev pub with_first : ℕ → ℕ → ℕ
 with_first count byte = if is_within 0x80 0xbf byte then count else count + 1
 
--- a sequence that ends with t reports a size: it is not a key, nor is the Save right before it; a notice is CSI, > and ends with
--- a tilde
+-- the keys without a size, a sequence that ends with t: it was counted as a key, and so was the Save right before it, if there
+-- is one (`saved`)
 abbrev pub without_size : Bool → ℕ → ℕ
 without_size saved count = if saved then count - 2 else count - 1
 
--- the keys with one more byte
+-- the keys with one more byte; sizes do not count, nor do notices, CSI > .. ~
 abbrev pub counted : After → ℕ → ℕ → ℕ
 counted Key count byte = with_first count byte
 counted Save count byte = with_first count byte
@@ -54,7 +54,7 @@ counted Notice count byte =
     else if is_final byte then count
     else with_first count byte
 
--- the keys with all these bytes
+-- the keys with all these bytes, after `count` keys
 abbrev pub keys_from : After → ℕ → List ℕ → ℕ
 keys_from after count [] = count
 keys_from after count (b ∷ bs) = keys_from (next after b) (counted after count b) bs

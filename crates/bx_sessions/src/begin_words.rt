@@ -26,7 +26,7 @@ fn name_of(direction: Base) -> &'static str {
 }
 
 impl Begin {
-    /// The words of a session's file.
+    /// The words of the part `Begin`: rows, columns, direction, and the line or `-`.
     pub fn words(&self, alloc: Global) -> Result<String, AllocError> {
         let (rows, cols) = (self.rows, self.cols);
         let direction = name_of(self.direction);
@@ -36,7 +36,7 @@ impl Begin {
         }
     }
 
-    /// What such words say; None if they are others.
+    /// What words of this form say; None if they have another form.
     pub fn parse(words: &str) -> Option<Begin> {
         let mut words = words.split_ascii_whitespace();
         let rows = words.next()?.parse().ok()?;

@@ -24,7 +24,7 @@ pub enum Belonging {
     OtherName,
     /// It opened this very file, which has another name now.
     Renamed,
-    /// It began with the file, under any name, and is not complete.
+    /// It began with the file, under any name, and is not complete: it has no part `Path` yet.
     Begun,
     /// It is of another file.
     Other,
@@ -73,7 +73,7 @@ fn if_utf8(answer: io::Result<Option<String>>) -> io::Result<Option<String>> {
 
 impl Session {
     /// The path of the file that the session is of: of the one beside FILE, once a recovery has saved that, else of FILE. None
-    /// if the session is not complete.
+    /// if the session is not complete, or the path is not UTF-8.
     pub fn file_path(&self, rt: &HostRuntime) -> io::Result<Option<String>> {
         let Some(path) = if_utf8(self.path_in(rt, Part::Path))? else {
             return Ok(None);
@@ -95,7 +95,7 @@ impl Session {
         })
     }
 
-    /// How the session belongs to a file. This takes two reads of small files for one of another file.
+    /// How the session belongs to a file. For a session of another file this reads three short parts: `Path`, `Beside`, `File`.
     pub fn belongs(&self, rt: &HostRuntime, target: &Target<'_>) -> io::Result<Belonging> {
         let Some(path) = self.file_path(rt)? else {
             return self.begins_with(rt, target);

@@ -5,7 +5,7 @@ use std::fs::Metadata;
 use std::os::unix::fs::MetadataExt;
 use std::time::{Duration, SystemTime};
 
-/// A file, whatever its names. A new file may get the inode of a removed one, and not its time of birth.
+/// A file, whatever its names. A new file may get the inode of a removed one, but not its time of birth.
 #[derive(Clone, Copy, PartialEq, Eq, Debug)]
 pub struct FileId {
     /// The number of the device that has its file system.
@@ -44,7 +44,7 @@ impl FileId {
         self.is_same(other) && self.birth.is_some() && self.birth == other.birth
     }
 
-    /// The words of a session's file: device, inode, and the seconds and nanoseconds of the birth, if known.
+    /// The words of the part `File`: device, inode, and the seconds and nanoseconds of the birth, if known.
     pub fn words(&self, alloc: Global) -> Result<String, AllocError> {
         let device = self.device;
         let inode = self.inode;
@@ -58,7 +58,7 @@ impl FileId {
         }
     }
 
-    /// The file that such words name; None if they are others.
+    /// The file that words of this form name; None if they have another form.
     pub fn parse(words: &str) -> Option<FileId> {
         let mut words = words.split_ascii_whitespace();
         let device = number_of(words.next())?;
@@ -78,7 +78,7 @@ impl FileId {
     }
 }
 
-/// A time of seconds and less than a second of nanoseconds.
+/// The time of this many seconds and nanoseconds; None if it is too long.
 fn birth_of(seconds: u64, nanos: u32) -> Option<Duration> {
     Duration::from_secs(seconds).checked_add(Duration::from_nanos(u64::from(nanos)))
 }

@@ -7,7 +7,7 @@ use crate::session::Session;
 use crate::sessions::Sessions;
 use std::io;
 
-/// The newest session of a file of each kind.
+/// Of each kind the newest session of a file; None if there is none.
 #[derive(Drop)]
 pub struct Found {
     /// An editor has it.
@@ -20,7 +20,7 @@ pub struct Found {
     pub dropped: Option<Session>,
 }
 
-/// What a session is.
+/// Who has a session, and what it holds.
 #[derive(Clone, Copy, PartialEq, Eq, Debug)]
 pub enum State {
     /// An editor has it.
@@ -35,7 +35,7 @@ pub enum State {
     Unfinished,
 }
 
-/// What a session is. `here` is this machine.
+/// The state of a session. `here` is this machine.
 ///
 /// Errors: `Io` if its process cannot be read.
 pub fn state_of(rt: &HostRuntime, session: &Session, here: &Machine) -> io::Result<State> {
@@ -65,7 +65,7 @@ impl Found {
         }
     }
 
-    /// Takes a session in, in place of an older one.
+    /// Takes a session in, in place of an older one of its kind; removes an empty one.
     fn take(&mut self, rt: &HostRuntime, session: Session, state: State) {
         match state {
             State::Live => self.live = Some(session),
@@ -80,7 +80,8 @@ impl Found {
     }
 }
 
-/// Whether a session in this state counts as the file's.
+/// Whether a session in this state counts as the file's. One that opened the file before it was renamed, or is not complete,
+/// counts only while an editor has it.
 fn counts(belonging: Belonging, state: State) -> bool {
     match belonging {
         Belonging::Path | Belonging::OtherName => true,
@@ -89,7 +90,7 @@ fn counts(belonging: Belonging, state: State) -> bool {
     }
 }
 
-/// Finds the newest session of a file of each kind. Those of the file that hold no unsaved text are removed.
+/// Finds of each kind the newest session of a file. Those of the file that hold no unsaved text are removed.
 ///
 /// Errors: `Io` if the folder cannot be read. A session that cannot be read is passed over.
 pub fn find(

@@ -1,4 +1,4 @@
-//! Sessions that are removed: unfinished folders, dropped changes, and what the user has forgotten.
+//! Sessions that are removed: folders that a killed start left, dropped changes, and what `--forget` names.
 
 use crate::belongs::{Belonging, Target};
 use crate::finding::{State, state_of};
@@ -16,9 +16,9 @@ const HOUR: u64 = 3600;
 /// A session that was removed.
 #[derive(Drop)]
 pub struct Forgotten {
-    /// The path of its file; None if it had none that is UTF-8.
+    /// The path of its file; None if it noted none, or none that is UTF-8.
     pub path: Option<String>,
-    /// The time of its last key.
+    /// The time of its last key, or of its beginning; None if the system does not tell.
     pub changed: Option<SystemTime>,
     /// Its changes had been dropped by a second Quit.
     pub was_dropped: bool,
@@ -63,7 +63,7 @@ pub fn forget_dropped(rt: &HostRuntime, sessions: &Sessions, except: &Session) -
     Ok(())
 }
 
-/// Whether a session is of a file, or any file is meant.
+/// Whether a session is of the file that is meant; None means all files.
 fn is_meant(rt: &HostRuntime, session: &Session, target: Option<&Target<'_>>) -> bool {
     match target {
         None => true,

@@ -3,10 +3,10 @@
 ghost use Rattle.std.specs.Prelude.{◌≡◌, ◌+◌, ◌<◌, ◌≤◌, ◌^◌};
 ghost use Rattle.bx_sessions.specs.Keys.{behind_first, counted, is_final, is_parameter, keys_in, next, with_first, without_size};
 
-/// The byte of the key Save.
+/// The byte of the key Save, Ctrl-S.
 const SAVE: u8 = 0x13;
 
-/// The byte that begins a control sequence, before a bracket.
+/// The byte that begins a control sequence, before a `[`.
 const ESCAPE: u8 = 0x1b;
 
 /// What the last bytes of a journal are, as far as the next byte may belong to the same key.
@@ -18,27 +18,27 @@ pub enum After {
     Save,
     /// An Escape, and whether a Save is right before it.
     Escape(bool),
-    /// The beginning of a control sequence, and whether a Save is right before it.
+    /// The beginning of a control sequence (ESC and `[`, maybe parameters), and whether a Save is right before it.
     Sequence(bool),
-    /// The beginning of a notice of the host.
+    /// The beginning of a notice of the host: a control sequence with a `>`.
     Notice,
 }
 
-/// Whether a control sequence goes on with a byte.
+/// Whether a control sequence goes on with a byte: a digit or a semicolon, the parameters that the journal's keys have.
 fn is_parameter(byte: u8) -> bool
     ensures { result ≡ is_parameter byte }
 {
     (b'0' <= byte && byte <= b'9') || byte == b';'
 }
 
-/// Whether a control sequence ends with a byte.
+/// Whether a control sequence ends with a byte: a letter or the tilde, as those of the journal's keys do.
 fn is_final(byte: u8) -> bool
     ensures { result ≡ is_final byte }
 {
     (b'A' <= byte && byte <= b'Z') || (b'a' <= byte && byte <= b'z') || byte == b'~'
 }
 
-/// What a byte is that begins a key.
+/// What the last bytes are after a byte that begins a key.
 fn behind_first(byte: u8) -> After
     ensures { result ≡ behind_first byte }
 {
@@ -65,7 +65,7 @@ fn next(after: After, byte: u8) -> After
     }
 }
 
-/// The number of keys with a byte that begins a character, or goes on with one.
+/// The number of keys with one more byte that begins a key or goes on with a character; the latter (80 to BF in UTF-8) adds none.
 fn with_first(count: usize, byte: u8) -> usize
     requires { count + 1 < 2 ^ 64 }
     ensures value { result ≡ with_first count byte }
@@ -78,7 +78,7 @@ fn with_first(count: usize, byte: u8) -> usize
     }
 }
 
-/// The number of keys without a size that was counted as one, and without the Save before it.
+/// The number of keys without a size that was counted as one, and, if `saved`, without the Save right before it.
 fn without_size(saved: bool, count: usize) -> usize
     ensures value { result ≡ without_size saved count }
     ensures most { result ≤ count }

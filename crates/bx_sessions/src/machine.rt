@@ -30,7 +30,7 @@ pub struct Process {
     pub machine: Machine,
 }
 
-/// The first line of a small file, without blanks around it; None if it cannot be read or is empty.
+/// The text of a file of one line, without blanks and line ends around it; None if it cannot be read or is empty.
 fn line_of(rt: &HostRuntime, path: &str) -> Result<Option<String>, AllocError> {
     match fs::read_to_string(rt, path) {
         Ok(text) => {
@@ -57,7 +57,7 @@ impl Machine {
         })
     }
 
-    /// Another copy.
+    /// A copy of it.
     pub fn copied(&self) -> Result<Machine, AllocError> {
         let boot = match &self.boot {
             Some(boot) => Some(boot.clone()?),
@@ -71,7 +71,7 @@ impl Machine {
 }
 
 impl Process {
-    /// The words of a session's file.
+    /// The words of the part `Process`: the number, the machine's name, and the boot or `-`.
     pub fn words(&self, alloc: Global) -> Result<String, AllocError> {
         let number = self.number;
         let host = self.machine.host.as_str();
@@ -82,7 +82,7 @@ impl Process {
         format!(in alloc; "{number} {host} {boot}\n")
     }
 
-    /// The process that such words name; None if they are others.
+    /// The process that words of this form name; None if they have another form.
     pub fn parse(alloc: Global, words: &str) -> Result<Option<Process>, AllocError> {
         let mut words = words.split_ascii_whitespace();
         let (number, host, boot) = (words.next(), words.next(), words.next());

@@ -3,7 +3,7 @@
 ghost use Rattle.std.specs.Prelude.{◌≡◌, ◌≢◌, ◌↔◌, true};
 ghost use Rattle.bx_sessions.specs.Marks.{is_torn};
 
-/// A file beside the whole text of a save into it.
+/// What a file has, compared with the whole text of a save into it.
 #[derive(Clone, Copy, PartialEq, Eq, Debug)]
 pub enum Verdict {
     /// It has the whole text.

@@ -50,7 +50,7 @@ impl Session {
     }
 }
 
-/// Whether another session than `but` that may be running saves into the file.
+/// Whether a session that may be running, other than `but`, saves into the file: then the file is that one's to complete.
 fn is_being_saved(
     rt: &HostRuntime,
     sessions: &Sessions,

@@ -16,7 +16,7 @@ fn escaped(digits: &str) -> Option<u8> {
     u8::from_str_radix(digits.get(..3)?, 8).ok()
 }
 
-/// A path as the table has it, with blanks, tabs, newlines and backslashes as octal numbers. None if it is not UTF-8.
+/// The path that the table writes with blanks, tabs, newlines and backslashes as octal numbers. None if it is not UTF-8.
 fn decoded(alloc: Global, path: &str) -> Result<Option<String>, AllocError> {
     let mut bytes = Vec::new(alloc);
     for (at, part) in path.split('\\').enumerate() {

@@ -12,7 +12,8 @@ use std::str;
 /// The permissions of a file made from a session that does not tell FILE's.
 const FOR_USER_ALONE: u32 = 0o600;
 
-/// The longest journal, in bytes, that is read to see whether it has sizes and notices alone.
+/// The longest journal, in bytes, that is read to see whether it has sizes and notices alone. A longer one counts as having
+/// keys, which at worst keeps a session without any.
 const LONGEST_WITHOUT_KEYS: u64 = 4096;
 
 /// The bits of a mode that a recovered file gets: no set-ID and sticky bits.
@@ -24,7 +25,7 @@ fn octal(digits: &str) -> Option<u32> {
 }
 
 impl Session {
-    /// A short file as text; None if it is not there or is not a text.
+    /// A short file as text; None if it is not there or is not UTF-8.
     fn text_note(&self, rt: &HostRuntime, part: Part) -> io::Result<Option<String>> {
         match self.note(rt, part)? {
             Some(bytes) => Ok(String::from_utf8(bytes).ok()),
@@ -98,7 +99,7 @@ impl Session {
         }
     }
 
-    /// Whether it may hold unsaved text: keys, a text that counts as changed, or a mark that FILE may lack.
+    /// Whether it may hold unsaved text: keys, a text that counts as changed, or a mark, whose text FILE may lack.
     pub fn has_something(&self, rt: &HostRuntime) -> bool {
         self.has_keys(rt) || self.has(rt, Part::Unsaved) || self.has(rt, Part::Mark)
     }

@@ -74,7 +74,7 @@ impl From<io::Error> for FillFault {
     }
 }
 
-/// All files that `fill` makes new, the text last.
+/// All files that `fill` makes new, as `unfill` removes them: first the path, without which nobody recovers the session.
 const FILLED: [Part; 8] = [
     Part::Path,
     Part::Begin,
@@ -175,7 +175,7 @@ impl Session {
         Ok(look)
     }
 
-    /// Writes the text as opened.
+    /// Writes the text as opened. Returns the copied file as it was, if one was copied.
     fn write_text(&self, rt: &HostRuntime, source: Source<'_>) -> Result<Option<Look>, FillFault> {
         match source {
             Source::Empty => self.write_new(rt, Part::Text, b"")?,
@@ -185,7 +185,7 @@ impl Session {
         Ok(None)
     }
 
-    /// Notes what is known of FILE.
+    /// Notes FILE's permissions, which file it is, and whether root alone can read it.
     fn write_facts(&self, rt: &HostRuntime, opening: &Opening<'_>) -> io::Result<()> {
         if let Some(mode) = opening.mode {
             let digits = format!(in rt.alloc(); "{mode:03o}\n")?;
@@ -212,7 +212,7 @@ impl Session {
         self.write_facts(rt, opening)
     }
 
-    /// Writes all files of a new session, the path last.
+    /// Writes all files of a new session, the path last. Returns the copied file as it was, if one was copied.
     fn write_all(
         &self,
         rt: &HostRuntime,

@@ -1,4 +1,4 @@
-//! The files in a session's folder.
+//! The files in a session's folder. Their names stay: sessions of other versions of the editor have them too.
 
 /// A file in a session's folder.
 #[derive(Clone, Copy, PartialEq, Eq, Debug)]
@@ -48,7 +48,7 @@ pub enum Part {
 }
 
 impl Part {
-    /// Its name.
+    /// The file's name in the folder.
     pub fn name(self) -> &'static str {
         match self {
             Part::Text => "text",

@@ -65,7 +65,7 @@ fn is_in(path: &str, folder: &str) -> bool {
     }
 }
 
-/// The name of the user's folder of sessions in a folder that others may use too.
+/// The path of the user's folder of sessions in a folder that others may use too.
 fn own_folder_in(rt: &HostRuntime, folder: &str, user: u32) -> Result<String, AllocError> {
     let folder = without_end(folder);
     format!(in rt.alloc(); "{folder}/bidi_edit.{user}")
@@ -113,7 +113,7 @@ impl<'a> Surroundings<'a> {
     }
 }
 
-/// The folder at which the file system of an existing folder begins.
+/// The first folder, from the root on, of a path whose file system is that of the folder at the path.
 fn root_of_file_system<'p>(rt: &HostRuntime, path: &'p str) -> &'p str {
     let device = fs::metadata(rt, path).map_or(0, |found| found.dev());
     for (end, _) in path.match_indices('/') {
@@ -128,7 +128,8 @@ fn root_of_file_system<'p>(rt: &HostRuntime, path: &'p str) -> &'p str {
     path
 }
 
-/// Picks a folder in memory for the sessions of a file in memory: one that the user may write.
+/// Picks a folder in memory for the sessions of a file in memory: the first one that the user may write of the file's own file
+/// system, the user's folder in memory and the one that all have.
 fn memory_folder<H: Host>(
     rt: &HostRuntime,
     host: &mut H,

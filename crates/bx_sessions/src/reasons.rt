@@ -71,8 +71,8 @@ fn reason_for(file: &Facts, names: u64, folder: &Facts) -> Option<Reason>
     }
 }
 
-/// Why saves have to be written into a file itself, by the facts about it and its folder; None if a save can replace it, or if
-/// the user cannot write it.
+/// Why saves have to be written into a file itself, by the facts about it, what was found at its path, and the facts about its
+/// folder; None if a save can replace it, or if the user cannot write it.
 pub fn find_in_place(file: &Facts, found: &Metadata, folder: &Facts) -> Option<Reason> {
     if found.is_file() && file.writable {
         reason_for(file, found.nlink(), folder)

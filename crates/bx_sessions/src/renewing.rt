@@ -59,8 +59,8 @@ fn write_renewed(
     }
 }
 
-/// Makes a new session from the snapshot of a locked one, whose keys this version may replay otherwise. All of its text counts
-/// as unsaved. The old session stays.
+/// Makes a new session from the snapshot of a locked one, whose keys may make another text in this version. All of its text
+/// counts as unsaved. The old session stays.
 ///
 /// Errors: as [`begin`]; what was made is removed then.
 pub fn renew(

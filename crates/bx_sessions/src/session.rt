@@ -12,7 +12,7 @@ use std::time::SystemTime;
 /// The permissions of a session's files: for the user alone.
 const FOR_USER_ALONE: u32 = 0o600;
 
-/// The most bytes of a file that is neither a text nor a journal.
+/// The most bytes of a file that is neither a text nor a journal: more than the longest of them, a path, can have.
 const LARGEST_NOTE: u64 = 65_536;
 
 /// A session's folder.
@@ -104,7 +104,8 @@ impl Session {
         }
     }
 
-    /// Whether the folder and all in it is the user's, and none is a link, a pipe or a device.
+    /// Whether nobody but the user owns or can write the folder, and all in it are plain files of the user's; false where that
+    /// cannot be seen.
     pub fn is_own(&self, rt: &HostRuntime, user: u32) -> bool {
         self.holds_own(rt, user).unwrap_or(false)
     }
@@ -119,7 +120,7 @@ impl Session {
         matches!(&self.look(rt, part), Ok(Some(_)))
     }
 
-    /// Whether each file in the folder is a plain file of the user's.
+    /// Whether the folder is one of the user's alone, and all in it are plain files of the user's.
     fn holds_own(&self, rt: &HostRuntime, user: u32) -> io::Result<bool> {
         if !is_own_folder(&rt.symlink_metadata(self.path())?, user) {
             return Ok(false);
@@ -163,7 +164,7 @@ impl Session {
         self.write_at(rt, path.as_str(), bytes)
     }
 
-    /// Makes a new file at a path in the folder.
+    /// Makes a new file at a path in the folder and syncs it. Errors: as `write_new`.
     fn write_at(&self, rt: &HostRuntime, path: &str, bytes: &[u8]) -> io::Result<()> {
         if !self.is_there(rt) {
             return Err(ErrorKind::NotFound.into());

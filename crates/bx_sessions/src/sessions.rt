@@ -16,10 +16,10 @@ use std::time::SystemTime;
 /// The permissions of a folder of sessions, and of a session's: for the user alone.
 const FOR_USER_ALONE: u32 = 0o700;
 
-/// Number of random letters in a session's name, five bits each.
+/// Number of random letters in a session's name: 40 bits, five each, which nobody can guess.
 const LETTERS: usize = 8;
 
-/// The letters of which a session's name has some: 32, so that a random byte picks each alike.
+/// The letters for a session's name: 32, so that a random byte picks each with the same chance.
 const ALPHABET: &[u8; 32] = b"abcdefghijklmnopqrstuvwxyz234567";
 
 /// Number of names that are tried for a session.
@@ -28,8 +28,8 @@ const TRIES: usize = 16;
 /// How the name of a folder begins into which an older editor replayed keys.
 const REPLAY: &str = ".replay.";
 
-/// A folder of sessions that was judged: it is not a link, it and all in it is the user's own, and nobody but the user and root
-/// can exchange it or write in it.
+/// A folder of sessions that was judged: it is not a link, it is the user's own, and nobody but the user and root can exchange
+/// it or write in it. What is in it is judged by `Session::is_own`.
 #[derive(Drop)]
 pub struct Sessions {
     /// Its path, with all links resolved.
@@ -148,14 +148,14 @@ impl Sessions {
         Ok(names)
     }
 
-    /// The folder of this name.
+    /// The session in the folder of this name; None if no folder is there.
     fn folder(&self, rt: &HostRuntime, name: &str) -> io::Result<Option<Session>> {
         let path = self.path();
         let path = format!(in rt.alloc(); "{path}/{name}")?;
         Session::at(rt, path)
     }
 
-    /// The folders of these names, in their order.
+    /// The sessions in the folders of these names, in their order; names without a folder are passed over.
     fn folders(&self, rt: &HostRuntime, names: &[String]) -> io::Result<Vec<Session>> {
         let mut folders = Vec::new(rt.alloc());
         for name in names {
@@ -173,7 +173,7 @@ impl Sessions {
         self.folders(rt, names.as_slice())
     }
 
-    /// All sessions, and the folders into which an older editor replayed keys.
+    /// All sessions, and, as sessions too, the folders into which an older editor replayed keys.
     pub fn all_folders(&self, rt: &HostRuntime) -> io::Result<Vec<Session>> {
         let mut names = self.names(rt)?;
         names.retain(|name| is_session(name.as_str()) || is_replay(name.as_str()));

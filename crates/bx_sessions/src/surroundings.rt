@@ -8,15 +8,15 @@ use std::path::Path;
 /// The user's number of root.
 pub const ROOT: u32 = 0;
 
-/// The name of the folder of sessions in the user's state folder.
+/// The name of the folder of sessions in the user's state folder, which the manual tells.
 const OWN_NAME: &str = "bidi_edit";
 
-/// The user and the environment's folders; None for a variable that is not set.
+/// The user, and the folders that variables of the environment name; None for a variable that is not set.
 #[derive(Clone, Copy, PartialEq, Eq, Debug)]
 pub struct Surroundings<'a> {
     /// The user's effective number.
     pub user: u32,
-    /// The user's home by the password database; may be empty.
+    /// The user's home by the user database; may be empty.
     pub own_home: &'a str,
     /// HOME
     pub home: Option<&'a str>,
@@ -51,7 +51,7 @@ fn is_of_another(rt: &HostRuntime, path: &str, user: u32) -> bool {
     }
 }
 
-/// The user's state folder below a home.
+/// The user's folder of sessions in the state folder below a home.
 fn below_home(alloc: Global, home: &str) -> Result<String, AllocError> {
     format!(in alloc; "{home}/.local/state/{OWN_NAME}")
 }
@@ -68,7 +68,7 @@ impl<'a> Surroundings<'a> {
             .is_some_and(|path| !path.is_empty() && !path.starts_with('/'))
     }
 
-    /// The state folder that the environment names.
+    /// The user's folder of sessions in the state folder that the environment names; None if it names none.
     fn named_state(&self, alloc: Global) -> Result<Option<String>, AllocError> {
         if let Some(state) = self.absolute_state() {
             return Ok(Some(format!(in alloc; "{state}/{OWN_NAME}")?));

@@ -10,7 +10,7 @@ use std::rt::Files;
 /// Joined letters change no text and no place, so their tables are not among them.
 #[derive(Drop)]
 pub struct Versions {
-    /// As in a session's file: a line for the version, and one for each file.
+    /// As in the part `Versions`: a line for the version, and one for each file.
     words: String,
 }
 
@@ -36,7 +36,7 @@ impl Versions {
         Ok(Versions { words })
     }
 
-    /// The words of a session's file.
+    /// The words of the part `Versions`.
     pub fn words(&self) -> &str {
         self.words.as_str()
     }

@@ -23,7 +23,7 @@ pub struct LocalClock {
 #[derive(Clone, Copy)]
 pub struct LocalTime(DateTime);
 
-/// Reads the zone that TZ names, which the system's zone lacks.
+/// Reads the file of the zone that TZ names into `zones`.
 fn read_named(rt: &HostRuntime, name: &str, zones: &mut TimeZoneDatabase) -> io::Result<()> {
     let path = format!(in rt.alloc(); "{ZONES}/{name}")?;
     let bytes = fs::read(rt, path.as_str())?;

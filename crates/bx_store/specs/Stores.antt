@@ -49,7 +49,7 @@ fails_next s = is_call s.fail_call (one_more s.calls)
 abbrev pub after_failure : StoreFault → MemoryState → MemoryState
 after_failure fault s = record s { has_draft = false; calls = one_more s.calls; faults = with_fault fault s.faults }
 
--- after a call of begin, of put and of commit that succeeded
+-- after a call of begin and of put that succeeded
 abbrev pub after_begin : MemoryState → MemoryState
 after_begin s = record s { draft = []; has_draft = true; calls = one_more s.calls }
 
@@ -64,5 +64,6 @@ with_room room s = record s { room = room }
 abbrev pub LacksRoom : List ℕ → MemoryState → Type 0
 LacksRoom bytes s = s.room < length s.draft + length bytes
 
+-- after a commit that succeeded; the draft's memory is that of the contents now
 abbrev pub after_commit : MemoryState → MemoryState
 after_commit s = record s { contents = s.draft; draft = []; room = 0; has_draft = false; calls = one_more s.calls }

@@ -9,7 +9,7 @@ use std::io::ErrorKind;
 pub enum SaveCause {
     /// The disk is full, or the user's share of it.
     NoSpace,
-    /// The system permits the user no such call.
+    /// The system does not permit the user a call that the save needs.
     NotPermitted,
     /// The folder on the path is gone, or is not a folder now.
     FolderGone,
@@ -22,7 +22,7 @@ pub enum SaveCause {
     Changed,
     /// A folder, a device, a pipe or a socket took the file's place.
     NotPlain,
-    /// The file has only a beginning of its new text, and a draft beside it has all.
+    /// The file has only a beginning of its new text; the mark, a draft beside it, has all.
     CutOff,
     /// Any other fault.
     Other,

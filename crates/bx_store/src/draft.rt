@@ -9,7 +9,7 @@ use std::os::fd::AsFd;
 use std::os::unix::fs::OpenOptionsExt;
 use std::rt::Files;
 
-/// Suffixes for a draft's name, in the order in which they are tried.
+/// Suffixes for a draft's name, in the order in which they are tried. `leftovers` of bx_launch looks for the same names.
 const ENDINGS: [&str; 10] = [
     ".bx", ".bx1", ".bx2", ".bx3", ".bx4", ".bx5", ".bx6", ".bx7", ".bx8", ".bx9",
 ];
@@ -20,7 +20,7 @@ pub const OWNERS_ALONE: u32 = 0o600;
 /// The permissions of a file that did not exist before; the system clears the bits in the user's umask.
 const NEW_FILE: u32 = 0o666;
 
-/// Buffer size of a draft, in bytes.
+/// Buffer size of a draft, in bytes: a choice, so that many small pieces take few writes.
 const BUFFER_SIZE: usize = 65_536;
 
 /// A file that gets the new text, in the folder of the file that it will replace.
@@ -151,7 +151,7 @@ impl<F: Read + Write + Seek + OpenFile + AsFd + Drop> Draft<F> {
         self.file.write_all(bytes)
     }
 
-    /// Flushes the buffer and syncs the file to disk.
+    /// Flushes the buffer, sets the set-ID bits of the complete file, if it gets any, and syncs it to disk.
     pub fn sync(&mut self) -> io::Result<()> {
         self.file.flush()?;
         set_ids(self.file.get_ref(), self.mode)?;

@@ -98,7 +98,7 @@ where
         self.watch.distrust();
     }
 
-    /// Opens a draft.
+    /// Opens a draft: one that will replace the file, or one of the mark where the file is to be overwritten.
     fn open_draft(&mut self) -> Result<Saving<R::File>, StoreFault>
         ensures { self.new.failures ≡ self.old.failures }
     {

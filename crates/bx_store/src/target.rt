@@ -87,7 +87,7 @@ pub fn is_unchanged(old: &Metadata, new: &Metadata) -> bool {
     let is_as_written = old.size() == new.size()
         && old.mtime() == new.mtime()
         && old.mtime_nsec() == new.mtime_nsec();
-    // within a tick of the system's clock the times stay
+    // compared too, since within a tick of the system's clock the times stay
     let has_same_rights = old.mode() == new.mode()
         && old.uid() == new.uid()
         && old.gid() == new.gid();

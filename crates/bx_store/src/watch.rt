@@ -22,14 +22,15 @@ pub struct Watch<'a, R: Files> {
     path: String,
     /// The path without links that saves go to; None if it could not be resolved yet.
     target: Option<String>,
-    /// The place without a file that the path led to when a look last failed for that.
+    /// The place, without a file, to which the path led when a look last failed since it led elsewhere; None if none did.
     elsewhere: Option<String>,
     /// The file's metadata when last seen; None if it never was.
     seen: Option<Metadata>,
     /// Whether the next look is a fault, if the file is there.
     is_distrusted: bool,
-    /// The metadata of a file of which a rename loses at most other names: the file as first seen, or as last replaced by a
-    /// save. An access list and the like cannot be seen, but to give a file one changes its time of change.
+    /// The file's metadata when first seen, or when a save last replaced it: while it has these, a rename loses at most its other
+    /// names. An access list and the like cannot be seen, but to give a file one changes its time of change. None if there was
+    /// no file, or a rename would lose more.
     plain: Option<Metadata>,
 }
 
@@ -150,7 +151,8 @@ impl<'a, R: Files> Watch<'a, R> {
         }
     }
 
-    /// Whether the path led to this place at first, or once before when a look failed for that.
+    /// Whether the path led to this place at first, or when a look last failed since it led elsewhere. Any place is known as long
+    /// as the path could not be resolved.
     fn is_known_place(&self, place: &str) -> bool {
         let is_first = match &self.target {
             Some(target) => target.as_str() == place,
@@ -194,7 +196,8 @@ impl<'a, R: Files> Watch<'a, R> {
 
     /// Resolves the path and notes the metadata found. Returns the path that saves go to, and whether a file exists there.
     ///
-    /// Errors: `NotPlain` if it is not a plain file, `Changed` if it changed since last seen or the path leads elsewhere.
+    /// Errors: `NotPlain` if it is not a plain file, `Changed` if it changed since last seen or the path leads elsewhere,
+    /// `FolderGone` as `place_of_saves`.
     pub fn look(&mut self) -> Result<(String, bool), StoreFault> {
         let place = target_of(self.files, self.allocator(), self.path.as_str())?;
         if !self.is_known_place(place.as_str()) {

@@ -1,5 +1,5 @@
 -- The bytes of messages, and what reading one takes from a reader. `old` and `new` are the bytes that the reader still has,
--- before and after; None where it has no such model.
+-- before and after; None for a reader that does not model its bytes.
 use Rattle.std.specs.Prelude.{◌≡◌, ◌≤◌, ℕ, ◌+◌, eqb, false, List, [], ◌∷◌, ◌++◌, length, Option, Some, None, Result, Ok, Err}
 use Rattle.std.specs.Io.KnownBytes.{Consumes, IsAtEnd}
 use Rattle.std.specs.List.{list_any}
@@ -17,7 +17,7 @@ message_bytes letter text = letter ∷ text ++ 0 ∷ []
 abbrev pub HasNoNul : List ℕ → Type 0
 HasNoNul text = list_any (λ b. eqb b 0) text ≡ false
 
--- the largest size of a message's text, in bytes
+-- the largest size of a message's text, in bytes: a choice (`LARGEST_MESSAGE` of `src/reading.rt`)
 abbrev pub largest_message : ℕ
 largest_message = 65536
 

@@ -38,7 +38,7 @@ pub struct Facts {
 impl Facts {
     ghost use Rattle.bx_wire.specs.Facts.{HasLetters};
 
-    /// Facts by their letters, as the host gives them.
+    /// Facts by their letters, as the host gives them (`host/facts.c`): a fact is true where its letter is there.
     pub fn of(letters: &[u8], longest_name: u64, free: u64, real_path: String) -> Facts
         ensures letters { HasLetters result letters.now }
         ensures longest_name { result.longest_name ≡ longest_name }

@@ -50,7 +50,7 @@ impl<T: Drop> From<AllocFailed<T>> for WireFault {
 /// Why the host gave no facts about a path.
 #[derive(Clone, Copy, PartialEq, Eq, Debug, Error)]
 pub enum HostFault {
-    /// The host is gone, or answered otherwise.
+    /// The host is gone, or gave another answer than facts.
     #[error("the host does not answer")]
     Gone,
     /// The real path is not UTF-8.

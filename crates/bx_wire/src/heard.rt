@@ -14,7 +14,7 @@ pub enum Heard {
     Variable,
     /// The user's effective number, in decimal.
     User,
-    /// The user's home by the password database; may be empty.
+    /// The user's home by the user database; may be empty.
     Home,
     /// The folder of the editor's own tables.
     Tables,
@@ -30,7 +30,7 @@ pub enum Heard {
     End,
     /// An answer: the user's line, or the letters of the facts about a path.
     Answer,
-    /// The input ended where an answer was asked for.
+    /// The user's input ended in place of an answer.
     NoAnswer,
     /// The longest name in a folder, in bytes, in decimal.
     LongestName,
@@ -42,14 +42,14 @@ pub enum Heard {
     Second,
     /// A word of the program.
     ProgramWord,
-    /// The signal that ended the host, in decimal.
+    /// The number of the signal that ended the host, in decimal.
     Signal,
     /// The program's exit status, in decimal; 128 plus the signal's number where a signal ended it.
     Status,
 }
 
 impl Heard {
-    /// The letter that begins such a message.
+    /// The letter that begins such a message, as the host sends it (docs/ARCHITECTURE.md).
     pub fn letter(self) -> u8
         ensures { result ≡ letter_of self }
     {
@@ -76,7 +76,7 @@ impl Heard {
         }
     }
 
-    /// What a message with this letter says; None if no message begins with it.
+    /// What a message with this letter says; None if no message of the host begins with it.
     pub fn of_letter(letter: u8) -> Option<Heard>
         ensures table { result ≡ heard_by letter }
         ensures letter { IfSome result (λ heard. letter_of heard ≡ letter) }

@@ -8,7 +8,7 @@ use crate::heard::{Heard, Message};
 use std::alloc::Global;
 use std::io::{ErrorKind, Read};
 
-/// The largest number of bytes in the text of a message.
+/// The largest number of bytes in the text of a message: a choice, so that a text without a NUL does not fill the memory.
 pub const LARGEST_MESSAGE: usize = 65_536;
 
 /// The next byte; None at the input's end.

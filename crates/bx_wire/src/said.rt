@@ -43,12 +43,12 @@ pub enum Said {
     Retry,
     /// A notice for the editor's last row, by its number.
     Notice,
-    /// The permissions that no new file of the program gets, in octal.
+    /// The permissions that no new file of the program gets, its umask, in octal.
     Mask,
 }
 
 impl Said {
-    /// The letter that begins such a message.
+    /// The letter that begins such a message, as the host reads it (docs/ARCHITECTURE.md).
     pub fn letter(self) -> u8
         ensures { result ≡ letter_of_said self }
     {

@@ -92,7 +92,8 @@ impl<R: Read + Drop, W: Write + Drop> Wire<R, W> {
         let _ = self.say(said, text);
     }
 
-    /// The answer to a question.
+    /// The user's answer to a question; None where the host says anything else. Questions come before the program runs, so the
+    /// host tells nothing unasked meanwhile.
     fn answer(&mut self, question: &str) -> Result<Option<String>, HostFault> {
         self.say(Said::Question, question)?;
         match self.hear()? {

@@ -12,10 +12,10 @@ use std::test::Fail;
 /// The program's name.
 const NAME: &str = "bidi_edit";
 
-/// The three tables and FILE.
+/// The three tables and FILE: the fewest words that are accepted.
 const WORDS: [&str; 7] = ["--classes", "c", "--brackets", "b", "--mirroring", "m", "f"];
 
-/// The paths that these words name, with those of the two files by which letters are joined.
+/// The paths that the words of `WORDS` name, with those of the two files by which letters are joined.
 fn unicode(joining: Option<JoiningPaths<'static>>) -> UnicodePaths<'static> {
     UnicodePaths {
         classes: "c",

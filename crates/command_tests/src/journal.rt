@@ -7,7 +7,7 @@ use std::path::PathBuf;
 use std::test::Fail;
 use std::{env, fs, process};
 
-/// Texts for standard error.
+/// What the journal's file writes to standard error; any texts will do.
 const NOTES: JournalNotes<'static> = JournalNotes {
     lost: "lost\n",
     kept: "kept\n",

@@ -25,7 +25,7 @@ pub fn user_of(rt: &HostRuntime, folder: &str) -> u32 {
     fs::metadata(rt, folder).map_or(ROOT, |found| found.uid())
 }
 
-/// A process of this machine.
+/// A process of this machine, with any number.
 pub fn this_process(rt: &HostRuntime) -> Result<Process, AllocError> {
     Ok(Process {
         number: 1,
@@ -33,7 +33,7 @@ pub fn this_process(rt: &HostRuntime) -> Result<Process, AllocError> {
     })
 }
 
-/// A new session of the file at a path, in a folder `sessions` beside it.
+/// A new session of the file at a path, filled, in a folder of sessions.
 pub fn new_session(
     rt: &HostRuntime,
     sessions: &Sessions,
@@ -45,7 +45,7 @@ pub fn new_session(
     Ok(kept)
 }
 
-/// Fills a session of the file at a path.
+/// Fills a session of the file at a path. What it notes beside the text and the path is any valid value.
 pub fn fill(
     rt: &HostRuntime,
     sessions: &Sessions,

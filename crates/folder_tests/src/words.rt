@@ -57,6 +57,7 @@ fn machines(rt: HostRuntime) -> Result<(), Fail> {
         host: String::from_str(rt.alloc(), "here")?,
         boot: Some(String::from_str(rt.alloc(), "boot")?),
     };
+    // a process's number, its machine's name and boot, and whether its session may go on elsewhere
     for (words, expected) in [
         ("7 here boot\n", false),
         ("7 here before\n", false),

@@ -10,6 +10,7 @@ use std::test::Fail;
 #[test]
 fn asks_again(rt: HostRuntime) -> Result<(), Fail> {
     let mut host = PreparedHost::new(rt.alloc());
+    // the first two are none of the answers, so the question comes three times; the last one is not asked for
     for answer in ["y", "", " D \n", "r"] {
         host.will_answer(answer)?;
     }

@@ -55,7 +55,7 @@ fn worked_pairs(rt: HostRuntime) -> Result<(), Fail> {
 #[test]
 fn pairs_and_their_types(rt: HostRuntime) -> Result<(), Fail> {
     let tables = sample_tables(rt.alloc())?;
-    // B (G) at level 0
+    // B (G) at level 0, without a mark (NSM), behind a start of class L
     let mut types = [Class::R, Class::ON, Class::R, Class::ON];
     let found = pairs(rt.alloc(), &['B', '(', 'G', ')'], &types, &tables)?;
     assert_eq!(rt; found.as_slice(), [(1, 3)].as_slice());
@@ -68,7 +68,7 @@ fn pairs_and_their_types(rt: HostRuntime) -> Result<(), Fail> {
 fn pairs_of_one_sequence_after_another(rt: HostRuntime) -> Result<(), Fail> {
     let tables = sample_tables(rt.alloc())?;
     let mut search = PairSearch::new(rt.alloc());
-    // B (G), and then ((, at level 0
+    // B (G), and then ((, at level 0, without a mark (NSM), behind a start of class L
     let mut types = [Class::R, Class::ON, Class::R, Class::ON];
     search.begin(4);
     search.meet(1, '(', Class::ON, &tables)?;

@@ -1,5 +1,5 @@
-//! Each public call with ample memory, on small bodies. The last argument of `face`, `units` and `ruled_unit` is the number
-//! of the window's columns.
+//! Each public call with ample memory, on small bodies. The last argument of `face`, `units`, `ruled_unit` and
+//! `is_simple_within` is the number of the window's columns. The letters of marks are those of `bx_cells/specs/Faces.antt`.
 use bx_cells::{
     Face, SimpleCluster, Unit, face, is_printable, is_simple_within, ruled_unit, simple_cluster,
     units,

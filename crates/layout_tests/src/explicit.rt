@@ -9,7 +9,7 @@ use bx_ucd::{BidiData, Class, Tables, sample_tables};
 use std::alloc::Global;
 use std::test::Fail;
 
-/// Appends a sequence: the given indexes, its level and its ends.
+/// Appends a sequence: the given indexes, its level and its ends (sos and eos of UAX #9, X10).
 fn add_sequence(
     shown: &mut String,
     alloc: Global,

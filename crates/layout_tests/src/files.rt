@@ -1,4 +1,4 @@
-//! Worked rows over the three files: refusals, their texts, and the answers from accepted lines.
+//! Worked rows over the files of classes, brackets and mirrors: refusals, their texts, and the answers from accepted lines.
 
 use crate::words::two_of;
 use bx_ucd::{BidiData, Cause, Class, Side, Tables, UcdError, UcdFile};
@@ -59,7 +59,7 @@ fn is_so(alloc: Global, line: &str) -> Result<bool, AllocError> {
     are(alloc, classes, brackets, mirroring, wanted)
 }
 
-/// Each line: what it shows, the three files, with ␊ for LF and ␍ for CR, and the outcome.
+/// Each line: what it shows, the files of classes, brackets and mirrors, with ␊ for LF and ␍ for CR, and the outcome.
 const FILES: &str = "\
 no lines\t\t\t\taccepted\n\
 one field of two\t0041\t\t\tclasses line 1: bad line\n\

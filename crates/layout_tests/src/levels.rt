@@ -1,4 +1,4 @@
-//! Worked examples and outside values, each public call with ample memory.
+//! Worked examples (`ROWS`), values of an independent model (`VECTORS`), and each public call with ample memory.
 mod rows;
 mod vectors;
 
@@ -23,7 +23,7 @@ fn add_level(text: &mut String, alloc: Global, level: Option<u8>) -> Result<(), 
     Ok(())
 }
 
-/// Levels in a line's notation.
+/// Levels in a line's notation; a hyphen for no characters.
 fn shown(alloc: Global, each: &[Level]) -> Result<String, Fail> {
     let mut text = String::new(alloc);
     for level in each {

@@ -1,4 +1,4 @@
-//! Worked rows and outside values, each public call with ample memory.
+//! Worked rows, values of an independent model (`VECTORS`), and each public call with ample memory.
 ghost use Rattle.std.specs.Prelude.{All};
 ghost use Rattle.bx_cells.specs.Units.{StandsIn};
 
@@ -136,7 +136,7 @@ fn rows_of_random_texts(rt: HostRuntime) -> Result<(), Fail> {
     check(VECTORS, false, |line| is_so(rt.alloc(), &tables, line))
 }
 
-/// Worked rows: what each shows, and a line in the notation of the outside values.
+/// Worked rows: what each shows, and a line in the notation of `VECTORS`.
 const ROWS: &str = "\
 right to left in left to right\t0061 0020 05D0 05D1 0020 0062\tauto\t6\t0 0 1 1 0 0\t0 1 3 2 4 5\n\
 a row wraps before it is reordered, and its last blank is reset\t0061 0020 05D0 05D1 0020 05D2\tauto\t5\t0 0 1 1 0|1\t0 1 3 2 4|0\n\

@@ -17,6 +17,7 @@ use std::alloc::Global;
 use std::rt::Env;
 use std::{env, str};
 
+/// Parses a number of a line, a column, rows or columns.
 fn number(word: &String) -> Result<u16> {
     word.as_str().parse::<u16>().context("a number is wanted")
 }

@@ -13,7 +13,7 @@ const LONG: usize = 4096;
 /// Capacity for each kind of answer, in bytes: more than the scenes need, so that no buffer grows while a world runs.
 const CAPACITY: usize = 65_536;
 
-/// Capacity for the bytes sent, in bytes.
+/// Capacity for the bytes sent, in bytes: likewise more than the scenes need.
 const QUEUE_CAPACITY: usize = 1_048_576;
 
 /// Notes of a scene played in one mode.
@@ -144,7 +144,7 @@ impl Answers {
         add_text(&mut self.text, store.contents(), file)
     }
 
-    /// Whether `play` gave the same answers and the same final state.
+    /// Whether `play` gave the same answers and the same final state. `play` finds no text once the session has ended.
     pub fn agrees_with(&self, play: &Answers) -> bool {
         self.plain.as_str() == play.plain.as_str()
             && self.ending.as_str() == play.ending.as_str()

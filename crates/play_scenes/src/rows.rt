@@ -45,7 +45,7 @@ fn put(grid: &mut Grid, cell: Cell, text: &str, negative: bool) -> Result<(), Ro
     Ok(())
 }
 
-/// The cell and the rendition of the next glyph in a row.
+/// The cell of the next glyph in a row, and whether it is negative.
 #[derive(Drop)]
 struct Pen {
     cell: Cell,

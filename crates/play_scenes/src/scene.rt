@@ -186,7 +186,7 @@ fn acts_of(alloc: Global, field: &str) -> Result<Vec<Act<'_>>, WordFault> {
     Ok(acts)
 }
 
-/// Whether no act before the last looks at the text.
+/// Whether no act before the last looks at the text, which is all that `play` can look at, and only at its end.
 fn is_text_last(acts: &[Act<'_>]) -> bool {
     let count = acts.len();
     let before = &acts[..count.saturating_sub(1)];

@@ -10,7 +10,7 @@ use bx_ucd::BidiData;
 use bx_world::{Step, World};
 use std::alloc::{AllocError, Global};
 
-/// The byte of the key Save.
+/// The byte of the key Save, Ctrl-S.
 const SAVE: u8 = 0x13;
 
 /// The first `count` bytes, or all if there are fewer.

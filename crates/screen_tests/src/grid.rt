@@ -44,6 +44,7 @@ fn a_blank_is_a_space_in_normal_rendition(rt: HostRuntime) -> Result<(), Fail> {
 #[test]
 fn a_turned_blank_is_a_space_in_negative_rendition(rt: HostRuntime) -> Result<(), Fail> {
     let mut grid = Grid::blank(rt.alloc(), 1, 3)?;
+    // row, first column, each from 0, and number of columns
     grid.turn(0, 1, 1);
     let negative = Column::Glyph {
         text: GlyphText::from_str(rt.alloc(), " ")?,

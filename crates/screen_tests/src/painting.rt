@@ -3,6 +3,7 @@
 use crate::steps::play;
 use std::test::Fail;
 
+/// Scenes of whole paintings and of changes; `\x1b[7m` begins negative glyphs, `\x1b[0K` blanks the rest of the row.
 const PAINTINGS: &str = "\
 a glyph put in
 open 5 1 a|b

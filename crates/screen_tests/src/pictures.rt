@@ -48,7 +48,7 @@ fn row_of(alloc: Global, columns: u16, glyphs: &str) -> Result<Grid, Fail> {
     Ok(grid)
 }
 
-/// The picture of such a row of `columns` columns, with the cursor at `column`, from 1.
+/// The picture of a row of `columns` columns with these glyphs, with the cursor at `column`, from 1.
 pub(crate) fn picture_of(
     alloc: Global,
     columns: u16,

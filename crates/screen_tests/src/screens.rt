@@ -3,6 +3,7 @@
 use crate::steps::play;
 use std::test::Fail;
 
+/// Scenes of what a screen shows, and of what it no longer knows.
 const SCREENS: &str = "\
 what was painted
 open 5 1 a|b

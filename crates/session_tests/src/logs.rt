@@ -8,7 +8,7 @@ use std::alloc::{AllocError, Global};
 use std::fmt::Write;
 use std::test::Fail;
 
-/// A letter for each action, with the number of its bytes.
+/// A letter for each action, with the number of its bytes; `!` for one that failed.
 fn write_actions(actions: &[Action], text: &mut String) {
     for action in actions {
         let _ = match action {
@@ -23,7 +23,7 @@ fn write_actions(actions: &[Action], text: &mut String) {
     }
 }
 
-/// The actions of a run over this input, in words.
+/// The actions, in words, of a run over this input with the text `ab` in a row of five columns; empty if that cannot be opened.
 fn actions_of(alloc: Global, input: &[u8]) -> Result<String, AllocError> {
     let mut text = String::new(alloc);
     let bytes = Vec::from_slice(alloc, b"ab")?;

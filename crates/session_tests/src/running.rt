@@ -11,7 +11,7 @@ use std::test::Fail;
 /// The output for `ab` in a row of five columns: at the opening, and then at the end.
 const OPENED_AND_ENDED: &[u8] = b"\x1b[0m\x1b[2J\x1b[1;1Hab\x1b[1;1H\x1b[0m\x1b[2J\x1b[1;1H";
 
-/// Number of its bytes before the first read.
+/// Number of the bytes of `OPENED_AND_ENDED` that are written before the first read.
 const OPENED: usize = 22;
 
 /// More reads than any run here makes.
@@ -257,6 +257,7 @@ fn a_save_fails_at_each_call_of_the_store(rt: HostRuntime) -> Result<(), Fail> {
         assert!(rt; is_right, "at call {call}");
         failed = call;
     }
+    // a Save calls at least begin, put and commit
     assert!(rt; 3 <= failed && failed < 98, "{failed} calls");
     Ok(())
 }

@@ -38,6 +38,7 @@ fn a_save_joins_what_was_put(rt: HostRuntime) -> Result<(), Fail> {
 
 #[test]
 fn the_call_that_fails_keeps_what_was_stored(rt: HostRuntime) -> Result<(), Fail> {
+    // a save here makes four calls, so the sixth is the first `put` of the second save
     let mut store = MemoryStore::new(rt.alloc(), Some(6));
     save(&mut store, b"a", b"b")?;
     assert_eq!(rt;

@@ -87,7 +87,7 @@ fn many_pieces_stay_in_order(rt: HostRuntime) -> Result<(), Fail> {
     let mut pieces = Pieces::new();
     join_a_thousand(&mut pieces, &mut spares)?;
     assert_eq!(rt; pieces.len(), 3000);
-    // a list would be 1000 deep
+    // a list would be 1000 deep; 10 levels hold up to 1,023
     assert_eq!(rt; pieces.depth(), 10);
     assert!(rt; are_in_order(&pieces));
     Ok(())

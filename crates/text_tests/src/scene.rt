@@ -17,7 +17,7 @@ use std::test::Fail;
 #[derive(Drop)]
 pub(crate) struct Scene {
     alloc: Global,
-    /// What the edits change.
+    /// The text that the edits change.
     text: Text,
     index: Index,
     /// Counts the questions for a class.
@@ -46,6 +46,7 @@ fn follow<D: BidiData>(index: &mut Index, text: &Text, tables: &D, change: &Chan
     requires room { index.old.room ≡ Some change.now.added }
     ensures { index.new.paragraphs ≡ lengths (D.data tables.now) text.now.edited.text }
 {
+    // the contract of `len` tells the proofs that the text is UTF-8
     let _utf8 = text.len();
     index.edited(text, tables, change);
 }
@@ -87,6 +88,7 @@ impl Scene {
         after: usize,
         added: &str,
     ) -> Result<(), Fail> {
+        // the contract of `len` tells the proofs that the text is UTF-8
         let _utf8 = self.text.len();
         self.index.ready(added.len())?;
         self.answer = match self.text.insert(at, added, before, after) {
@@ -107,6 +109,7 @@ impl Scene {
         before: usize,
         after: usize,
     ) -> Result<(), Fail> {
+        // the contract of `len` tells the proofs that the text is UTF-8
         let _utf8 = self.text.len();
         self.index.ready(0)?;
         self.answer = match self.text.remove(start, stop, before, after) {
@@ -121,6 +124,7 @@ impl Scene {
 
     /// Undoes the latest edit.
     pub(crate) fn undo(&mut self) -> Result<(), Fail> {
+        // the contract of `len` tells the proofs that the text is UTF-8
         let _utf8 = self.text.len();
         if let Some(next) = self.text.next_undo() {
             self.index.ready(next.added)?;
@@ -135,6 +139,7 @@ impl Scene {
 
     /// Redoes the next edit.
     pub(crate) fn redo(&mut self) -> Result<(), Fail> {
+        // the contract of `len` tells the proofs that the text is UTF-8
         let _utf8 = self.text.len();
         if let Some(next) = self.text.next_redo() {
             self.index.ready(next.added)?;

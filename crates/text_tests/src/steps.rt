@@ -3,20 +3,20 @@
 //!
 //!     open COUNT TEXT                         opens TEXT repeated COUNT times; ␍ is CR, ␊ is LF
 //!     insert OFFSET BEFORE AFTER TEXT         inserts TEXT; BEFORE and AFTER are the cursor's places
-//!     remove START STOP BEFORE AFTER
+//!     remove START STOP BEFORE AFTER          removes the text between two offsets
 //!     ready BYTES                             makes room for an insertion of BYTES bytes
-//!     scatter COUNT                           inserts COUNT letters at scattered offsets
-//!     undo [COUNT]
-//!     redo [COUNT]
+//!     scatter COUNT                           inserts COUNT letters at scattered offsets below 10
+//!     undo [COUNT]                            undoes an edit, or COUNT edits
+//!     redo [COUNT]                            redoes an edit, or COUNT edits
 //!     change START REMOVED ADDED PLACE        the last edit's change, or none
 //!     refused boundary|long                   the cause for which the last edit was refused
 //!     undoes START REMOVED ADDED PLACE        the next undo's change, or none
 //!     redoes START REMOVED ADDED PLACE        the next redo's change, or none
-//!     text TEXT
-//!     length BYTES
-//!     pieces TEXT|TEXT|..
+//!     text TEXT                               the whole text
+//!     length BYTES                            the text's length
+//!     pieces TEXT|TEXT|..                     the text's pieces
 //!     piece OFFSET TEXT                       the piece from OFFSET on
-//!     copy START STOP TEXT
+//!     copy START STOP TEXT                    a copy of this range
 //!     uncopied START STOP                     a copy of this range is refused
 //!     shows START STOP LENGTH|..              the paragraphs: their bodies, and their separators' lengths
 //!     paragraph OFFSET NUMBER                 the number, from 0, of the paragraph that has OFFSET

@@ -3,6 +3,8 @@
 //!
 //!     ucd_lookup [--joining JOINING CHARACTERS] CLASSES BRACKETS MIRRORING CODE..
 //!     ucd_lookup [--joining JOINING CHARACTERS] --time COUNT CLASSES BRACKETS MIRRORING
+//!
+//! A CODE is in hexadecimal. The files are read COUNT times, and the mean time is printed.
 #![tactic(auto)]
 
 ghost use Rattle.std.specs.Prelude.{◌≡◌, ℕ, IfOk};

@@ -7,7 +7,7 @@ use bx_terms::Base;
 use bx_ucd::Tables;
 use std::alloc::Global;
 
-/// Parses a paragraph direction.
+/// Parses a paragraph direction, by the numbers that BidiCharacterTest.txt defines.
 fn base_of(field: &str) -> Result<Base> {
     match field {
         "0" => Ok(Base::Ltr),

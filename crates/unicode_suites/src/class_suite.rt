@@ -9,7 +9,7 @@ use bx_terms::Base;
 use bx_ucd::Tables;
 use std::alloc::Global;
 
-/// The bit of each direction, as the file's lines give them.
+/// The bit of each direction in a line's number, as BidiTest.txt defines them.
 const BASES: [(u8, Base); 3] = [(1, Base::Auto), (2, Base::Ltr), (4, Base::Rtl)];
 
 /// A text with one character for each class.

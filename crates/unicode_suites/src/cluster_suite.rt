@@ -1,4 +1,4 @@
-//! GraphemeBreakTest.txt. A line has characters separated by signs that say whether a cluster ends there.
+//! GraphemeBreakTest.txt. A line has characters between signs: ÷ for a break between clusters or at an end, × for none.
 use crate::fields::character;
 use crate::score::{Score, score_cases};
 use anyhow::Result;

@@ -32,7 +32,7 @@ fn of_name(name: &str) -> Result<(Class, char)> {
     })
 }
 
-/// A character of the class with this name, if the tables agree.
+/// A character of the class with this name, which by the tables is of that class and no bracket.
 pub fn representative(name: &str, tables: &Tables) -> Result<char> {
     let (class, c) = of_name(name)?;
     ensure!(

@@ -37,7 +37,7 @@ fn end_and_questions(alloc: Global, place: usize) -> Result<(usize, u32), Fail> 
     Ok((end, document.tables().questions()))
 }
 
-/// 1,500 is the start of the 501st paragraph, of three bytes each.
+/// 1,500 is the start of the 501st paragraph, of three bytes each. 100 questions are far fewer than the text's 3,000 characters.
 #[test]
 fn an_edit_asks_for_few_classes(rt: HostRuntime) -> Result<(), Fail> {
     let (end, questions) = end_and_questions(rt.alloc(), 1500)?;

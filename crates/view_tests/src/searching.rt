@@ -30,6 +30,7 @@ fn nearest(
     if char_count(query) > 64 {
         return Err(Fail::new("a long query"));
     }
+    // the first place from the offset `place` on
     let x = document.place_from(place)?;
     let Some(query) = document.query(Reading::Close, query) else {
         return Ok((None, None));

@@ -8,9 +8,9 @@ use std::test::Fail;
 /// Its rows in three columns are `ab `, `cd `, `ef`, `12` and `3`, at the offsets 0, 3, 6, 9 and 12.
 const TEXT: &str = "ab cd ef\n12\n3";
 
-/// Each line: an offset in the old top row, a place, the number of rows shown, and the new top row's offset. The places are two
-/// rows and one below the page, two and four above it, in its middle and in its last row, and below a top given by the middle
-/// of its row; then, with one row shown, below it and in it; and with more rows shown than the text has, above and within.
+/// Each line: an offset in the old top row, a place, the number of rows shown, and the new top row's offset. The places are, line
+/// by line, two rows and one below the page, two and four above it, in its middle and in its last row, and below a top given by
+/// the middle of its row; with one row shown, below it and in it; with more rows shown than the text has, above and within.
 const TOPS: &str = "0 12 3 6
 0 10 3 3
 9 4 2 3
@@ -23,7 +23,7 @@ const TOPS: &str = "0 12 3 6
 6 0 9 0
 0 13 9 0";
 
-/// Whether the top follows a place as a line says.
+/// Whether the top follows a place as a line says, where `t` rows are shown.
 fn follows(whole: &Whole, line: &str) -> Result<bool, Fail> {
     let mut numbers = line.split(' ');
     let top = numbers.next().ok_or("no top")?.parse()?;

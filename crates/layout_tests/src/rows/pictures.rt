@@ -1,4 +1,4 @@
-//! Pictures of rows: `_` is a blank, `*` follows a negative glyph, `|` separates rows.
+//! Pictures of rows: `_` is a blank, `*` follows a negative glyph, a mark's letter, and `|` separates rows.
 ghost use Rattle.std.specs.Prelude.{◌<◌, length};
 
 use crate::words::{field_of, two_of, with_tabs};
@@ -38,7 +38,7 @@ fn picture_of<'a>(
     Ok(lines.picture(alloc, number)?)
 }
 
-/// The pictures of a body's rows.
+/// The pictures of a body's rows in `w` columns; `from_units` as in `picture_of`.
 fn pictures(
     alloc: Global,
     tables: &Tables,
@@ -167,7 +167,8 @@ fn shown_in_brackets(alloc: Global, tables: &Tables, times: usize) -> Result<Str
     pictures(alloc, tables, body.as_str(), Base::Auto, 140, true)
 }
 
-/// Whether nested pairs of brackets, with the letters and the blanks, have this picture in 140 columns.
+/// Whether nested pairs of brackets, with the letters and the blanks, have this picture in 140 columns. `closer` is how a closing
+/// bracket looks: `(` where the pairs are too many to be found, so that it goes from right to left and is mirrored.
 fn brackets_show(alloc: Global, tables: &Tables, times: usize, closer: &str) -> Result<bool, Fail> {
     let mut wanted = in_brackets(alloc, times, closer)?;
     // 140 columns without the three letters

@@ -15,7 +15,8 @@ enum Effect {
     ReadAfresh,
 }
 
-/// The beginnings of items that come before the byte.
+/// The beginnings of items that come before the byte: of escape sequences, and of characters of two to four bytes in UTF-8.
+/// `bytes_of` has their bytes.
 #[derive(Clone, Copy, Debug)]
 enum Beginning {
     Escape,
@@ -29,6 +30,7 @@ enum Beginning {
     ThreeOfFourBytes,
 }
 
+/// All beginnings.
 const BEGINNINGS: [Beginning; 9] = [
     Beginning::Escape,
     Beginning::Csi,
@@ -93,7 +95,7 @@ fn effect_after_escape(byte: u8) -> Effect {
     }
 }
 
-/// The effect of a byte after CSI.
+/// The effect of a byte after CSI: parameter and intermediate bytes wait, a final byte ends the sequence (ECMA-48, 5.4).
 fn effect_after_csi(byte: u8) -> Effect {
     match byte {
         0x20..=0x3F => Effect::Waits,
@@ -127,6 +129,7 @@ fn effect_after(beginning: Beginning, byte: u8) -> Effect {
             0x80..=0xBF => inserts(0xC0 + (u32::from(byte) - 0x80)),
             _ => Effect::ReadAfresh,
         },
+        // after E0 (Unicode, table 3-7)
         Beginning::ThreeBytes => match byte {
             0xA0..=0xBF => Effect::Waits,
             _ => Effect::ReadAfresh,
@@ -136,6 +139,7 @@ fn effect_after(beginning: Beginning, byte: u8) -> Effect {
             0x80..=0xBF => inserts(0x2000 + (u32::from(byte) - 0x80)),
             _ => Effect::ReadAfresh,
         },
+        // after F0 (Unicode, table 3-7)
         Beginning::FourBytes => match byte {
             0x90..=0xBF => Effect::Waits,
             _ => Effect::ReadAfresh,
