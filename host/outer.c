@@ -79,7 +79,7 @@ const char *find_outer(void) {
     return name ? name + 1 : "";
 }
 
-/* Writes the sequence for each row of the terminal, and gives its cursor back. */
+/* Writes the sequence for each row of the terminal, at most 12 bytes a row, and gives its cursor back. */
 static void tell_rows(int file, char letter, bool is_last) {
     static char text[MOST_ROWS * 16];
     struct winsize window = {0};

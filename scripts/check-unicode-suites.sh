@@ -13,7 +13,7 @@ scratch=$(mktemp -d)
 trap 'rm -rf "$scratch"' EXIT
 
 # Copies the file with this name, unpacked, to the scratch folder.
-unpack() {
+unpack() { # NAME
     found=$(find "$folder" -name "$1" -o -name "$1.gz" -o -name "$1.bz2" -o -name "$1.xz" | sort | head -n 1)
     case $found in
     '') return 1 ;;

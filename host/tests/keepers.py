@@ -5,6 +5,7 @@ import os, signal, time
 from cases import QUIT, finish, holds, same, start
 from ends import TAIL
 
+A_SECOND = 1.5  # seconds in which the host tells the keeper of one, and the keeper does what it does then
 
 def keepers(tree):
     """Keepers that die, say nonsense, or do not answer."""
@@ -23,7 +24,7 @@ def keepers(tree):
         yield from finish(run, f'keepers: {what} in a session', 1 << 8)
     run = start(tree, 'edit', 'slow', tree.file('kept'))
     run.pump(5, b'hello')
-    run.rest(1.5)
+    run.rest(A_SECOND)
     run.type(b'abc')
     yield holds('keepers: slow, keys go on', run.pump(1, b'<abc>'))
     run.type(QUIT)
@@ -75,7 +76,7 @@ def told_words(tree):
     run = start(tree, 'edit', 'told', tree.file('told'))
     run.pump(5, b'hello')
     seen = len(run.output)
-    run.rest(1.5)
+    run.rest(A_SECOND)
     yield holds('told: the size where the journal is to be tried', b'hello' in run.output[seen:])
     run.type(QUIT)
     yield from finish(run, 'told: the size', 0)
@@ -86,7 +87,7 @@ def facts_meanwhile(tree):
     tree.start_log()
     run = start(tree, 'edit', 'curious', tree.file('curious'))
     run.pump(5, b'hello')
-    run.rest(1.5)
+    run.rest(A_SECOND)
     run.type(b'abc')
     yield holds('facts meanwhile: keys', run.pump(5, b'<abc>'))
     run.type(QUIT)

@@ -1,6 +1,7 @@
-# Reads crates.txt, a line for each crate with its start, end, jobs and processor time, and what functions.awk wrote of each.
-# Writes a line for each crate, in the order of their starts, the longest chain of crates that waited for one another, and the
-# functions of each crate that took a second and more. `cores` is the number of processors.
+# The table of time-first-start.sh. Reads three files: crates.txt, whose lines are `CRATE [words]: CRATES BELOW`; a line for each
+# crate that was built, with its name, start, end, jobs and processor time; and what functions.awk wrote of each. Writes a line
+# for each crate, in the order of their starts, the longest chain of crates that waited for one another, and the functions of
+# each crate that took a second and more. `cores` is the number of processors.
 
 FILENAME == ARGV[1] {
     sub(/#.*/, "")
@@ -33,7 +34,7 @@ $1 == "function" {
 
 $1 ~ /^(head|proofs|other|end|build)$/ { part[$2, $1] = $3 }
 
-# Returns the seconds of the longest chain of crates that ends with one, and notes the crate before it.
+# Returns the seconds of the longest chain of crates that ends with this one, and notes in `before` the crate before it in that.
 function chain(name,    n, i, below, longest) {
     if (name in chains) return chains[name]
     n = split(uses[name], below, " ")

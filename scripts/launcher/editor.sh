@@ -29,9 +29,10 @@ alone() { # ROWS COLS FILE KEYS
     terminal kill-session -t alone
 }
 
+# What `make_note` writes, as a format of printf.
 text='שלום: this note wraps at blanks, (abc) אבג 123 דהו.\nעברית first, and then English words.\n'
 
-# Makes a file `note` with this text, and a copy of it.
+# Makes a file `note` with `text`, and its copy `opened`.
 make_note() {
     # shellcheck disable=SC2059
     printf "$text" >note

@@ -109,6 +109,7 @@ check_erase_character() {
         wait_for 50 test -e "$folder/record"
         printf '\177\010\033\177\033\010' >"$folder/keys"
         type_bytes "$folder/keys"
+        # all is recorded before the key that ends it
         sleep 0.5
         type_keys C-q
         finish "input, erase $erase" 7 50

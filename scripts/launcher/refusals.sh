@@ -116,6 +116,7 @@ refused_at_opening() { # NAME WANTED WORD..
     esac
 }
 
+# What is told last of a text that is not UTF-8.
 windows="iconv -f CP1255 -t UTF-8 may help if it is in Windows' Hebrew (CP1256: Arabic)"
 
 check_refused_texts() {

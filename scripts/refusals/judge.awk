@@ -18,7 +18,7 @@ function with_field(line, number, value,  part, count, k, made) {
 }
 # a line without the shown flags and the queued bytes
 function left(line) { return with_field(with_field(line, 2, ""), 7, "") }
-# the painting of step k is postponed to the next step: after k the terminal shows the previous picture, or none
+# whether the painting of step k is put off to the next step: after k the terminal shows the previous picture, or none
 function is_painted_next(line, k,  shown, digit) {
     shown = field(line, 2)
     digit = substr(shown, k, 1)

@@ -96,7 +96,8 @@ check_between_saves() {
     close_session 0
 }
 
-# Runs a command while the program waits half a second before it syncs the draft: once this is there.
+# Runs a command while the program waits half a second before it syncs the draft: once this is there, for which two seconds are
+# the limit.
 save_and_meanwhile() { # COMMAND..
     open_session strace -o "$folder/log" -e trace=fsync -e inject=fsync:delay_enter=500000:when=1
     draft=$kept.bx

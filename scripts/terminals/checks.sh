@@ -66,6 +66,7 @@ open_editor() { # FILE PICTURE
     give "'$top/bidi-edit' $1 2>../errors"
     wait_for 200 is_raw
     wait_for 200 has_status
+    # for what the terminal still draws
     sleep 0.5
     take_picture "$2"
 }
@@ -256,6 +257,7 @@ check_selecting() { # KIND
         press shift+End W
     fi
     press shift+Left Escape
+    # a key right after an Escape would belong to it
     sleep 0.3
     press U ctrl+s
     sleep 0.5
@@ -327,6 +329,7 @@ check_control_keys() { # KIND
     open_editor typed "$1-control"
     press ctrl+Right ctrl+space ctrl+Right ctrl+x ctrl+Left ctrl+v
     press F3 b Return X ctrl+End Y ctrl+Home Z ctrl+space Right Escape
+    # a key right after an Escape would belong to it
     sleep 0.3
     press ctrl+c ctrl+End ctrl+v ctrl+s
     sleep 0.5
@@ -376,5 +379,6 @@ check_in_tmux() { # KIND
     wait_for 100 has_obeyed
     check_rows "$1"
     give 'tmux kill-server'
+    # until tmux has given the terminal back
     sleep 0.5
 }
