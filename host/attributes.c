@@ -19,6 +19,7 @@ static bool is_none(ssize_t length) {
     return length < 0 && (errno == ENODATA || errno == ENOTSUP || errno == ENOSYS);
 }
 
+/* The number in four bytes, the highest first, as XDR has it. */
 static uint32_t number_at(const char *at) {
     uint32_t number = 0;
     memcpy(&number, at, sizeof number);

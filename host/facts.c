@@ -26,6 +26,7 @@ struct letters {
     size_t count;
 };
 
+/* Appends a letter, if it is so. */
 static void put_letter(struct letters *letters, char letter, bool is_so) {
     if (is_so && letters->count + 1 < sizeof letters->text) letters->text[letters->count++] = letter;
 }
@@ -62,6 +63,7 @@ static enum answer is_mount(const char *path, const char *real) {
     return is_in_mounts(real);
 }
 
+/* Whether a folder's files are in memory, and on no disk. */
 static bool is_in_memory(const char *folder) {
     struct statfs look;
     if (statfs(folder, &look) != 0) return false;

@@ -46,6 +46,7 @@ static size_t read_answer(int file, char *answer, size_t room) {
     return length;
 }
 
+/* Gives what tmux answers, an empty text where it says nothing. `room` has the NUL too. */
 static void ask_tmux(char *answer, size_t room) {
     int ends[2];
     answer[0] = 0;
@@ -86,7 +87,7 @@ static void tell_rows(int file, char letter, bool is_last) {
     if (ioctl(file, TIOCGWINSZ, &window) != 0) return;
     unsigned rows = window.ws_row > MOST_ROWS ? MOST_ROWS : window.ws_row;
     int length = snprintf(text, sizeof text, "\033[8%c\0337", letter);
-    /* 32 bytes are more than a row's and the last ones */
+    /* 32 bytes are more than a row's and the last two bytes */
     for (unsigned row = 1; row <= rows && length + 32 < (int)sizeof text; row++)
         length += snprintf(text + length, sizeof text - (size_t)length, "\033[%u;1H\033[8%c", row, letter);
     length += snprintf(text + length, sizeof text - (size_t)length, "\0338");

@@ -95,6 +95,7 @@ static int64_t next_moment(int64_t end, int64_t second) {
     return next;
 }
 
+/* Goes on until the program has ended, or cannot be ended. */
 static void run(void) {
     int64_t end = 0, second = now() + SECOND;
     bool is_killed = false;

@@ -9,6 +9,7 @@
 #include "terminal.h"
 #include "typing.h"
 
+/* Whether bytes wait in a queue. */
 static bool holds(const struct queue *queue) {
     return queue->end > queue->start;
 }

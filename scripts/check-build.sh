@@ -105,10 +105,12 @@ screen() {
     tmux -L "$socket" capture-pane -p -t person | grep .
 }
 
+# Whether a row of the terminal is as a pattern of grep says.
 has_line() { # PATTERN
     screen | grep -q -e "$1"
 }
 
+# Whether what `start` or `start_script` runs has ended.
 is_over() {
     [ -s "$folder/status" ]
 }

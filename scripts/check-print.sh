@@ -180,6 +180,7 @@ compare_paragraphs() { # OURS THEIRS
     ' "$1" "$2"
 }
 
+# Compares 3,000 random paragraphs, in rows of 80 columns, which bidi_print has by default.
 compare_fribidi() {
     random_text 3000 >"$scratch/text"
     "$program" --classes "$tables/DerivedBidiClass.txt" --brackets "$tables/BidiBrackets.txt" --mirroring "$tables/BidiMirroring.txt" \

@@ -296,16 +296,16 @@ def measure(found, folder, rounds, part):
     return figures
 
 
-def measure_editor(figures, folder, kind, editor, number):
-    """Measures one editor on both texts of a kind."""
+def measure_editor(figures, folder, kind, editor, name):
+    """Measures one editor on both texts of a kind; `name` is the round's."""
     lines = folder / f'{kind.name}.lines'
     last = lines.read_bytes().count(b'\n')
     task = Task(figures, folder, kind, editor, lines)
-    run_task(f'{number}, opening', task, lambda: task.opening(OPENED, SHOWN))
-    run_task(f'{number}, opening at the end', task, lambda: task.opening(OPENED_AT_END, LAST, f'+{last}'))
-    run_task(f'{number}, keys', task, task.keys)
+    run_task(f'{name}, opening', task, lambda: task.opening(OPENED, SHOWN))
+    run_task(f'{name}, opening at the end', task, lambda: task.opening(OPENED_AT_END, LAST, f'+{last}'))
+    run_task(f'{name}, keys', task, task.keys)
     task = Task(figures, folder, kind, editor, folder / f'{kind.name}.paragraph')
-    run_task(f'{number}, a paragraph', task, task.paragraph)
+    run_task(f'{name}, a paragraph', task, task.paragraph)
 
 
 def number(value):
@@ -316,12 +316,14 @@ def number(value):
 
 
 def milliseconds(pair):
+    """A cell of the table: wall time and processor time in milliseconds."""
     if pair is None:
         return '-'
     return f'{number(1000 * pair[0])} / {number(1000 * pair[1])}'
 
 
 def megabytes(pair):
+    """The same for a pair whose first is a number of bytes."""
     return '-' if pair is None else number(pair[0] / 1e6)
 
 

@@ -100,9 +100,11 @@ class Editor(Search):
             self.mark, self.soft = None, "no"
 
     def region(self):
+        """Its two ends, the lesser one first; there is a mark."""
         return sorted((self.mark, self.place))
 
     def is_selection(self):
+        """Whether letters are selected."""
         return self.soft != "no" and self.mark != self.place
 
     def typed(self, keys):
@@ -163,6 +165,7 @@ class Editor(Search):
             self.put_character(chr(code))
 
     def put_character(self, character):
+        """Puts a character in, as an edit that begins a run; a selection stays in the text."""
         self.edit(self.text[:self.place] + character + self.text[self.place:], self.place + 1)
         self.typing = kind_of(character)
 
@@ -234,6 +237,7 @@ class Editor(Search):
         self.ask, self.answer = "line" if name == "go to" else "name", ""
 
     def select(self):
+        """Select, which comes before a move with Shift: sets a mark, or has the one that it set stay for the next key."""
         if self.mark is None:
             self.mark, self.soft = self.place, "fresh"
         elif self.soft == "old":

@@ -35,6 +35,7 @@ class Session(Editor):
     """An editor that random keys are typed into."""
 
     def press(self):
+        """A random key, or several that belong together: six of ten are letters."""
         name = random.choice(NAMES) if random.random() < 0.4 else "insert"
         if name == "insert":
             self.insert(random.choice(LETTERS))

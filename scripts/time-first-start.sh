@@ -72,7 +72,7 @@ begin() {
         sh "$clone/launcher/proving/prove.sh" "$clone" $crates >"$folder/said" 2>&1 &
         child=$!
     else
-        # what stands there after a failure stays, for longer than any limit
+        # the sleep keeps what stands there after a failure until it is read, and a usual limit long
         in_terminal new-session -d -s person -x 100 -y 24 "cd '$clone' && ./bidi-edit '$folder/note'; exec sleep 60000"
     fi
 }

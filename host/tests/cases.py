@@ -11,10 +11,12 @@ QUIT = b'\x11'
 
 
 def same(name, found, wanted):
+    """The pair of a case: whether two values are equal."""
     return name, '' if found == wanted else f'{found!r}, and not {wanted!r}'
 
 
 def holds(name, is_so, detail=''):
+    """The pair of a case: whether this is so; `detail` is told where it is not."""
     return name, '' if is_so else f'does not hold {detail}'
 
 

@@ -43,6 +43,7 @@ static void paint(void) {
     put(text);
 }
 
+/* Takes `sequence` as the window's size, if it tells one. */
 static void take_size(void) {
     static char first[16], second[16];
     if (sscanf(sequence, "\033[8;%15[0-9];%15[0-9]t", first, second) != 2) return;
@@ -70,6 +71,7 @@ static void take(char key) {
     }
 }
 
+/* Does what FILE's name says, and writes the text of --before. */
 static void act_by_name(void) {
     if (strstr(file, "refused")) {
         word("f not-utf8 3");

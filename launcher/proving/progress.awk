@@ -29,6 +29,7 @@ function exists(file,    line, found) {
     return found
 }
 
+# A number and a noun in the singular, which gets its plural.
 function many(count, what) {
     return count " " what (count == 1 ? "" : "s")
 }

@@ -93,6 +93,7 @@ prove() { # JOBS NICENESS
     fi
 }
 
+# Proves or builds a crate; what it leaves in `room` is told at the head.
 prove_one() { # CRATE JOBS NICENESS
     crate=$1 tree=$room/$1.tree child=''
     trap '' HUP INT QUIT
@@ -172,7 +173,8 @@ leave_room() {
     rm -rf "$room"
 }
 
-is_ready() { # CRATE THAT IT STANDS ON ..
+# Whether all these crates have ended, on which another stands.
+is_ready() { # CRATE..
     for each; do
         [ -f "$room/$each.ended" ] || return 1
     done

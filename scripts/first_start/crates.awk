@@ -27,6 +27,7 @@ FILENAME == ARGV[2] {
 
 $1 == "proved" { proved[$2] = $3 " of " $4 }
 
+# `long` has the lines of a crate's functions of a second and more, `short` the seconds of its others, `shorts` their number.
 $1 == "function" {
     if ($3 >= 1) long[$2] = long[$2] sprintf("    %7.1f %s\n", $3, $4)
     else { short[$2] += $3; shorts[$2]++ }

@@ -40,8 +40,8 @@ function is_file(path,    line, found) {
     return found
 }
 
-# Returns the function or the file of lemmas that a module belongs to, or nothing. A function's first module waits for what is
-# loaded, and belongs to none.
+# Returns the function, or the file of lemmas, that a module belongs to, or nothing: of a name the part after its first 7 letters,
+# `proofs.`. A function's first module, which has its very name, waits for what is loaded, and belongs to none.
 function owner(module,    path) {
     if (module !~ /^proofs\./ || module in is_function) return ""
     for (path = module; match(path, /\.[^.]*$/); path = substr(path, 1, RSTART - 1))

@@ -150,6 +150,7 @@ shows() { # TEXT
     terminal capture-pane -p -t person | grep -q -F -e "$1"
 }
 
+# A FILE that is not there is not made where nothing is saved.
 check_files() {
     start 8 60 "$top/bidi-edit" missing
     type_keys C-q

@@ -88,6 +88,7 @@ check_worked() { # NAME ROWS COLS FILE STEPS WAY WANTED [BEFORE]
     else
         fail "$1: no run answers $wanted"
     fi
+    # runs that ended by a signal or not at all, that report two refusals, or that failed by anything but a want of memory
     awk -F '\t' '
         { letters = $5; refusals = letters ~ /^refused: / ? 0 : gsub(/[EPLNf]/, "", letters) }
         $3 == "" || refusals > 1 { print; next }

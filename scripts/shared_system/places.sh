@@ -29,6 +29,7 @@ things_in() { # FOLDER..
     find "$@" -maxdepth 1 -mindepth 1 -user "$user" -name 'bidi*' 2>/dev/null | sort
 }
 
+# A TMPDIR in which nothing can be made.
 check_temporary() {
     passes_over 'TMPDIR, not there' "$folder/none"
     : >"$folder/plain"
@@ -216,6 +217,7 @@ start_there() { # NAME STATUS VARIABLE..
     setup=''
 }
 
+# A repository that is not built, and that the user cannot write.
 check_read_only() { # NAME
     start_there "$1, not built" 1
     same "places, $1, not built: what is told" "$(cat "$folder/errors")" \

@@ -2,6 +2,7 @@
 # shellcheck disable=SC2034,SC2154 # variables shared with other parts
 # Simultaneous signals, such as a resize and the end of the terminal. A run that goes on after them is `lost`, and is killed.
 
+# Prints the process of the session's host.
 host_of_person() {
     process_of ".*bin/bidi-edit"
 }
