@@ -176,6 +176,7 @@ check_terminal() {
     like 'terminal, the line' "$(screen | tail -n 1)" \
         'crate [1-4] of 4, [a-d]: [0-9]* of 10 functions proved; [0-9]* minutes* so far, about [0-9]* to go.*'
     first=$(screen | tail -n 1)
+    # three changes
     sleep 3
     same 'terminal, one line' "$(screen | grep -c '^crate ')" 1
     [ "$(screen | tail -n 1)" != "$first" ]

@@ -323,7 +323,7 @@ def milliseconds(pair):
 
 
 def megabytes(pair):
-    """The same for a pair whose first is a number of bytes."""
+    """A cell of the table: of a pair whose first part is a number of bytes, that in megabytes."""
     return '-' if pair is None else number(pair[0] / 1e6)
 
 

@@ -131,7 +131,7 @@ class Search:
         return True
 
     def other_takes(self, name):
-        """The same while the other text is typed."""
+        """What a key does while the other text is typed. Returns as `query_takes`."""
         if name in ("erase", "delete"):
             self.search, self.other = "with typed", self.kept(self.other)[:-1]
         elif name in ("find", "find next", "find back"):
@@ -144,7 +144,7 @@ class Search:
         return True
 
     def match_takes(self, name):
-        """The same while a match is shown."""
+        """What a key does while a match is shown. Returns as `query_takes`."""
         if name in ("find", "find next"):
             self.go_on_from(self.at + 1)
         elif name == "find back":

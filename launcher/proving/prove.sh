@@ -26,7 +26,7 @@ fail() { # CAUSE
     exit 1
 }
 
-# ---- one crate, in a process of its own
+# ---- one crate, in a process of its own: `crate` is its name, `tree` its tree, `child` the command that is waited for, or empty
 
 # Copies a folder as hard links if possible.
 link() { # FOLDER TO

@@ -1,7 +1,7 @@
 # shellcheck shell=sh
 # shellcheck disable=SC2034,SC2154 # variables shared with other parts
 # check-build.sh with the real toolchain. Uses its functions and its variables `folder`, `shell`, `prove` and `socket`. The crates
-# a, b, c and d are as there, with names of this run in the variables `a` to `d`.
+# a, b, c and d use one another as those of check-build.sh do; the variables `a` to `d` have their names in this run.
 
 # Makes a crate of forty functions unique to this run, by the comment at its head and its name, so that no stored proof fits:
 # forty, so that Ctrl-C comes amid its proof (check_toolchain). WORDS is code at its beginning.

@@ -177,7 +177,7 @@ check_vanished() {
     close_session 0
 }
 
-# The same for saves into FILE itself.
+# Checks saves into FILE itself: most of what check_changes checks, and two cases of the mark.
 check_changes_in_place() {
     begin_kind 'changed by another program, in place'
     way=in_place

@@ -195,7 +195,7 @@ check_first_start_elsewhere() {
 check_stale_number() {
     make_clone
     as_user mkdir -p "$clone/out/proving"
-    # this process has written its number
+    # a process that writes its number, as the killed start did, and goes on as a sleep
     # shellcheck disable=SC2016
     as_user sh -c 'for file; do echo $$ >"$file"; done; exec sleep 60' sh "$clone/out/proving/process" "$clone/out/proving.lock" 2>/dev/null &
     job=$!

@@ -73,7 +73,7 @@ check_burst() {
 check_many_sizes() { # COUNT
     open_recorder
     for side in $(seq "$1"); do resize $((20 + side % 9)) $((70 + side % 31)); done
-    # as above
+    # the last one is told before the end
     sleep 0.5
     type_keys C-q
     wait_for 50 has_ended

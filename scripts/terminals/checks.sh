@@ -1,7 +1,6 @@
 # shellcheck shell=sh
 # shellcheck disable=SC2154 # variables shared with other parts
-# The checks in one terminal. Uses window.sh and kinds.sh. A picture is named KIND-WHAT. Half a second after the last keys, which
-# end in a save, lets the editor take them before it is left.
+# The checks in one terminal. Uses window.sh and kinds.sh. A picture is named KIND-WHAT.
 
 skip() { # NAME WHY
     skipped=$((skipped + 1))
@@ -70,6 +69,9 @@ open_editor() { # FILE PICTURE
     sleep 0.5
     take_picture "$2"
 }
+
+# Half a second in which the editor takes the last keys, with a save, before it is left.
+let_save() { sleep 0.5; }
 
 # Leaves the editor, and waits for the shell.
 leave_editor() { # NAME
@@ -190,7 +192,7 @@ check_keys() { # KIND
     cp "$room/opened" "$room/files/typed"
     open_editor typed "$1-keys"
     press End e Home Delete Right X ctrl+s
-    sleep 0.5
+    let_save
     leave_editor "$1, keys"
     same "$1, keys" "$(cat "$room/files/typed")" bXcde
 }
@@ -211,7 +213,7 @@ check_runs() { # KIND
     printf 'ab\n' >"$room/files/typed"
     open_editor typed "$1-runs"
     press End space o n e space t w o ctrl+z ctrl+z ctrl+y X BackSpace BackSpace BackSpace ctrl+z ctrl+s Y ctrl+z
-    sleep 0.5
+    let_save
     leave_editor "$1, runs"
     same "$1, runs" "$(cat "$room/files/typed")" 'ab one X'
 }
@@ -240,7 +242,7 @@ check_replacing() { # KIND
     press Return Return
     take_picture "$1-replacing-shown"
     press ctrl+backslash ctrl+z Y ctrl+s
-    sleep 0.5
+    let_save
     leave_editor "$1, replacing"
     same "$1, replacing" "$(cat "$room/files/typed")" 'one xo Ytwo two'
     other_picture "$1, a match is shown" "$1-replacing-asked" "$1-replacing-shown"
@@ -260,7 +262,7 @@ check_selecting() { # KIND
     # a key right after an Escape would belong to it
     sleep 0.3
     press U ctrl+s
-    sleep 0.5
+    let_save
     leave_editor "$1, selecting"
     same "$1, selecting" "$(cat "$room/files/typed")" "$wanted"
 }
@@ -270,7 +272,7 @@ check_selected_words() { # KIND
     printf 'one two three\nfour five\nsix\n' >"$room/files/typed"
     open_editor typed "$1-selected-words"
     press End ctrl+shift+Home T Down Home ctrl+shift+Right X space End ctrl+shift+Left Y Down Home ctrl+shift+End V ctrl+s
-    sleep 0.5
+    let_save
     leave_editor "$1, selected words"
     same "$1, selected words" "$(paste -s -d '|' "$room/files/typed")" 'T|X Y|V'
 }
@@ -287,10 +289,11 @@ check_paste() { # KIND
     press End shift+Home
     for _ in one two; do
         press shift+Insert
+        # until it is pasted
         sleep 0.5
     done
     press ctrl+z ctrl+s
-    sleep 0.5
+    let_save
     leave_editor "$1, a paste"
     same "$1, a paste" "$(od -An -c "$room/files/typed" | tr -d ' \n')" 'xy\r\nz\r\ncd\r\n'
 }
@@ -306,7 +309,7 @@ check_lines() { # KIND
     # a key right after an Escape would belong to it
     sleep 0.3
     press T ctrl+s
-    sleep 0.5
+    let_save
     leave_editor "$1, lines"
     same "$1, lines" "$(od -An -c "$room/files/typed" | tr -d ' \n')" \
         "$(printf 'aUTbcd\r\nx\r\naVbcdY e\327\251\326\270Z\r\nW\r\n' | od -An -c | tr -d ' \n')"
@@ -317,7 +320,7 @@ check_erased_words() { # KIND
     printf 'one two three four\n' >"$room/files/typed"
     open_editor typed "$1-words"
     press End ctrl+BackSpace alt+BackSpace Home ctrl+Delete X ctrl+s
-    sleep 0.5
+    let_save
     leave_editor "$1, words erased"
     same "$1, words erased" "$(cat "$room/files/typed")" 'Xtwo '
 }
@@ -332,7 +335,7 @@ check_control_keys() { # KIND
     # a key right after an Escape would belong to it
     sleep 0.3
     press ctrl+c ctrl+End ctrl+v ctrl+s
-    sleep 0.5
+    let_save
     leave_editor "$1, keys with Control"
     same "$1, keys with Control" "$(paste -s -d '|' "$room/files/typed")" 'ZcdaXb |YZcdaXb '
 }
