@@ -5,7 +5,7 @@ from terminals import Run
 
 # What the host writes last: the title is given back, the alternate screen ends.
 TAIL = b'\x1b[23;0t\x1b[?1049l'
-LIMIT = 5  # seconds
+LIMIT = 5  # seconds from what ends the host until all is over (host/closing.c, host/watcher.c), and of waits for a screen
 
 # Statuses are as waitpid gives them: a signal's number, or an exit status in the second byte.
 

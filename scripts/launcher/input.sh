@@ -100,8 +100,8 @@ check_cut_keys() {
     same 'input, keys that come byte by byte' "$(cat -v "$folder/record")" 'a^[[96~^[[81~^[[Db^[[93~c'
 }
 
-# The byte 08 is Backspace with Control where the terminal's own erase character is 7F, as in tmux, and else Backspace (CSI 94~;
-# with Control or Alt CSI 88~).
+# The byte 08 is Backspace with Ctrl where the terminal's own erase character is 7F, as in tmux, and else Backspace (CSI 94~;
+# with Ctrl or Alt CSI 88~).
 check_erase_character() {
     for erase in '^?' '^H'; do
         setup="stty erase '$erase'" cleanup="stty erase '^?'"

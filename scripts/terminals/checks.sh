@@ -218,8 +218,8 @@ check_runs() { # KIND
     same "$1, runs" "$(cat "$room/files/typed")" 'ab one X'
 }
 
-# A line that Control and G go to, a character by its name and one by its code that Control and K put in, each followed by what shows
-# it, and what Control and T tell, which changes the last row alone.
+# A line that Ctrl-G goes to, a character by its name and one by its code that Ctrl-K puts in, each followed by what shows it, and
+# what Ctrl-T tells, which changes the last row alone.
 check_questions() { # KIND
     printf 'ab\ncd\nef\n' >"$room/files/typed"
     open_editor typed "$1-questions"
@@ -232,8 +232,7 @@ check_questions() { # KIND
     other_picture "$1, what is told" "$1-questions-before" "$1-questions-told"
 }
 
-# A match that Enter replaces after F4, and all after it, which Control and the backslash replace and Control and Z takes back,
-# each followed by what shows it.
+# A match that Enter replaces after F4, and all after it, which Ctrl-\ replaces and Ctrl-Z takes back, each followed by what shows it.
 check_replacing() { # KIND
     printf 'one two two two\n' >"$room/files/typed"
     open_editor typed "$1-replacing"
@@ -267,7 +266,7 @@ check_selecting() { # KIND
     same "$1, selecting" "$(cat "$room/files/typed")" "$wanted"
 }
 
-# Selections with Control and Shift, by words and to the text's ends.
+# Selections with Ctrl and Shift, by words and to the text's ends.
 check_selected_words() { # KIND
     printf 'one two three\nfour five\nsix\n' >"$room/files/typed"
     open_editor typed "$1-selected-words"
@@ -315,7 +314,7 @@ check_lines() { # KIND
         "$(printf 'aUTbcd\r\nx\r\naVbcdY e\327\251\326\270Z\r\nW\r\n' | od -An -c | tr -d ' \n')"
 }
 
-# Words erased by Backspace with Control and with Alt, and by Delete with Control.
+# Words erased by Backspace with Ctrl and with Alt, and by Delete with Ctrl.
 check_erased_words() { # KIND
     printf 'one two three four\n' >"$room/files/typed"
     open_editor typed "$1-words"
