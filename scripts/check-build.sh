@@ -348,6 +348,7 @@ END
 . "$top/scripts/first_start/toolchain.sh"
 
 make_rt
+# whether there is one of these shells
 ran=''
 for shell in dash bash; do
     command -v "$shell" >/dev/null || continue

@@ -8,6 +8,7 @@ import random, re, shutil, subprocess, sys
 editor, data, edits, seed = sys.argv[1], sys.argv[2], int(sys.argv[3]), int(sys.argv[4])
 # named characters and replacements have generators of their own, so that the other choices of a seed do not depend on them
 chance, name_chance, replace_chance = random.Random(seed), random.Random(seed), random.Random(seed)
+# the program's options for the tables, and the names of these
 FILES = {"classes": "DerivedBidiClass", "brackets": "BidiBrackets", "mirroring": "BidiMirroring", "joining": "ArabicShaping", "characters": "UnicodeData"}
 TABLES = [f"--{word}={data}/{file}.txt" for word, file in FILES.items()]
 PER_TEXT = 200  # edits of one text, in one run
@@ -19,10 +20,11 @@ REPAINT = b"\x0c\x0c"
 DIRECTIONS = b"\x1b[9~" * 3
 # for Undo and Redo of an edit: those, and the keys that undo and redo a run
 STEPS = {b"\x1a": [b"\x1a", b"\x1b[82~"], b"\x19": [b"\x19", b"\x1b[83~"]}
+# what the filter of keys puts before a move with Shift
 SELECT = b"\x1b[81~"
 # characters that begin or end an embedding or isolate, by their names: those that begin one are put round a selection
 NAMED = [b"\x1b[86~" + name.encode() for name in "eEoOiIfpP"]
-# F4, Escape and Delete, as the filter of keys gives them
+# F4, Escape and Delete, as the filter gives them
 REPLACE, CANCEL, DELETE = b"\x1b[85~", b"\x1b[93~", b"\x1b[3~"
 # arrows, a place on and back, Home, End and pages
 MOVES = [b"\x1b[A", b"\x1b[B", b"\x1b[C", b"\x1b[D", b"\x06", b"\x02", b"\x1b[H", b"\x1b[F", b"\x1b[5~", b"\x1b[6~"]

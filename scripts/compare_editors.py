@@ -32,6 +32,7 @@ ALL = (
 
 # ---- texts
 
+# without the letters that are typed and sought on the screen: qof, zah and q
 HEBREW = 'אבגדהוזחטיכלמנסעפצרשת'
 ARABIC = 'ابتثجحخدذرزسشصضطعغفكلمنهوي'
 LATIN = 'abcdefghijklmnoprstuvwxyz'

@@ -43,6 +43,7 @@ esac
 export LC_ALL=C.UTF-8
 folder=$(mktemp -d)
 socket="show$$"
+# the editor's
 process=''
 # Waits for the editor's end, since the host writes its session until then.
 clean_up() {

@@ -17,8 +17,10 @@ COUNT, RUNS, LETTERS = 200, 5, (0, 1, 200, 1000)
 # rows and columns
 WINDOWS = (24, 80), (60, 200), (100, 400), (500, 500)
 DOWN, PAGE, HOME, END, FORWARD = b"\x1b[B", b"\x1b[6~", b"\x1b[H", b"\x1b[F", b"\x06"
-ERASE, UNDO, REPAINT, QUIT = b"\x7f", b"\x1a", b"\x0c", b"\x11\x11"
+ERASE, UNDO, REPAINT = b"\x7f", b"\x1a", b"\x0c"
+QUIT = b"\x11\x11"  # twice, since the first one asks where the text is changed
 WHOLE = b"\x1b[0m\x1b[2J"  # the beginning of a whole painting
+# the program's options for the tables, and the names of these
 FILES = {"classes": "DerivedBidiClass", "brackets": "BidiBrackets", "mirroring": "BidiMirroring", "joining": "ArabicShaping", "characters": "UnicodeData"}
 
 

@@ -232,7 +232,8 @@ check_questions() { # KIND
     other_picture "$1, what is told" "$1-questions-before" "$1-questions-told"
 }
 
-# A match that Enter replaces after F4, and all after it, which Ctrl-\ replaces and Ctrl-Z takes back, each followed by what shows it.
+# A match that Enter replaces after F4, and all after it, which Ctrl-\ replaces and Ctrl-Z takes back, each followed by what shows
+# it.
 check_replacing() { # KIND
     printf 'one two two two\n' >"$room/files/typed"
     open_editor typed "$1-replacing"
