@@ -212,7 +212,7 @@ check_manual() {
     same 'manual, its version' "$(sed -n '1s/.*"bidi_edit \([^"]*\)".*/\1/p' "$manual")" "$version"
 }
 
-# Runs a command in a root folder with dpkg's list and without the C library.
+# Runs dpkg with these words on a root folder that has its lists and no C library.
 in_root() { # WORD..
     PATH=$PATH:/usr/sbin:/sbin dpkg --root="$folder/tree" --force-not-root --force-depends --force-script-chrootless --log=/dev/null "$@" >"$folder/dpkg" 2>&1
 }
