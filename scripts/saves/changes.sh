@@ -25,7 +25,8 @@ wait_for_more() { # SIZE
     fails 'the program writes nothing more'
 }
 
-# Writes keys at once, so that the picture after them answers all of them.
+# Writes keys at once, so that the picture after them answers all of them. \023 is Save, \177 erases the letter before the cursor,
+# \014 repaints.
 press() { # KEYS
     before=$(stat -c %s "$folder/out")
     # shellcheck disable=SC2059 # keys are written as escapes
@@ -282,7 +283,7 @@ remove_file() { rm "$kept"; }
 save_first_letter() { sed -i '1s/^/x/' "$kept"; }
 save_other_letter() { sed -i '1s/^/w/' "$kept"; }
 
-# In keys \023 is Save, and \177 erases the letter before the cursor.
+# In keys, as in those of `press`, \023 is Save, and \177 erases the letter before the cursor.
 check_before_starts() {
     begin_kind 'changed before the start'
     check_before_start 'nothing' true '' stored
