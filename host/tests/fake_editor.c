@@ -51,7 +51,7 @@ static void take_size(void) {
     cols = second;
 }
 
-/* Takes a byte: Ctrl-Q (17) ends the program, a sequence may be a size, letters are kept. */
+/* Takes a byte: Ctrl-Q (17) ends the program, what ESC (27) begins may be a size, letters are kept. */
 static void take(char key) {
     if (sequence_length > 0 || key == 27) {
         if (sequence_length + 1 < sizeof sequence) sequence[sequence_length++] = key;

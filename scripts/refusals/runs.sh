@@ -110,7 +110,7 @@ sweep_session() { # SESSION
         if [ "$refused_at" = -1 ]; then
             are_alike found whole && echo 'session: nothing refused' || echo 'FAILS refused nothing, it differs'
             return
-        elif [ "$number" -ge 5000 ]; then
+        elif [ "$number" -ge 5000 ]; then # no session has so many
             echo 'FAILS 5000 growths are not all'
             return
         fi
