@@ -45,7 +45,7 @@ fails() { # NAME DETAIL
     echo "FAILS $1: $2" | tee -a "$folder/results"
 }
 
-# Prints what is wrong with a recovered text; its status says whether nothing is.
+# Tells on standard error what is wrong with a recovered text; its status says whether nothing is.
 judge() { # SESSION TEXT JOURNAL
     python3 "$top/scripts/recovery_judge.py" "$@"
 }

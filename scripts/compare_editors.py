@@ -112,7 +112,7 @@ class Editor:
 def editors(bidi_edit, paragraph_pages):
     """The editors by name. The text ends with a line feed, so one step back from its end is after its last letter.
 
-    bidi_edit has no key for the text's end here, but `paragraph_pages` pages down, which are more than the paragraph has.
+    bidi_edit goes there by `paragraph_pages` pages down, which are more than the paragraph has.
     """
     page = b'\x1b[6~'
     emacs = ['emacs', '-nw', '-Q', '--eval', '(setq large-file-warning-threshold nil)']

@@ -33,7 +33,7 @@ def restored(output):
 
 
 def moment():
-    """Seconds from the start until an end: mostly within the host's start, which takes some ten milliseconds, or once it edits."""
+    """Seconds from the start until an end: mostly within the host's start, sometimes once it edits."""
     return random.choice((random.uniform(0, 0.012), random.uniform(0, 0.05), random.uniform(0.03, 0.3)))
 
 
