@@ -6,13 +6,13 @@
 #include <sys/wait.h>
 #include <unistd.h>
 
-#include "beside.h"
 #include "children.h"
 #include "command.h"
-#include "ending.h"
+#include "facts_child.h"
 #include "keeper.h"
 #include "outer.h"
 #include "processes.h"
+#include "restoring.h"
 #include "sequences.h"
 #include "signals.h"
 #include "typing.h"

@@ -2,8 +2,8 @@
 
 #include <poll.h>
 
-#include "beside.h"
 #include "children.h"
+#include "facts_child.h"
 #include "keeper.h"
 #include "signals.h"
 #include "terminal.h"

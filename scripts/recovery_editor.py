@@ -52,6 +52,7 @@ class Editor(Search):
         """An edit that makes this text and place; `goes_on` where it is of the run before it."""
         length = len(self.past)
         self.runs = {run for run in self.runs if run < length} | (set() if goes_on else {length})
+        # the stored text is among the edits that are given up
         if self.stored is not None and length < self.stored:
             self.stored = None
         self.past.append((self.text, self.place, text, place))
@@ -207,6 +208,7 @@ class Editor(Search):
             self.remove(*self.region())
         elif 0 <= start < end <= len(self.text):
             typing = {"erase": "erasing", "delete": "deleting"}.get(name, "no")
+            # goes on with the run where the key before did the same
             self.remove(start, end, typing == was != "no")
             self.typing = typing
 

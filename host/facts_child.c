@@ -1,4 +1,4 @@
-#include "beside.h"
+#include "facts_child.h"
 
 #include <errno.h>
 #include <fcntl.h>
