@@ -72,7 +72,7 @@ begin() {
         sh "$clone/launcher/proving/prove.sh" "$clone" $crates >"$folder/said" 2>&1 &
         child=$!
     else
-        # the sleep keeps what stands there after a failure until it is read, and a usual limit long
+        # the sleep, longer than a usual limit, keeps what stands there after a failure
         in_terminal new-session -d -s person -x 100 -y 24 "cd '$clone' && ./bidi-edit '$folder/note'; exec sleep 60000"
     fi
 }
