@@ -12,6 +12,7 @@
  * of which a mode has three: owner, group and others. */
 enum { MOST = 65536, POSIX_HEADER = 4, POSIX_ENTRY = 8, MODE_ENTRIES = 3 };
 
+/* An attribute of a file, the same one of its folder, and the names of the file's attributes with a NUL after each. */
 static char value[MOST], other[MOST], names[MOST];
 
 /* Whether the file system has no such attribute, or the file none. */
@@ -19,6 +20,7 @@ static bool is_none(ssize_t length) {
     return length < 0 && (errno == ENODATA || errno == ENOTSUP || errno == ENOSYS);
 }
 
+/* The number in four bytes, the highest first, as XDR has it. */
 static uint32_t number_at(const char *at) {
     uint32_t number = 0;
     memcpy(&number, at, sizeof number);
@@ -30,7 +32,7 @@ static uint32_t number_at(const char *at) {
  * permissions and the length of a name, and the name, filled up to four bytes. */
 static enum answer is_more_than_mode(const char *list, size_t length) {
     static const char *const whos[] = {"OWNER@", "GROUP@", "EVERYONE@"};
-    bool was_there[3][2] = {{false}};
+    bool was_there[3][2] = {{false}}; /* by the name in `whos`, and by the type */
     if (length < 4) return UNKNOWN;
     uint32_t count = number_at(list);
     for (list += 4, length -= 4; count > 0; count--) {

@@ -7,10 +7,10 @@
 #include <sys/wait.h>
 #include <unistd.h>
 
-#include "asking.h"
-#include "beside.h"
+#include "facts_child.h"
 #include "fault.h"
 #include "keeper.h"
+#include "requests.h"
 #include "signals.h"
 #include "waiting.h"
 #include "writing.h"

@@ -26,6 +26,7 @@ struct letters {
     size_t count;
 };
 
+/* Appends a letter, if it is so. */
 static void put_letter(struct letters *letters, char letter, bool is_so) {
     if (is_so && letters->count + 1 < sizeof letters->text) letters->text[letters->count++] = letter;
 }
@@ -40,7 +41,8 @@ static void escape(const char *path, char *escaped, size_t room) {
     escaped[length] = 0;
 }
 
-/* Looks for a path without links in the kernel's list of mounts, where it is the fifth word of a line. */
+/* Looks for a path without links in the kernel's list of mounts, where it is the fifth word of a line. 16383 is a byte less than
+ * `root` has. */
 static enum answer is_in_mounts(const char *real) {
     static char escaped[4 * PATH_MAX], words[4 * PATH_MAX + 256], root[4 * PATH_MAX];
     FILE *mounts = fopen("/proc/self/mountinfo", "re");
@@ -61,6 +63,7 @@ static enum answer is_mount(const char *path, const char *real) {
     return is_in_mounts(real);
 }
 
+/* Whether a folder's files are in memory, and on no disk. */
 static bool is_in_memory(const char *folder) {
     struct statfs look;
     if (statfs(folder, &look) != 0) return false;

@@ -113,6 +113,7 @@ struct reordering find_reordering(enum kind kind) {
     return reordering;
 }
 
+/* Tells the line `wanted` of the terminal's file; standard error has a second to take it. */
 static void tell_setting(const char *terminal, const char *file, const char *wanted) {
     char text[256];
     int length = snprintf(text, sizeof text, "bidi-edit: %s mirrors right-to-left words: the line '%s' in its %s ends that\n", terminal,

@@ -10,13 +10,13 @@
 #include <sys/ioctl.h>
 #include <unistd.h>
 
-#include "asking.h"
 #include "children.h"
 #include "closing.h"
 #include "fault.h"
 #include "keeper.h"
 #include "kinds.h"
 #include "programs.h"
+#include "requests.h"
 #include "running.h"
 #include "signals.h"
 #include "terminal.h"

@@ -46,6 +46,7 @@ static size_t read_answer(int file, char *answer, size_t room) {
     return length;
 }
 
+/* Gives what tmux answers, an empty text where it says nothing. `room` has the NUL too. */
 static void ask_tmux(char *answer, size_t room) {
     int ends[2];
     answer[0] = 0;
@@ -79,14 +80,14 @@ const char *find_outer(void) {
     return name ? name + 1 : "";
 }
 
-/* Writes the sequence for each row of the terminal, and gives its cursor back. */
+/* Writes the sequence for each row of the terminal, at most 12 bytes a row, and gives its cursor back. */
 static void tell_rows(int file, char letter, bool is_last) {
     static char text[MOST_ROWS * 16];
     struct winsize window = {0};
     if (ioctl(file, TIOCGWINSZ, &window) != 0) return;
     unsigned rows = window.ws_row > MOST_ROWS ? MOST_ROWS : window.ws_row;
     int length = snprintf(text, sizeof text, "\033[8%c\0337", letter);
-    /* 32 bytes are more than a row's and the last ones */
+    /* 32 bytes are more than a row's and the last two bytes */
     for (unsigned row = 1; row <= rows && length + 32 < (int)sizeof text; row++)
         length += snprintf(text + length, sizeof text - (size_t)length, "\033[%u;1H\033[8%c", row, letter);
     length += snprintf(text + length, sizeof text - (size_t)length, "\0338");

@@ -6,13 +6,13 @@
 #include <sys/wait.h>
 #include <unistd.h>
 
-#include "beside.h"
 #include "children.h"
 #include "command.h"
-#include "ending.h"
+#include "facts_child.h"
 #include "keeper.h"
 #include "outer.h"
 #include "processes.h"
+#include "restoring.h"
 #include "sequences.h"
 #include "signals.h"
 #include "typing.h"
@@ -95,6 +95,7 @@ static int64_t next_moment(int64_t end, int64_t second) {
     return next;
 }
 
+/* Goes on until the program has ended, or cannot be ended. */
 static void run(void) {
     int64_t end = 0, second = now() + SECOND;
     bool is_killed = false;

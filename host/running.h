@@ -2,7 +2,7 @@
 #ifndef RUNNING_H
 #define RUNNING_H
 
-#include "asking.h"
+#include "requests.h"
 #include "terminal.h"
 
 /* Changes the terminal, runs the filter (none where its file is NULL) and the program until the program has ended or cannot be

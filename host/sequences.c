@@ -7,8 +7,8 @@
 #include "terminal.h"
 
 /* Modes that the painter requires: arrows as CSI, ASCII, replace mode, origin at the window's top, no scroll region, autowrap
- * (without it tmux joins marks to the letter before), a visible cursor, and no reordering by the terminal. In xterm Alt and a
- * letter send ESC and the letter, and not another letter. */
+ * (without it tmux joins marks to the letter before), a visible cursor, and no reordering by the terminal (ECMA-48: mode 8, BDSM,
+ * and SCP, which ends in ` k`). In xterm Alt and a letter send ESC and the letter, and not another letter. */
 #define MODES "\033[?1l\033(B\017\033[4l\033[?6l\033[r\033[?7h\033[?25h\033[8l\033[1 k\033[?1036h"
 
 /* Modes that shells expect: reordering is on again, and the modes of arrows and Alt are restored where the terminal could save

@@ -18,7 +18,7 @@ void set_signals(void);
 /* Gives a child the signals that the host was started with. */
 void give_back_signals(void);
 
-/* Lets the host's own timer ring, or no more. */
+/* Unblocks SIGALRM, by which the host's own timer rings, or blocks it again. */
 void let_timer_in(bool is_let);
 
 /* Waits for the files and for signals until the time `end`, for ever where it is 0. Returns what poll returns. */

@@ -41,6 +41,7 @@ bool measure(struct size *size) {
 
 bool note_settings(void) {
     if (tcgetattr(line, &cooked) != 0) return false;
+    /* as `stty raw -echo -iexten` sets them */
     raw = cooked;
     raw.c_iflag &= ~(tcflag_t)(IGNBRK | BRKINT | IGNPAR | PARMRK | INPCK | ISTRIP | INLCR | IGNCR | ICRNL);
     raw.c_iflag &= ~(tcflag_t)(IXON | IXOFF | IXANY | IUCLC | IMAXBEL);

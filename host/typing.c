@@ -19,7 +19,7 @@ enum { PIECE = 1024, MOST_WAITING = 4096, PATIENCE = 1000, MOST_NOTICES = 8, LAR
 /* What the last byte is. BETWEEN: the end of a key. ESCAPED: an Escape. SHIFTED: what one more byte follows (ESC O, or ESC [ [ of
  * the Linux console). SEQUENCE: a part of what begins with ESC [. LONG_ESCAPE: a part of an escape sequence with bytes between.
  * CHARACTER: a part of a UTF-8 character. */
-enum place { BETWEEN, ESCAPED, SHIFTED, SEQUENCE, LONG_ESCAPE, CHARACTER };
+enum key_state { BETWEEN, ESCAPED, SHIFTED, SEQUENCE, LONG_ESCAPE, CHARACTER };
 
 /* A marked paste begins with CSI 200~ and ends with CSI 201~. */
 enum { ESCAPE = 0x1b, PASTE_BEGINS = 200, PASTE_ENDS = 201 };
@@ -27,13 +27,14 @@ enum { ESCAPE = 0x1b, PASTE_BEGINS = 200, PASTE_ENDS = 201 };
 int typed = -1;
 struct queue typing;
 
+/* Whether the typing has its end, and whether a paste has begun and not ended. */
 static bool is_over, is_pasting;
-static enum place place;
+static enum key_state state;
 /* The bytes of a character that are to come; the number and the length of a sequence so far, after its bracket. */
 static unsigned left, number, length;
 /* When the last byte was read. */
 static int64_t last_byte;
-/* Those that wait. */
+/* Those that wait, in their order. */
 static int notices[MOST_NOTICES];
 static size_t notice_count;
 
@@ -59,7 +60,7 @@ bool takes_typing(void) {
 }
 
 /* What a byte is that begins a key: of a character in UTF-8 the first is C2 to F4. */
-static enum place place_behind_first(unsigned char byte) {
+static enum key_state state_after_first(unsigned char byte) {
     left = byte >= 0xf0 && byte <= 0xf4 ? 3 : byte >= 0xe0 ? 2 : 1;
     if (byte == ESCAPE) return ESCAPED;
     return byte >= 0xc2 && byte <= 0xf4 ? CHARACTER : BETWEEN;
@@ -67,7 +68,7 @@ static enum place place_behind_first(unsigned char byte) {
 
 /* What a byte after ESC [ is. By ECMA-48 (5.4) 20 to 3F go on with the sequence, and 40 to 7E end it. A paste's mark has three
  * digits and a tilde, so that `number` needs no more. */
-static enum place place_in_sequence(unsigned char byte) {
+static enum key_state state_in_sequence(unsigned char byte) {
     bool is_first = length == 0;
     length++;
     if (byte >= '0' && byte <= '9' && length <= 3) number = number * 10 + byte - '0';
@@ -76,24 +77,24 @@ static enum place place_in_sequence(unsigned char byte) {
     if (is_first && byte == '[') return SHIFTED;
     if (byte == '~' && length == 4 && number == PASTE_BEGINS) is_pasting = true;
     if (byte == '~' && length == 4 && number == PASTE_ENDS) is_pasting = false;
-    return byte >= 0x40 && byte < 0x7f ? BETWEEN : place_behind_first(byte);
+    return byte >= 0x40 && byte < 0x7f ? BETWEEN : state_after_first(byte);
 }
 
 /* What a byte after an Escape is. By ECMA-35 20 to 2F go on with an escape sequence. */
-static enum place place_behind_escape(unsigned char byte) {
+static enum key_state state_after_escape(unsigned char byte) {
     number = length = 0;
     if (byte == '[') return SEQUENCE;
     if (byte == 'O') return SHIFTED;
-    return byte >= 0x20 && byte <= 0x2f ? LONG_ESCAPE : place_behind_first(byte);
+    return byte >= 0x20 && byte <= 0x2f ? LONG_ESCAPE : state_after_first(byte);
 }
 
-/* The place after the next byte. */
-static enum place next_place(unsigned char byte) {
+/* The state after the next byte. */
+static enum key_state next_state(unsigned char byte) {
     bool is_known = byte < 0x80;
     if (byte == ESCAPE) return ESCAPED;
-    switch (place) {
-    case ESCAPED: return place_behind_escape(byte);
-    case SEQUENCE: return place_in_sequence(byte);
+    switch (state) {
+    case ESCAPED: return state_after_escape(byte);
+    case SEQUENCE: return state_in_sequence(byte);
     case LONG_ESCAPE:
         if (byte >= 0x20 && byte <= 0x2f) return LONG_ESCAPE;
         if (is_known) return BETWEEN;
@@ -106,7 +107,7 @@ static enum place next_place(unsigned char byte) {
         break;
     case BETWEEN: break;
     }
-    return place_behind_first(byte);
+    return state_after_first(byte);
 }
 
 /* Puts the notices that wait after what was typed. One that finds no room waits on. */
@@ -120,11 +121,11 @@ static void put_notices(void) {
     }
     for (size_t i = put; i < notice_count; i++) notices[i - put] = notices[i];
     notice_count -= put;
-    place = BETWEEN;
+    state = BETWEEN;
 }
 
 static bool is_between_keys(void) {
-    return place == BETWEEN && !is_pasting;
+    return state == BETWEEN && !is_pasting;
 }
 
 void read_typing(void) {
@@ -133,7 +134,7 @@ void read_typing(void) {
     if (count == 0 || (count < 0 && errno != EAGAIN && errno != EINTR)) end_typing();
     for (ssize_t i = 0; i < count; i++) {
         if (!add_bytes(&typing, bytes + i, 1)) return;
-        place = next_place((unsigned char)bytes[i]);
+        state = next_state((unsigned char)bytes[i]);
         if (notice_count > 0 && is_between_keys()) put_notices();
     }
     if (count > 0) last_byte = now();
@@ -164,7 +165,7 @@ void mind_notices(void) {
 }
 
 int64_t escape_moment(void) {
-    return place == ESCAPED && !is_pasting && takes_typing() ? last_byte + ALONE : 0;
+    return state == ESCAPED && !is_pasting && takes_typing() ? last_byte + ALONE : 0;
 }
 
 /* Bytes that came while the host was stopped follow the Escape. */
@@ -177,7 +178,7 @@ void mind_escape(void) {
     int64_t moment = escape_moment();
     if (moment == 0 || now() < moment || is_typed_on()) return;
     if (!add_bytes(&typing, "[93~", 4)) return;
-    place = BETWEEN;
+    state = BETWEEN;
     if (notice_count > 0) put_notices();
 }
 

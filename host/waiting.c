@@ -2,13 +2,14 @@
 
 #include <poll.h>
 
-#include "beside.h"
 #include "children.h"
+#include "facts_child.h"
 #include "keeper.h"
 #include "signals.h"
 #include "terminal.h"
 #include "typing.h"
 
+/* Whether bytes wait in a queue. */
 static bool holds(const struct queue *queue) {
     return queue->end > queue->start;
 }

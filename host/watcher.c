@@ -8,9 +8,9 @@
 #include <string.h>
 #include <unistd.h>
 
-#include "ending.h"
 #include "keeper.h"
 #include "processes.h"
+#include "restoring.h"
 #include "terminal.h"
 #include "writing.h"
 

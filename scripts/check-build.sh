@@ -105,10 +105,12 @@ screen() {
     tmux -L "$socket" capture-pane -p -t person | grep .
 }
 
+# Whether a row of the terminal is as a pattern of grep says.
 has_line() { # PATTERN
     screen | grep -q -e "$1"
 }
 
+# Whether what `start` or `start_script` runs has ended.
 is_over() {
     [ -s "$folder/status" ]
 }
@@ -174,6 +176,7 @@ check_terminal() {
     like 'terminal, the line' "$(screen | tail -n 1)" \
         'crate [1-4] of 4, [a-d]: [0-9]* of 10 functions proved; [0-9]* minutes* so far, about [0-9]* to go.*'
     first=$(screen | tail -n 1)
+    # three changes
     sleep 3
     same 'terminal, one line' "$(screen | grep -c '^crate ')" 1
     [ "$(screen | tail -n 1)" != "$first" ]
@@ -345,6 +348,7 @@ END
 . "$top/scripts/first_start/toolchain.sh"
 
 make_rt
+# whether there is one of these shells
 ran=''
 for shell in dash bash; do
     command -v "$shell" >/dev/null || continue

@@ -185,6 +185,7 @@ check_text() { # NAME BYTES
 
 # ---- all runs
 
+# Whether this run is to be made: all are where none is named.
 is_asked() { # RUN
     [ -z "$asked" ] || case " $asked " in
     *" $1 "*) ;;

@@ -30,8 +30,9 @@ print_file() { # FILE WORD..
 
 # ---- rows from an independent source
 
-# Writes each text of the rows, its lines with and without marks in brackets, and prints a line of number, direction and columns.
-# Texts with a byte 00 are passed over, which not every awk writes. A new text begins where the first three fields change.
+# Writes for each text of ROWS the files NUMBER.text, and NUMBER.marks and NUMBER.plain, its lines with and without marks in
+# brackets; prints a line of number, direction and columns. Texts with a byte 00 are passed over, which not every awk writes. A new
+# text begins where the first three fields change.
 write_cases() { # ROWS
     awk -F '\t' -v folder="$scratch" '
         function bytes(hex,    text, i) {
@@ -168,17 +169,18 @@ compare_paragraphs() { # OURS THEIRS
             for (number = 1; number <= total; number++) {
                 if (lines[number] > 1) wrapped++
                 if (ours[number] == theirs[number]) { alike++; continue }
-                if (lines[number] > 1) { cut++; continue }
+                if (lines[number] > 1) { wrapped_apart++; continue }
                 printf "paragraph %d differs:\n%s%s", number, ours[number], theirs[number]
-                wrong++
+                others++
             }
             printf "beside fribidi: %d of %d paragraphs are alike; of %d that are wrapped %d differ, and %d others\n", \
-                alike, total, wrapped, cut, wrong
-            exit wrong > 0 || cut == 0 || alike == 0
+                alike, total, wrapped, wrapped_apart, others
+            exit others > 0 || wrapped_apart == 0 || alike == 0
         }
     ' "$1" "$2"
 }
 
+# Compares 3,000 random paragraphs, in rows of 80 columns, which bidi_print has by default.
 compare_fribidi() {
     random_text 3000 >"$scratch/text"
     "$program" --classes "$tables/DerivedBidiClass.txt" --brackets "$tables/BidiBrackets.txt" --mirroring "$tables/BidiMirroring.txt" \
@@ -189,7 +191,8 @@ compare_fribidi() {
 
 # ---- ends
 
-# Runs the program, and checks its status and its line on standard error. Standard output goes to the file `output`.
+# Runs the program with these words, and checks its status and its first line on standard error. Standard output goes to the file
+# that `output` names. Counts in `agreed` and `differing`.
 end_by() { # STATUS LINE WORD..
     wanted=$1 line=$2
     shift 2

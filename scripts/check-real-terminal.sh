@@ -39,17 +39,18 @@ check() { # NAME HEIGHT WIDTH ROWS CURSOR PICTURES..
     # until tmux has read the bytes; the pane's own sleep keeps it open
     sleep 0.4
     found=$(tmux -u -L "$socket" capture-pane -p -e -t "$name" | sed -e 's/\x1b\[7m/</g' -e 's/\x1b\[\(0\|27\)\?m/>/g' -e 's/\x1b\[[0-9;]*m//g' -e 's/ *$//' | paste -s -d '|' | sed -e 's/|*$//')
-    place=$(tmux -L "$socket" display-message -p -t "$name" '#{cursor_x},#{cursor_y}')
+    found_cursor=$(tmux -L "$socket" display-message -p -t "$name" '#{cursor_x},#{cursor_y}')
     tmux -L "$socket" kill-session -t "$name"
-    if [ "$found" = "$rows" ] && [ "$place" = "$cursor" ]; then
+    if [ "$found" = "$rows" ] && [ "$found_cursor" = "$cursor" ]; then
         echo "ok $name"
         passed=$((passed + 1))
     else
-        echo "DIFFERS $name: shows '$found', cursor $place; expected '$rows', cursor $cursor"
+        echo "DIFFERS $name: shows '$found', cursor $found_cursor; expected '$rows', cursor $cursor"
         failed=$((failed + 1))
     fi
 }
 
+# a letter of two columns, two of Hebrew, and an e with a mark of its own
 wide=$(printf '\344\270\226')
 alef=$(printf '\327\220')
 bet=$(printf '\327\221')

@@ -39,22 +39,20 @@ trap clean_up EXIT
 trap 'exit 1' HUP INT TERM
 
 # Results go to a file, since sessions run in processes of their own.
-passes() { # NAME
-    echo "ok $1" >>"$folder/results"
-}
+passes() { echo "ok $1" >>"$folder/results"; } # NAME
 
 fails() { # NAME DETAIL
     echo "FAILS $1: $2" | tee -a "$folder/results"
 }
 
-# Reports the fault of a recovered text.
+# Tells on standard error what is wrong with a recovered text; its status says whether nothing is.
 judge() { # SESSION TEXT JOURNAL
     python3 "$top/scripts/recovery_judge.py" "$@"
 }
 
 # ---- one session
 
-terminal() {
+terminal() { # WORD.. of tmux
     tmux -u -L "$socket" -f /dev/null "$@"
 }
 
@@ -65,7 +63,7 @@ open_editor() { # NAME STATE FILE
     terminal new-session -d -s "$1" -x 80 -y 24 -e "XDG_STATE_HOME=$2" "exec '$top/bidi-edit' --no-joining '$3'"
 }
 
-type_keys() { # NAME FILE
+type_keys() { # NAME FILE-OF-KEYS
     [ -s "$2" ] || return 0
     terminal load-buffer -b "$1" "$2"
     terminal paste-buffer -r -d -b "$1" -t "$1"
@@ -83,6 +81,7 @@ has_ended() { # PROCESS..
     done
 }
 
+# Prints the process of a host's program.
 program_of() { # HOST
     ps -o pid=,comm= --ppid "$1" | sed -n 's/^ *\([0-9]*\) bidi_edit$/\1/p'
 }
@@ -100,7 +99,8 @@ end_session() { # HOW HOST PROGRAM
     wait_for 150 has_ended "$2" "$3"
 }
 
-# Types the keys, ends the session, and recovers its text.
+# Types the keys, ends the session, and recovers its text. For all parts of it `given` is the folder of its files, which
+# recovery_sessions.py tells, `work` its working folder, `host` the process of its host and `program` that of its program.
 run_session() { # NUMBER
     given=$folder/sessions/$1
     work=$folder/work/$1
@@ -146,7 +146,7 @@ go_on_again() { # NUMBER
     esac
 }
 
-# Recovers in the terminal.
+# Recovers in the terminal; a failure is reported under NAME.
 resume() { # NUMBER NAME
     open_editor "s$1" "$work/state" "$work/text"
     wait_for 150 asks "s$1" || { fails "$2" 'nothing was asked'; return 1; }
@@ -186,6 +186,7 @@ asks() { # NAME
     terminal capture-pane -p -t "$1" | grep -qF '[d]elete for good'
 }
 
+# Runs the sessions with the numbers FIRST, FIRST + STEP and so on.
 run_share() { # FIRST STEP
     number=$1
     while [ "$number" -lt "$sessions" ]; do
@@ -345,9 +346,7 @@ run_editor() { # WORD..
     "$editor" --classes "$top/data/DerivedBidiClass.txt" --brackets "$top/data/BidiBrackets.txt" --mirroring "$top/data/BidiMirroring.txt" "$@"
 }
 
-many_keys() { # COUNT
-    python3 "$top/scripts/recovery_keys.py" "$1"
-}
+many_keys() { python3 "$top/scripts/recovery_keys.py" "$1"; } # COUNT
 
 # On a full disk the journal is given up, and the save succeeds.
 check_full_disk() {

@@ -1,7 +1,8 @@
 #!/bin/sh
-# check-refusals.sh [SESSIONS]: runs the built programs with one memory growth refused: the first, the second and so on, until a
-# run needs no more. It is not part of `rt ci`. The last lines count the runs by kind. Exit status 1: a run does something that
-# no refusal may cause, or a required kind did not occur; 77: nothing failed and something could not run.
+# check-refusals.sh [SESSIONS]: runs the built programs with one memory growth (an allocation: a call of malloc and the like)
+# refused: the first, the second and so on, until a run needs no more. It is not part of `rt ci`. The last lines count the runs by
+# kind. Exit status 1: a run does something that no refusal may cause, or a required kind did not occur; 77: nothing failed and
+# something could not run.
 #
 # A library in C, which scripts/refusals/loaded.sh builds, is loaded into each program. It refuses the growth, gives the program
 # its input one byte a read, and reports how many bytes were read at the refusal.
@@ -28,9 +29,9 @@
 #    - a dropped key: all is as with a byte that ends no key in K's place;
 #    - a failed save: all is as with renames refused after K, or with the first rename refused if the store's growth was refused
 #      before the first byte;
-#    - a postponed painting: status, fault and FILE are as without the refusal, and K sends nothing. With Repaint typed after K
-#      and the same growth refused, all is as in the session with Repaint and without a refusal, except for the bytes that K
-#      sends.
+#    - a painting put off (owed, as docs/ARCHITECTURE.md says): status, fault and FILE are as without the refusal, and K sends
+#      nothing. With Repaint typed after K and the same growth refused, all is as in the session with Repaint and without a
+#      refusal, except for the bytes that K sends.
 set -eu
 export LC_ALL=C
 

@@ -25,10 +25,11 @@ done
 # shellcheck disable=SC2034
 wanted="$*"
 passed=0 failed=0 skipped=0
+# the folder of all rounds, and the places that are to be unmounted at the end
 room=$(mktemp -d) || exit 1
+mounted=''
 chmod 755 "$room"
 socket=bidi-edit-$$
-mounted=''
 clean_up() {
     tmux -L "$socket" kill-server 2>/dev/null
     for each in $mounted; do umount "$each"; done

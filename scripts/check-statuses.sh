@@ -40,6 +40,7 @@ ended() { # NAME STATUS LINE
     fi
 }
 
+# in keys \023 is Save, and \021 is Quit
 printf 'ab' >text
 : >keys
 run text

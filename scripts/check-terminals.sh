@@ -1,11 +1,12 @@
 #!/bin/sh
 # check-terminals.sh [--pictures FOLDER] [NAME..]: runs the editor in terminals under Xvfb, types by xdotool and compares pictures:
 # in xterm, urxvt, st, alacritty, terminology, kitty, qterminal, VTE (xfce4-terminal), konsole and mlterm, and in tmux within VTE
-# and konsole. The editor's picture must equal the picture of `cat` on the same rows, also of joined Arabic letters, and the
-# shell's rows must be unchanged afterwards. Keys, selections, runs of changes, questions, pastes (with xclip), titles, notes, marks
-# in the last column, and clusters of other widths than counted are checked too. It is not part of `rt ci`. A missing terminal is
-# skipped. `--pictures FOLDER` keeps the pictures (TERMINAL-joined.png has the joined letters); names after it select terminals.
-# The last line has the totals. Exit status 1: a check failed; 77: Xvfb, xdotool, ImageMagick or the built programs are missing.
+# and konsole. The editor's picture must equal the picture of `cat` on the same rows (not in qterminal nor in kitty as it is, which
+# mirror words), also of joined Arabic letters, and the shell's rows must be unchanged afterwards. Keys, selections, runs of
+# changes, questions, pastes (with xclip), titles, notes, marks in the last column, and clusters of other widths than counted are
+# checked too. It is not part of `rt ci`. A missing terminal is skipped. `--pictures FOLDER` keeps the pictures
+# (TERMINAL-joined.png has the joined letters); names after it select terminals. The last line has the totals. Exit status 1: a
+# check failed; 77: Xvfb, xdotool, ImageMagick or the built programs are missing.
 set -u
 
 export LC_ALL=C.UTF-8

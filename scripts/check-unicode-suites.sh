@@ -13,7 +13,7 @@ scratch=$(mktemp -d)
 trap 'rm -rf "$scratch"' EXIT
 
 # Copies the file with this name, unpacked, to the scratch folder.
-unpack() {
+unpack() { # NAME
     found=$(find "$folder" -name "$1" -o -name "$1.gz" -o -name "$1.bz2" -o -name "$1.xz" | sort | head -n 1)
     case $found in
     '') return 1 ;;
@@ -48,7 +48,7 @@ want() { # LINE
     }
 }
 
-# The number of clusters that agree in a file of another version of Unicode. Of 15.0.0 all agree but one: two U+2701 and a
+# Prints the number of clusters that agree in a file of another version of Unicode. Of 15.0.0 all agree but one: two U+2701 and a
 # joiner between them, which are no longer one cluster.
 known_clusters() { # VERSION
     case $1 in
@@ -61,6 +61,7 @@ known_clusters() { # VERSION
 characters=$(grep -c '^[0-9A-F]' BidiCharacterTest.txt)
 sequences=$(awk -F';' '/^[A-Z]/ { n += $2 % 2 + int($2 / 2) % 2 + int($2 / 4) % 2 } END { print n }' BidiTest.txt)
 clusters=$(grep -c '^÷' GraphemeBreakTest.txt)
+# what the program says before the number of clusters where the file is of another version than its own
 skipped=$(sed -n 's/^GraphemeBreakTest: \(skipped, the file is of [^ ]* and the code of [^ ]*; \).*/\1/p' found)
 version=$(sed -n '1s/^# GraphemeBreakTest-\(.*\)\.txt.*/\1/p' GraphemeBreakTest.txt)
 agreeing=$clusters

@@ -30,6 +30,7 @@ imports_not_listed() { # FILE LISTED
     done
 }
 
+# Prints all faults.
 faults() {
     above=
     for file in $(listed_files); do

@@ -8,6 +8,7 @@ import random, re, shutil, subprocess, sys
 editor, data, edits, seed = sys.argv[1], sys.argv[2], int(sys.argv[3]), int(sys.argv[4])
 # named characters and replacements have generators of their own, so that the other choices of a seed do not depend on them
 chance, name_chance, replace_chance = random.Random(seed), random.Random(seed), random.Random(seed)
+# the program's options for the tables, and the names of these
 FILES = {"classes": "DerivedBidiClass", "brackets": "BidiBrackets", "mirroring": "BidiMirroring", "joining": "ArabicShaping", "characters": "UnicodeData"}
 TABLES = [f"--{word}={data}/{file}.txt" for word, file in FILES.items()]
 PER_TEXT = 200  # edits of one text, in one run
@@ -19,10 +20,11 @@ REPAINT = b"\x0c\x0c"
 DIRECTIONS = b"\x1b[9~" * 3
 # for Undo and Redo of an edit: those, and the keys that undo and redo a run
 STEPS = {b"\x1a": [b"\x1a", b"\x1b[82~"], b"\x19": [b"\x19", b"\x1b[83~"]}
+# what the filter of keys puts before a move with Shift
 SELECT = b"\x1b[81~"
 # characters that begin or end an embedding or isolate, by their names: those that begin one are put round a selection
 NAMED = [b"\x1b[86~" + name.encode() for name in "eEoOiIfpP"]
-# F4, Escape and Delete, as the filter of keys gives them
+# F4, Escape and Delete, as the filter gives them
 REPLACE, CANCEL, DELETE = b"\x1b[85~", b"\x1b[93~", b"\x1b[3~"
 # arrows, a place on and back, Home, End and pages
 MOVES = [b"\x1b[A", b"\x1b[B", b"\x1b[C", b"\x1b[D", b"\x06", b"\x02", b"\x1b[H", b"\x1b[F", b"\x1b[5~", b"\x1b[6~"]
@@ -30,10 +32,11 @@ HEBREW = "של אני הבית ספר ילדה הולכת לים בערב (יר�
 ARABIC = "السلام عليكم كتاب بيت مدرسة في على كبير صغير يوم".split()
 LATIN = "the house of a note: bread, milk (2 litres) and so on www.example.org".split()
 NUMBERS = "12 3,5 17:30 100% $4 ١٢ ٣٤".split()
-# letters of each direction, numbers and their separators, marks, blanks, brackets, joiners, bidi controls
-# each of them as likely as another
+# letters of each direction, numbers and their separators, marks, blanks, brackets, joiners, wide and Indic characters: each in the
+# list is as likely as another
 KINDS = [0x61, 0x5A, 0x05D0, 0x05D1, 0x0627, 0x0628, 0x31, 0x38, 0x0661, 0x2B, 0x2D, 0x25, 0x24, 0x2C, 0x3A, 0x2E, 0x0301, 0x05B8,
     0x20, 0x20, 0x09, 0x28, 0x29, 0x5B, 0x5D, 0x3C, 0x3E, 0x21, 0x26, 0x200D, 0x200B, 0x4E2D, 0x1F600, 0x1F468, 0x0915, 0x094D]
+# bidi controls, and the soft hyphen
 CONTROLS = [0x202A, 0x202B, 0x202C, 0x202D, 0x202E, 0x2066, 0x2067, 0x2068, 0x2069, 0x200E, 0x200F, 0xAD]
 
 
@@ -73,7 +76,7 @@ def replacement(is_note):
 
 
 def check(count):
-    """Makes edits of one text. Returns what is wrong, or nothing."""
+    """Makes `count` edits of one text. Returns what is wrong, or nothing."""
     is_note = chance.random() < 0.5
     size = chance.randrange(1, 2001)
     text = words(size) if is_note else characters(size, chance.random() < 0.3)
@@ -108,12 +111,15 @@ def check(count):
     return ""
 
 
-# called once for each edit that a layout follows, and once if strong characters delimit it
+# called once for each edit that a layout follows, and once if strong characters cut it off (docs/ARCHITECTURE.md, `cut_off.rt`)
 FUNCTIONS = ["bx_paragraph::edited_rows::push_rest", "bx_resolve::edited::resolve_span"]
 
 
 def count_ways(count, kinds):
-    """Makes edits of a note of some kinds of words. Counts those that a layout followed, and of these the ones that strong characters delimit."""
+    """Makes edits of a note of these kinds of words.
+
+    Returns how many a layout followed, and how many of these strong characters cut off.
+    """
     with open("text", "w") as file:
         file.write("\n".join(words(chance.randrange(40, 2001), kinds) for _ in range(20)))
     keys = b""

@@ -11,9 +11,11 @@ UNICODE = "/usr/share/unicode"
 LINES, SEED = 5000, 1  # of random words
 ARABIC, PERSIAN = "/usr/share/hunspell/ar.dic", "/usr/share/hunspell/fa.dic"
 URDU = "/usr/lib/firefox-esr/browser/extensions/langpack-ur@firefox-esr.mozilla.org.xpi"
+# the program's options for the tables, and the names of these
 FILES = {"classes": "DerivedBidiClass", "brackets": "BidiBrackets", "mirroring": "BidiMirroring", "joining": "ArabicShaping", "characters": "UnicodeData"}
 # a mark, as bidi_print prints it with --marks
 MARK = re.compile(r"\[([eEoOpiIfP?~#])\]")
+# vowel points; joiners that are put into words; a letter that joins on both sides
 POINTS = "\u064b\u064c\u064d\u064e\u064f\u0650\u0651\u0652\u0670"
 JOINERS = "\u200c\u200d\u200f"  # also the right-to-left mark, which is transparent
 BEH = "\u0628"

@@ -5,8 +5,8 @@
 # one paragraph of 1,000,000 bytes of each. It makes 3 rounds by default; --quick takes a sixteenth of each text, and one round.
 #
 # A figure is the median of the rounds: milliseconds until the last byte of the new screen, then after a slash the milliseconds
-# of processor time of the editor and its child processes. Letters and pages are means of many. Exit status 77: bidi_edit is not
-# built, there is no python3, or none of the others is installed.
+# of processor time of the editor and its child processes. Of the letters and pages of a round the former is the median, the
+# latter the mean. Exit status 77: bidi_edit is not built, there is no python3, or none of the others is installed.
 set -eu
 export LC_ALL=C.UTF-8
 

@@ -13,7 +13,10 @@ from editor_terminal import Late, Terminal
 
 # how often an action is made: letters one by one, pages, letters in one write, letters in the long paragraph
 LETTERS, PAGES, BURST, LONG_LETTERS = 30, 20, 200, 10
-LIMIT = 20  # seconds to wait for a screen
+LIMIT = 20  # seconds to wait for the screen of a key; `Terminal` waits a minute for others
+# Seconds of quiet that end a screen, where an editor may pause in it for longer than QUIET: as it opens, opens one long paragraph,
+# takes a burst of letters, saves, and goes to the end of that paragraph.
+OPENING, LONG_OPENING, BURSTING, SAVING, GOING = 0.1, 0.3, 0.2, 0.5, 1
 
 # ---- the rows of the table
 
@@ -29,6 +32,7 @@ ALL = (
 
 # ---- texts
 
+# without the letters that are typed and sought on the screen: qof, zah and q
 HEBREW = 'אבגדהוזחטיכלמנסעפצרשת'
 ARABIC = 'ابتثجحخدذرزسشصضطعغفكلمنهوي'
 LATIN = 'abcdefghijklmnoprstuvwxyz'
@@ -89,16 +93,16 @@ def paragraph_of(kind, size):
 
 @dataclass
 class Editor:
-    """An editor's command and keys."""
+    """An editor's command, and the bytes of its keys."""
 
     name: str
-    words: list
+    words: list  # of the command line, before a line's number and the file
     down: bytes
     row_end: bytes
-    page: bytes
-    text_end: bytes
+    page: bytes  # a page down
+    text_end: bytes  # from the beginning of the long paragraph to after its last letter
     save: bytes
-    leave: bytes
+    leave: bytes  # quits, and drops what is not saved
     insert: bytes = b''  # sent before letters
     append: bytes = b''  # sent before letters at a line's end
     command: bytes = b''  # ends typing
@@ -106,7 +110,10 @@ class Editor:
 
 
 def editors(bidi_edit, paragraph_pages):
-    """The editors by name. The text ends with a line feed, so one step back from its end is after its last letter."""
+    """The editors by name. The text ends with a line feed, so one step back from its end is after its last letter.
+
+    bidi_edit goes there by `paragraph_pages` pages down, which are more than the paragraph has.
+    """
     page = b'\x1b[6~'
     emacs = ['emacs', '-nw', '-Q', '--eval', '(setq large-file-warning-threshold nil)']
     vim = ['vim', '-N', '-u', 'NONE', '-i', 'NONE']
@@ -135,7 +142,10 @@ def editors(bidi_edit, paragraph_pages):
 # ---- one editor on one text
 
 class Figures:
-    """The measurements: for each action, text and editor a list of pairs of wall time and processor time, in seconds."""
+    """The measurements: for each action, text and editor a list of pairs of wall time and processor time, in seconds.
+
+    None is in place of a pair where the screen was too late.
+    """
 
     def __init__(self):
         self.found = {}
@@ -167,6 +177,7 @@ class Task:
         shutil.copyfile(text, self.file)
 
     def started(self, *words):
+        """The editor on the copy, with these words before its name."""
         # editors remember no cursor place, and offer no interrupted session again
         home = Path(os.environ['HOME'])
         shutil.rmtree(home, ignore_errors=True)
@@ -178,7 +189,7 @@ class Task:
 
     def measured(self, what, terminal, count, action):
         """Notes an action's median wall time and mean processor time, or that its screen was too late."""
-        terminal.settle()
+        terminal.discard()
         before = terminal.processor_seconds()
         try:
             seconds = [action() for _ in range(count)]
@@ -190,8 +201,8 @@ class Task:
     def opening(self, what, shown, *words):
         """Opens the text and quits."""
         with self.started(*words) as terminal:
-            seconds = terminal.await_screen(shown.encode(), 0.1) - terminal.started
-            terminal.settle()
+            seconds = terminal.await_screen(shown.encode(), OPENING) - terminal.started
+            terminal.discard()
             self.note(what, (seconds, terminal.end(self.editor.leave)))
 
     def shown_letter(self):
@@ -207,34 +218,35 @@ class Task:
         self.measured(what, terminal, count, lambda: terminal.do(letter, self.shown_letter(), limit=LIMIT))
 
     def leave_typing(self, terminal):
-        """Ends an editor's mode for typing. vim waits a second after an Escape, for the rest of a key."""
+        """Ends an editor's mode for typing. vim waits a second after an Escape, for the rest of a key; others are sent nothing."""
         terminal.send(self.editor.command)
-        terminal.settle(1.2 if self.editor.command else 0.1)
+        terminal.discard(1.2 if self.editor.command else 0.1)
 
     def keys(self):
         """Measures all actions in a text of many lines."""
         editor, letter = self.editor, self.kind.letter.encode()
         with self.started() as terminal:
-            terminal.await_screen(SHOWN.encode(), 0.1)
+            terminal.await_screen(SHOWN.encode(), OPENING)
             terminal.send(editor.down * 8)
             self.type_letters(LETTER, terminal, editor.insert, LETTERS)
             self.leave_typing(terminal)
             terminal.send(editor.down)
-            terminal.settle()
+            terminal.discard()
             terminal.send(editor.row_end)
             self.type_letters(LETTER_AT_END, terminal, editor.append, LETTERS)
-            self.measured(MANY_LETTERS, terminal, 1, lambda: terminal.do(letter * BURST, self.shown_letter(), 0.2, LIMIT))
+            self.measured(MANY_LETTERS, terminal, 1, lambda: terminal.do(letter * BURST, self.shown_letter(), BURSTING, LIMIT))
             self.leave_typing(terminal)
             self.measured(PAGE, terminal, PAGES, lambda: terminal.do(editor.page, limit=LIMIT))
             self.save(terminal, len(letter) * (2 * LETTERS + BURST))
-            self.note(MEMORY, (terminal.peak_bytes(), 0))
+            self.note(MEMORY, (terminal.peak_bytes(), 0))  # bytes in place of seconds
 
     def save(self, terminal, added):
         """Measures a save until the screen settles, and checks the file's size."""
         wanted = self.file.stat().st_size + added
-        terminal.settle()
+        terminal.discard()
         before = terminal.processor_seconds()
-        seconds = terminal.do(self.editor.save, quiet=0.5, limit=LIMIT)
+        seconds = terminal.do(self.editor.save, quiet=SAVING, limit=LIMIT)
+        # a save that is not done, or letters that were lost, count as a screen that did not come
         if self.file.stat().st_size != wanted:
             raise Late
         self.note(SAVE, (seconds, terminal.processor_seconds() - before))
@@ -242,14 +254,14 @@ class Task:
     def paragraph(self):
         """Measures a letter at each end of one long paragraph."""
         with self.started() as terminal:
-            terminal.await_screen(FIRST_NUMBER.encode(), 0.3)
+            terminal.await_screen(FIRST_NUMBER.encode(), LONG_OPENING)
             self.type_letters(LONG_LETTER, terminal, self.editor.insert, LONG_LETTERS)
             self.leave_typing(terminal)
             # an editor that was too slow once is not measured again
             if self.figures.is_late(LONG_LETTER_AT_END, self.kind, self.editor):
                 return
             try:
-                terminal.do(self.editor.text_end, quiet=1)
+                terminal.do(self.editor.text_end, quiet=GOING)
             except Late:
                 self.note(LONG_LETTER_AT_END, None)
                 raise
@@ -285,16 +297,16 @@ def measure(found, folder, rounds, part):
     return figures
 
 
-def measure_editor(figures, folder, kind, editor, number):
-    """Measures one editor on both texts of a kind."""
+def measure_editor(figures, folder, kind, editor, name):
+    """Measures one editor on both texts of a kind; `name` is the round's."""
     lines = folder / f'{kind.name}.lines'
     last = lines.read_bytes().count(b'\n')
     task = Task(figures, folder, kind, editor, lines)
-    run_task(f'{number}, opening', task, lambda: task.opening(OPENED, SHOWN))
-    run_task(f'{number}, opening at the end', task, lambda: task.opening(OPENED_AT_END, LAST, f'+{last}'))
-    run_task(f'{number}, keys', task, task.keys)
+    run_task(f'{name}, opening', task, lambda: task.opening(OPENED, SHOWN))
+    run_task(f'{name}, opening at the end', task, lambda: task.opening(OPENED_AT_END, LAST, f'+{last}'))
+    run_task(f'{name}, keys', task, task.keys)
     task = Task(figures, folder, kind, editor, folder / f'{kind.name}.paragraph')
-    run_task(f'{number}, a paragraph', task, task.paragraph)
+    run_task(f'{name}, a paragraph', task, task.paragraph)
 
 
 def number(value):
@@ -305,12 +317,14 @@ def number(value):
 
 
 def milliseconds(pair):
+    """A cell of the table: wall time and processor time in milliseconds."""
     if pair is None:
         return '-'
     return f'{number(1000 * pair[0])} / {number(1000 * pair[1])}'
 
 
 def megabytes(pair):
+    """A cell of the table: of a pair whose first part is a number of bytes, that in megabytes."""
     return '-' if pair is None else number(pair[0] / 1e6)
 
 
@@ -334,7 +348,7 @@ def main():
     parser.add_argument('editors', nargs='+')
     words = parser.parse_args()
     part = 16 if words.quick else 1
-    # more pages than a paragraph of 1,000,000 bytes has in rows of 80 columns, 23 a page
+    # more pages than a paragraph of 1,000,000 bytes has in rows of 80 columns, 23 a page: some 550 of ASCII
     known = editors(words.bidi_edit, 800 // part)
     found = [known[name] for name in words.editors]
     if words.quick:

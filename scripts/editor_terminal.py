@@ -1,4 +1,4 @@
-"""A program on a terminal of its own, for compare_editors.py: its input, its settled screens, and its cost."""
+"""A program on a terminal of its own, for compare_editors.py: its input, the time of its screens, and its cost."""
 
 import fcntl
 import os
@@ -11,6 +11,7 @@ import time
 
 ROWS, COLUMNS = 24, 80
 QUIET = 0.03  # seconds without a byte after which a screen counts as settled
+PAUSE = 0.3  # the same where output is discarded: longer, since no time is measured there
 # A terminal's query at the start, which emacs sends, and the answer of a plain xterm, for which emacs waits.
 QUESTIONS, ANSWER = (b'\x1b[>0c', b'\x1b[>c'), b'\x1b[>0;95;0c'
 
@@ -56,7 +57,7 @@ def processor_seconds(process):
 
 
 def peak_bytes(process):
-    """The peak memory of a process."""
+    """The peak memory of a process in bytes; 0 if it is gone."""
     try:
         with open(f'/proc/{process}/status') as file:
             return sum(1024 * int(line.split()[1]) for line in file if line.startswith('VmHWM:'))
@@ -65,7 +66,10 @@ def peak_bytes(process):
 
 
 class Terminal:
-    """A program started on a terminal as a session leader; `with` ends it."""
+    """A program started on a terminal as a session leader; `with` ends it.
+
+    `line` is the terminal's end here, which does not block; `is_reaped` says that the program's end was taken by `end`.
+    """
 
     def __init__(self, words, folder):
         self.started = time.perf_counter()
@@ -113,10 +117,14 @@ class Terminal:
         return part
 
     def await_screen(self, wanted=b'', quiet=QUIET, limit=60):
-        """The time of a screen's last byte: after the wanted bytes, before `quiet` seconds without any; `Late` after `limit`."""
+        """The time of a screen's last byte: after the wanted bytes, before `quiet` seconds without any; `Late` after `limit`.
+
+        So a longer `quiet` makes no screen later.
+        """
         end = time.perf_counter() + limit
         seen, last, is_there = b'', None, False
         while True:
+            # until the wanted bytes are there, limit and end are looked at five times a second
             part = self.read(quiet if is_there else 0.2)
             now = time.perf_counter()
             if part:
@@ -130,14 +138,14 @@ class Terminal:
                 raise Late
 
     def do(self, keys, wanted=b'', quiet=QUIET, limit=60):
-        """Sends keys, and returns the seconds until their screen is settled."""
+        """Sends keys, and returns the seconds until the last byte of their screen."""
         before = time.perf_counter()
         self.send(keys)
         return self.await_screen(wanted, quiet, limit) - before
 
-    def settle(self, seconds=0.3):
-        """Discards output up to a pause."""
-        while self.read(seconds):
+    def discard(self, pause=PAUSE):
+        """Discards output until `pause` seconds pass without any."""
+        while self.read(pause):
             pass
 
     def processor_seconds(self):
@@ -153,7 +161,7 @@ class Terminal:
         self.send(keys)
         end = time.perf_counter() + limit
         while time.perf_counter() < end:
-            self.read(0.02)
+            self.read(0.02)  # a program whose output is not read does not end
             process, _, usage = os.wait4(self.process, os.WNOHANG)
             if process:
                 self.is_reaped = True

@@ -12,13 +12,13 @@ classes=$folder/extracted/DerivedBidiClass.txt
 data=$(dirname "$0")/../data
 mkdir -p "$data"
 
-# Writes a file's version, and that the file is generated.
-head_line() {
+# Prints the first line of a table: the version of Unicode's file, and that the table is made from it.
+head_line() { # FILE
     sed -n '1s/^# *\(.*\)\.txt.*$/# \1, its facts alone, by scripts\/make-data.sh/p' "$1"
 }
 
 # Prints a file's data lines without comments and blanks.
-facts() {
+facts() { # FILE
     sed -e 's/#.*//' -e 's/[[:blank:]]//g' -e '/^$/d' "$1"
 }
 

@@ -60,6 +60,7 @@ libc_version() { # PROGRAM..
     grep -a -h -o 'GLIBC_[0-9][0-9.]*' "$@" | sed 's/GLIBC_//' | sort -u -V | tail -n 1
 }
 
+# Writes the package's description, and the sums of its files.
 make_control() { # FOLDER MAINTAINER
     cat >"$1/DEBIAN/control" <<END
 Package: bidi-edit
@@ -80,6 +81,7 @@ END
     (cd "$1" && find usr -type f -exec md5sum {} +) >"$1/DEBIAN/md5sums"
 }
 
+# Writes the package's copyright and changelog.
 make_documents() { # FOLDER MAINTAINER
     documents=$1/usr/share/doc/bidi-edit
     mkdir -p "$documents"
@@ -190,7 +192,8 @@ END
     tmux -L "$socket" kill-session -t person
 }
 
-tell_version() { # NAME FOLDER
+# Checks the version that the host of a tree tells.
+check_version() { # NAME FOLDER
     same "$1, the version" "$(BIDI_EDIT_DATA="$2/share/bidi_edit" "$2/bin/bidi-edit" --version | head -n 1)" "bidi-edit $version"
 }
 
@@ -209,7 +212,7 @@ check_manual() {
     same 'manual, its version' "$(sed -n '1s/.*"bidi_edit \([^"]*\)".*/\1/p' "$manual")" "$version"
 }
 
-# Runs a command in a root folder with dpkg's list and without the C library.
+# Runs dpkg with these words on a root folder that has its lists and no C library.
 in_root() { # WORD..
     PATH=$PATH:/usr/sbin:/sbin dpkg --root="$folder/tree" --force-not-root --force-depends --force-script-chrootless --log=/dev/null "$@" >"$folder/dpkg" 2>&1
 }
@@ -225,7 +228,7 @@ check_package() {
         '/etc/alternatives/editor /usr/bin/bidi-edit'
     same 'package, as editor: its manual' "$(readlink "$folder/tree/usr/share/man/man1/editor.1.gz" "$folder/tree/etc/alternatives/editor.1.gz" | paste -s -d ' ')" \
         '/etc/alternatives/editor.1.gz /usr/share/man/man1/bidi-edit.1.gz'
-    tell_version package "$folder/tree/usr"
+    check_version package "$folder/tree/usr"
     use package "$folder/tree/usr"
     in_root --purge bidi-edit && found=0 || found=1
     report 'package, removed' "$found" "$(cat "$folder/dpkg")"
@@ -235,7 +238,7 @@ check_package() {
 check_tar() {
     mkdir "$folder/unpacked"
     tar -C "$folder/unpacked" -xzf "$target/$name.tar.gz"
-    tell_version tar "$folder/unpacked/bidi-edit-$version"
+    check_version tar "$folder/unpacked/bidi-edit-$version"
     use tar "$folder/unpacked/bidi-edit-$version"
     same 'tar, the same tree' "$(cd "$folder/unpacked/bidi-edit-$version" && find . ! -type d | sort)" \
         "$(cd "$package/usr" && find . ! -type d ! -path '*/lintian/*' | sort)"

@@ -52,6 +52,7 @@ class Editor(Search):
         """An edit that makes this text and place; `goes_on` where it is of the run before it."""
         length = len(self.past)
         self.runs = {run for run in self.runs if run < length} | (set() if goes_on else {length})
+        # the stored text is among the edits that are given up
         if self.stored is not None and length < self.stored:
             self.stored = None
         self.past.append((self.text, self.place, text, place))
@@ -100,9 +101,11 @@ class Editor(Search):
             self.mark, self.soft = None, "no"
 
     def region(self):
+        """Its two ends, the lesser one first; there is a mark."""
         return sorted((self.mark, self.place))
 
     def is_selection(self):
+        """Whether letters are selected."""
         return self.soft != "no" and self.mark != self.place
 
     def typed(self, keys):
@@ -163,6 +166,7 @@ class Editor(Search):
             self.put_character(chr(code))
 
     def put_character(self, character):
+        """Puts a character in, as an edit that begins a run; a selection stays in the text."""
         self.edit(self.text[:self.place] + character + self.text[self.place:], self.place + 1)
         self.typing = kind_of(character)
 
@@ -204,6 +208,7 @@ class Editor(Search):
             self.remove(*self.region())
         elif 0 <= start < end <= len(self.text):
             typing = {"erase": "erasing", "delete": "deleting"}.get(name, "no")
+            # goes on with the run where the key before did the same
             self.remove(start, end, typing == was != "no")
             self.typing = typing
 
@@ -234,6 +239,7 @@ class Editor(Search):
         self.ask, self.answer = "line" if name == "go to" else "name", ""
 
     def select(self):
+        """Select, which comes before a move with Shift: sets a mark, or has the one that it set stay for the next key."""
         if self.mark is None:
             self.mark, self.soft = self.place, "fresh"
         elif self.soft == "old":

@@ -26,6 +26,7 @@ class Search:
         return letters.translate(FOUND_AS) if self.aim == "find" else letters
 
     def find_next(self):
+        """F3 without a search: the next match of the last query, or a search where there is no query yet."""
         if self.letters_of(self.query):
             self.unselect()
             self.aim = "find"
@@ -50,6 +51,7 @@ class Search:
             self.search, self.other = "with typed", (self.kept(self.other) + letter)[:64]
 
     def answer_by_enter(self):
+        """What Enter does where letters are to be replaced."""
         if self.search == "replacing":
             self.replace_match()
         elif self.search in ("begun", "typed"):
@@ -73,6 +75,7 @@ class Search:
         return [(places[i], places[i + len(query) - 1] + 1) for i in starts]
 
     def matches(self):
+        """Where the query stands."""
         return [start for start, _ in self.spans()]
 
     def look_from(self, place):
@@ -128,7 +131,7 @@ class Search:
         return True
 
     def other_takes(self, name):
-        """The same while the other text is typed."""
+        """What a key does while the other text is typed. Returns as `query_takes`."""
         if name in ("erase", "delete"):
             self.search, self.other = "with typed", self.kept(self.other)[:-1]
         elif name in ("find", "find next", "find back"):
@@ -141,7 +144,7 @@ class Search:
         return True
 
     def match_takes(self, name):
-        """The same while a match is shown."""
+        """What a key does while a match is shown. Returns as `query_takes`."""
         if name in ("find", "find next"):
             self.go_on_from(self.at + 1)
         elif name == "find back":
@@ -163,6 +166,7 @@ class Search:
                 self.search, self.count = "with begun", 0
 
     def show_match(self):
+        """Asks about the match at the place."""
         self.search, self.at = "replacing", self.place
 
     def go_on_from(self, at):

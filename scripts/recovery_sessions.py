@@ -16,6 +16,7 @@ from recovery_editor import BYTES, CLOSERS, MOVES, NAMED, Editor
 
 # each letter is a unit of its own in any context
 LETTERS = "abcxyz ,.()0123456789" + "\u05d0\u05d1\u05d2\u05e9\u05dc\u05de\u05dd" + "\u0623\u0627\u0628\u062a\u0645"
+# what `press` draws from: all keys once, and some once or twice more, so that they come more often
 NAMES = [*BYTES, "select", "undo run", "redo run", "enter", "tab", "size", "quit", "named", "replaced", "replaced"]
 # how keys1 end
 ENDS = ["no search", "in a search", "a search given up", "a search that a save ended", "in a paste", "a selection", "between runs",
@@ -35,6 +36,7 @@ class Session(Editor):
     """An editor that random keys are typed into."""
 
     def press(self):
+        """A random key, or several that belong together: six of ten are letters."""
         name = random.choice(NAMES) if random.random() < 0.4 else "insert"
         if name == "insert":
             self.insert(random.choice(LETTERS))

@@ -7,11 +7,11 @@
 # these are typed first, as tmux names them: `--keys 'C-w a b'`.
 set -eu
 
-# is_plain: --cells is given
-is_plain='' keys=''
+# wants_cells: --cells is given
+wants_cells='' keys=''
 while :; do
     case ${1:-} in
-    --cells) is_plain=1 ;;
+    --cells) wants_cells=1 ;;
     --keys)
         keys=${2:-}
         shift
@@ -43,6 +43,7 @@ esac
 export LC_ALL=C.UTF-8
 folder=$(mktemp -d)
 socket="show$$"
+# the editor's
 process=''
 # Waits for the editor's end, since the host writes its session until then.
 clean_up() {
@@ -92,7 +93,7 @@ if [ -n "$keys" ]; then
     capture
 fi
 
-if [ -n "$is_plain" ]; then
+if [ -n "$wants_cells" ]; then
     tmux -L "$socket" display-message -p -t seen "$rows $cols #{cursor_y} #{cursor_x}"
     cat "$folder/.now"
     exit

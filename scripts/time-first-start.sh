@@ -22,7 +22,8 @@ kept_folder() {
     echo "${rt%/*/bin/rt}/rattle-kept"
 }
 
-# Runs this script again with an empty folder in place of that one.
+# Runs this script again, with an empty folder in place of the one with kept proofs (kept_folder), and in BIDI_EDIT_HIDDEN the
+# folder for all files of the run.
 hide_kept() { # WORD..
     for tool in rt tmux git unshare pgrep; do
         command -v "$tool" >/dev/null || skip "there is no $tool"
@@ -39,7 +40,7 @@ hide_kept() { # WORD..
 
 # ---- a start
 
-# Runs a command of tmux.
+# Runs a command of tmux on the server of this run, whose session `person` has the editor.
 in_terminal() { # WORD..
     tmux -u -L "$socket" -f /dev/null "$@"
 }
@@ -49,18 +50,20 @@ has_screen() {
     [ "$(in_terminal display-message -p -t person '#{alternate_on}')" = 1 ]
 }
 
+# Prints the last line on the screen.
 show_last() {
     in_terminal capture-pane -p -t person | grep . | tail -n 1
 }
 
-# Makes a clean clone of a commit, in `clone`.
+# Makes a clean clone of a commit, in a folder of this name; sets `clone` to its path.
 make_clone() { # COMMIT NAME
     clone=$folder/$2
     git clone -q "$top" "$clone"
     git -C "$clone" checkout -q "$1"
 }
 
-# Starts the building, alone or with the editor after it, and notes the time in `begun`.
+# Starts the building in the clone: with --crates alone, as the process `child`, else with the editor after it, in the terminal.
+# Notes the time in `begun`.
 begin() {
     begun=$(date +%s)
     : >"$folder/copies"
@@ -69,6 +72,7 @@ begin() {
         sh "$clone/launcher/proving/prove.sh" "$clone" $crates >"$folder/said" 2>&1 &
         child=$!
     else
+        # the sleep, longer than a usual limit, keeps what stands there after a failure
         in_terminal new-session -d -s person -x 100 -y 24 "cd '$clone' && ./bidi-edit '$folder/note'; exec sleep 60000"
     fi
 }
@@ -98,7 +102,7 @@ stop() {
     done
 }
 
-# Leaves the editor, or takes the end of the building.
+# Leaves the editor, or takes the end of the building. Its status says whether there was a screen, or all was built.
 leave() {
     if [ -n "$crates" ]; then
         wait "$child" || return 1
@@ -109,7 +113,8 @@ leave() {
     fi
 }
 
-# Starts the editor in the clone and prints the time to its first screen.
+# Starts the editor (with --crates the building) in the clone, and prints the time to its first screen (to its end), after WHAT.
+# Its status says whether that came within the limit.
 start() { # WHAT
     begin
     until is_over; do
@@ -132,7 +137,7 @@ start() { # WHAT
 
 # ---- where the time went
 
-# Prints the lines of the copies with their times in seconds of the epoch: the crate, start and end.
+# Prints a line for each copy in `copies`: its crate, its start, and when it was last seen, in seconds of the epoch.
 copies_seen() {
     awk -v now="$(date +%s.%N)" -v ticks="$(getconf CLK_TCK)" '
         FNR == NR { booted = now - $1; next }
@@ -146,14 +151,15 @@ modules_of() { # CRATE
     find "$clone/crates/$1/out/incremental" -name '*.oantt' ! -name '*.decls.oantt' -printf '%T@ %f\n' 2>/dev/null | sort -n
 }
 
-# Prints a line for each crate that was built: its name, start, end, jobs and processor time.
+# Prints a line for each crate that was built: its name, start, end, jobs and processor time. In proving.times, which
+# launcher/proving/prove.sh writes, the fields 5 to 8 are such as 1m2.3s: user and system time, of the shell and of its children.
 crate_times() {
     awk '
         function seconds(time,    part) { split(time, part, /[ms]/); return part[1] * 60 + part[2] }
         { print $1, $2, $3, $4, seconds($5) + seconds($6) + seconds($7) + seconds($8) }' "$clone/out/proving.times"
 }
 
-# Writes to `times` and `parts` what was built, and what each crate's time went to.
+# Writes to the files `times` and `parts` the lines of crate_times, and what functions.awk tells of each of these crates.
 find_parts() {
     : >"$folder/parts"
     : >"$folder/times"
@@ -184,7 +190,7 @@ tell_selftest() {
 
 # ---- again
 
-# Starts the editor in the clone, and prints what was proved anew.
+# Starts the editor in the clone, and prints the time, and the number of functions that were proved, of all and by crates.
 start_again() { # WHAT
     rm -f "$clone/out/proving.times"
     start "$1" || return 1

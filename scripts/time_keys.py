@@ -17,8 +17,10 @@ COUNT, RUNS, LETTERS = 200, 5, (0, 1, 200, 1000)
 # rows and columns
 WINDOWS = (24, 80), (60, 200), (100, 400), (500, 500)
 DOWN, PAGE, HOME, END, FORWARD = b"\x1b[B", b"\x1b[6~", b"\x1b[H", b"\x1b[F", b"\x06"
-ERASE, UNDO, REPAINT, QUIT = b"\x7f", b"\x1a", b"\x0c", b"\x11\x11"
+ERASE, UNDO, REPAINT = b"\x7f", b"\x1a", b"\x0c"
+QUIT = b"\x11\x11"  # twice, since the first one asks where the text is changed
 WHOLE = b"\x1b[0m\x1b[2J"  # the beginning of a whole painting
+# the program's options for the tables, and the names of these
 FILES = {"classes": "DerivedBidiClass", "brackets": "BidiBrackets", "mirroring": "BidiMirroring", "joining": "ArabicShaping", "characters": "UnicodeData"}
 
 
@@ -47,22 +49,29 @@ def megabytes(keys):
 
 
 def into_word(lead, period):
-    """Moves on to after the second letter of the repeated words: near a bracket, each letter resolves the whole paragraph again."""
+    """Moves on from where the keys `lead` end to after the second letter of the repeated words, which have `period` characters.
+
+    Near a bracket, each letter would resolve the whole paragraph again.
+    """
     shown = subprocess.run(command, input=lead + REPAINT + QUIT, capture_output=True).stdout
     letter = int(re.findall(rb"1:(\d+)", shown)[-1])  # from the last row, which counts from 1
     return lead + FORWARD * ((3 - letter) % period)
 
 
 def leads(length, period):
-    """The keys to each place (first rows, middle, end) of `length` characters: rows have nearly 80, and a page has 23 rows.
+    """The keys to each place (first rows, middle, end) of `length` characters, of which the first `period` are repeated.
 
-    So 23 * 77 characters are about a page, and 1500 are less than one, for more pages than there are.
+    Rows have nearly 80 characters, and a page has 23 rows. So 23 * 77 characters are about a page, and 1500 are less than one, for
+    more pages than there are.
     """
     return [into_word(DOWN * 3, period), into_word(PAGE * (length // (2 * 23 * 77)), period), PAGE * (length // 1500 + 2) + END]
 
 
 def series(lead, word):
-    """For each key, the keys before it, and COUNT of it."""
+    """For each key that is measured, by its name: the keys before it (first `lead`, which go to a place), and COUNT of it.
+
+    `word` is typed again and again.
+    """
     letters = word.encode() * (COUNT // len(word))
     return {
         "a letter": (lead, letters),

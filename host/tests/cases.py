@@ -1,7 +1,8 @@
 """Single cases of the host. Each function takes the installation and gives pairs of a name and what is wrong, empty if nothing.
 
 The words behind `edit` and the like are for fake_keeper.py, names of files for fake_editor.c. Statuses are as waitpid gives them:
-a signal's number, or an exit status in the second byte."""
+a signal's number, or an exit status in the second byte. Seconds after `pump` are limits for a busy machine, those after `rest` go
+by in any case."""
 import os, signal, subprocess, termios, time
 from ends import TAIL, restored
 from terminals import Run
@@ -10,10 +11,12 @@ QUIT = b'\x11'
 
 
 def same(name, found, wanted):
+    """The pair of a case: whether two values are equal."""
     return name, '' if found == wanted else f'{found!r}, and not {wanted!r}'
 
 
 def holds(name, is_so, detail=''):
+    """The pair of a case: whether this is so; `detail` is told where it is not."""
     return name, '' if is_so else f'does not hold {detail}'
 
 
@@ -44,7 +47,7 @@ def edits(tree):
     run.resize(30, 90)
     yield holds('edits: size', run.pump(5, b'- 30 x 90'))
     yield holds('edits: title', b'\x1b]2;edits - ^S save ^Q quit\x07' in run.output)
-    run.rest(2.2)
+    run.rest(2.2)  # two seconds are told, and three or one on a busy machine
     run.type(QUIT)
     yield from finish(run, 'edits', 0)
     heard = tree.heard()
@@ -117,13 +120,13 @@ def notices(tree):
         run.pump(5, b'hello')
         for step in steps:
             run.rest(step) if isinstance(step, float) else run.type(step)
-        run.rest(1.3)
+        run.rest(1.3)  # the later notice comes meanwhile
         with open(made, 'rb') as raw:
             yield same(f'notices, {name}: what the program reads', raw.read(), first + wanted)
         yield same(f'notices, {name}: mask', os.stat(made).st_mode & 0o777, 0o600)
         run.type(QUIT)
         run.rest(0.1)
-        run.type(QUIT)
+        run.type(QUIT)  # once more, in case the first was taken into a sequence that is not whole
         yield from finish(run, f'notices, {name}', 0)
         os.unlink(made)
     if tree.has_filter:

@@ -47,7 +47,7 @@ def main():
     if words[:1] == ['--runs']:
         runs = int(words[1])
         words = words[2:]
-    if words[:1] == ['--worker']:
+    if words[:1] == ['--worker']:  # as this program starts itself, below
         worker(host, runs, words[1:])
         return
     names = words or [name for name in (*CASES, *ends.KINDS) if name != 'faults']  # which takes some minutes

@@ -5,11 +5,11 @@ from terminals import Run
 
 # What the host writes last: the title is given back, the alternate screen ends.
 TAIL = b'\x1b[23;0t\x1b[?1049l'
-LIMIT = 5  # seconds
+LIMIT = 5  # seconds from what ends the host until all is over (host/closing.c, host/watcher.c), and of waits for a screen
 
 # Statuses are as waitpid gives them: a signal's number, or an exit status in the second byte.
 
-# What ends the host, each by its signal. The last ones are left to the watcher.
+# What ends the host, each by its signal. The last two kill it at once, and the watcher restores the terminal.
 SIGNALS = {name: getattr(signal, 'SIG' + name.upper()) for name in (
     'hup', 'int', 'quit', 'usr1', 'usr2', 'alrm', 'pipe', 'xcpu', 'xfsz', 'vtalrm', 'prof', 'io', 'pwr', 'abrt', 'sys')}
 KINDS = ['term', 'term-job', 'kill', 'kill-job', 'kill-program', 'kill-keeper', 'kill-filter', 'kill-watcher', 'stop', 'closed', 'blocked', *SIGNALS]
@@ -33,7 +33,7 @@ def restored(output):
 
 
 def moment():
-    """Seconds until an end: mostly within the host's start, sometimes once it edits."""
+    """Seconds from the start until an end: mostly within the host's start, sometimes once it edits."""
     return random.choice((random.uniform(0, 0.012), random.uniform(0, 0.05), random.uniform(0.03, 0.3)))
 
 
@@ -46,6 +46,7 @@ def send(process, number):
 
 
 def send_job(run, number):
+    """Sends a signal to all processes of the job, or, where it is no group yet or any more, to its first."""
     try:
         os.killpg(run.job, number)
     except ProcessLookupError:
@@ -53,7 +54,7 @@ def send_job(run, number):
 
 
 def wait_for_child(run, name):
-    """The number of the job's child of this name, once it is there."""
+    """The number of the job's child of this name, some time after it is there; 0 if it does not come."""
     end = time.perf_counter() + LIMIT
     while not (child := run.child(name)) and time.perf_counter() < end and run.status is None:
         run.rest(0.001)
@@ -79,7 +80,7 @@ def block(run):
 
 
 def stop_and_go_on(run):
-    """Stops the host or its job up to three times; returns what was written since the last time."""
+    """Stops the host or its job, and has it go on, one to three times. Returns how much was written before it last went on."""
     for _ in range(random.randint(1, 3)):
         send_this = random.choice((lambda number: send_job(run, number), lambda number: send(run.job, number)))
         send_this(signal.SIGSTOP)
@@ -120,11 +121,12 @@ def try_stop(run, wrong):
 
 
 def resize(run):
+    """Gives the window another size, so that SIGWINCH comes beside the SIGTERM. Any from 1 to 500 will do: these are usual ones."""
     run.resize(random.randint(5, 60), random.randint(20, 200))
 
 
 def act(kind, run, wrong):
-    """Does what the kind says. Returns when, and the statuses that are right; none if any is."""
+    """Ends the run as the kind says. Returns when that was done, and the statuses that are right, or None if any is."""
     if kind == 'stop':
         run.rest(moment())
         return try_stop(run, wrong)
@@ -164,7 +166,7 @@ def act(kind, run, wrong):
 
 
 def kill_watcher(run):
-    """Kills the process in a job of its own, which harms nothing, and quits."""
+    """Kills the watcher, the one process in a job of its own, which harms nothing, and quits. Returns as `act` does."""
     run.pump(LIMIT, b'hello')
     watchers = [process for process in run.processes() if process != run.job and os.getpgid(process) == process]
     for process in watchers:

@@ -6,7 +6,10 @@ NOBODY = 65534  # the usual number of a user without rights
 
 
 def ask(tree, paths, user=None, folder=None):
-    """The facts about paths, as the keeper hears them: of each the letters, two numbers and the real path."""
+    """The facts about paths, as the keeper hears them: of each the letters, the longest name, the free bytes, and the real path.
+
+    `user` is the number of the user who asks, if another one, and `folder` the working folder, else the installation's.
+    """
     def become():
         os.setgroups([])
         os.setresgid(user, user, user)
@@ -45,6 +48,7 @@ def make(path, mode=0o644):
 
 
 def without(letters, others):
+    """The letters that are not among the others."""
     return ''.join(letter for letter in letters if letter not in others)
 
 

@@ -43,6 +43,7 @@ static void paint(void) {
     put(text);
 }
 
+/* Takes `sequence` as the window's size, if it tells one. */
 static void take_size(void) {
     static char first[16], second[16];
     if (sscanf(sequence, "\033[8;%15[0-9];%15[0-9]t", first, second) != 2) return;
@@ -50,7 +51,7 @@ static void take_size(void) {
     cols = second;
 }
 
-/* Takes a byte: Ctrl-Q (17) ends the program, a sequence may be a size, letters are kept. */
+/* Takes a byte: Ctrl-Q (17) ends the program, what ESC (27) begins may be a size, letters are kept. */
 static void take(char key) {
     if (sequence_length > 0 || key == 27) {
         if (sequence_length + 1 < sizeof sequence) sequence[sequence_length++] = key;
@@ -70,6 +71,7 @@ static void take(char key) {
     }
 }
 
+/* Does what FILE's name says, and writes the text of --before. */
 static void act_by_name(void) {
     if (strstr(file, "refused")) {
         word("f not-utf8 3");

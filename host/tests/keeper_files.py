@@ -1,7 +1,7 @@
 """Cases of check_keeper.py: kinds of files and of what is left of a session.
 
 A case gets its folder `top`, and fails by an exception. played_host.py has `Start` and what it keeps of the keeper's messages;
-the numbers of notices are told in docs/ARCHITECTURE.md. A `Start` that only tells something ends with ('x', STATUS), one that
+the numbers of notices are told in crates/bx_wire/src/notice.rt. A `Start` that only tells something ends with ('x', STATUS), one that
 edits ends by `leave`."""
 import os, re, shutil, stat, subprocess
 from played_host import Start, TABLES, edit, leave_keys, put, sessions

@@ -58,6 +58,7 @@ def questions(top):
     assert '--replay' not in start.words and start.leave(0) == 0 and len(sessions(top)) == 1
     start = edit(top, 'a.txt', answers=['R'])
     assert start.value('--replay') == start.value('--journal') and start.value('--text').endswith('/text')
+    # a recovery appends a Save and the window's size
     assert open(start.value('--journal'), 'rb').read() == b'abc\x13\x1b[8;24;80t'
     assert start.leave(1) == 1
     start = edit(top, 'a.txt', answers=['delete'])

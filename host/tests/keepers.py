@@ -3,8 +3,9 @@
 cases.py says what a case is and what its words mean."""
 import os, signal, time
 from cases import QUIT, finish, holds, same, start
-from ends import TAIL
+from ends import LIMIT, TAIL
 
+A_SECOND = 1.5  # seconds in which the host tells the keeper of one, and the keeper does what it does then
 
 def keepers(tree):
     """Keepers that die, say nonsense, or do not answer."""
@@ -23,7 +24,7 @@ def keepers(tree):
         yield from finish(run, f'keepers: {what} in a session', 1 << 8)
     run = start(tree, 'edit', 'slow', tree.file('kept'))
     run.pump(5, b'hello')
-    run.rest(1.5)
+    run.rest(A_SECOND)
     run.type(b'abc')
     yield holds('keepers: slow, keys go on', run.pump(1, b'<abc>'))
     run.type(QUIT)
@@ -32,15 +33,15 @@ def keepers(tree):
     run.pump(5, b'hello')
     before = time.perf_counter()
     os.kill(run.job, signal.SIGTERM)
-    yield holds('keepers: mute, ended by a signal', run.pump(5) and time.perf_counter() - before < 5)
+    yield holds('keepers: mute, ended by a signal', run.pump(LIMIT) and time.perf_counter() - before < LIMIT)
     yield from finish(run, 'keepers: mute', signal.SIGTERM)
     for number, status in ((signal.SIGTERM, signal.SIGTERM), (signal.SIGKILL, signal.SIGKILL)):
         run = start(tree, 'edit', 'stuck', tree.file('kept'))
         run.pump(5, b'hello')
         before = time.perf_counter()
         os.kill(run.job, number)
-        run.pump(5)
-        yield same(f'keepers: stuck, {number.name}: processes', run.left(before + 5 - time.perf_counter()), {})
+        run.pump(LIMIT)
+        yield same(f'keepers: stuck, {number.name}: processes', run.left(before + LIMIT - time.perf_counter()), {})
         yield from finish(run, f'keepers: stuck, {number.name}', status)
     run = start(tree, 'hangs')
     run.rest(0.5)
@@ -56,7 +57,7 @@ def late_signals(tree):
     yield holds('late signals: the end waits', not run.pump(1) and run.is_restored())
     before = time.perf_counter()
     os.kill(run.job, signal.SIGTERM)
-    yield holds('late signals: soon over', run.pump(6) and time.perf_counter() - before < 5)
+    yield holds('late signals: soon over', run.pump(6) and time.perf_counter() - before < LIMIT)
     run.drain()
     yield holds('late signals: told', b'could not be ended in time: bidi-edit --recover lists' in run.output, run.output)
     yield from finish(run, 'late signals', signal.SIGTERM)
@@ -75,7 +76,7 @@ def told_words(tree):
     run = start(tree, 'edit', 'told', tree.file('told'))
     run.pump(5, b'hello')
     seen = len(run.output)
-    run.rest(1.5)
+    run.rest(A_SECOND)
     yield holds('told: the size where the journal is to be tried', b'hello' in run.output[seen:])
     run.type(QUIT)
     yield from finish(run, 'told: the size', 0)
@@ -86,7 +87,7 @@ def facts_meanwhile(tree):
     tree.start_log()
     run = start(tree, 'edit', 'curious', tree.file('curious'))
     run.pump(5, b'hello')
-    run.rest(1.5)
+    run.rest(A_SECOND)
     run.type(b'abc')
     yield holds('facts meanwhile: keys', run.pump(5, b'<abc>'))
     run.type(QUIT)

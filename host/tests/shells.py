@@ -4,6 +4,8 @@ from cases import QUIT, holds, same
 from ends import TAIL
 from terminals import Run
 
+# Seconds after which a shell and the host have written all that they write after keys or a signal, also on a busy machine.
+ALL_WRITTEN = 0.6
 SHELLS = (['bash', '--norc', '--noprofile', '--noediting', '-i'], ['bash', '--norc', '--noprofile', '-i'], ['dash', '-i'])
 
 
@@ -13,11 +15,11 @@ def in_shell(tree, words):
     plain = f"'{tree.host}' edit plain '{tree.file('job')}'".encode()
     run = Run(words, PS1='P> ', HOME=f'{tree.top}/home')
 
-    def show(keys, seconds=0.6):
+    def show(keys):
         """What is written after these keys."""
         at = len(run.output)
         run.type(keys)
-        run.rest(seconds)
+        run.rest(ALL_WRITTEN)
         return run.output[at:]
 
     run.pump(5, b'P> ')
@@ -27,7 +29,7 @@ def in_shell(tree, words):
     run.rest(0.2)
     at = len(run.output)
     os.killpg(run.child('bidi-edit'), signal.SIGSTOP)
-    run.rest(0.6)
+    run.rest(ALL_WRITTEN)
     yield holds(f'{name}: stopped', b'P> ' in run.output[at:] or b'topped' in run.output[at:], run.output[at:])
     yield holds(f'{name}: painted after fg', b'hello' in show(b'fg\n').rpartition(b'1047h')[2], run.output)
     yield holds(f'{name}: raw after fg', not termios.tcgetattr(run.slave)[3] & termios.ICANON)

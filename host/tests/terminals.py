@@ -42,7 +42,7 @@ def lead(words, env, slave, ends):
 
     `ends` are ends of pipes: to tell each status of the job, to wait for the test's end, and to tell the job's number.
     """
-    tell, go, job_tell = ends
+    tell, held, job_tell = ends
     os.setsid()
     fcntl.ioctl(slave, termios.TIOCSCTTY, 0)
     signal.signal(signal.SIGTTOU, signal.SIG_IGN)
@@ -54,7 +54,7 @@ def lead(words, env, slave, ends):
             signal.signal(number, signal.SIG_DFL)
         for file in range(3):
             os.dup2(slave, file)
-        os.closerange(3, 64)
+        os.closerange(3, 64)  # those of the test, which has fewer
         os.execvpe(words[0], words, env)
     signal.signal(signal.SIGHUP, signal.SIG_IGN)  # after the fork: else a HUP before exec would be lost
     os.write(job_tell, struct.pack('i', job))
@@ -66,7 +66,8 @@ def lead(words, env, slave, ends):
         os.tcsetpgrp(slave, os.getpgrp())
         os.tcsetpgrp(slave, job)
     os.tcsetpgrp(slave, os.getpgrp())
-    os.read(go, 1)
+    # a session whose leader has ended has no terminal any more, so this one waits until `hold` is closed
+    os.read(held, 1)
 
 
 class Run:
@@ -75,7 +76,7 @@ class Run:
     `master` and `slave` are the two ends of the terminal, `settings` its settings before the command. `leader` is the session's
     leader, `job` its only job, `mark` a variable that all processes of the run have. `output` is what was read of the terminal,
     which is not read where `is_read` is False. `told` is the pipe of statuses, `hold` the one by which the leader waits. `status`
-    is the job's, as waitpid gives it, None before its end; `stops` is how often it stopped.
+    is the job's, as waitpid gives it, None before its end.
     """
     count = 0  # of runs in this process, for marks
 
@@ -93,22 +94,21 @@ class Run:
         self.settings = termios.tcgetattr(self.slave)
         self.resize(rows, columns)
         self.told, tell = os.pipe()
-        go, self.hold = os.pipe()
+        held, self.hold = os.pipe()
         job_told, job_tell = os.pipe()
-        self.started = time.perf_counter()
         self.leader = os.fork()
         if self.leader == 0:
             try:
                 for file in (self.master, self.told, self.hold, job_told):
                     os.close(file)
-                lead(words, env, self.slave, (tell, go, job_tell))
+                lead(words, env, self.slave, (tell, held, job_tell))
             finally:
                 os._exit(0)
-        for file in (tell, go, job_tell):
+        for file in (tell, held, job_tell):
             os.close(file)
         self.job = struct.unpack('i', os.read(job_told, 4))[0]
         os.close(job_told)
-        self.output, self.status, self.stops, self.is_read = b'', None, 0, True
+        self.output, self.status, self.is_read = b'', None, True
 
     def resize(self, rows, columns):
         fcntl.ioctl(self.slave, termios.TIOCSWINSZ, struct.pack('HHHH', rows, columns, 0, 0))
@@ -120,11 +120,8 @@ class Run:
         """Takes a status that the session's leader tells."""
         said = os.read(self.told, 4)
         status = struct.unpack('i', said)[0] if said else 0
-        if os.WIFSTOPPED(status):
-            self.stops += 1
-        else:
+        if not os.WIFSTOPPED(status):
             self.status = status
-            self.ended = time.perf_counter()
 
     def pump(self, seconds, until=None):
         """Reads for some seconds, or until the bytes come or, without any, the job ends. Returns whether that came."""

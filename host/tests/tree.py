@@ -50,6 +50,7 @@ class Tree:
         write(f'{self.top}/lib/bidi_edit/log', self.log, 0o644)
 
     def stop_log(self):
+        """Has the keeper note nothing from now on."""
         if os.path.exists(f'{self.top}/lib/bidi_edit/log'):
             os.unlink(f'{self.top}/lib/bidi_edit/log')
 

@@ -3,7 +3,8 @@
 # Crates with longer chains come first.
 #
 # Times are seconds of processor time with one job, as measured on a machine with four processors: 0.13 to 0.19 seconds for a
-# line of a library, and 15 for a crate of a few lines.
+# line of a library, and 15 for a crate of a few lines. Given are `programs`, and `already`, the crates that are built, both with
+# blanks between.
 
 FILENAME == ARGV[1] {
     sub(/#.*/, "")

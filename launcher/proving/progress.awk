@@ -1,7 +1,7 @@
 # Reads the plan, and the logs and results of crates in `room`, and writes one line: the current crate, its proved functions, the
-# minutes since `begun` and the estimated minutes left. With `ended` the line is about that crate, the `number`th to end. Times
-# are in seconds. `kept` lists the running crates, each with the number of functions whose proofs are already stored. `whole` is
-# the estimate of the beginning, for which `asks` is `whole`; `cores` is the number of processors.
+# minutes from `begun` to `now` and the estimated minutes left. With `ended` the line is about that crate, the `number`th to end.
+# Times are in seconds. `kept` lists the running crates, each with the number of functions whose proofs are already stored.
+# `whole` is the estimate of the beginning, for which `asks` is `whole`; `cores` is the number of processors.
 
 BEGIN {
     n = split(kept, word, " ")
@@ -29,10 +29,13 @@ function exists(file,    line, found) {
     return found
 }
 
+# A number and a noun in the singular, which gets its plural.
 function many(count, what) {
     return count " " what (count == 1 ? "" : "s")
 }
 
+# A line of the plan: a crate, its estimated seconds, and those of the longest chain that it begins. `part` is the share of its
+# functions that are proved; `now_at` is the first crate that is being proved, `beside` the others.
 {
     crates++
     seconds = $2

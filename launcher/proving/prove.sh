@@ -26,7 +26,7 @@ fail() { # CAUSE
     exit 1
 }
 
-# ---- one crate, in a process of its own
+# ---- one crate, in a process of its own: `crate` is its name, `tree` its tree, `child` the command that is waited for, or empty
 
 # Copies a folder as hard links if possible.
 link() { # FOLDER TO
@@ -93,6 +93,7 @@ prove() { # JOBS NICENESS
     fi
 }
 
+# Proves or builds a crate; what it leaves in `room` is told at the head.
 prove_one() { # CRATE JOBS NICENESS
     crate=$1 tree=$room/$1.tree child=''
     trap '' HUP INT QUIT
@@ -172,22 +173,24 @@ leave_room() {
     rm -rf "$room"
 }
 
-is_ready() { # CRATE THAT IT STANDS ON ..
+# Whether all these crates have ended, on which another stands.
+is_ready() { # CRATE..
     for each; do
         [ -f "$room/$each.ended" ] || return 1
     done
 }
 
 # Starts a crate, which takes SECONDS and begins a chain of CHAIN seconds. The next crate of the longest chain gets the most
-# processors, up to the four that a proof can use well. Another crate gets more the less slack it has before that chain needs it.
+# processors, up to the four that a proof can use well. Another crate gets more the less slack it has before that chain needs it:
+# two jobs below twice its own time, and no lower priority (niceness) below three times.
 start() { # CRATE SECONDS CHAIN
-    spare=$((longest - $3)) jobs=1 niceness=10
-    if [ "$spare" = 0 ]; then
+    slack=$((longest - $3)) jobs=1 niceness=10
+    if [ "$slack" = 0 ]; then
         jobs=$cores niceness=0
         [ "$jobs" -le 4 ] || jobs=4
-    elif [ "$spare" -lt $((2 * $2)) ]; then
+    elif [ "$slack" -lt $((2 * $2)) ]; then
         jobs=2 niceness=0
-    elif [ "$spare" -lt $((3 * $2)) ]; then
+    elif [ "$slack" -lt $((3 * $2)) ]; then
         niceness=0
     fi
     prove_one "$1" "$jobs" "$niceness" </dev/null >"$room/$1.log" 2>&1 &

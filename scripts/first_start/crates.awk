@@ -1,6 +1,7 @@
-# Reads crates.txt, a line for each crate with its start, end, jobs and processor time, and what functions.awk wrote of each.
-# Writes a line for each crate, in the order of their starts, the longest chain of crates that waited for one another, and the
-# functions of each crate that took a second and more. `cores` is the number of processors.
+# The table of time-first-start.sh. Reads three files: crates.txt, whose lines are `CRATE [words]: CRATES BELOW`; a line for each
+# crate that was built, with its name, start, end, jobs and processor time; and what functions.awk wrote of each. Writes a line
+# for each crate, in the order of their starts, the longest chain of crates that waited for one another, and the functions of
+# each crate that took a second and more. `cores` is the number of processors.
 
 FILENAME == ARGV[1] {
     sub(/#.*/, "")
@@ -26,6 +27,7 @@ FILENAME == ARGV[2] {
 
 $1 == "proved" { proved[$2] = $3 " of " $4 }
 
+# `long` has the lines of a crate's functions of a second and more, `short` the seconds of its others, `shorts` their number.
 $1 == "function" {
     if ($3 >= 1) long[$2] = long[$2] sprintf("    %7.1f %s\n", $3, $4)
     else { short[$2] += $3; shorts[$2]++ }
@@ -33,7 +35,7 @@ $1 == "function" {
 
 $1 ~ /^(head|proofs|other|end|build)$/ { part[$2, $1] = $3 }
 
-# Returns the seconds of the longest chain of crates that ends with one, and notes the crate before it.
+# Returns the seconds of the longest chain of crates that ends with this one, and notes in `before` the crate before it in that.
 function chain(name,    n, i, below, longest) {
     if (name in chains) return chains[name]
     n = split(uses[name], below, " ")

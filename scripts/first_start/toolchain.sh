@@ -1,10 +1,10 @@
 # shellcheck shell=sh
 # shellcheck disable=SC2034,SC2154 # variables shared with other parts
 # check-build.sh with the real toolchain. Uses its functions and its variables `folder`, `shell`, `prove` and `socket`. The crates
-# a, b, c and d are as there, with names of this run in the variables `a` to `d`.
+# a, b, c and d use one another as those of check-build.sh do; the variables `a` to `d` have their names in this run.
 
-# Makes a crate of forty functions unique to this run, by the comment at its head and its name, so that no stored proof fits.
-# WORDS is code at its beginning.
+# Makes a crate of forty functions unique to this run, by the comment at its head and its name, so that no stored proof fits:
+# forty, so that Ctrl-C comes amid its proof (check_toolchain). WORDS is code at its beginning.
 small_crate() { # NAME WORDS
     mkdir -p "$folder/tree/crates/$1/src"
     {
@@ -19,13 +19,14 @@ make_real_tree() {
     mkdir -p "$folder/tree/crates/$d/src"
     small_crate "$a" ''
     small_crate "$b" ''
+    # the _ keeps the line ends at the end
     small_crate "$c" "$(printf 'use %s::step_0 as first;\n\npub fn both(x: u32) -> u32 {\n    first(x)\n}\n\n_' "$a" | sed 's/_$//')"
     printf '#![tactic(auto)]\n\nuse std::io;\nuse %s::step_1;\nuse %s::both;\n\nfn main(rt: HostRuntime) -> io::Result<()> {\n    let x = both(3);\n    let y = step_1(x);\n    println!(rt; "{y}")?;\n    Ok(())\n}\n' \
         "$b" "$c" >"$folder/tree/crates/$d/src/main.rt"
     printf '%s: %s %s\n%s: %s\n%s:\n%s:\n' "$d" "$b" "$c" "$c" "$a" "$b" "$a" >"$folder/tree/crates.txt"
 }
 
-# Prints the number of processes of the toolchain that are at these crates.
+# Prints the number of processes of the toolchain that are at the four crates.
 rattle_runs() {
     pgrep -f "rattle.* --crate-name ($a|$b|$c|$d) " | wc -l
 }
@@ -34,7 +35,8 @@ no_rattle_runs() {
     [ "$(rattle_runs)" -eq 0 ]
 }
 
-# Ctrl-C amid a proof, and a start that goes on. 3000 and 1800 are limits for a busy machine.
+# Ctrl-C amid a proof ends all processes and keeps what was proved, and a start goes on with it. 3000 tenths of a second and 1800
+# seconds are limits for a busy machine, 100 and 50 tenths for an end.
 check_toolchain() {
     number=$(basename "$folder" | tr -d -c '[:alnum:]' | tr '[:upper:]' '[:lower:]')$shell
     a=pa_$number b=pb_$number c=pc_$number d=pd_$number

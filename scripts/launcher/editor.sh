@@ -29,14 +29,18 @@ alone() { # ROWS COLS FILE KEYS
     terminal kill-session -t alone
 }
 
+# What `make_note` writes, as a format of printf.
 text='שלום: this note wraps at blanks, (abc) אבג 123 דהו.\nעברית first, and then English words.\n'
 
-# Makes a file `note` with this text, and a copy of it.
+# Makes a file `note` with `text`, and its copy `opened`.
 make_note() {
     # shellcheck disable=SC2059
     printf "$text" >note
     cp note "$folder/opened"
 }
+
+# Half a second, so that the editor reads a Save before the Quit that is typed next.
+part_reads() { sleep 0.5; }
 
 # Opened, typed into, moved in, resized and saved: the screens are those of the program alone.
 check_edit() {
@@ -54,8 +58,7 @@ check_edit() {
     # of the last size
     rows=16
     type_keys C-s
-    # here and below: Save and Quit are two reads
-    sleep 0.5
+    part_reads
     type_keys C-q
     finish 'edit, saved' 0 50
     # shellcheck disable=SC2059
@@ -70,14 +73,14 @@ check_line_ends() {
     printf 'ab\r\ncd\r\nef' >note
     start 8 40 "$top/bidi-edit" note
     type_keys x Enter C-s
-    sleep 0.5
+    part_reads
     type_keys C-q
     finish 'breaks, alike' 0 50
     same 'breaks, alike: the words' "$(cat "$folder/errors")" ''
     same 'breaks, what Enter puts in' "$(od -An -c note | tr -d ' \n')" 'x\r\nab\r\ncd\r\nef'
     start 8 40 "$top/bidi-edit" note
     type_keys C-j C-s
-    sleep 0.5
+    part_reads
     type_keys C-q
     finish 'breaks, mixed' 0 50
     same 'breaks, mixed: the words' "$(cat "$folder/errors")" \
@@ -87,7 +90,7 @@ check_line_ends() {
     printf 'ab\ncd\r\n' >note
     start 8 40 "$top/bidi-edit" note
     type_keys Enter C-s
-    sleep 0.5
+    part_reads
     type_keys C-q
     finish 'breaks, mixed before' 0 50
     same 'breaks, mixed before: the words' "$(cat "$folder/errors")" ''
@@ -149,6 +152,7 @@ shows() { # TEXT
     terminal capture-pane -p -t person | grep -q -F -e "$1"
 }
 
+# A FILE that is not there is not made where nothing is saved.
 check_files() {
     start 8 60 "$top/bidi-edit" missing
     type_keys C-q

@@ -100,8 +100,8 @@ check_cut_keys() {
     same 'input, keys that come byte by byte' "$(cat -v "$folder/record")" 'a^[[96~^[[81~^[[Db^[[93~c'
 }
 
-# The byte 08 is Backspace with Control where the terminal's own erase character is 7F, as in tmux, and else Backspace (CSI 94~;
-# with Control or Alt CSI 88~).
+# The byte 08 is Backspace with Ctrl where the terminal's own erase character is 7F, as in tmux, and else Backspace (CSI 94~;
+# with Ctrl or Alt CSI 88~).
 check_erase_character() {
     for erase in '^?' '^H'; do
         setup="stty erase '$erase'" cleanup="stty erase '^?'"
@@ -109,6 +109,7 @@ check_erase_character() {
         wait_for 50 test -e "$folder/record"
         printf '\177\010\033\177\033\010' >"$folder/keys"
         type_bytes "$folder/keys"
+        # all is recorded before the key that ends it
         sleep 0.5
         type_keys C-q
         finish "input, erase $erase" 7 50

@@ -23,7 +23,7 @@ joined_by() { # NAME WANTED WORD..
     terminal kill-session -t person
 }
 
-# The same for printing, whose program prints its words.
+# Prints with these words, and compares the files of joined letters that the printing program gets: it prints its words.
 printed_by() { # NAME WANTED WORD..
     name=$1 wanted_files=$2
     shift 2

@@ -13,7 +13,7 @@ press() { # NAME ROWS CURSOR [KEY..]
     same "$name" "$(settled_screen person)" "$wanted_screen"
 }
 
-# The keys that are one byte in each terminal: CTRL with @, X, V, C, W and R.
+# The keys that are one byte in each terminal: Ctrl with @, X, V, C, W and R.
 check_control_bytes() {
     printf 'ab שלום עולם cd\n' >note
     start 4 40 "$top/bidi-edit" note
@@ -65,7 +65,7 @@ check_points() {
     drop points
 }
 
-# CTRL with Z takes back a word and the blanks after it, and letters erased in a row; CTRL with Y makes them again. A text that is
+# Ctrl-Z takes back a word and the blanks after it, and letters erased in a row; Ctrl-Y makes them again. A text that is
 # as it was opened is not changed.
 check_runs() {
     printf 'ab\n' >note
@@ -102,8 +102,8 @@ check_selections() {
     drop selections
 }
 
-# CTRL with G asks for a line and a letter in it, CTRL with K for a character, by a letter that names it or by its code, and CTRL
-# with T tells what stands at the cursor. Other keys end a question.
+# Ctrl-G asks for a line and a letter in it, Ctrl-K for a character, by a letter that names it or by its code, and
+# Ctrl-T tells what stands at the cursor. Other keys end a question.
 check_questions() {
     printf 'ab\ncde\n\nf' >note
     start 5 40 "$top/bidi-edit" note
@@ -153,7 +153,7 @@ check_pasted() {
     rm -f note
 }
 
-# Words erased where the terminal's own erase character is 7F: by Backspace with CTRL and with Alt, and by Delete with CTRL.
+# Words erased where the terminal's own erase character is 7F: by Backspace with Ctrl and with Alt, and by Delete with Ctrl.
 check_erased_words() {
     printf 'one two, שלום עולם\nfour\n' >note
     start 5 40 "$top/bidi-edit" note
@@ -223,8 +223,8 @@ check_letters() {
     drop letters
 }
 
-# F4, or CTRL with the backslash, asks for letters, then for the text that takes their place, and then about each match, which is in
-# negative image. CTRL with Z takes back what one key replaced.
+# F4, or Ctrl-\, asks for letters, then for the text that takes their place, and then about each match, which is in negative image.
+# Ctrl-Z takes back what one key replaced.
 check_replacing() {
     printf 'one two one two one\n' >note
     start 4 60 "$top/bidi-edit" note
@@ -263,8 +263,8 @@ check_new_line() {
     rm -f note
 }
 
-# Lists terminals: a name, what they send for F1, F3 and F4, and for Left, Right, Home, End and Delete with CTRL, in the notation
-# of printf; empty where a terminal sends the same as without CTRL, or nothing.
+# Lists terminals: a name, what they send for F1, F3 and F4, and for Left, Right, Home, End and Delete with Ctrl, in the notation
+# of printf; empty where a terminal sends the same as without Ctrl, or nothing.
 terminal_sequences() {
     cat <<'TEXT'
 xterm|\033OP|\033OR|\033OS|\033[1;5D|\033[1;5C|\033[1;5H|\033[1;5F|\033[3;5~

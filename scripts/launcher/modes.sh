@@ -91,6 +91,7 @@ check_redirections() {
     redirection=''
 }
 
+# Prints the title of the session's terminal.
 title() {
     terminal display-message -p -t person '#{pane_title}'
 }

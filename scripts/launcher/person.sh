@@ -73,6 +73,7 @@ is_editing() {
     [ "$(terminal display-message -p -t person '#{alternate_on}')" = 1 ]
 }
 
+# Whether the terminal shows its first screen, as before a session and after it.
 is_over() {
     ! is_editing
 }

@@ -18,7 +18,7 @@ refused() { # NAME WANTED WORD..
     same "$name: nothing else" "$(wc -c <"$folder/output") $(grep -c . "$folder/errors")" "0 $lines_told"
 }
 
-# The same as a user who is not root, so that permissions hold: as 65534 (nobody) where root checks.
+# Checks as `refused` does, but by a user who is not root, so that permissions hold: by 65534 (nobody) where root checks.
 refused_to_user() { # NAME WANTED WORD..
     name=$1 refusal=$2
     shift 2
@@ -116,6 +116,7 @@ refused_at_opening() { # NAME WANTED WORD..
     esac
 }
 
+# What is told last of a text that is not UTF-8.
 windows="iconv -f CP1255 -t UTF-8 may help if it is in Windows' Hebrew (CP1256: Arabic)"
 
 check_refused_texts() {

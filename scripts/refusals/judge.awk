@@ -1,9 +1,9 @@
 # Prints the kind of each refused run of a scene, or its fault. The first file has the answers of the scene's variants without a
 # refusal (see `variants` in scenes.sh), and the second the runs (see loaded.sh); `steps` and `way` are the scene's. An answer
 # begins with a letter for each step and has more fields, all as crates/play_scenes/src/main.rt tells; here field 2 has the shown
-# flags, 3 the text, 7 the queued bytes. answer[1] is that of the scene itself; with `count` steps, answer[1 + k] that with an
-# idle byte in place of step k, answer[1 + count + k] that of the steps before k, answer[1 + 2 * count + c] that with call c of
-# the store failing.
+# flags, 3 the text, 7 the queued bytes. answer[1] is that of the scene itself; with `count` steps, answer[1 + k] that with step k
+# replaced by a byte that ends no key, or by sending nothing, answer[1 + count + k] that of the steps before k, answer[1 + 2 *
+# count + c] that with call c of the store failing.
 BEGIN { count = split(steps, step, " ") }
 NR == FNR { answer[FNR] = $0; next }
 # a line with another letter for step k
@@ -18,7 +18,7 @@ function with_field(line, number, value,  part, count, k, made) {
 }
 # a line without the shown flags and the queued bytes
 function left(line) { return with_field(with_field(line, 2, ""), 7, "") }
-# the painting of step k is postponed to the next step: after k the terminal shows the previous picture, or none
+# whether the painting of step k is put off to the next step: after k the terminal shows the previous picture, or none
 function is_painted_next(line, k,  shown, digit) {
     shown = field(line, 2)
     digit = substr(shown, k, 1)

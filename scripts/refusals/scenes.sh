@@ -88,6 +88,7 @@ check_worked() { # NAME ROWS COLS FILE STEPS WAY WANTED [BEFORE]
     else
         fail "$1: no run answers $wanted"
     fi
+    # runs that ended by a signal or not at all, that report two refusals, or that failed by anything but a want of memory
     awk -F '\t' '
         { letters = $5; refusals = letters ~ /^refused: / ? 0 : gsub(/[EPLNf]/, "", letters) }
         $3 == "" || refusals > 1 { print; next }
@@ -96,6 +97,7 @@ check_worked() { # NAME ROWS COLS FILE STEPS WAY WANTED [BEFORE]
     [ ! -s odd ] || fail "$1: $(head -n 1 odd)"
 }
 
+# Bytes of sequences are those of crates/bx_keys/specs/Keys.antt: B1b B5b B38 B32 B7e is CSI 82~, which undoes a run.
 check_all_scenes() {
     # all is sent and read
     rest='S1000 R1000'

@@ -25,7 +25,8 @@ wait_for_more() { # SIZE
     fails 'the program writes nothing more'
 }
 
-# Writes keys at once, so that the picture after them answers all of them.
+# Writes keys at once, so that the picture after them answers all of them. \023 is Save, \177 erases the letter before the cursor,
+# \014 repaints.
 press() { # KEYS
     before=$(stat -c %s "$folder/out")
     # shellcheck disable=SC2059 # keys are written as escapes
@@ -96,7 +97,8 @@ check_between_saves() {
     close_session 0
 }
 
-# Runs a command while the program waits half a second before it syncs the draft: once this is there.
+# Runs a command while the program waits half a second before it syncs the draft: once this is there, for which two seconds are
+# the limit.
 save_and_meanwhile() { # COMMAND..
     open_session strace -o "$folder/log" -e trace=fsync -e inject=fsync:delay_enter=500000:when=1
     draft=$kept.bx
@@ -176,7 +178,7 @@ check_vanished() {
     close_session 0
 }
 
-# The same for saves into FILE itself.
+# Checks saves into FILE itself: most of what check_changes checks, and two cases of the mark.
 check_changes_in_place() {
     begin_kind 'changed by another program, in place'
     way=in_place
@@ -281,7 +283,7 @@ remove_file() { rm "$kept"; }
 save_first_letter() { sed -i '1s/^/x/' "$kept"; }
 save_other_letter() { sed -i '1s/^/w/' "$kept"; }
 
-# In keys \023 is Save, and \177 erases the letter before the cursor.
+# In keys, as in those of `press`, \023 is Save, and \177 erases the letter before the cursor.
 check_before_starts() {
     begin_kind 'changed before the start'
     check_before_start 'nothing' true '' stored

@@ -4,7 +4,7 @@
 
 # ---- files beside FILE, and kinds of places
 
-# Checks the cause in the last row. The painter goes over blanks that are there already.
+# Checks the cause in the last row. Where blanks were there already, the painter moves the cursor over them.
 says() { # CAUSE
     sed "s/$(printf '\033')\[[0-9]*;[0-9]*H/ /g" "$folder/out" | grep -q "save failed: $1" || fails "the cause is not told: $1"
 }

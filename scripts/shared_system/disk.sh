@@ -25,6 +25,7 @@ close_small_disk() {
     export XDG_STATE_HOME="$usual_state_home"
 }
 
+# Prints the title of an editor's terminal.
 title_of() { # NAME
     terminal display-message -p -t "$1" '#{pane_title}'
 }

@@ -288,7 +288,7 @@ check_second_start_by_other_name() {
     leave_files
 }
 
-# Left sessions of other files make no start slower by processes.
+# A start runs no more programs where twenty sessions of other files are left.
 check_many_sessions() {
     can_trace || return 0
     leave_session note

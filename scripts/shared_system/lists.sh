@@ -52,10 +52,10 @@ check_listed_file() { # NAME LIST FOLDER'S-LIST REASON
     [ -z "$2" ] || setfacl -m "$2" common/note
     [ -z "$3" ] || setfacl -m "$3" common
     rights=$(rights_of common/note)
-    place=$(stat -c %i common/note)
+    inode=$(stat -c %i common/note)
     save_a_letter common/note
     same "lists, $1: who may read and write" "$(rights_of common/note)" "$rights"
-    same "lists, $1: what is saved" "$(cat common/note) $(stat -c %i common/note)" "xab $place"
+    same "lists, $1: what is saved" "$(cat common/note) $(stat -c %i common/note)" "xab $inode"
     expect_in first "lists, $1: it is said" "common/note $4: saves are written into the file itself"
     same "lists, $1: nothing stays" "$(ls -A "$folder/state/bidi_edit")$(ls -A common)" note
     close_editors first

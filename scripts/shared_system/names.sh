@@ -39,7 +39,8 @@ name_of_told() { # TOLD
     name=${name%x}
 }
 
-# Whether a file is UTF-8 without the characters that launcher/names.sh calls hidden; only the line end is let through.
+# Whether a file is UTF-8 without the characters of `hidden_bytes` and most others that launcher/names.sh calls hidden; only the
+# line end is let through.
 is_harmless() { # FILE
     iconv -f UTF-8 -t UTF-8 <"$1" >"$folder/letters" 2>/dev/null && perl -CSD -ne '
         exit 1 if /[\x00-\x09\x0b-\x1f\x7f-\x9f\x{ad}\x{61c}\x{200b}\x{200e}\x{200f}\x{2028}-\x{202e}\x{2060}-\x{206f}\x{feff}\x{e0000}-\x{e0fff}]/

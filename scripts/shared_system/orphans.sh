@@ -2,6 +2,7 @@
 # shellcheck disable=SC2034,SC2154 # variables shared with other parts
 # The remains of a killed host, and a host whose terminal is blocked. Uses signals.sh.
 
+# Whether the terminal has the settings that it had before the host.
 has_settings_before() {
     [ "$(stty -g -F "$tty")" = "$(cat "$folder/before")" ]
 }

@@ -29,6 +29,7 @@ things_in() { # FOLDER..
     find "$@" -maxdepth 1 -mindepth 1 -user "$user" -name 'bidi*' 2>/dev/null | sort
 }
 
+# A TMPDIR in which nothing can be made.
 check_temporary() {
     passes_over 'TMPDIR, not there' "$folder/none"
     : >"$folder/plain"
@@ -194,7 +195,7 @@ check_first_start_elsewhere() {
 check_stale_number() {
     make_clone
     as_user mkdir -p "$clone/out/proving"
-    # this process has written its number
+    # a process that writes its number, as the killed start did, and goes on as a sleep
     # shellcheck disable=SC2016
     as_user sh -c 'for file; do echo $$ >"$file"; done; exec sleep 60' sh "$clone/out/proving/process" "$clone/out/proving.lock" 2>/dev/null &
     job=$!
@@ -216,6 +217,7 @@ start_there() { # NAME STATUS VARIABLE..
     setup=''
 }
 
+# A repository that is not built, and that the user cannot write.
 check_read_only() { # NAME
     start_there "$1, not built" 1
     same "places, $1, not built: what is told" "$(cat "$folder/errors")" \

@@ -2,6 +2,7 @@
 # shellcheck disable=SC2034,SC2154 # variables shared with other parts
 # Simultaneous signals, such as a resize and the end of the terminal. A run that goes on after them is `lost`, and is killed.
 
+# Prints the process of the session's host.
 host_of_person() {
     process_of ".*bin/bidi-edit"
 }
@@ -72,7 +73,7 @@ check_burst() {
 check_many_sizes() { # COUNT
     open_recorder
     for side in $(seq "$1"); do resize $((20 + side % 9)) $((70 + side % 31)); done
-    # as above
+    # the last one is told before the end
     sleep 0.5
     type_keys C-q
     wait_for 50 has_ended

@@ -1,7 +1,6 @@
 # shellcheck shell=sh
 # shellcheck disable=SC2154 # variables shared with other parts
-# The checks in one terminal. Uses window.sh and kinds.sh. A picture is named KIND-WHAT. Half a second after the last keys, which
-# end in a save, lets the editor take them before it is left.
+# The checks in one terminal. Uses window.sh and kinds.sh. A picture is named KIND-WHAT.
 
 skip() { # NAME WHY
     skipped=$((skipped + 1))
@@ -66,9 +65,13 @@ open_editor() { # FILE PICTURE
     give "'$top/bidi-edit' $1 2>../errors"
     wait_for 200 is_raw
     wait_for 200 has_status
+    # for what the terminal still draws
     sleep 0.5
     take_picture "$2"
 }
+
+# Half a second in which the editor takes the last keys, with a save, before it is left.
+let_save() { sleep 0.5; }
 
 # Leaves the editor, and waits for the shell.
 leave_editor() { # NAME
@@ -189,7 +192,7 @@ check_keys() { # KIND
     cp "$room/opened" "$room/files/typed"
     open_editor typed "$1-keys"
     press End e Home Delete Right X ctrl+s
-    sleep 0.5
+    let_save
     leave_editor "$1, keys"
     same "$1, keys" "$(cat "$room/files/typed")" bXcde
 }
@@ -210,13 +213,13 @@ check_runs() { # KIND
     printf 'ab\n' >"$room/files/typed"
     open_editor typed "$1-runs"
     press End space o n e space t w o ctrl+z ctrl+z ctrl+y X BackSpace BackSpace BackSpace ctrl+z ctrl+s Y ctrl+z
-    sleep 0.5
+    let_save
     leave_editor "$1, runs"
     same "$1, runs" "$(cat "$room/files/typed")" 'ab one X'
 }
 
-# A line that Control and G go to, a character by its name and one by its code that Control and K put in, each followed by what shows
-# it, and what Control and T tell, which changes the last row alone.
+# A line that Ctrl-G goes to, a character by its name and one by its code that Ctrl-K puts in, each followed by what shows it, and
+# what Ctrl-T tells, which changes the last row alone.
 check_questions() { # KIND
     printf 'ab\ncd\nef\n' >"$room/files/typed"
     open_editor typed "$1-questions"
@@ -229,8 +232,8 @@ check_questions() { # KIND
     other_picture "$1, what is told" "$1-questions-before" "$1-questions-told"
 }
 
-# A match that Enter replaces after F4, and all after it, which Control and the backslash replace and Control and Z takes back,
-# each followed by what shows it.
+# A match that Enter replaces after F4, and all after it, which Ctrl-\ replaces and Ctrl-Z takes back, each followed by what shows
+# it.
 check_replacing() { # KIND
     printf 'one two two two\n' >"$room/files/typed"
     open_editor typed "$1-replacing"
@@ -239,7 +242,7 @@ check_replacing() { # KIND
     press Return Return
     take_picture "$1-replacing-shown"
     press ctrl+backslash ctrl+z Y ctrl+s
-    sleep 0.5
+    let_save
     leave_editor "$1, replacing"
     same "$1, replacing" "$(cat "$room/files/typed")" 'one xo Ytwo two'
     other_picture "$1, a match is shown" "$1-replacing-asked" "$1-replacing-shown"
@@ -256,19 +259,20 @@ check_selecting() { # KIND
         press shift+End W
     fi
     press shift+Left Escape
+    # a key right after an Escape would belong to it
     sleep 0.3
     press U ctrl+s
-    sleep 0.5
+    let_save
     leave_editor "$1, selecting"
     same "$1, selecting" "$(cat "$room/files/typed")" "$wanted"
 }
 
-# Selections with Control and Shift, by words and to the text's ends.
+# Selections with Ctrl and Shift, by words and to the text's ends.
 check_selected_words() { # KIND
     printf 'one two three\nfour five\nsix\n' >"$room/files/typed"
     open_editor typed "$1-selected-words"
     press End ctrl+shift+Home T Down Home ctrl+shift+Right X space End ctrl+shift+Left Y Down Home ctrl+shift+End V ctrl+s
-    sleep 0.5
+    let_save
     leave_editor "$1, selected words"
     same "$1, selected words" "$(paste -s -d '|' "$room/files/typed")" 'T|X Y|V'
 }
@@ -285,10 +289,11 @@ check_paste() { # KIND
     press End shift+Home
     for _ in one two; do
         press shift+Insert
+        # until it is pasted
         sleep 0.5
     done
     press ctrl+z ctrl+s
-    sleep 0.5
+    let_save
     leave_editor "$1, a paste"
     same "$1, a paste" "$(od -An -c "$room/files/typed" | tr -d ' \n')" 'xy\r\nz\r\ncd\r\n'
 }
@@ -304,18 +309,18 @@ check_lines() { # KIND
     # a key right after an Escape would belong to it
     sleep 0.3
     press T ctrl+s
-    sleep 0.5
+    let_save
     leave_editor "$1, lines"
     same "$1, lines" "$(od -An -c "$room/files/typed" | tr -d ' \n')" \
         "$(printf 'aUTbcd\r\nx\r\naVbcdY e\327\251\326\270Z\r\nW\r\n' | od -An -c | tr -d ' \n')"
 }
 
-# Words erased by Backspace with Control and with Alt, and by Delete with Control.
+# Words erased by Backspace with Ctrl and with Alt, and by Delete with Ctrl.
 check_erased_words() { # KIND
     printf 'one two three four\n' >"$room/files/typed"
     open_editor typed "$1-words"
     press End ctrl+BackSpace alt+BackSpace Home ctrl+Delete X ctrl+s
-    sleep 0.5
+    let_save
     leave_editor "$1, words erased"
     same "$1, words erased" "$(cat "$room/files/typed")" 'Xtwo '
 }
@@ -327,9 +332,10 @@ check_control_keys() { # KIND
     open_editor typed "$1-control"
     press ctrl+Right ctrl+space ctrl+Right ctrl+x ctrl+Left ctrl+v
     press F3 b Return X ctrl+End Y ctrl+Home Z ctrl+space Right Escape
+    # a key right after an Escape would belong to it
     sleep 0.3
     press ctrl+c ctrl+End ctrl+v ctrl+s
-    sleep 0.5
+    let_save
     leave_editor "$1, keys with Control"
     same "$1, keys with Control" "$(paste -s -d '|' "$room/files/typed")" 'ZcdaXb |YZcdaXb '
 }
@@ -376,5 +382,6 @@ check_in_tmux() { # KIND
     wait_for 100 has_obeyed
     check_rows "$1"
     give 'tmux kill-server'
+    # until tmux has given the terminal back
     sleep 0.5
 }

@@ -123,19 +123,19 @@ sends_shift_end() { # KIND
     [ "$1" != st ]
 }
 
-# Whether it sends keys of their own for Left, Right, Home and End with Control and Shift.
+# Whether it sends keys of their own for Left, Right, Home and End with Ctrl and Shift.
 sends_control_shift() { # KIND
     case $1 in xterm | alacritty | qterminal | vte | konsole | mlterm) return 0 ;; esac
     return 1
 }
 
-# Whether it sends keys of their own for arrows, Home and End with Control.
+# Whether it sends keys of their own for arrows, Home and End with Ctrl.
 sends_control() { # KIND
     case $1 in xterm | urxvt | terminology) return 0 ;; esac
     return 1
 }
 
-# Whether it sends keys of their own for Backspace with Control and with Alt, and for Delete with Control.
+# Whether it sends keys of their own for Backspace with Ctrl and with Alt, and for Delete with Ctrl.
 sends_words() { # KIND
     case $1 in xterm | urxvt) return 0 ;; esac
     return 1

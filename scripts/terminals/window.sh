@@ -119,7 +119,7 @@ has_status() {
     [ "$(import -silent -window root png:- | convert png:- -crop "$part" -format %k info:)" -gt 1 ]
 }
 
-# Types keys, by their names in X.
+# Types keys, by their names in X, as fast as a fast typist.
 press() { # KEY..
     for key in "$@"; do
         xdotool key --clearmodifiers "$key"

@@ -1,4 +1,4 @@
-#include "asking.h"
+#include "requests.h"
 
 #include <stdlib.h>
 #include <string.h>

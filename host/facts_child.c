@@ -1,4 +1,4 @@
-#include "beside.h"
+#include "facts_child.h"
 
 #include <errno.h>
 #include <fcntl.h>
@@ -16,6 +16,7 @@
 /* Numbers of files that are closed where the system cannot close all of them at once. */
 enum { MOST_FILES = 1024 };
 
+/* Closes all files from this number on. */
 static void close_files(unsigned first) {
 #ifdef SYS_close_range
     if (syscall(SYS_close_range, first, ~0U, 0) == 0) return;

@@ -1,4 +1,4 @@
-#include "ending.h"
+#include "restoring.h"
 
 #include <string.h>
 

@@ -1,6 +1,6 @@
-/* The end: the terminal as it was. Host and watcher do this. */
-#ifndef ENDING_H
-#define ENDING_H
+/* Restoring what the terminal showed, at the end. Host and watcher do this. */
+#ifndef RESTORING_H
+#define RESTORING_H
 
 #include <stdint.h>
 

@@ -1,7 +1,7 @@
 /* Facts that the keeper asks for while the program runs: a child gathers them, since a disk that does not answer must not hold up
  * the host. */
-#ifndef BESIDE_H
-#define BESIDE_H
+#ifndef FACTS_CHILD_H
+#define FACTS_CHILD_H
 
 /* The reading end of the child's answer, -1 without one. */
 extern int facts_answer;

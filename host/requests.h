@@ -1,6 +1,6 @@
 /* What the keeper asks for before the screen changes. */
-#ifndef ASKING_H
-#define ASKING_H
+#ifndef REQUESTS_H
+#define REQUESTS_H
 
 #include "command.h"
 
