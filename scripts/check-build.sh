@@ -88,7 +88,8 @@ run() {
     status=$?
 }
 
-# Runs it in a terminal, wide enough for a whole line of progress.
+# Runs prove.sh for the crate PROGRAM in a terminal, wide enough for a whole line of progress. At Ctrl-C the shell of `run` goes on,
+# by a trap, so that it can write the status; the sleep keeps the terminal open until the check has looked at it.
 start() { # PROGRAM
     rm -f "$folder/status"
     cat >"$folder/run" <<END
@@ -332,7 +333,7 @@ check_needed() {
     same 'needed, no host to be had' "$status $(cat "$folder/said")" '1 bidi-edit: there is no C compiler cc'
 }
 
-# Runs it in a terminal, as `start` does prove.sh.
+# Runs the checkout's script bidi-edit in a terminal, as `start` runs prove.sh.
 start_script() { # WORD
     rm -f "$folder/status"
     cat >"$folder/run" <<END

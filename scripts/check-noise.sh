@@ -141,12 +141,14 @@ check_noise() { # ROWS COLS COUNT
     report "noise of $3 bytes in $1x$2"
 }
 
-# Prints the end of the painting at opening in 24x80.
+# Prints the end of the painting at opening in 24x80: the rendition sequence BEFORE (may be empty), the status row `- 1:1`, whose
+# blank the cleared screen has, and the cursor's move to the first cell.
 opening_end() { # BEFORE
     printf '\033[24;1H%b-\033[24;3H1:1\033[1;1H' "$1"
 }
 
-# Prints the painting at opening of 23 rows equal to the file `row`, with rendition sequences before and after each.
+# Prints the painting at opening of 23 rows equal to the file `row`, with the rendition sequence BEFORE before the first row and
+# BEHIND before the status row; each may be empty.
 opening_of_rows() { # BEFORE BEHIND
     printf '\033[0m\033[2J'
     line=1

@@ -20,7 +20,7 @@
 #    - no memory for the answers of a play: all is as without steps;
 #    - no memory for a Save: all else is as with a failing call of the store;
 #    - no memory for the text at the scene's end: it is `?`, and all else is the same.
-#    So the check detects two refusals in one run, and a refusal with any other effect.
+#    So a run with two refusals, or with one that has any other effect, fails the check.
 # 2. Worked scenes: one run of each must give exactly the answer in scripts/refusals/scenes.sh.
 # 3. ucd_lookup with a class file: it answers as without a refusal, or reports that memory ran out.
 # 4. Twenty of the recorded sessions in SESSIONS (see sessions.sh) by bidi_edit. A run must print, leave and end as the session

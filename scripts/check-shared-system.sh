@@ -40,9 +40,7 @@ trap 'exit 1' HUP INT TERM
 
 # Settings of a check for its own sessions; see scripts/launcher/person.sh.
 # shellcheck disable=SC2034
-tables='' setup='' cleanup='' redirection='' is_flooded='' lines_told=1
-# shellcheck disable=SC2034
-key_reader='.*bidi_input'
+tables='' setup='' cleanup='' redirection='' is_flooded=''
 # shellcheck source=scripts/launcher/person.sh
 . "$top/scripts/launcher/person.sh"
 # shellcheck source=scripts/launcher/recorder.sh

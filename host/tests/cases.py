@@ -99,7 +99,7 @@ def resizes(tree):
 
 
 def notices(tree):
-    """A notice goes between keys: the first before all keys, a later one not into a paste nor a key, unless that stays unfinished.
+    """A notice goes between keys: the first before all keys, a later one into neither a paste nor a key, unless that stays unfinished.
     An Escape that nothing follows becomes a sequence."""
     first, later = b'\x1b[>9~', b'\x1b[>1~'
     # what is typed, with rests in seconds between. The later notice comes at the first second, so 0.8 and 0.4 seconds are before

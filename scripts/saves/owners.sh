@@ -5,7 +5,8 @@
 
 # ---- files of other users
 
-# The set-ID bits stay only if both owner and group stay. The text is empty, since a write would clear the bits.
+# The set-ID bits stay only if both owner and group stay. Where they must go, a whole text and an empty one are saved: the system
+# clears the bits of a file that is written to, so only a save that writes nothing shows that the editor leaves them off.
 check_set_ids() {
     prepare secret
     chown -R 54322:54322 "$place"
@@ -35,7 +36,7 @@ check_set_ids() {
     cp "$folder/keys_of_all" "$folder/keys"
 }
 
-# A text of one letter, which is erased.
+# Has the keys erase a text of one letter, so that an empty one is saved. The caller puts `keys` back from `keys_of_all`.
 empty_texts() {
     printf x >"$folder/old"
     : >"$folder/new"

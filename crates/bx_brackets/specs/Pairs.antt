@@ -64,7 +64,7 @@ meet s j c (Some (Closer, m)) = meet_closer s j c
 abbrev pub bracket_at : Data → ℕ → Class → Option (Side × ℕ)
 bracket_at says c t = elim (is_on t) [ true ↦ says.bracket c | false ↦ None ]
 
--- the search after the rest of a sequence: its characters and their types, from index `j` on
+-- the search after the rest of a sequence: its characters and their types, equally many, from index `j` on
 abbrev pub search_from : Data → Search → ℕ → List ℕ → List Class → Search
 search_from says s j [] ts = s
 search_from says s j (c ∷ cs) [] = s

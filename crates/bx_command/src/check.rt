@@ -28,7 +28,8 @@ fn line_of(bytes: &[u8], offset: usize) -> usize
     bytes[..offset].iter().filter(|b| **b == b'\n').count() + 1
 }
 
-/// Checks that bytes can be opened as a text. A file of more than 16,777,216 bytes may be cut off after the next one.
+/// Checks that bytes can be opened as a text. Of a file of more than 16,777,216 bytes the first 16,777,217 are enough, since it is
+/// refused by its length.
 ///
 /// Errors, in this order: `TooLong`; `NotUtf8`.
 pub fn check_text(bytes: &[u8]) -> Result<(), TextFault>

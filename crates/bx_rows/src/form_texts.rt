@@ -44,8 +44,8 @@ const FORMS_B: &str = "\u{fe80}\u{fe81}\u{fe82}\u{fe83}\u{fe84}\u{fe85}\u{fe86}\
     \u{fef0}\u{fef1}\u{fef2}\u{fef3}\u{fef4}\u{fef5}\u{fef6}\u{fef7}\
     \u{fef8}\u{fef9}\u{fefa}\u{fefb}\u{fefc}";
 
-/// The text of the character `c` in a list of the `count` characters from the code `first` on, of three bytes each; None if it
-/// is not in the list.
+/// The text of the character `c` in a list of the `count` characters from the code `first` on; None if it is not in the list. From
+/// U+E000, behind the surrogates, to U+FFFF each has three bytes.
 fn text_in<'a>(texts: &'a str, first: u32, count: u32, c: char) -> Option<&'a str>
     requires texts { texts.now ≡ encode_utf8_all (range_with_len first count) }
     requires low { 0xE000 ≤ first }

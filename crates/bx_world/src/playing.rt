@@ -15,7 +15,7 @@ use bx_store::Store;
 use bx_ucd::BidiData;
 
 impl<D: BidiData + Drop> World<D> {
-    /// Takes steps in order, and appends their answers to a list with room for them.
+    /// Takes steps in order, and puts their answers into an empty list with room for them.
     fn play_into<S: Store>(
         &mut self,
         steps: &[Step],

@@ -1,4 +1,4 @@
-//! Worked examples, and each public call once with ample memory.
+//! Worked examples of `bx_explicit` (P2 to X10), and each of its public calls once, with ample memory.
 use crate::words::{text_of, two_of};
 use bx_explicit::{
     Explicit, ExplicitChar, Sequence, SequenceWalk, base_level, explicit, paragraph_level,
