@@ -45,7 +45,7 @@ static void obey_keeper(void) {
     }
 }
 
-/* Tells the keeper of each second, but not before it has answered the last one. `next` is when the next one has gone. */
+/* Tells the keeper of each second, but not before it has answered the last one. `next` is the time of the next one. */
 static void tell_second(int64_t *next) {
     if (now() < *next) return;
     *next = now() + SECOND;

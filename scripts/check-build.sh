@@ -88,8 +88,8 @@ run() {
     status=$?
 }
 
-# Runs prove.sh for the crate PROGRAM in a terminal, wide enough for a whole line of progress. At Ctrl-C the shell of `run` goes on,
-# by a trap, so that it can write the status; the sleep keeps the terminal open until the check has looked at it.
+# Runs prove.sh for the crate PROGRAM in a terminal, wide enough for a whole line of progress. At Ctrl-C the shell that runs the
+# file `run` goes on, by a trap, so that it can write the file `status`; the sleep keeps the terminal open until the check has looked at it.
 start() { # PROGRAM
     rm -f "$folder/status"
     cat >"$folder/run" <<END

@@ -22,8 +22,8 @@ NAMES = [*BYTES, "select", "undo run", "redo run", "enter", "tab", "size", "quit
 ENDS = ["no search", "in a search", "a search given up", "a search that a save ended", "in a paste", "a selection", "between runs",
         "in a question", "a named character", "a region in an isolate", "behind Tell", "the other text asked for", "a match shown",
         "matches replaced"]
-# the ends that have a method of their own
-PARTS = {"in a paste": "begin_paste", "a selection": "make_selection", "between runs": "type_runs", "in a question": "ask_something",
+# the method of each end that has one of its own
+METHODS = {"in a paste": "begin_paste", "a selection": "make_selection", "between runs": "type_runs", "in a question": "ask_something",
          "a named character": "name_character", "a region in an isolate": "wrap_letters", "behind Tell": "tell_letter",
          "the other text asked for": "ask_for_other", "a match shown": "show_some_match", "matches replaced": "replace_some"}
 # the first bytes of a character or a sequence
@@ -89,8 +89,8 @@ class Session(Editor):
         self.insert("q")
         if end == "no search":
             return
-        if end in PARTS:
-            getattr(self, PARTS[end])()
+        if end in METHODS:
+            getattr(self, METHODS[end])()
             return
         self.search_ahead()
         if end == "in a search":

@@ -1,5 +1,5 @@
 # The table of time-first-start.sh. Reads three files: crates.txt, whose lines are `CRATE [words]: CRATES BELOW`; a line for each
-# crate that was built, with its name, start, end, jobs and processor time; and what functions.awk wrote of each. Writes a line
+# crate that was built, with its name, start, end, jobs (how many processors its proof might use) and processor time; and what functions.awk wrote of each. Writes a line
 # for each crate, in the order of their starts, the longest chain of crates that waited for one another, and the functions of
 # each crate that took a second and more. `cores` is the number of processors.
 
@@ -55,7 +55,7 @@ function sort(    i, k, name) {
 }
 
 function tell_crates(    i, k, name, parts, word) {
-    print "Seconds by the clock from the first start; jobs; seconds of processor time: of all, before the first proof, of the"
+    print "Seconds by the clock from the first start; jobs, how many processors its proof might use; seconds of processor time: of all, before the first proof, of the"
     print "proofs, of other modules, behind the last proof, and of the build; functions that were proved now, of all."
     parts = split("head proofs other end build", word, " ")
     printf "%-12s %5s %5s %4s %7s", "crate", "start", "end", "jobs", "all"

@@ -131,9 +131,9 @@ cut_off_save() { # CALLS
     kill_editor first
 }
 
-# Checks the next start's message about an interrupted save, and that FILE is complete. WORDS is how often it says that the text
+# Checks the next start's message about an interrupted save, and that FILE is complete. COUNT is how often it says that the text
 # is put back, TEXT what FILE then has: `ab` if the save had not begun to write FILE.
-check_cut_off() { # CALLS WORDS TEXT
+check_cut_off() { # CALLS COUNT TEXT
     cut_off_save "$1"
     test -e "$(session_of_check)/mark"
     report "in place, killed at $1: the whole text is kept" $? 'there is no mark'

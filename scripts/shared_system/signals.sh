@@ -1,6 +1,6 @@
 # shellcheck shell=sh
 # shellcheck disable=SC2034,SC2154 # variables shared with other parts
-# Simultaneous signals, such as a resize and the end of the terminal. A run that goes on after them is `lost`, and is killed.
+# Simultaneous signals, such as a resize and the end of the terminal. `lost` counts the runs that go on after them, which are then killed.
 
 # Prints the process of the session's host.
 host_of_person() {

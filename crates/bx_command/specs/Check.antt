@@ -9,7 +9,7 @@ use Rattle.bx_command.specs.declared.check.TextFault.TheVariants.{NotUtf8, TooLo
 abbrev pub line_of : List ℕ → ℕ → ℕ
 line_of bytes offset = count_by (λ b. b == 0x0a) (take offset bytes) + 1
 
--- the bytes are UTF-8 up to a byte in this line, and not with that byte
+-- the bytes before the offset `front` are UTF-8, and with the byte there they are not; that byte is in this line
 pub record IsFirstBadLine (bytes : List ℕ) (line : ℕ) : Type 0 where
   pub front : ℕ
   pub valid : IsValidUpTo bytes front

@@ -63,8 +63,9 @@ fn cached_change<D: BidiData>(
     view.cached_range(source, change.start, stop)
 }
 
-/// Applies a change of the text, once it is made, to the cached paragraph with the range `cached`. Running out of memory does no
-/// harm: the stale paragraph no longer matches the text, so it is laid out again.
+/// Applies a change of the text, once it is made, to the cached paragraph that it lies in: `cached` is its range there before the
+/// change, None if there is none. Running out of memory does no harm: the stale paragraph no longer matches the text, so it is
+/// laid out again.
 fn follow_in_layout<D: BidiData>(
     view: &mut View,
     cached: Option<CachedRange>,

@@ -13,7 +13,7 @@ use Rattle.bx_find.specs.declared.reading.Reading.TheVariants.{Wide, Close}
 abbrev pub is_stroke_or_mark : ℕ → Bool
 is_stroke_or_mark c = (c == 0x640) || is_direction_mark c
 
--- a character that a search passes over
+-- a character that a search passes over: of a class without a letter of its own, a directional mark or the tatweel
 abbrev pub is_passed_over : Data → ℕ → Bool
 is_passed_over says c = is_unlettered (says.class c) || is_stroke_or_mark c
 

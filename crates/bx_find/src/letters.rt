@@ -23,7 +23,8 @@ fn is_stroke_or_mark(c: char) -> bool
     c == '\u{640}' || is_direction_mark(c)
 }
 
-/// Whether a search passes over a character: a point, a joiner, a formatting character, a directional mark or the tatweel.
+/// Whether a search passes over a character: one of a class without a letter of its own (combining marks, as points and accents;
+/// joiners, control characters and others of class BN; formatting characters), a directional mark or the tatweel.
 #[inline(always)]
 pub fn is_passed_over<D: BidiData>(tables: &D, c: char) -> bool
     ensures { result ≡ is_passed_over (D.data tables.now) c }

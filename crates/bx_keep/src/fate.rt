@@ -5,7 +5,7 @@ ghost use Rattle.std.specs.Prelude.{◌≡◌, ◌≢◌, ◌⊎◌, true, false
 /// What is known of a session at its end.
 #[derive(Clone, Copy, PartialEq, Eq, Debug)]
 pub struct Left {
-    /// The program's exit status.
+    /// The program's exit status: 0 after a Quit, also a second one with unsaved text; else a fault's or a signal's.
     pub status: u64,
     /// Keys were typed that are not saved, or the text counts as changed from the start.
     pub has_unsaved: bool,

@@ -9,10 +9,10 @@ use bx_sessions::{Kept, Part};
 use std::alloc::{AllocError, Global};
 use std::io;
 
-/// The title's note where unsaved text is not kept.
+/// The title's note where no session has the text as opened, nor is about to get it.
 pub const UNKEPT: &str = " (unsaved text is not kept)";
 
-/// The title's note where the session has the text as opened, and keys are not kept at the moment.
+/// The title's note where a session has the text as opened, or is about to get it, and keys cannot be kept at the moment.
 pub const LOST: &str = " (what is typed is not kept now: save it)";
 
 /// The text in place of a FILE that cannot be read.

@@ -69,7 +69,8 @@ fn turn_run<T>(items: &mut [T], start: usize, stop: usize)
 }
 
 /// Reverses each maximal run of items at `level` or higher. The levels stay in place: all levels of a run are at least
-/// `level`, so the runs at lower levels are the same.
+/// `level`, so the runs at lower levels are the same (`AgreeUpTo`). In the clause `us` are the units as the items stand now, each
+/// its number and its level, and `f` gives a number's item.
 fn reverse_runs<T>(items: &mut [T], levels: &[u8], level: u8)
     requires { length items.old ≡ length levels.now }
     ensures count { length items.new ≡ length items.old }

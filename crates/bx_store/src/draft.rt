@@ -32,7 +32,7 @@ pub struct Draft<F: Read + Write + Seek + OpenFile + AsFd + Drop> {
     path: String,
     /// The path of the file to replace; None if it replaces none.
     target: Option<String>,
-    /// Permissions to set once the draft is complete; 0 leaves them unchanged.
+    /// The permissions of the complete file, of which `sync` sets the set-ID bits; 0 where it replaces none.
     mode: u32,
 }
 

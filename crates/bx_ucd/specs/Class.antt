@@ -29,7 +29,8 @@ is_neutral RLI = true
 is_neutral PDI = true
 is_neutral _ = false
 
--- a class of marks, joiners and formatting characters, which have no letter of their own
+-- a class of combining marks (NSM), of joiners and control characters (BN), or of formatting characters: none has a letter of its
+-- own
 abbrev pub is_unlettered : Class → Bool
 is_unlettered NSM = true
 is_unlettered BN = true

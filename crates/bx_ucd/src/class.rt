@@ -69,7 +69,8 @@ pub fn is_strong(class: Class) -> bool
     matches!(class, Class::L | Class::R | Class::AL)
 }
 
-/// Whether the class is one of marks, joiners and formatting characters, which have no letter of their own.
+/// Whether the class is one of combining marks (NSM), of joiners and control characters (BN), or of formatting characters, which
+/// have no letter of their own.
 #[inline(always)]
 pub fn is_unlettered(class: Class) -> bool
     ensures { result ≡ is_unlettered class }
