@@ -178,8 +178,8 @@ class Task:
 
     def started(self, *words):
         """The editor on the copy, with these words before its name."""
-        # editors remember no cursor place, and offer no interrupted session again
-        home = Path(os.environ['HOME'])
+        # HOME, as compare-editors.sh sets it: emptied, so that editors remember no cursor place and offer no interrupted session again
+        home = self.folder.with_name('home')
         shutil.rmtree(home, ignore_errors=True)
         home.mkdir()
         return Terminal([*self.editor.words, *words, self.file.name], self.folder)

@@ -102,8 +102,8 @@ def notices(tree):
     """A notice goes between keys: the first before all keys, a later one into neither a paste nor a key, unless that stays unfinished.
     An Escape that nothing follows becomes a sequence."""
     first, later = b'\x1b[>9~', b'\x1b[>1~'
-    # what is typed, with rests in seconds between. The later notice comes at the first second, so 0.8 and 0.4 seconds are before
-    # and after it; a key that is not whole for a second is given up.
+    # What is typed, with rests in seconds: 0.8 and 0.4 are before and after the first second, at which the later notice comes, 2.2 are
+    # more than it and the second for which a key may be unfinished, 0.2 more than an Escape outside a paste waits (ALONE in typing.c).
     cases = (('at once', [b'ab'], b'ab' + later),
              ('a paste', [b'\x1b[200~ab', 2.2, b'cd\x1b[201~e'], b'\x1b[200~abcd\x1b[201~' + later + b'e'),
              ('the end of a paste', [b'\x1b[200~ab\x1b[201', 2.2, b'~'], b'\x1b[200~ab\x1b[201~' + later),
