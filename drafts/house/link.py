@@ -1,6 +1,6 @@
 """link.py CLONE [GATE..]: gives a clone the libraries that gates proved of the same text."""
 import importlib.machinery, importlib.util, os, re, shutil, sys
-loader = importlib.machinery.SourceFileLoader("rtlib", "/opt/rattle/bin/rtlib.py")
+loader = importlib.machinery.SourceFileLoader("rtlib", os.path.join(os.path.dirname(os.path.realpath(shutil.which("rattle") or "rattle")), "rtlib.py"))
 spec = importlib.util.spec_from_loader("rtlib", loader)
 rtlib = importlib.util.module_from_spec(spec); sys.modules["rtlib"] = rtlib; loader.exec_module(rtlib)
 clone, gates = sys.argv[1], sys.argv[2:] or ["CLONES/gate2", "CLONES/gate"]
