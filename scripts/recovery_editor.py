@@ -191,12 +191,12 @@ class Editor(Search):
 
     def word_before(self):
         """The last start of a word or line before the place, else the place."""
-        starts = [0, *(m.start() for m in re.finditer("[a-z0-9\u05d0-\u064a]+", self.text)), *(m.end() for m in re.finditer("\n", self.text))]
+        starts = [0, *(m.start() for m in re.finditer("[a-z0-9\u05d0-\u061b\u061d-\u064a]+", self.text)), *(m.end() for m in re.finditer("\n", self.text))]
         return max((at for at in starts if at < self.place), default=self.place)
 
     def word_behind(self):
         """The first start of a word or end of a line after the place, else the place."""
-        stops = [len(self.text), *(m.start() for m in re.finditer("[a-z0-9\u05d0-\u064a]+|\n", self.text))]
+        stops = [len(self.text), *(m.start() for m in re.finditer("[a-z0-9\u05d0-\u061b\u061d-\u064a]+|\n", self.text))]
         return min((at for at in stops if at > self.place), default=self.place)
 
     def erase(self, name, was):
