@@ -13,7 +13,7 @@ use bx_ucd::{BidiData, sample_tables};
 use std::alloc::Global;
 use std::time::CpuClock;
 
-/// The words that a text repeats; those of `ascii` for other names.
+/// The words that the named text repeats. Any other name gives the words of `ascii`.
 fn words_of(name: &str) -> &'static str {
     if name == "hebrew" {
         "\u{5e9}\u{5dc}\u{5d5}\u{5dd} \u{5e2}\u{5d5}\u{5dc}\u{5dd} "

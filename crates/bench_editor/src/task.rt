@@ -27,7 +27,7 @@ const AS_BEFORE: &str = "\u{1b}[8;24;80t";
 /// A task, by what a round of it does.
 #[derive(Clone, Copy)]
 pub(crate) enum Task {
-    /// Types a letter, behind that of the round before.
+    /// Types a letter after the previous round's letter.
     Letter,
     /// Types a letter and erases it.
     Erasure,

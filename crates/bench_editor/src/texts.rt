@@ -63,7 +63,7 @@ impl Script {
         }
     }
 
-    /// The letter typed in a round, whose number counts from 0: that of the word in turn.
+    /// The letter typed in round `round`, from 0. The rounds spell a word over and over.
     pub(crate) fn letter(self, round: usize) -> &'static str {
         match self {
             Script::Ascii => ENGLISH_WORD[round % 5],

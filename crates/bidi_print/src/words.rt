@@ -17,7 +17,7 @@ pub struct Options<'a> {
     pub file: &'a str,
 }
 
-/// The program's command line. Rows have 80 columns, those of a usual terminal, where `--cols` is missing.
+/// The program's command line. Without `--cols` a row has 80 columns, as a usual terminal does.
 fn command<'a>(alloc: Global) -> Result<Command<'a>, AllocError> {
     let style = Command::new(alloc, "bidi_print")
         .no_binary_name(true)

@@ -33,7 +33,7 @@ pub fn bracket_at<D: BidiData>(tables: &D, c: char, t: Class) -> Option<(Side, c
 const BRACKET_ROOM: usize = 63;
 
 /// The length of `missed`, where a closer is noted at its code's remainder by this number. By 31 the closers `)`, `]`, `}` and
-/// those of U+3009 to U+301B have different remainders. Two closers at one remainder cost time alone.
+/// all from U+3009 to U+301B differ in their remainders. Two closers with one remainder only cost time.
 const REMAINDERS: usize = 31;
 
 /// The stack of unmatched openers, each its index in the sequence and the closer that it waits for, as `canonical` gives it.

@@ -39,7 +39,7 @@ pub fn write_all<W: Write>(writer: &mut W, bytes: &[u8]) -> Result<(), WriteFaul
     ensures part { IfErr result (λ fault. Appends (W.contents writer.old) (W.contents writer.new) (take fault.written bytes.now)) }
 {
     let mut written = 0;
-    // In effect without end: so many writes never come.
+    // A proved loop needs a bound, and no writer takes that many calls.
     'writes: for _ in 0..u64::MAX {
         if written == bytes.len() {
             return Ok(());

@@ -1,4 +1,4 @@
-//! The first units of a body from an offset on: those of one row, in a window of `w` columns.
+//! The units of one row: the first ones of a body from an offset on, in a window of `w` columns.
 ghost use Rattle.std.specs.Prelude.{◌≡◌, ◌<◌, ◌∷◌, All, IfOk, length, take};
 ghost use Rattle.std.specs.Str.{IsCharBoundary};
 ghost use Rattle.bx_cells.specs.Units.{HasFace, StandsIn, units_from};

@@ -38,8 +38,8 @@ pub record IsFirstLevel (each : List (Option ℕ)) (k i level : ℕ) : Type 0 wh
   pub none_before : (j : ℕ) → j < i → slice_get each (k + j) ≡ Some None
   pub level_is : slice_get each (k + i) ≡ Some (Some level)
 
--- Each unit with a character that has a level has a level at the place where it begins, and it is that of its first such
--- character. `number` is the paragraph, from 0, `front` its units before this one, and `i`, from 0, that character in the unit.
+-- The place before a unit has the level of the unit's first character with a level, if there is one. `number` is the paragraph,
+-- from 0, `front` its units before this one, and `i`, from 0, that character in the unit.
 abbrev pub UnitsHaveLevels : Data → Base → List ℕ → Type 0
 UnitsHaveLevels says base text =
     (number : ℕ) → number < count says text → (front rest : List (List ℕ)) (unit : List ℕ)

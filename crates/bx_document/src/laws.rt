@@ -4,7 +4,7 @@ ghost use Rattle.bx_terms.specs.declared.base.Base.{Base};
 ghost use Rattle.bx_ucd.specs.Data.{Data};
 ghost use Rattle.bx_document.specs.PlaceLevel.{UnitsHaveLevels};
 
-/// Each unit with a character that has a level has a level at the place where it begins: that of its first such character.
+/// The place before a unit has the level of the unit's first character with a level, if there is one.
 pub fn units_have_levels()
     ensures { (says : Data) (base : Base) (text : List ℕ) → IsUtf8 text → UnitsHaveLevels says base text }
 {}

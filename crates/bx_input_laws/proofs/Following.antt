@@ -20,7 +20,8 @@ use Rattle.bx_keys.proofs.Cuts.{in_pieces, rest_waits}
 use Rattle.bx_keys.proofs.Feeding.{waits_decoding, feeds_waiting, feeds_end, feeds_break, feeds_alone}
 use Rattle.bx_input.specs.Table.{Row, keys_of, sequences, fate, paste_start, paste_end, start_told, end_told, rows, row_of}
 use Rattle.bx_input.specs.Paste.{pasted, paste_fate}
-use Rattle.bx_input.specs.Filter.{State, Outside, Within, Step, step_to, ended_in_paste, paste_step_by, fresh_in_paste, ended, start, at_end, apart_from, is_empty, fresh, broken, step_by, step, run, filtered}
+use Rattle.bx_input.specs.Filter.{State, Outside, Within, Step, step_to, ended_in_paste, paste_step_by, fresh_in_paste, ended, start}
+use Rattle.bx_input.specs.Filter.{at_end, apart_from, is_empty, fresh, broken, step_by, step, run, filtered}
 use Rattle.bx_input_laws.specs.Laws.{became, longer_by, longer_row, row_behind, is_text_byte, IsText, HasKeys, AddsKeys, BecomesRow, PastesInsert}
 use Rattle.bx_input_laws.proofs.Clean.{pastes_clean}
 use Rattle.bx_input_laws.proofs.Decoding.{IsFree, IsOutside, anew, anew_in_text, after_can, alone_free, sequence_over, still_free, text_inserts}
