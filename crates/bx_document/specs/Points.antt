@@ -5,7 +5,7 @@ use Rattle.bx_ucd.specs.Data.{Data}
 use Rattle.bx_ucd.specs.declared.class.Class.{Class}
 use Rattle.bx_ucd.specs.declared.class.Class.TheVariants.{NSM}
 
--- Bidi_Class NSM, that of nonspacing marks
+-- the Bidi_Class of nonspacing marks, NSM
 abbrev pub is_mark : Class → Bool
 is_mark NSM = true
 is_mark _ = false
@@ -29,7 +29,7 @@ last_character cs = slice_index_or cs (length cs - 1) 0
 abbrev pub before_last : List ℕ → List ℕ
 before_last cs = encode_utf8_all (take (length cs - 1) cs)
 
--- The offset, in a unit's bytes, from which on the unit is removed: that of its last character, if that is a point, else 0. A
--- unit of one character is removed whole, point or not.
+-- Where the removal of a unit begins, as an offset in its bytes: before its last character, if that is a point, else 0. A unit
+-- of one character is removed whole, point or not.
 abbrev pub point_start : Data → List ℕ → ℕ
 point_start says unit = elim (is_point says (last_character (chars unit))) [ true ↦ length (before_last (chars unit)) | false ↦ 0 ]

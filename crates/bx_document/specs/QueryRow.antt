@@ -13,8 +13,8 @@ use Rattle.bx_paragraph.specs.BodyRows.{body_rows, row_at}
 use Rattle.bx_paragraph.specs.OwnGlyphs.{row_own_glyphs}
 use Rattle.bx_document.specs.Drawing.{side_by_side}
 
--- The glyphs of a query from left to right: those of its first row, as a text of its own in 500 columns, the widest window
--- (`largest_side`), whatever window shows it.
+-- The glyphs of a query from left to right. The query is laid out as a text of its own in 500 columns, the widest window
+-- (`largest_side`), whatever window shows it, and its first row counts.
 abbrev pub query_glyphs : Data → List ℕ → List Glyph
 query_glyphs d query = row_own_glyphs d 500 (row_at (body_rows d Auto 500 query) 0)
 

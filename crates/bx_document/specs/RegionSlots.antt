@@ -16,7 +16,7 @@ pub record IsSpan (columns : List Col) (s : Slot) : Type 0 where
   pub begins : IsBorder columns (s.column - 1)
   pub ends : IsBorder columns (s.column - 1 + s.columns)
 
--- a row's columns once those of each of these slots are turned to the other rendition
+-- a row's columns, once the columns of these slots are turned to the other rendition
 abbrev pub turned_slots : List Slot → List Col → List Col
 turned_slots [] columns = columns
 turned_slots (s ∷ ss) columns = turned_slots ss (turned_in columns (s.column - 1) s.columns)

@@ -8,7 +8,7 @@ use crate::document::Document;
 use bx_terms::OutOfMemory;
 use bx_ucd::{BidiData, Class};
 
-/// Whether a class is NSM, that of nonspacing marks.
+/// Whether a class is NSM, the class of nonspacing marks.
 fn is_mark(class: Class) -> bool
     ensures { result ≡ is_mark class }
 {
@@ -48,7 +48,7 @@ fn last_character(text: &str) -> Option<(char, &str)>
     }
 }
 
-/// The offset, in a unit's bytes, from which on the unit is removed: that of its last character, if that is a point, else 0.
+/// Where the removal of a unit begins, as an offset in its bytes: before its last character, if that is a point, else 0.
 fn point_start<D: BidiData>(unit: &str, tables: &D) -> usize
     ensures start { result ≡ point_start (D.data tables.now) unit.now }
     ensures boundary { IsCharBoundary unit.now result }

@@ -19,7 +19,7 @@ use bx_ucd::BidiData;
 use std::alloc::{AllocError, Global};
 use std::borrow::CowStr;
 
-/// The columns in which a query is laid out, whatever the window's: those of the widest window (`largest_side`).
+/// A query is laid out in as many columns as the widest window has (`largest_side`), whatever the window is.
 const QUERY_WIDTH: u16 = 500;
 
 /// The number of leftmost glyphs that fit into `width` columns.

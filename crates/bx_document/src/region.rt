@@ -18,7 +18,7 @@ fn turn_slots(grid: &mut Grid, row: u16, slots: &[Slot])
     ensures { grid.new ≡ with_rows grid.old row (turned_slots slots.now (row_in grid.old row)) }
 {
     for slot in slots {
-        // A slot's columns count from 1, those of `turn` from 0.
+        // A slot counts columns from 1, `turn` from 0.
         grid.turn(row, slot.column - 1, slot.columns);
     }
 }
