@@ -5,7 +5,7 @@
 # shellcheck source=launcher/names.sh
 . "$top/launcher/names.sh"
 
-# That of crates/bx_launch/src/help.rt, with the line about printing.
+# That of crates/bx_calls/src/help.rt, with the line about printing.
 usage='usage: bidi-edit [--direction auto|ltr|rtl] [--line N | +N] [--force] FILE
        bidi-edit --recover [[--to OTHER] FILE] | --forget [FILE]
        bidi-edit --print FILE [--cols N] [--marks]: its rows to standard output'

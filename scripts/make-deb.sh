@@ -12,7 +12,7 @@ top=$(cd "$(dirname "$0")/.." && pwd)
 . "$top/scripts/report.sh"
 # shellcheck source=scripts/built.sh
 . "$top/scripts/built.sh"
-version=$(sed -n 's/^pub const VERSION: &str = "\(.*\)";$/\1/p' "$top/crates/bx_launch/src/help.rt")
+version=$(sed -n 's/^pub const VERSION: &str = "\(.*\)";$/\1/p' "$top/crates/bx_calls/src/help.rt")
 name=bidi-edit_${version}_amd64
 folder=$(mktemp -d)
 socket="bd$$"

@@ -49,7 +49,7 @@ check_refused_words() {
 
 # Prints the version that the sources name.
 version_of_sources() {
-    grep -rhoE '"[0-9]+\.[0-9]+\.[0-9]+"' "$top/crates/bx_launch/src" | head -n 1 | tr -d '"'
+    grep -rhoE '"[0-9]+\.[0-9]+\.[0-9]+"' "$top/crates/bx_calls/src" | head -n 1 | tr -d '"'
 }
 
 # --help fits a screen of 24 rows with the shell's next line. --version tells the kit that make_recorder notes, and the tables'

@@ -8,9 +8,9 @@
 # `is_proved`.
 make_source() {
     source=$folder/source prefix=$folder/prefix
-    mkdir -p "$source/host/out" "$source/crates/bx_launch/src"
+    mkdir -p "$source/host/out" "$source/crates/bx_calls/src"
     cp -R "$top/bidi-edit" "$top/launcher" "$top/data" "$top/scripts" "$top/docs" "$source/"
-    cp "$top/crates/bx_launch/src/help.rt" "$source/crates/bx_launch/src/"
+    cp "$top/crates/bx_calls/src/help.rt" "$source/crates/bx_calls/src/"
     cp "$top/host/build.sh" "$source/host/"
     printf '#!/bin/sh\n# GLIBC_2.34\necho bidi-edit %s\n' "$version" >"$source/host/out/bidi-edit"
     chmod 755 "$source/host/out/bidi-edit"
@@ -167,7 +167,7 @@ check_deb() {
 
 check_packages() {
     asked packages || return 0
-    version=$(sed -n 's/^pub const VERSION: &str = "\(.*\)";$/\1/p' "$top/crates/bx_launch/src/help.rt")
+    version=$(sed -n 's/^pub const VERSION: &str = "\(.*\)";$/\1/p' "$top/crates/bx_calls/src/help.rt")
     make_source
     check_modes_there
     check_failed_copy

@@ -1,6 +1,6 @@
 //! The program's command line.
 
-use bx_cli::{UnicodePaths, direction, direction_of, parse, paths_of, side, side_of, with_tables};
+use bx_cli::{UnicodePaths, add_tables, direction, direction_of, parse, paths_of, side, side_of};
 use bx_print::{Marks, Style};
 use clap::{Arg, ArgAction, ArgMatches, Command};
 use std::alloc::{AllocError, Global};
@@ -17,20 +17,35 @@ pub struct Options<'a> {
     pub file: &'a str,
 }
 
+/// The flag for marks.
+fn marks<'a>(alloc: Global) -> Arg<'a> {
+    Arg::new(alloc, "marks")
+        .long("marks")
+        .action(ArgAction::SetTrue)
+}
+
+/// FILE.
+fn file<'a>(alloc: Global) -> Arg<'a> {
+    Arg::new(alloc, "file").value_name("FILE").required(true)
+}
+
 /// The program's command line. Without `--cols` a row has 80 columns, as a usual terminal does.
 fn command<'a>(alloc: Global) -> Result<Command<'a>, AllocError> {
-    let style = Command::new(alloc, "bidi_print")
+    let mut args = Vec::new(alloc);
+    add_tables(&mut args, alloc)?;
+    for arg in [
+        side(alloc, "cols", "80"),
+        direction(alloc),
+        marks(alloc),
+        file(alloc),
+    ] {
+        args.push(arg)?;
+    }
+    Command::new(alloc, "bidi_print")
         .no_binary_name(true)
         .disable_help_flag(true)
         .disable_version_flag(true)
-        .arg(side(alloc, "cols", "80"))?
-        .arg(direction(alloc))?
-        .arg(
-            Arg::new(alloc, "marks")
-                .long("marks")
-                .action(ArgAction::SetTrue),
-        )?;
-    with_tables(style, alloc)?.arg(Arg::new(alloc, "file").value_name("FILE").required(true))
+        .args(args)
 }
 
 /// How marks are printed, by the flag `--marks`.

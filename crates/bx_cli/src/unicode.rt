@@ -6,7 +6,7 @@ ghost use Rattle.bx_cli.specs.Files.{AreLent, kept_pair, lent_pair};
 
 use crate::files::{FileFault, bytes_of};
 use bx_ucd::JoiningFiles;
-use clap::{Arg, ArgMatches, Command};
+use clap::{Arg, ArgMatches};
 use std::alloc::{AllocError, Global};
 
 /// The paths of the two files by which letters are joined.
@@ -72,13 +72,14 @@ fn table<'a>(alloc: Global, name: &'a str) -> Arg<'a> {
 }
 
 /// Adds the options that name Unicode's files. The two by which letters are joined are given together, or not at all.
-pub fn with_tables<'a>(command: Command<'a>, alloc: Global) -> Result<Command<'a>, AllocError> {
-    command
-        .arg(table(alloc, "classes").required(true))?
-        .arg(table(alloc, "brackets").required(true))?
-        .arg(table(alloc, "mirroring").required(true))?
-        .arg(table(alloc, "joining").requires_arg("characters")?)?
-        .arg(table(alloc, "characters").requires_arg("joining")?)
+pub fn add_tables<'a>(args: &mut Vec<Arg<'a>>, alloc: Global) -> Result<(), AllocError> {
+    for name in ["classes", "brackets", "mirroring"] {
+        args.push(table(alloc, name).required(true))?;
+    }
+    for (name, other) in [("joining", "characters"), ("characters", "joining")] {
+        args.push(table(alloc, name).requires_arg(other)?)?;
+    }
+    Ok(())
 }
 
 /// The paths of the two files by which letters are joined; None if one of them is missing.

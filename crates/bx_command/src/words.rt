@@ -4,7 +4,7 @@ ghost use Rattle.std.specs.Prelude.{IfSome};
 ghost use Rattle.bx_command.specs.Options.{AreOptionsIn};
 
 use crate::parsed::Options;
-use bx_cli::{direction, direction_of, parse, paths_of, side, side_of, with_tables};
+use bx_cli::{add_tables, direction, direction_of, parse, paths_of, side, side_of};
 use clap::{Arg, ArgAction, ArgMatches, Command, value_parser};
 use std::alloc::{AllocError, Global};
 use std::convert::AsStr;
@@ -32,6 +32,11 @@ fn before<'a>(alloc: Global) -> Arg<'a> {
     Arg::new(alloc, "before").long("before").value_name("TEXT")
 }
 
+/// FILE.
+fn file<'a>(alloc: Global) -> Arg<'a> {
+    Arg::new(alloc, "file").value_name("FILE").required(true)
+}
+
 /// The flag for a check of FILE without a session.
 fn check<'a>(alloc: Global) -> Result<Arg<'a>, AllocError> {
     flag(alloc, "check")
@@ -56,28 +61,43 @@ fn itself<'a>(alloc: Global) -> Result<Arg<'a>, AllocError> {
     flag(alloc, "itself").conflicts_with("to")
 }
 
+/// Adds the options that stand alone, and FILE.
+fn add_options<'a>(args: &mut Vec<Arg<'a>>, alloc: Global) -> Result<(), AllocError> {
+    for (name, default) in [("rows", "24"), ("cols", "80")] {
+        args.push(side(alloc, name, default))?;
+    }
+    for name in ["text", "journal", "replay"] {
+        args.push(path(alloc, name))?;
+    }
+    for name in ["unsaved", "words"] {
+        args.push(flag(alloc, name))?;
+    }
+    for arg in [direction(alloc), line(alloc), before(alloc), file(alloc)] {
+        args.push(arg)?;
+    }
+    Ok(())
+}
+
+/// Adds the options that require others or exclude them.
+fn add_bound_options<'a>(args: &mut Vec<Arg<'a>>, alloc: Global) -> Result<(), AllocError> {
+    args.push(check(alloc)?)?;
+    args.push(in_place(alloc)?)?;
+    args.push(itself(alloc)?)?;
+    args.push(path(alloc, "to").requires_arg("replay")?)?;
+    Ok(())
+}
+
 /// The program's command line.
 fn command<'a>(alloc: Global) -> Result<Command<'a>, AllocError> {
-    let window = Command::new(alloc, "bidi_edit")
+    let mut args = Vec::new(alloc);
+    add_tables(&mut args, alloc)?;
+    add_options(&mut args, alloc)?;
+    add_bound_options(&mut args, alloc)?;
+    Command::new(alloc, "bidi_edit")
         .no_binary_name(true)
         .disable_help_flag(true)
         .disable_version_flag(true)
-        .arg(side(alloc, "rows", "24"))?
-        .arg(side(alloc, "cols", "80"))?
-        .arg(direction(alloc))?;
-    with_tables(window, alloc)?
-        .arg(line(alloc))?
-        .arg(check(alloc)?)?
-        .arg(path(alloc, "text"))?
-        .arg(flag(alloc, "unsaved"))?
-        .arg(before(alloc))?
-        .arg(flag(alloc, "words"))?
-        .arg(path(alloc, "journal"))?
-        .arg(in_place(alloc)?)?
-        .arg(itself(alloc)?)?
-        .arg(path(alloc, "replay"))?
-        .arg(path(alloc, "to").requires_arg("replay")?)?
-        .arg(Arg::new(alloc, "file").value_name("FILE").required(true))
+        .args(args)
 }
 
 /// The options that clap matched; None if a value is missing or out of range.

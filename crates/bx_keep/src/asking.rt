@@ -1,25 +1,12 @@
 //! Questions to the user, each asked until one of its answers is given (up to `u64::MAX` times: without end).
 
-ghost use Rattle.std.specs.Prelude.{◌≡◌};
-ghost use Rattle.bx_keep.specs.Answers.{choice_of};
-
 use crate::stop::Stop;
+use bx_policy::{Choice, choice_of};
 use bx_wire::Host;
 use std::alloc::Global;
 
 /// The exit status after a no, or after no answer (EXIT STATUS in docs/bidi_edit.1).
 const NO_FURTHER: u8 = 2;
-
-/// What to do with an unfinished session.
-#[derive(Clone, Copy, PartialEq, Eq, Debug)]
-pub enum Choice {
-    /// Goes on with it.
-    Recover,
-    /// Removes it.
-    Delete,
-    /// Opens FILE, and leaves the session.
-    Later,
-}
 
 /// What to do with a session whose keys cannot be replayed.
 #[derive(Clone, Copy, PartialEq, Eq, Debug)]
@@ -69,21 +56,6 @@ pub fn ask_to_go_on<H: Host>(host: &mut H, alloc: Global, question: &str) -> Res
         }
     }
     Err(Stop::Told(NO_FURTHER))
-}
-
-/// What an answer chooses, by a choice's word or the word's first letter; None for all other answers.
-fn choice_of(answer: &[u8]) -> Option<Choice>
-    ensures { result ≡ choice_of answer.now }
-{
-    if answer == b"r".as_slice() || answer == b"recover".as_slice() {
-        Some(Choice::Recover)
-    } else if answer == b"d".as_slice() || answer == b"delete".as_slice() {
-        Some(Choice::Delete)
-    } else if answer == b"l".as_slice() || answer == b"later".as_slice() {
-        Some(Choice::Later)
-    } else {
-        None
-    }
 }
 
 /// Asks what to do with an unfinished session.

@@ -1,15 +1,16 @@
 //! A session that begins or goes on, before the program starts.
 
 use crate::around::Around;
-use crate::causes::Unkept;
 use crate::checking::Edited;
 use crate::saying::warn;
 use crate::sessions_folder::unkept_by;
 use crate::stop::Stop;
+use crate::unkept::Unkept;
+use bx_calls::Options;
 use bx_cli::Shown;
 use bx_keys::Notice;
-use bx_launch::Options;
-use bx_sessions::{Begin, Kept, Part, Reason, begin, has_room, sweep};
+use bx_sessions::{Begin, Kept, Part, begin, has_room, sweep};
+use bx_verdicts::Reason;
 use bx_wire::Host;
 use std::rt::Files;
 use std::thread;

@@ -11,7 +11,8 @@ use crate::running::{Running, say_notice};
 use crate::starting::program_words;
 use crate::stop::Stop;
 use crate::taking::Taken;
-use bx_launch::{EditCall, Options, RecoverCall, TerminalFault};
+use bx_calls::{EditCall, Options, RecoverCall};
+use bx_launch::TerminalFault;
 use bx_wire::{Said, Wire};
 use std::io::{Read, Write};
 

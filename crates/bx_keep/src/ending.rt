@@ -1,7 +1,6 @@
 //! The end of a session: what was kept of what was typed, what becomes of the session, and what the user is told.
 
 use crate::checking::mended_line;
-use crate::fate::{Fate, Left};
 use crate::fault::Ended;
 use crate::keeping::Text;
 use crate::mode::give_mode;
@@ -10,8 +9,10 @@ use crate::running::Running;
 use crate::saying::warn;
 use crate::stop::Stop;
 use bx_cli::Shown;
-use bx_launch::{are_all_crlf, mixed_line, signal_line};
+use bx_launch::{mixed_line, signal_line};
+use bx_policy::{Fate, Left};
 use bx_sessions::{Kept, Look, Mended, Part, forget_dropped, mend, read_plain};
+use bx_verdicts::are_all_crlf;
 use bx_wire::Host;
 use std::rt::Files;
 

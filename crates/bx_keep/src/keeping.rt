@@ -3,9 +3,9 @@
 use crate::around::Around;
 use crate::beginning::Begun;
 use crate::checking::Edited;
-use bx_launch::are_all_crlf;
-use bx_sessions::{FillFault, Kept, Look, Opening, ROOT, Source, open_plain, read_open};
+use bx_sessions::{FillFault, Kept, Look, Opening, Source, open_plain, read_open};
 use bx_terms::LARGEST_TEXT;
+use bx_verdicts::{ROOT, are_all_crlf};
 use std::fs::File;
 use std::io;
 use std::os::unix::fs::MetadataExt;

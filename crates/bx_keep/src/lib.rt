@@ -5,11 +5,9 @@
 mod around;
 mod asking;
 mod beginning;
-mod causes;
 mod checking;
 mod editing;
 mod ending;
-mod fate;
 mod fault;
 mod free_name;
 mod keeping;
@@ -31,10 +29,11 @@ mod stop;
 mod taking;
 mod telling;
 mod trouble;
+mod unkept;
 mod versions;
 
 pub use around::Around;
-pub use asking::{Choice, ask_choice, ask_to_go_on};
+pub use asking::{ask_choice, ask_to_go_on};
 pub use program_word::{Fault, ProgramWord, read_program_word};
 pub use replaying::{FoundText, Replay, ReplayFault, Replayer};
 pub use serving::serve;

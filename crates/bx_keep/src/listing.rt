@@ -6,8 +6,8 @@ use crate::saying::{tell, warn};
 use crate::sessions_folder::unkept_by;
 use crate::stop::Stop;
 use crate::telling::{machine_text, number_of_keys, time_text};
+use bx_calls::Told;
 use bx_cli::Shown;
-use bx_launch::Told;
 use bx_sessions::{
     FolderFault, Forgotten, LocalClock, Part, Session, Sessions, State, all_folders, forget,
     state_of,

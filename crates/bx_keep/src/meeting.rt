@@ -1,7 +1,7 @@
 //! The questions about FILE's other sessions, before FILE is opened.
 
 use crate::around::Around;
-use crate::asking::{Choice, ask_choice, ask_to_go_on};
+use crate::asking::{ask_choice, ask_to_go_on};
 use crate::checking::Edited;
 use crate::replaying::Replayer;
 use crate::saying::tell;
@@ -9,6 +9,7 @@ use crate::stop::Stop;
 use crate::taking::{Outcome, Taken, Taking};
 use crate::telling::{machine_text, number_of_keys, process_text, time_text};
 use bx_cli::Shown;
+use bx_policy::Choice;
 use bx_sessions::{Found, Session, Sessions, find};
 use bx_wire::Host;
 

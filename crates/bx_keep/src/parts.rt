@@ -1,11 +1,11 @@
 //! The parts of a session that cannot be replayed, as files beside FILE.
 
 use crate::around::Around;
-use crate::causes::cause_of;
 use crate::free_name::free_name;
 use crate::saying::tell;
 use crate::stop::Stop;
 use bx_cli::Shown;
+use bx_policy::cause_of;
 use bx_sessions::{Part, Session, write_new_file};
 use bx_wire::Host;
 use std::alloc::{AllocError, Global};

@@ -1,8 +1,9 @@
 //! `--print`: the host becomes the printing program.
 
 use crate::stop::Stop;
+use bx_calls::PrintCall;
 use bx_command::{TextFault, check_text};
-use bx_launch::{PrintCall, Tables, check_print_file, not_utf8, print_words, too_long};
+use bx_launch::{Tables, check_print_file, not_utf8, print_words, too_long};
 use bx_terms::LARGEST_TEXT;
 use bx_wire::{Said, Wire};
 use std::fs::{self, File};

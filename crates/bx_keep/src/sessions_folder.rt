@@ -1,11 +1,12 @@
 //! The folder of sessions for a file: whether it can be trusted, and why no session is kept in it otherwise.
 
 use crate::around::Around;
-use crate::causes::{Unkept, notice_of};
 use crate::stop::Stop;
+use crate::unkept::Unkept;
 use bx_cli::Shown;
 use bx_keys::Notice;
 use bx_launch::Destination;
+use bx_policy::notice_of;
 use bx_sessions::{FolderFault, PlaceFault, Sessions, sessions_folder};
 use bx_wire::Host;
 use std::alloc::{AllocError, Global};

@@ -3,8 +3,9 @@
 use crate::around::Around;
 use crate::beginning::Begun;
 use crate::checking::Edited;
+use bx_calls::direction_word;
 use bx_cli::Shown;
-use bx_launch::{add_option, add_word, direction_word};
+use bx_launch::{add_option, add_word};
 use bx_sessions::{Kept, Part};
 use std::alloc::{AllocError, Global};
 use std::io;

@@ -2,7 +2,6 @@
 
 use crate::around::Around;
 use crate::asking::{Rest, ask_rest, ask_to_go_on};
-use crate::causes::cause_of;
 use crate::checking::{Edited, mended_line};
 use crate::free_name::free_name;
 use crate::parts::keep_parts;
@@ -12,6 +11,7 @@ use crate::sessions_folder::unwritable;
 use crate::stop::Stop;
 use crate::telling::number_of_keys;
 use bx_cli::Shown;
+use bx_policy::cause_of;
 use bx_sessions::{
     FolderFault, Kept, LockFault, Mended, Part, Session, Sessions, mend, read_plain, renew,
 };

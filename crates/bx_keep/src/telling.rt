@@ -3,7 +3,8 @@
 use crate::around::Around;
 use crate::stop::Stop;
 use bx_cli::Shown;
-use bx_sessions::{LocalClock, Part, Process, Session, count_keys};
+use bx_sessions::{LocalClock, Part, Process, Session};
+use bx_verdicts::count_keys;
 
 /// The time of a session's last key, as users read it.
 pub fn time_text(around: Around<'_>, session: &Session) -> Result<String, Stop> {

@@ -1,9 +1,9 @@
 //! Why a running session is not kept at the moment.
 
-use crate::causes::notice_of;
 use crate::keeping::Text;
 use crate::running::Running;
 use bx_keys::Notice;
+use bx_policy::notice_of;
 use bx_sessions::{Kept, Part};
 use std::fs::{OpenFile, OpenOptions};
 

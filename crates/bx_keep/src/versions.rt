@@ -1,7 +1,8 @@
 //! The version of the editor that keeps a session, since the session's keys may make another text in another version.
 
 use crate::stop::Stop;
-use bx_launch::{Tables, VERSION};
+use bx_calls::VERSION;
+use bx_launch::Tables;
 use bx_sessions::Versions;
 use std::env;
 use std::io::{self, ErrorKind};

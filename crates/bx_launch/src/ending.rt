@@ -1,9 +1,7 @@
 //! Messages at a session's end.
 
-ghost use Rattle.std.specs.Prelude.{◌↔◌, IsTrue};
-ghost use Rattle.bx_launch.specs.LineEnds.{HasOnlyCrlf};
-
 use bx_cli::Shown;
+use bx_verdicts::are_all_crlf;
 use std::alloc::{AllocError, Global};
 
 /// The names of Linux's signals, from number 1 on.
@@ -12,24 +10,6 @@ static SIGNALS: [&str; 31] = [
     "PIPE", "ALRM", "TERM", "STKFLT", "CHLD", "CONT", "STOP", "TSTP", "TTIN", "TTOU", "URG",
     "XCPU", "XFSZ", "VTALRM", "PROF", "WINCH", "POLL", "PWR", "SYS",
 ];
-
-/// Whether a text has lines, and all of them end with CR LF. A last line without an end does not count.
-pub fn are_all_crlf(text: &[u8]) -> bool
-    ensures { IsTrue result ↔ HasOnlyCrlf text.now }
-{
-    let mut has_lines = false;
-    let mut last = 0;
-    for byte in text {
-        if *byte == b'\n' {
-            if last != b'\r' {
-                return false;
-            }
-            has_lines = true;
-        }
-        last = *byte;
-    }
-    has_lines
-}
 
 /// The line about FILE's line ends, where its text was opened with CR LF alone (`had_all_crlf`) and other line ends were put in
 /// since; else None.

@@ -1,10 +1,9 @@
 //! Printing: the check of a file, and the words of the printing program, `bidi_print`.
 
-use crate::call::PrintCall;
 use crate::fault::{FileCause, FileFault};
 use crate::kind::{Kind, kind_at};
 use crate::tables::{Tables, add_option, add_word};
-use crate::values::direction_word;
+use bx_calls::{PrintCall, direction_word};
 use bx_terms::LARGEST_SIDE;
 use bx_wire::Host;
 use std::alloc::{AllocError, Global};

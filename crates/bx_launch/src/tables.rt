@@ -1,6 +1,6 @@
 //! The folder of Unicode's files.
 
-use crate::names::Told;
+use bx_calls::Told;
 use std::alloc::{AllocError, Global};
 use std::fs::{self, File};
 use std::rt::Files;

@@ -2,10 +2,10 @@
 
 use crate::begin_words::Begin;
 use crate::file_id::FileId;
-use crate::keys::count_keys;
 use crate::machine::Process;
 use crate::part::Part;
 use crate::session::Session;
+use bx_verdicts::count_keys;
 use std::io::{self, ErrorKind};
 use std::str;
 

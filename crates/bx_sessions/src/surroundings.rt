@@ -1,12 +1,10 @@
 //! What the environment says of folders: the state folder, in which sessions are kept.
 
+use bx_verdicts::ROOT;
 use std::alloc::{AllocError, Global};
 use std::fs;
 use std::os::unix::fs::MetadataExt;
 use std::path::Path;
-
-/// The user's number of root.
-pub const ROOT: u32 = 0;
 
 /// The name of the folder of sessions in the user's state folder, which the manual tells.
 const OWN_NAME: &str = "bidi_edit";

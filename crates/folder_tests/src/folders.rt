@@ -1,10 +1,10 @@
 //! Folders of sessions in a folder for temporary files.
 
 use bx_sessions::{
-    Begin, Kept, Machine, Opening, Process, ROOT, Sessions, Source, Target, Versions, begin,
-    open_plain,
+    Begin, Kept, Machine, Opening, Process, Sessions, Source, Target, Versions, begin, open_plain,
 };
 use bx_terms::Base;
+use bx_verdicts::ROOT;
 use std::alloc::AllocError;
 use std::fs::{self, DirBuilder};
 use std::os::unix::fs::{DirBuilderExt, MetadataExt};

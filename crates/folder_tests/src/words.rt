@@ -1,7 +1,8 @@
 //! The words of a session's short files, also as older editors wrote them.
 
-use bx_sessions::{Begin, FileId, Machine, Process, count_keys, may_go_on_elsewhere};
+use bx_sessions::{Begin, FileId, Machine, Process, may_go_on_elsewhere};
 use bx_terms::Base;
+use bx_verdicts::count_keys;
 use std::test::Fail;
 use std::time::Duration;
 

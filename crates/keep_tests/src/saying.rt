@@ -1,8 +1,7 @@
 //! Questions that are asked again, words of the program, and titles.
 
-use bx_keep::{
-    Choice, Fault, ProgramWord, UNKEPT, ask_choice, ask_to_go_on, read_program_word, title_of,
-};
+use bx_keep::{Fault, ProgramWord, UNKEPT, ask_choice, ask_to_go_on, read_program_word, title_of};
+use bx_policy::Choice;
 use bx_sessions::Look;
 use bx_wire::PreparedHost;
 use std::test::Fail;

@@ -1,6 +1,6 @@
 //! Command lines, and what they ask for.
 
-use bx_launch::{Call, CallFault, Options, PrintCall, direction_word, read_words};
+use bx_calls::{Call, CallFault, Options, PrintCall, direction_word, read_words};
 use std::alloc::{AllocError, Global};
 use std::test::Fail;
 

@@ -1,8 +1,8 @@
 //! The help, the version, and messages at the end.
 
-use bx_launch::{
-    Look, are_all_crlf, columns_on, help_text, look_of, mixed_line, signal_line, version_text,
-};
+use bx_calls::{help_text, version_text};
+use bx_launch::{Look, columns_on, look_of, mixed_line, signal_line};
+use bx_verdicts::are_all_crlf;
 use std::test::Fail;
 
 #[test]

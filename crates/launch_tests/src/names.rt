@@ -1,6 +1,6 @@
 //! Names of any bytes, and how they are shown.
 
-use bx_launch::{Told, ToldLine};
+use bx_calls::{Told, ToldLine};
 use std::test::Fail;
 
 #[test]

@@ -1,0 +1,2 @@
+pub mod DigitsSoFar
+pub mod LastWord

@@ -1,3 +1,0 @@
-pub mod DigitsSoFar
-pub mod LastWord
-pub mod LineEndsSoFar

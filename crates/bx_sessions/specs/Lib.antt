@@ -1,4 +1,0 @@
-pub mod Keys
-pub mod Marks
-pub mod Reasons
-pub mod Trust

@@ -1,0 +1,2 @@
+pub mod LineEndsSoFar
+pub mod Torn
