@@ -2,9 +2,9 @@
 # name, its estimated proving time, the time of the longest chain of crates that starts with it, and the crates it depends on.
 # Crates with longer chains come first.
 #
-# Times are seconds of processor time with one job, as measured on a machine with four processors: 0.13 to 0.19 seconds for a
-# line of a library, and 15 for a crate of a few lines. Given are `programs`, and `already`, the crates that are built, both with
-# blanks between.
+# Times are seconds of processor time, as measured on a machine with four processors. The more crates there are below a crate,
+# the more is loaded for it, and the longer a line takes. Given are `programs`, and `already`, the crates that are built, both
+# with blanks between.
 
 FILENAME == ARGV[1] {
     sub(/#.*/, "")
@@ -43,9 +43,22 @@ function chain(name,    n, i, users, longest) {
     return chains[name] = seconds(name) + longest
 }
 
+# Counts in `depth[top]` the crates below `top`, of which those below `name` are not counted yet.
+function count_below(top, name,    n, i, used) {
+    n = split(below[name], used, " ")
+    for (i = 1; i <= n; i++) {
+        if ((top, used[i]) in counted) continue
+        counted[top, used[i]] = 1
+        depth[top]++
+        count_below(top, used[i])
+    }
+}
+
 # Returns the estimated seconds of a crate; for one that is built rt only looks whether something has changed.
 function seconds(name) {
-    return name in built ? 2 : int(15 + 0.17 * lines[name])
+    if (name in built) return 2
+    if (!(name in depth)) { depth[name] = 0; count_below(name, name) }
+    return int(15 + 4 * depth[name] + (0.12 + 0.008 * depth[name]) * lines[name])
 }
 
 END {

@@ -9,8 +9,9 @@
 # repository itself, and that rt for the script.
 #
 # `room`, out/proving in TOP, is the working folder: it has `plan`, the lines of plan.awk, and of a crate NAME.tree, NAME.log
-# (what rt says), NAME.times, and NAME.ended with its status, once that is known. Beside it are `proving.lock`, with the number of
-# this process, `proving.log`, the log of a crate that failed, and `proving.times`.
+# (what rt says), NAME.times, NAME.started with the second of its start, and NAME.ended with its status, once that is known.
+# Beside it are `proving.lock`, with the number of this process, `proving.log`, the log of a crate that failed, and
+# `proving.times`.
 set -u
 
 parts=$(CDPATH='' cd -- "${0%/*}" && pwd)
@@ -140,7 +141,7 @@ find_already() {
 
 # Writes the plan; plan.awk says what a line has.
 make_plan() {
-    find "$top/crates" -path '*/src/*' -name '*.rt' -exec wc -l {} + |
+    find "$top/crates" -path '*/src/*' -name '*.rt' ! -path '*/src/tests*' -exec wc -l {} + |
         awk -v programs="$programs" -v already="$(find_already | tr '\n' ' ')" -f "$parts/plan.awk" "$top/crates.txt" - >"$room/plan"
     [ -s "$room/plan" ] || fail "$(shown "$top/crates.txt") names no crate $programs"
 }
@@ -180,30 +181,42 @@ is_ready() { # CRATE..
     done
 }
 
-# Starts a crate, which takes SECONDS and begins a chain of CHAIN seconds. The next crate of the longest chain gets the most
-# processors, up to the four that a proof can use well. Another crate gets more the less slack it has before that chain needs it:
-# two jobs below twice its own time, and no lower priority (niceness) below three times.
+# Starts a crate, which takes SECONDS and begins a chain of CHAIN seconds. The next crate of the longest chain gets four jobs,
+# which take two thirds of the time by the clock, for more of the processors' time. Another gets one, at a lower priority
+# (niceness) if that chain needs it no sooner than in twice its own time.
 start() { # CRATE SECONDS CHAIN
-    slack=$((longest - $3)) jobs=1 niceness=10
+    slack=$((longest - $3)) jobs=1 niceness=0
+    date +%s >"$room/$1.started"
     if [ "$slack" = 0 ]; then
-        jobs=$cores niceness=0
+        jobs=$cores
         [ "$jobs" -le 4 ] || jobs=4
-    elif [ "$slack" -lt $((2 * $2)) ]; then
-        jobs=2 niceness=0
-    elif [ "$slack" -lt $((3 * $2)) ]; then
-        niceness=0
+    elif [ "$slack" -ge $((2 * $2)) ]; then
+        niceness=10
     fi
     prove_one "$1" "$jobs" "$niceness" </dev/null >"$room/$1.log" 2>&1 &
     running="$running $1:$!"
 }
 
-# Starts the crates whose dependencies are there, while there are lanes. `longest` is the chain of the first that has not ended,
-# as the plan has longer ones first.
+# Sets `longest`, the seconds that the longest chain of crates will still take. Of one that runs as much is done as it runs.
+find_longest() {
+    longest=0 now=$(date +%s)
+    while read -r crate seconds chain _; do
+        [ ! -f "$room/$crate.ended" ] || continue
+        if [ -f "$room/$crate.started" ]; then
+            read -r started <"$room/$crate.started"
+            spent=$((now - started))
+            [ "$spent" -le "$seconds" ] || spent=$seconds
+            chain=$((chain - spent))
+        fi
+        [ "$longest" -ge "$chain" ] || longest=$chain
+    done <"$room/plan"
+}
+
+# Starts the crates whose dependencies are there, while there are lanes.
 start_ready() {
-    longest=''
+    find_longest
     while read -r crate seconds chain below; do
         [ ! -f "$room/$crate.ended" ] || continue
-        [ -n "$longest" ] || longest=$chain
         # shellcheck disable=SC2086 # split into words
         [ "$(count $running)" -lt "$lanes" ] || break
         # shellcheck disable=SC2086 # split into words

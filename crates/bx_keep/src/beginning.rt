@@ -12,6 +12,7 @@ use bx_keys::Notice;
 use bx_sessions::{Begin, Kept, Part, begin, has_room, sweep};
 use bx_verdicts::Reason;
 use bx_wire::Host;
+use std::alloc::Global;
 use std::rt::Files;
 use std::thread;
 use std::time::Duration;
@@ -58,6 +59,20 @@ fn lost_mode(around: Around<'_>, edited: &Edited, kept: &Kept) -> Option<u32> {
         return None;
     }
     kept.session.mode(around.rt).ok()
+}
+
+/// Warns of a FILE that no save can be trusted to, or refuses it, unless it is forced.
+fn warn_or_refuse<H: Host>(
+    alloc: Global,
+    host: &mut H,
+    line: &str,
+    is_forced: bool,
+) -> Result<(), Stop> {
+    if is_forced {
+        return Ok(warn(host, alloc, line)?);
+    }
+    let cause = format!(in alloc; "{line}: {FORCE}")?;
+    Err(Stop::fault(alloc, cause.as_str()))
 }
 
 impl Begun {
@@ -204,12 +219,7 @@ impl Begun {
             return Ok(warn(host, alloc, line.as_str())?);
         }
         let line = self.unsafe_line(around, edited, reason)?;
-        let line = line.as_str();
-        if is_forced {
-            return Ok(warn(host, alloc, line)?);
-        }
-        let cause = format!(in alloc; "{line}: {FORCE}")?;
-        Err(Stop::fault(alloc, cause.as_str()))
+        warn_or_refuse(alloc, host, line.as_str(), is_forced)
     }
 
     /// The message about a FILE that should be saved in place and cannot be.
@@ -262,15 +272,26 @@ impl Begun {
         options: &Options,
     ) -> Result<Begun, Stop> {
         let mut begun = Begun::new(around, options);
+        begun.begin(around, host, edited, options)?;
+        Ok(begun)
+    }
+
+    /// Begins the session, as `fresh` says.
+    fn begin<H: Host>(
+        &mut self,
+        around: Around<'_>,
+        host: &mut H,
+        edited: &mut Edited,
+        options: &Options,
+    ) -> Result<(), Stop> {
         if options.is_unkept {
             let unkept = Unkept::new(around.alloc(), "-n asks for that", Notice::Unkept)?;
-            begun.unkept = Some(unkept);
+            self.unkept = Some(unkept);
         } else {
-            begun.make(around, host, edited)?;
+            self.make(around, host, edited)?;
         }
-        begun.settle_in_place(around, host, edited, options.is_forced)?;
-        begun.tell_unkept(around, host, options.is_unkept)?;
-        Ok(begun)
+        self.settle_in_place(around, host, edited, options.is_forced)?;
+        self.tell_unkept(around, host, options.is_unkept)
     }
 
     /// Goes on with a session. It begins with the window of its first start, since its keys are replayed from there.

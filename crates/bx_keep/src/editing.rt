@@ -3,7 +3,7 @@
 use crate::around::Around;
 use crate::beginning::Begun;
 use crate::checking::Edited;
-use crate::meeting::meet;
+use crate::meeting::{Met, meet};
 use crate::mode::mask_for;
 use crate::recovering::{recover, recover_elsewhere};
 use crate::replaying::Replayer;
@@ -55,7 +55,16 @@ fn run<R: Read + Drop, W: Write + Drop, P: Replayer>(
     replayer: &P,
 ) -> Result<Option<u64>, Stop> {
     let mut running = Running::new(around, edited, begun);
-    start(wire, &running)?;
+    run_to_end(wire, &mut running, replayer)
+}
+
+/// Starts the program, minds its session, and ends it.
+fn run_to_end<R: Read + Drop, W: Write + Drop, P: Replayer>(
+    wire: &mut Wire<R, W>,
+    running: &mut Running<'_>,
+    replayer: &P,
+) -> Result<Option<u64>, Stop> {
+    start(wire, running)?;
     match running.run(wire)? {
         Some(status) => {
             running.end(wire, status, replayer)?;
@@ -68,31 +77,59 @@ fn run<R: Read + Drop, W: Write + Drop, P: Replayer>(
     }
 }
 
-/// Edits FILE with a session that goes on (`taken`, whose file may be a new one beside FILE), or with a new session.
-fn edit_with<R: Read + Drop, W: Write + Drop, P: Replayer>(
+/// Edits FILE with a new session.
+fn edit_new<R: Read + Drop, W: Write + Drop, P: Replayer>(
     around: Around<'_>,
     wire: &mut Wire<R, W>,
-    mut edited: Edited,
+    edited: &mut Edited,
     options: &Options,
-    taken: Option<Taken>,
     replayer: &P,
 ) -> Result<Option<u64>, Stop> {
-    let begun = match taken {
-        Some(taken) => {
-            let Taken {
-                kept,
-                file,
-                aside_of,
-            } = taken;
-            let file = file.as_str();
-            edited = Edited::check(around, wire, file, options.is_forced)?;
-            let mut begun = Begun::resume(around, wire, &edited, options, kept)?;
-            begun.aside_of = aside_of;
-            begun
-        }
-        None => Begun::fresh(around, wire, &mut edited, options)?,
-    };
+    let begun = Begun::fresh(around, wire, edited, options)?;
+    run(around, wire, edited, begun, replayer)
+}
+
+/// Goes on with a session, whose file may be a new one beside FILE.
+fn go_on<R: Read + Drop, W: Write + Drop, P: Replayer>(
+    around: Around<'_>,
+    wire: &mut Wire<R, W>,
+    options: &Options,
+    taken: Taken,
+    replayer: &P,
+) -> Result<Option<u64>, Stop> {
+    let edited = Edited::check(around, wire, taken.file.as_str(), options.is_forced)?;
+    let begun = resume(around, wire, &edited, options, taken)?;
     run(around, wire, &edited, begun, replayer)
+}
+
+/// Resumes a session.
+fn resume<R: Read + Drop, W: Write + Drop>(
+    around: Around<'_>,
+    wire: &mut Wire<R, W>,
+    edited: &Edited,
+    options: &Options,
+    taken: Taken,
+) -> Result<Begun, Stop> {
+    let Taken {
+        kept,
+        file: _,
+        aside_of,
+    } = taken;
+    let mut begun = Begun::resume(around, wire, edited, options, kept)?;
+    begun.aside_of = aside_of;
+    Ok(begun)
+}
+
+/// Refuses to go on without a terminal, tells what is unusual of FILE, and asks about its other sessions.
+fn prepare<R: Read + Drop, W: Write + Drop, P: Replayer>(
+    around: Around<'_>,
+    wire: &mut Wire<R, W>,
+    edited: &Edited,
+    replayer: &P,
+) -> Result<Met, Stop> {
+    check_terminal(around)?;
+    edited.tell_unusual(around, wire)?;
+    meet(around, wire, edited, replayer)
 }
 
 /// Edits FILE. Returns the program's exit status; None if the host is gone.
@@ -104,14 +141,27 @@ pub fn edit<R: Read + Drop, W: Write + Drop, P: Replayer>(
 ) -> Result<Option<u64>, Stop> {
     let (file, options) = (call.file.as_str(), &call.options);
     let mut edited = Edited::check(around, wire, file, options.is_forced)?;
-    check_terminal(around)?;
-    edited.tell_unusual(around, wire)?;
-    let met = meet(around, wire, &edited, replayer)?;
-    // FILE may have changed while the user was asked
-    if met.was_asked && met.taken.is_none() {
+    let Met { taken, was_asked } = prepare(around, wire, &edited, replayer)?;
+    if let Some(taken) = taken {
+        return go_on(around, wire, options, taken, replayer);
+    }
+    // FILE may have changed meanwhile
+    if was_asked {
         edited = Edited::check(around, wire, file, options.is_forced)?;
     }
-    edit_with(around, wire, edited, options, met.taken, replayer)
+    edit_new(around, wire, &mut edited, options, replayer)
+}
+
+/// Checks FILE, and tells what is unusual of it.
+fn check_recovered<R: Read + Drop, W: Write + Drop>(
+    around: Around<'_>,
+    wire: &mut Wire<R, W>,
+    file: &str,
+    options: &Options,
+) -> Result<Edited, Stop> {
+    let edited = Edited::check(around, wire, file, options.is_forced)?;
+    edited.tell_unusual(around, wire)?;
+    Ok(edited)
 }
 
 /// Recovers FILE's session, and goes on with it, or stores its text as another file where the user names one. Returns the
@@ -128,11 +178,10 @@ pub fn edit_recovered<R: Read + Drop, W: Write + Drop, P: Replayer>(
         return Ok(Some(0));
     }
     check_terminal(around)?;
-    let taken = recover(around, wire, file, replayer)?;
-    let edited = match &taken {
-        Some(taken) => Edited::check(around, wire, taken.file.as_str(), options.is_forced)?,
-        None => Edited::check(around, wire, file, options.is_forced)?,
+    let Some(taken) = recover(around, wire, file, replayer)? else {
+        let mut edited = check_recovered(around, wire, file, options)?;
+        return edit_new(around, wire, &mut edited, options, replayer);
     };
-    edited.tell_unusual(around, wire)?;
-    edit_with(around, wire, edited, options, taken, replayer)
+    check_recovered(around, wire, taken.file.as_str(), options)?;
+    go_on(around, wire, options, taken, replayer)
 }

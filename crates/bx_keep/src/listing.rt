@@ -5,7 +5,7 @@ use crate::checking::Edited;
 use crate::saying::{tell, warn};
 use crate::sessions_folder::unkept_by;
 use crate::stop::Stop;
-use crate::telling::{machine_text, number_of_keys, time_text};
+use crate::telling::{ProcessTexts, THIS_MACHINE, number_of_keys, time_text};
 use bx_calls::Told;
 use bx_cli::Shown;
 use bx_sessions::{
@@ -13,6 +13,7 @@ use bx_sessions::{
     state_of,
 };
 use bx_wire::Host;
+use std::alloc::{AllocError, Global};
 
 /// What a list says of a session after its path.
 fn note_of(around: Around<'_>, session: &Session) -> Result<String, Stop> {
@@ -21,11 +22,8 @@ fn note_of(around: Around<'_>, session: &Session) -> Result<String, Stop> {
     Ok(match state {
         State::Live => String::from_str(alloc, " (open now)")?,
         State::Elsewhere => {
-            let process = session.process(around.rt).unwrap_or(None);
-            let machine = machine_text(around, process.as_ref())?;
-            let machine = machine
-                .as_ref()
-                .map_or("this machine", |name| name.as_str());
+            let process = ProcessTexts::of(around, session)?;
+            let machine = process.machine().unwrap_or(THIS_MACHINE);
             format!(in alloc; " (on {machine})")?
         }
         _ if session.has(around.rt, Part::Mark) => String::from_str(
@@ -108,22 +106,30 @@ fn tell_forgotten<H: Host>(
     forgotten: &Forgotten,
 ) -> Result<(), Stop> {
     let alloc = around.alloc();
-    let path = forgotten.path.as_ref().map_or("", |path| path.as_str());
-    let path = Shown(path);
+    let time = match forgotten.changed {
+        Some(time) => Some(LocalClock::read(around.rt).at(time).text(alloc)?),
+        None => None,
+    };
+    let line = forgotten_line(alloc, forgotten, time.as_ref().map(|time| time.as_str()))?;
+    Ok(tell(host, alloc, line.as_str())?)
+}
+
+/// The line about a session that was removed, with its time if that is known.
+fn forgotten_line(
+    alloc: Global,
+    forgotten: &Forgotten,
+    time: Option<&str>,
+) -> Result<String, AllocError> {
+    let path = Shown(forgotten.path.as_ref().map_or("", |path| path.as_str()));
     let note = if forgotten.was_dropped {
         " (dropped)"
     } else {
         ""
     };
-    let line = match forgotten.changed {
-        Some(time) => {
-            let time = LocalClock::read(around.rt).at(time).text(alloc)?;
-            let time = time.as_str();
-            format!(in alloc; "the session of {path} of {time} is removed{note}")?
-        }
-        None => format!(in alloc; "the session of {path} is removed{note}")?,
-    };
-    Ok(tell(host, alloc, line.as_str())?)
+    match time {
+        Some(time) => format!(in alloc; "the session of {path} of {time} is removed{note}"),
+        None => format!(in alloc; "the session of {path} is removed{note}"),
+    }
 }
 
 /// Tells of sessions that were removed; returns their number.
@@ -141,6 +147,11 @@ fn tell_all_forgotten<H: Host>(
 /// Removes the ended sessions of FILE, and tells of each; returns their number.
 fn forget_file<H: Host>(around: Around<'_>, host: &mut H, file: &str) -> Result<usize, Stop> {
     let edited = Edited::find_lost(around, host, file)?;
+    forget_lost(around, host, &edited)
+}
+
+/// Removes the ended sessions of a FILE, which may be gone, and tells of each; returns their number.
+fn forget_lost<H: Host>(around: Around<'_>, host: &mut H, edited: &Edited) -> Result<usize, Stop> {
     let Some(sessions) = &edited.sessions_folder.sessions else {
         return Ok(0);
     };

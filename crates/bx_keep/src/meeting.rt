@@ -7,11 +7,12 @@ use crate::replaying::Replayer;
 use crate::saying::tell;
 use crate::stop::Stop;
 use crate::taking::{Outcome, Taken, Taking};
-use crate::telling::{machine_text, number_of_keys, process_text, time_text};
+use crate::telling::{ProcessTexts, THIS_MACHINE, number_of_keys, time_text};
 use bx_cli::Shown;
 use bx_policy::Choice;
 use bx_sessions::{Found, Session, Sessions, find};
 use bx_wire::Host;
+use std::alloc::{AllocError, Global};
 
 /// What came of meeting FILE's sessions.
 #[derive(Drop)]
@@ -30,9 +31,36 @@ enum Try {
     Again,
 }
 
+/// What is told of a process of the user's that has FILE open (`is_live`), or may have it open where that cannot be seen from
+/// here.
+fn beside_line(
+    alloc: Global,
+    file: &str,
+    process: &ProcessTexts,
+    is_live: bool,
+) -> Result<String, AllocError> {
+    let file = Shown(file);
+    let number = process.number.as_str();
+    let overwrites = "What one of them saves the other may overwrite.";
+    match process.machine() {
+        None if is_live => format!(in alloc;
+            "{file} is open in another window of yours, process {number}. {overwrites}"
+        ),
+        Some(machine) if is_live => format!(in alloc;
+            "{file} is open in another window of yours, process {number} on {machine}. {overwrites}"
+        ),
+        machine => {
+            let machine = machine.unwrap_or(THIS_MACHINE);
+            format!(in alloc;
+                "{file} may be open in another window of yours, process {number} on {machine}, which cannot be seen from here. {overwrites}"
+            )
+        }
+    }
+}
+
 /// Tells that another window of the user's has FILE open (`is_live`), or may have it open where that cannot be seen from here,
 /// and asks whether to go on. Only the user's own sessions are found.
-pub fn ask_beside<H: Host>(
+fn ask_beside<H: Host>(
     around: Around<'_>,
     host: &mut H,
     file: &str,
@@ -40,29 +68,8 @@ pub fn ask_beside<H: Host>(
     is_live: bool,
 ) -> Result<(), Stop> {
     let alloc = around.alloc();
-    let process = session.process(around.rt).unwrap_or(None);
-    let number = process_text(around, process.as_ref())?;
-    let file = Shown(file);
-    let line = match (is_live, machine_text(around, process.as_ref())?) {
-        (true, None) => format!(in alloc;
-            "{file} is open in another window of yours, process {number}."
-        )?,
-        (true, Some(machine)) => {
-            format!(in alloc;
-                "{file} is open in another window of yours, process {number} on {machine}."
-            )?
-        }
-        (false, machine) => {
-            let machine = machine
-                .as_ref()
-                .map_or("this machine", |name| name.as_str());
-            format!(in alloc;
-                "{file} may be open in another window of yours, process {number} on {machine}, which cannot be seen from here."
-            )?
-        }
-    };
-    let line = line.as_str();
-    let line = format!(in alloc; "{line} What one of them saves the other may overwrite.")?;
+    let process = ProcessTexts::of(around, session)?;
+    let line = beside_line(alloc, file, &process, is_live)?;
     tell(host, alloc, line.as_str())?;
     ask_to_go_on(host, alloc, "Edit it all the same")
 }
@@ -85,38 +92,52 @@ pub fn ask_beside_live<H: Host>(
     Ok(false)
 }
 
+impl Try {
+    /// What came of a session that was asked about.
+    fn of(outcome: Outcome) -> Try {
+        let taken = match outcome {
+            Outcome::Missed => return Try::Again,
+            Outcome::Opened => None,
+            Outcome::Taken(taken) => Some(taken),
+        };
+        Try::Met(Met {
+            taken,
+            was_asked: true,
+        })
+    }
+}
+
 /// Tells of an unfinished session, and asks what to do with it.
+fn choose<H: Host>(
+    around: Around<'_>,
+    host: &mut H,
+    file: &str,
+    session: &Session,
+) -> Result<Choice, Stop> {
+    let alloc = around.alloc();
+    let file = Shown(file);
+    let time = time_text(around, session)?;
+    let keys = number_of_keys(around, session);
+    let line = format!(in alloc;
+        "{file} has an unfinished session of {time} (keys typed: {keys})"
+    )?;
+    tell(host, alloc, line.as_str())?;
+    ask_choice(host, alloc)
+}
+
+/// Does what the user chooses for an unfinished session.
 fn ask_what_to_do<H: Host, P: Replayer>(
     taking: &Taking<'_, P>,
     host: &mut H,
     session: Session,
 ) -> Result<Try, Stop> {
     let around = taking.around;
-    let alloc = around.alloc();
-    let file = Shown(taking.edited.file());
-    let time = time_text(around, &session)?;
-    let keys = number_of_keys(around, &session);
-    let line = format!(in alloc;
-        "{file} has an unfinished session of {time} (keys typed: {keys})"
-    )?;
-    tell(host, alloc, line.as_str())?;
-    let outcome = match ask_choice(host, alloc)? {
-        Choice::Recover => taking.take(host, session)?,
-        Choice::Delete if session.drop_unless_locked(around.rt) => Outcome::Opened,
-        Choice::Delete => Outcome::Missed,
-        Choice::Later => Outcome::Opened,
-    };
-    Ok(match outcome {
-        Outcome::Missed => Try::Again,
-        Outcome::Opened => Try::Met(Met {
-            taken: None,
-            was_asked: true,
-        }),
-        Outcome::Taken(taken) => Try::Met(Met {
-            taken: Some(taken),
-            was_asked: true,
-        }),
-    })
+    match choose(around, host, taking.edited.file(), &session)? {
+        Choice::Recover => Ok(Try::of(taking.take(host, session)?)),
+        Choice::Delete if session.drop_unless_locked(around.rt) => Ok(Try::of(Outcome::Opened)),
+        Choice::Delete => Ok(Try::Again),
+        Choice::Later => Ok(Try::of(Outcome::Opened)),
+    }
 }
 
 /// Tells that another start of the editor took the session first.
@@ -134,24 +155,32 @@ fn meet_once<'a, H: Host, P: Replayer>(
     replayer: &'a P,
 ) -> Result<Try, Stop> {
     let target = around.target(edited.path());
-    let nothing = Met {
-        taken: None,
-        was_asked: false,
-    };
     // a folder that cannot be read has no session that could be recovered
     let Ok(found) = find(around.rt, sessions, &target, around.here) else {
-        return Ok(Try::Met(nothing));
+        return Ok(Try::Met(Met {
+            taken: None,
+            was_asked: false,
+        }));
     };
-    let was_asked = ask_beside_live(around, host, edited.file(), &found)?;
     let taking = Taking {
         around,
         edited,
         sessions,
         replayer,
     };
+    ask_of_found(&taking, host, found)
+}
+
+/// Asks about the sessions that were found.
+fn ask_of_found<H: Host, P: Replayer>(
+    taking: &Taking<'_, P>,
+    host: &mut H,
+    found: Found,
+) -> Result<Try, Stop> {
+    let was_asked = ask_beside_live(taking.around, host, taking.edited.file(), &found)?;
     let Found { unfinished, .. } = found;
     match unfinished {
-        Some(session) => ask_what_to_do(&taking, host, session),
+        Some(session) => ask_what_to_do(taking, host, session),
         None => Ok(Try::Met(Met {
             taken: None,
             was_asked,

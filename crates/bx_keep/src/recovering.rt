@@ -12,9 +12,9 @@ use crate::saying::tell;
 use crate::sessions_folder::unwritable;
 use crate::stop::Stop;
 use crate::taking::{Outcome, Taken, Taking, tell_cut, tell_unsure};
-use crate::telling::{machine_text, number_of_keys, process_text};
+use crate::telling::{ProcessTexts, THIS_MACHINE, number_of_keys};
 use bx_cli::Shown;
-use bx_sessions::{Found, LockFault, Part, Session, Sessions, find, write_new_file};
+use bx_sessions::{Found, Lock, LockFault, Part, Session, Sessions, find, write_new_file};
 use bx_wire::Host;
 
 /// The exit status of a refusal whose cause was told before.
@@ -55,12 +55,11 @@ fn ask_of_elsewhere<H: Host>(
     session: &Session,
 ) -> Result<(), Stop> {
     let alloc = around.alloc();
-    let process = session.process(around.rt).unwrap_or(None);
-    let number = process_text(around, process.as_ref())?;
-    let machine = machine_text(around, process.as_ref())?;
-    let machine = machine
-        .as_ref()
-        .map_or("this machine", |name| name.as_str());
+    let process = ProcessTexts::of(around, session)?;
+    let (number, machine) = (
+        process.number.as_str(),
+        process.machine().unwrap_or(THIS_MACHINE),
+    );
     let file = Shown(file);
     let line = format!(in alloc;
         "the session of {file} began on {machine}, as process {number}, and cannot be seen from here. It can be recovered where that has ended."
@@ -116,28 +115,52 @@ pub fn recover<H: Host, P: Replayer>(
     replayer: &P,
 ) -> Result<Option<Taken>, Stop> {
     let edited = Edited::find_lost(around, host, file)?;
+    recover_lost(around, host, &edited, replayer)
+}
+
+/// The folder of FILE's sessions. Errors: there is none.
+fn folder_of<'e>(around: Around<'_>, edited: &'e Edited) -> Result<&'e Sessions, Stop> {
+    match &edited.sessions_folder.sessions {
+        Some(sessions) => Ok(sessions),
+        None => Err(no_session(around, edited, false)?),
+    }
+}
+
+/// Recovers the session of a FILE, which may be gone.
+fn recover_lost<H: Host, P: Replayer>(
+    around: Around<'_>,
+    host: &mut H,
+    edited: &Edited,
+    replayer: &P,
+) -> Result<Option<Taken>, Stop> {
     if !edited.mend(around, host)? {
         return Err(Stop::Told(REFUSED));
     }
-    let Some(sessions) = &edited.sessions_folder.sessions else {
-        return Err(no_session(around, &edited, false)?);
-    };
     let taking = Taking {
         around,
-        edited: &edited,
-        sessions,
+        edited,
+        sessions: folder_of(around, edited)?,
         replayer,
     };
     for _ in 0..u64::MAX {
-        let found = find_all(around, sessions, edited.path())?;
-        let session = session_to_recover(around, host, &edited, found)?;
-        match taking.take(host, session)? {
+        match recover_once(around, host, &taking)? {
             Outcome::Taken(taken) => return Ok(Some(taken)),
             Outcome::Opened => return Ok(None),
             Outcome::Missed => tell_missed(around, host)?,
         }
     }
     Ok(None)
+}
+
+/// Tries to recover the session that is found now.
+fn recover_once<H: Host, P: Replayer>(
+    around: Around<'_>,
+    host: &mut H,
+    taking: &Taking<'_, P>,
+) -> Result<Outcome, Stop> {
+    let found = find_all(around, taking.sessions, taking.edited.path())?;
+    let session = session_to_recover(around, host, taking.edited, found)?;
+    taking.take(host, session)
 }
 
 /// Stores a text as a new file with these permissions.
@@ -209,24 +232,51 @@ pub fn recover_elsewhere<H: Host, P: Replayer>(
     other: &str,
     replayer: &P,
 ) -> Result<(), Stop> {
-    let alloc = around.alloc();
     let edited = Edited::find_lost(around, host, file)?;
     // the text can be stored elsewhere even if FILE cannot be repaired
     edited.mend(around, host)?;
-    let Some(sessions) = &edited.sessions_folder.sessions else {
-        return Err(no_session(around, &edited, false)?);
-    };
-    let found = find_all(around, sessions, edited.path())?;
-    let session = session_to_store(around, &edited, found)?;
-    let shown = Shown(other);
-    if !is_free(around.rt, other) {
-        let cause = format!(in alloc; "{shown} is there already: name a new file")?;
-        return Err(Stop::fault(alloc, cause.as_str()));
-    }
-    store_session(around, host, &edited, &session, other, replayer)
+    store_lost(around, host, &edited, other, replayer)
 }
 
-/// Stores the text of a session, locked meanwhile, as a new file, and tells so.
+/// Stores the text of the session of a FILE, which may be gone.
+fn store_lost<H: Host, P: Replayer>(
+    around: Around<'_>,
+    host: &mut H,
+    edited: &Edited,
+    other: &str,
+    replayer: &P,
+) -> Result<(), Stop> {
+    let found = find_all(around, folder_of(around, edited)?, edited.path())?;
+    let session = session_to_store(around, edited, found)?;
+    check_free(around, other)?;
+    let _lock = lock_to_store(around, &session)?;
+    store_session(around, host, edited, &session, other, replayer)
+}
+
+/// Refuses a path where something is.
+fn check_free(around: Around<'_>, other: &str) -> Result<(), Stop> {
+    if is_free(around.rt, other) {
+        return Ok(());
+    }
+    let shown = Shown(other);
+    let cause = format!(in around.alloc(); "{shown} is there already: name a new file")?;
+    Err(Stop::fault(around.alloc(), cause.as_str()))
+}
+
+/// Locks a session, if its disk takes locks.
+fn lock_to_store(around: Around<'_>, session: &Session) -> Result<Option<Lock>, Stop> {
+    match session.lock(around.rt, Part::Path) {
+        Ok(lock) => Ok(Some(lock)),
+        // a lock cannot be taken on a disk that is read-only, where no editor can run either
+        Err(LockFault::Io(_)) => Ok(None),
+        Err(LockFault::Locked | LockFault::Gone) => {
+            let cause = "another start of the editor has that session by now";
+            Err(Stop::fault(around.alloc(), cause))
+        }
+    }
+}
+
+/// Stores the text of a session as a new file, and tells so.
 fn store_session<H: Host, P: Replayer>(
     around: Around<'_>,
     host: &mut H,
@@ -236,15 +286,6 @@ fn store_session<H: Host, P: Replayer>(
     replayer: &P,
 ) -> Result<(), Stop> {
     let alloc = around.alloc();
-    let _lock = match session.lock(around.rt, Part::Path) {
-        Ok(lock) => Some(lock),
-        // a lock cannot be taken on a disk that is read-only, where no editor can run either
-        Err(LockFault::Io(_)) => None,
-        Err(LockFault::Locked | LockFault::Gone) => {
-            let cause = "another start of the editor has that session by now";
-            return Err(Stop::fault(alloc, cause));
-        }
-    };
     let text = text_of(around, host, edited, session, replayer)?;
     let keys = number_of_keys(around, session);
     // a session whose note of FILE's permissions cannot be read: for the user alone

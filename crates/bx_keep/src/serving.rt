@@ -9,7 +9,7 @@ use crate::saying::warn;
 use crate::start::Start;
 use crate::stop::Stop;
 use crate::versions::{look_at_versions, no_versions};
-use bx_calls::{Call, Told, help_text, read_words, version_text};
+use bx_calls::{Call, EditCall, RecoverCall, Told, help_text, read_words, version_text};
 use bx_launch::{Tables, find_tables};
 use bx_sessions::{Machine, Versions};
 use bx_wire::{Host, Said, Wire};
@@ -72,16 +72,6 @@ fn settle_state<H: Host>(rt: &HostRuntime, host: &mut H, start: &Start) -> Resul
     Ok(warn(host, rt.alloc(), line.as_str())?)
 }
 
-/// Whether letters are to be shown apart; true also for calls that show none.
-fn is_unjoined(call: &Call) -> bool {
-    match call {
-        Call::Edit(call) => call.options.is_unjoined,
-        Call::Recover(call) => call.options.is_unjoined,
-        Call::Print(call) => call.is_unjoined,
-        Call::Help | Call::Version | Call::List | Call::Forget(_) => true,
-    }
-}
-
 /// Does what a call asks for that is about sessions. Returns the exit status; None if the host is gone or becomes another program.
 fn obey_around<R: Read + Drop, W: Write + Drop, P: Replayer>(
     around: Around<'_>,
@@ -112,29 +102,45 @@ fn obey<R: Read + Drop, W: Write + Drop, P: Replayer>(
     match call {
         Call::Help => {
             wire.tell(help_text(rt.alloc())?.as_str());
-            return Ok(Some(0));
+            Ok(Some(0))
         }
         Call::Version => {
             tell_version(rt, wire, start)?;
-            return Ok(Some(0));
+            Ok(Some(0))
         }
-        _ => {}
+        Call::Print(call) => {
+            let tables = tables_of(rt, start, call.is_unjoined)?;
+            print(rt, wire, call, start.columns, &tables)?;
+            Ok(None)
+        }
+        Call::List | Call::Forget(_) => {
+            obey_with(rt, wire, start, &no_tables(rt), call, replayer)
+        }
+        Call::Edit(EditCall { options, .. }) | Call::Recover(RecoverCall { options, .. }) => {
+            let tables = tables_of(rt, start, options.is_unjoined)?;
+            obey_with(rt, wire, start, &tables, call, replayer)
+        }
     }
-    let tables = match call {
-        Call::List | Call::Forget(_) => no_tables(rt),
-        _ => tables_of(rt, start, is_unjoined(call))?,
-    };
-    if let Call::Print(call) = call {
-        print(rt, wire, call, start.columns, &tables)?;
-        return Ok(None);
-    }
+}
+
+/// Does what a call asks for that is about sessions, with its tables. Returns as `obey_around`.
+fn obey_with<R: Read + Drop, W: Write + Drop, P: Replayer>(
+    rt: &HostRuntime,
+    wire: &mut Wire<R, W>,
+    start: &Start,
+    tables: &Tables,
+    call: &Call,
+    replayer: &P,
+) -> Result<Option<u64>, Stop> {
     settle_state(rt, wire, start)?;
+    let versions = versions_for(rt, call, tables)?;
+    let here = Machine::find(rt)?;
     let around = Around {
         rt,
         start,
-        tables: &tables,
-        versions: &versions_for(rt, call, &tables)?,
-        here: &Machine::find(rt)?,
+        tables,
+        versions: &versions,
+        here: &here,
     };
     obey_around(around, wire, call, replayer)
 }
@@ -146,8 +152,18 @@ fn keep<R: Read + Drop, W: Write + Drop, P: Replayer>(
     replayer: &P,
 ) -> Result<Option<u64>, Stop> {
     let start = Start::hear(rt.alloc(), wire)?;
+    keep_by(rt, wire, &start, replayer)
+}
+
+/// Does what the command line of a start asks for.
+fn keep_by<R: Read + Drop, W: Write + Drop, P: Replayer>(
+    rt: &HostRuntime,
+    wire: &mut Wire<R, W>,
+    start: &Start,
+    replayer: &P,
+) -> Result<Option<u64>, Stop> {
     match read_words(rt.alloc(), start.words.as_slice()) {
-        Ok(call) => obey(rt, wire, &start, &call, replayer),
+        Ok(call) => obey(rt, wire, start, &call, replayer),
         Err(fault) => {
             let status = fault.status();
             Err(Stop::with_status(rt.alloc(), fault, status))

@@ -131,11 +131,21 @@ impl Start {
         wire: &mut Wire<R, W>,
     ) -> Result<Start, Stop> {
         let mut start = Start::new(alloc);
+        start.hear_all(alloc, wire)?;
+        Ok(start)
+    }
+
+    /// Hears all that the host says of a start.
+    fn hear_all<R: Read + Drop, W: Write + Drop>(
+        &mut self,
+        alloc: Global,
+        wire: &mut Wire<R, W>,
+    ) -> Result<(), Stop> {
         for _ in 0..u64::MAX {
             match wire.hear()? {
                 None => return Err(Stop::Gone),
-                Some(message) if message.heard == Heard::End => return Ok(start),
-                Some(message) => start.take(alloc, message)?,
+                Some(message) if message.heard == Heard::End => return Ok(()),
+                Some(message) => self.take(alloc, message)?,
             }
         }
         Err(Stop::Gone)

@@ -183,11 +183,7 @@ impl<P: Replayer> Taking<'_, P> {
     ) -> Result<(), Stop> {
         let around = self.around;
         match beside {
-            Some(file) => {
-                let found = Edited::find(around, host, file)?;
-                let path = found.path().as_bytes();
-                self.written(session.put(around.rt, Part::Beside, path))?;
-            }
+            Some(file) => self.note_beside(host, session, file)?,
             None if is_of_path(around, session, self.edited.path()) => {
                 self.written(session.erase(around.rt, Part::Beside))?;
             }
@@ -198,6 +194,18 @@ impl<P: Replayer> Taking<'_, P> {
         }
         let process = around.process()?;
         self.written(session.put_process(around.rt, &process))
+    }
+
+    /// Notes in the session that it goes on with a new file.
+    fn note_beside<H: Host>(
+        &self,
+        host: &mut H,
+        session: &Session,
+        file: &str,
+    ) -> Result<(), Stop> {
+        let found = Edited::find(self.around, host, file)?;
+        let path = found.path().as_bytes();
+        self.written(session.put(self.around.rt, Part::Beside, path))
     }
 
     /// Goes on with a session on FILE, or, where FILE has another's text, on a new file beside FILE.
@@ -247,21 +255,20 @@ impl<P: Replayer> Taking<'_, P> {
             around.alloc(),
             "an editor of another version, or with other tables, kept that session: its text is had back, and its undo history is not",
         )?;
-        let process = around.process()?;
-        let renewed = renew(
-            around.rt,
-            self.sessions,
-            &kept.session,
-            &process,
-            around.versions,
-        );
-        let renewed = match renewed {
-            Ok(renewed) => renewed,
-            Err(fault) => return Err(self.unwritten(kind_of(&fault))?),
-        };
+        let renewed = self.renew(&kept.session)?;
         // if the old session cannot be removed, the next start asks about it
         let _ = kept.session.remove(around.rt);
         self.go_on(host, renewed, found)
+    }
+
+    /// Makes a new session from the text that a session left.
+    fn renew(&self, session: &Session) -> Result<Kept, Stop> {
+        let around = self.around;
+        let process = around.process()?;
+        match renew(around.rt, self.sessions, session, &process, around.versions) {
+            Ok(renewed) => Ok(renewed),
+            Err(fault) => Err(self.unwritten(kind_of(&fault))?),
+        }
     }
 
     /// Asks about a session whose keys cannot be replayed. FILE is opened in any case.
