@@ -127,9 +127,10 @@ before() { # NAME LINE LINE
     report "$1" $? "$(paste -s -d '|' "$folder/told/log")"
 }
 
-# Reports whether the working folder of prove.sh and the crates' trees are gone.
+# Reports whether the working folder of prove.sh and the crates' trees are gone, but for links in their places.
 nothing_left() { # NAME
-    same "$1, nothing stays beside the work" "$(find "$folder/tree" -name '*.tree' -o -path "$folder/tree/out/proving")" ''
+    same "$1, nothing stays beside the work" \
+        "$(find "$folder/tree/out" -path '*/trees/*' -type d -name crates -o -path "$folder/tree/out/proving")" ''
 }
 
 # Prints the number of processes of the command in place of rt.
@@ -161,6 +162,9 @@ check_order() {
     test -x "$folder/tree/crates/d/out/d" && test -f "$folder/tree/crates/a/out/rlib/stamp"
     report 'order, what was built is in its place' $? "$(ls "$folder/tree/crates/d/out" 2>&1)"
     nothing_left order
+    # rt has noted this place, and looks there for another clone
+    test -f "$folder/tree/out/trees/a/crates/a/out/rlib/stamp"
+    report 'order, it is found where it was proved' $? "$(ls -l "$folder/tree/out/trees/a" 2>&1)"
     same 'order, a line of times for each' "$(awk '{ print $1, NF, ($3 >= $2) }' "$folder/tree/out/proving.times" | sort | paste -s -d ',')" \
         'a 8 1,b 8 1,c 8 1,d 8 1'
     same 'lines, one a crate' "$(grep -c 'bidi-edit: crate [1-4] of 4, [a-d]: 10 functions proved; ' "$folder/said")" 4

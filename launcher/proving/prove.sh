@@ -8,10 +8,10 @@
 # files, and its folder out is moved there and back. The script also waits for an rt that proves one of these crates in the
 # repository itself, and that rt for the script.
 #
-# `room`, out/proving in TOP, is the working folder: it has `plan`, the lines of plan.awk, and of a crate NAME.tree, NAME.log
-# (what rt says), NAME.times, NAME.started with the second of its start, and NAME.ended with its status, once that is known.
-# Beside it are `proving.lock`, with the number of this process, `proving.log`, the log of a crate that failed, and
-# `proving.times`.
+# `room`, out/proving in TOP, is the working folder: it has `plan`, the lines of plan.awk, and of a crate NAME.log (what rt
+# says), NAME.times, NAME.started with the second of its start, and NAME.ended with its status, once that is known. Beside it
+# are `proving.lock`, with the number of this process, `proving.log`, the log of a crate that failed, and `proving.times`.
+# `trees`, out/trees, has a crate's tree, and after the crate's end a link in its place.
 set -u
 
 parts=$(CDPATH='' cd -- "${0%/*}" && pwd)
@@ -59,10 +59,12 @@ make_tree() {
     [ ! -d "$top/crates/$crate/out" ] || mv "$top/crates/$crate/out" "$tree/crates/$crate/out"
 }
 
-# Moves a crate's `out` back to the repository, and removes its tree.
+# Moves a crate's `out` back to the repository. rt notes beside the kit where a crate was proved, and another clone takes it from
+# there: so a link to the repository's crates stays in the tree's place.
 bring_back() { # TREE CRATE
     if [ -d "$1/crates/$2/out" ] && ! [ -e "$top/crates/$2/out" ]; then mv "$1/crates/$2/out" "$top/crates/$2/out"; fi
     rm -rf "$1"
+    mkdir "$1" && ln -s ../../../crates "$1/crates"
 }
 
 # Stops the toolchain, which ends its own processes, and moves the work back.
@@ -96,7 +98,7 @@ prove() { # JOBS NICENESS
 
 # Proves or builds a crate; what it leaves in `room` is told at the head.
 prove_one() { # CRATE JOBS NICENESS
-    crate=$1 tree=$room/$1.tree child=''
+    crate=$1 tree=$trees/$1 child=''
     trap '' HUP INT QUIT
     trap give_up TERM
     # 8 is for the lock that rt takes of a crate's folder, 9 is that of the whole start
@@ -159,15 +161,15 @@ take_lock() {
 
 # Moves back the work that a killed start left in its trees.
 take_room() {
-    for tree in "$room"/*.tree; do
-        [ -d "$tree" ] || continue
-        crate=$(basename "$tree" .tree)
+    for tree in "$trees"/*; do
+        if [ ! -d "$tree" ] || [ -L "$tree/crates" ]; then continue; fi
+        crate=${tree##*/}
         # waits for a crate that is still being proved
         ! command -v flock >/dev/null || flock "$top/crates/$crate" true
         bring_back "$tree" "$crate"
     done
     rm -rf "$room"
-    mkdir -p "$room" || exit 1
+    mkdir -p "$room" "$trees" || exit 1
 }
 
 leave_room() {
@@ -256,7 +258,7 @@ collect() {
 kept_proofs() {
     for each in $running; do
         name=${each%:*}
-        found=$(find "$room/$name.tree/crates/$name/out/incremental" -name '*.Proof.oantt' ! -name '*.TheImpl.*' 2>/dev/null | wc -l)
+        found=$(find "$trees/$name/crates/$name/out/incremental" -name '*.Proof.oantt' ! -name '*.TheImpl.*' 2>/dev/null | wc -l)
         echo "$name $((found))"
     done
 }
@@ -329,7 +331,7 @@ top=$(CDPATH='' cd -- "$1" 2>/dev/null && pwd) || fail "$(shown "$1") is no fold
 shift
 programs=$*
 case " $programs " in *' bidi_print '*) thing='the printing program' ;; *) thing='the editor' ;; esac
-room=$top/out/proving
+room=$top/out/proving trees=$top/out/trees
 command -v rt >/dev/null || fail "$thing is not built, and there is no rt to build it with (an installed package needs none)"
 is_terminal=''
 [ ! -t 2 ] || is_terminal=1
