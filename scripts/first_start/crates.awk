@@ -1,7 +1,7 @@
 # The table of time-first-start.sh. Reads three files: crates.txt, whose lines are `CRATE [words]: CRATES BELOW`; a line for each
-# crate that was built, with its name, start, end, jobs (how many processors its proof might use) and processor time; and what functions.awk wrote of each. Writes a line
-# for each crate, in the order of their starts, the longest chain of crates that waited for one another, and the functions of
-# each crate that took a second and more. `cores` is the number of processors.
+# crate that was built, with its name, start, end, jobs (how many processors its proof might use) and processor time; and what
+# functions.awk wrote of each. Writes a line for each crate, in the order of their starts, the longest chain of crates that
+# waited for one another, and the functions of each crate that took a second and more. `cores` is the number of processors.
 
 FILENAME == ARGV[1] {
     sub(/#.*/, "")
@@ -86,7 +86,7 @@ END {
     sort()
     tell_crates()
     tell_chain()
-    print "Functions and files of lemmas that took a second of processor time and more, by estimate:"
+    print "Functions and files of lemmas that took a second of processor time and more, by estimate, a rough one where jobs are several:"
     for (i = 1; i <= crates; i++) {
         name = crate[i]
         printf "  %s\n%s", name, long[name]
