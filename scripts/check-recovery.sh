@@ -265,7 +265,8 @@ break_off() { # ROW WORDS KEY..
         kill -s KILL "$(program_under "$process")"
         expect "$scene" "$words"
     else
-        kill -s KILL "$(program_under "$process")" "$(ps -o pid= --ppid "$process" | tr -d ' ')"
+        # the host first, which else may tell the keeper how the program ended
+        kill -s KILL "$(ps -o pid= --ppid "$process" | tr -d ' ')" "$(program_under "$process")"
         # the watcher gives the terminal back
         wait_for 150 shows_shell
     fi
