@@ -1,0 +1,46 @@
+/* The command line, read into a call; the help and the version. */
+#ifndef WORDS_H
+#define WORDS_H
+
+#include <stdbool.h>
+
+/* The editor's version, also told by CHANGELOG.md and docs/bidi_edit.1. Sessions note it. */
+#define EDITOR_VERSION "0.4.0"
+
+/* The sides of a window, and of a printed row. */
+enum { LARGEST_SIDE = 500 };
+
+enum direction { DIRECTION_AUTO, DIRECTION_LTR, DIRECTION_RTL };
+
+/* The word for a direction; and the direction that a word names, or -1. */
+const char *direction_word(enum direction direction);
+int direction_of(const char *word);
+
+enum call_kind { CALL_HELP, CALL_VERSION, CALL_PRINT, CALL_LIST, CALL_FORGET, CALL_RECOVER, CALL_EDIT };
+
+/* What a command line asks for. */
+struct call {
+    enum call_kind kind;
+    /* FILE's path, with ./ before it if it begins as an option; NULL for a list, or to forget all sessions. */
+    const char *file;
+    /* Where a recovered text is stored; NULL to go on with the session. */
+    const char *other;
+    enum direction direction;
+    /* The line to begin at, from 1; 0 for the first. */
+    unsigned long line;
+    /* FILE is opened also where it could not be saved; no session is kept; letters are not joined. */
+    bool is_forced, is_unkept, is_unjoined;
+    /* Of printing: the columns of a row, 0 for the terminal's; marks are printed. */
+    unsigned columns;
+    bool has_marks;
+};
+
+/* Reads the words after the program's name into a call. Returns 0, or the exit status and `cause`, the message. */
+int read_words(int count, char *const *words, struct call *call, const char **cause);
+
+extern const char help_text[];
+
+/* The text of --version, of the toolchain that was noted at the build, if any, and of the file DerivedBidiClass.txt. */
+const char *version_text(const char *toolchain, const char *classes);
+
+#endif
