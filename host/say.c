@@ -1,0 +1,193 @@
+#include "say.h"
+
+#include <errno.h>
+#include <poll.h>
+#include <stdarg.h>
+#include <stdint.h>
+#include <stdio.h>
+#include <stdlib.h>
+#include <string.h>
+#include <unistd.h>
+
+#include "signals.h"
+#include "writing.h"
+
+/* Milliseconds that a text may take once the program ran: of a user who waits for the end, and after a signal. */
+enum { TELLING_MS = 10000, TELLING_BY_SIGNAL_MS = 1000 };
+
+/* Texts stay, in a list. */
+struct text {
+    struct text *next;
+    char bytes[];
+};
+
+static struct text *texts;
+bool is_telling_limited;
+
+/* Writes a text as long as the file takes it. */
+static bool put_whole(int file, const char *text, size_t length) {
+    while (length > 0) {
+        struct pollfd room = {.fd = file, .events = POLLOUT};
+        ssize_t count = write(file, text, length);
+        if (count < 0 && errno == EAGAIN) poll(&room, 1, -1);
+        else if (count < 0 && errno != EINTR) return false;
+        if (count <= 0) continue;
+        text += count;
+        length -= (size_t)count;
+    }
+    return true;
+}
+
+bool put_text(int file, const char *text) {
+    if (!is_telling_limited) return put_whole(file, text, strlen(text));
+    write_within(file, text, strlen(text), end_signal ? TELLING_BY_SIGNAL_MS : TELLING_MS, true);
+    return true;
+}
+
+static char *room_for(size_t length) {
+    struct text *text = length < SIZE_MAX - sizeof *text ? malloc(sizeof *text + length + 1) : NULL;
+    if (!text) {
+        put_text(STDERR_FILENO, "bidi-edit: out of memory\n");
+        exit(1);
+    }
+    text->next = texts;
+    texts = text;
+    text->bytes[0] = 0;
+    return text->bytes;
+}
+
+static char *text_by(const char *format, va_list *values) {
+    va_list again;
+    va_copy(again, *values);
+    int length = vsnprintf(NULL, 0, format, again);
+    va_end(again);
+    char *text = room_for(length < 0 ? 0 : (size_t)length);
+    if (length > 0) vsnprintf(text, (size_t)length + 1, format, *values);
+    return text;
+}
+
+char *text_of(const char *format, ...) {
+    va_list values;
+    va_start(values, format);
+    char *text = text_by(format, &values);
+    va_end(values);
+    return text;
+}
+
+void tell(const char *format, ...) {
+    va_list values;
+    va_start(values, format);
+    put_text(STDOUT_FILENO, text_of("bidi-edit: %s\n", text_by(format, &values)));
+    va_end(values);
+}
+
+void warn(const char *format, ...) {
+    va_list values;
+    va_start(values, format);
+    put_text(STDERR_FILENO, text_of("bidi-edit: %s\n", text_by(format, &values)));
+    va_end(values);
+}
+
+/* The bytes of the character in UTF-8 that a text begins with, and the character; 0 where it begins with none. */
+static size_t character_at(const char *text, size_t length, uint32_t *character) {
+    static const struct {
+        unsigned char first, last, low, high;
+    } leads[] = {{0xC2, 0xDF, 0x80, 0xBF}, {0xE0, 0xE0, 0xA0, 0xBF}, {0xE1, 0xEC, 0x80, 0xBF}, {0xED, 0xED, 0x80, 0x9F},
+                 {0xEE, 0xEF, 0x80, 0xBF}, {0xF0, 0xF0, 0x90, 0xBF}, {0xF1, 0xF3, 0x80, 0xBF}, {0xF4, 0xF4, 0x80, 0x8F}};
+    const unsigned char *bytes = (const unsigned char *)text;
+    if (length == 0) return 0;
+    *character = bytes[0];
+    if (bytes[0] < 0x80) return 1;
+    size_t count = bytes[0] < 0xE0 ? 2 : bytes[0] < 0xF0 ? 3 : 4;
+    if (length < count) return 0;
+    for (size_t i = 0; i < sizeof leads / sizeof *leads; i++) {
+        if (bytes[0] < leads[i].first || bytes[0] > leads[i].last) continue;
+        if (bytes[1] < leads[i].low || bytes[1] > leads[i].high) return 0;
+        *character = bytes[0] & (0xFFu >> (count + 1));
+        for (size_t j = 1; j < count; j++) {
+            if ((bytes[j] & 0xC0) != 0x80) return 0;
+            *character = *character << 6 | (bytes[j] & 0x3F);
+        }
+        return count;
+    }
+    return 0;
+}
+
+bool is_utf8(const char *text, size_t length) {
+    uint32_t character;
+    while (length > 0) {
+        size_t count = character_at(text, length, &character);
+        if (count == 0) return false;
+        text += count;
+        length -= count;
+    }
+    return true;
+}
+
+/* Whether a terminal would obey a character, take it for a direction or show it in no column, by Unicode's properties, as
+ * crates/bx_cli/specs/Shown.antt has them. Joiners, used in Persian, do not count. */
+static bool is_hidden(uint32_t c) {
+    static const struct {
+        uint32_t first, last;
+    } ranges[] = {{0, 0x1F}, {0x7F, 0x9F}, {0xAD, 0xAD}, {0x61C, 0x61C}, {0x180E, 0x180E}, {0x200B, 0x200B}, {0x200E, 0x200F},
+                  {0x2028, 0x202E}, {0x2060, 0x206F}, {0xFEFF, 0xFEFF}, {0xFFF9, 0xFFFB}, {0x13430, 0x1343F}, {0x1BCA0, 0x1BCA3},
+                  {0x1D173, 0x1D17A}, {0xE0000, 0xE0FFF}};
+    for (size_t i = 0; i < sizeof ranges / sizeof *ranges; i++)
+        if (c >= ranges[i].first && c <= ranges[i].last) return true;
+    return false;
+}
+
+static bool is_plain(uint32_t c) {
+    static const char marks[] = "_./+,@%:=-";
+    return (c >= '0' && c <= '9') || (c >= 'A' && c <= 'Z') || (c >= 'a' && c <= 'z') || (c != 0 && c < 0x80 && strchr(marks, (int)c));
+}
+
+enum style { STYLE_BARE, STYLE_QUOTED, STYLE_NUMBERED };
+
+static enum style style_of(const char *name, size_t length) {
+    enum style style = length > 0 ? STYLE_BARE : STYLE_QUOTED;
+    uint32_t c;
+    for (size_t i = 0, count; i < length; i += count) {
+        count = character_at(name + i, length - i, &c);
+        if (count == 0 || is_hidden(c)) return STYLE_NUMBERED;
+        if (!is_plain(c)) style = STYLE_QUOTED;
+    }
+    return style;
+}
+
+/* Writes the numbers of these bytes, in octal. */
+static char *put_numbers(char *at, const char *bytes, size_t count) {
+    for (size_t i = 0; i < count; i++) {
+        unsigned byte = (unsigned char)bytes[i];
+        *at++ = '\\';
+        *at++ = (char)('0' + (byte >> 6));
+        *at++ = (char)('0' + (byte >> 3 & 7));
+        *at++ = (char)('0' + (byte & 7));
+    }
+    return at;
+}
+
+/* Writes one character of a name, or one byte that is of none. */
+static char *put_character(char *at, enum style style, const char *name, size_t count, uint32_t c) {
+    bool is_number = count == 0 || is_hidden(c) || c == '\'' || c == '\\';
+    if (style == STYLE_NUMBERED && is_number) return put_numbers(at, name, count == 0 ? 1 : count);
+    if (style == STYLE_QUOTED && c == '\'') return stpcpy(at, "'\\''");
+    memcpy(at, name, count);
+    return at + count;
+}
+
+char *shown(const char *name) {
+    static const char *const before[] = {"", "'", "$'"};
+    size_t length = strlen(name);
+    enum style style = style_of(name, length);
+    /* a byte takes four letters at most */
+    char *text = room_for(4 * length + 4), *at = stpcpy(text, before[style]);
+    uint32_t c = 0;
+    for (size_t i = 0, count; i < length; i += count > 0 ? count : 1) {
+        count = character_at(name + i, length - i, &c);
+        at = put_character(at, style, name + i, count, c);
+    }
+    if (style != STYLE_BARE) *at++ = '\'';
+    *at = 0;
+    return text;
+}

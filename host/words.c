@@ -1,0 +1,272 @@
+#include "words.h"
+
+#include <stddef.h>
+#include <stdio.h>
+#include <stdlib.h>
+#include <string.h>
+
+#include "say.h"
+
+/* Exit statuses of refusals. */
+enum { REFUSED_NAME = 1, REFUSED_WORDS = 2 };
+
+/* The last line of the longest text: 16,777,216 line feeds end as many lines, and one more line follows. Numbers from TOO_LARGE
+ * on, of more than eight digits, name it too. */
+static const unsigned long last_line = 16777217, too_large = 100000000;
+
+#define USAGE                                                                                                                     \
+    "usage: bidi-edit [--direction auto|ltr|rtl] [--line N | +N] [--force] FILE\n"                                                \
+    "       bidi-edit --recover [[--to OTHER] FILE] | --forget [FILE]"
+
+static const char usage[] = USAGE;
+static const char print_usage[] =
+    "usage: bidi-edit --print FILE [--cols N] [--marks] [--no-joining]\n       [--direction auto|ltr|rtl]";
+
+/* At most 23 lines of at most 80 columns, which a window of 24 rows shows with the shell's next prompt. */
+const char help_text[] = USAGE "\n"
+    "       bidi-edit --print FILE [--cols N] [--marks]: its rows to standard output\n"
+    "Edits text of any scripts, each paragraph in its direction, from line N. --force\n"
+    "opens what cannot be saved, -n keeps no session, --no-joining joins no letters.\n"
+    "--recover has back or lists what was typed, --to stores it, --forget deletes it.\n"
+    "\n"
+    "  Left Right Up Down    move as the screen shows; Left, Right with Ctrl by words\n"
+    "  Ctrl-B Ctrl-F Ctrl-G  go back, on as the text is stored; to a line, 12 or 12:5\n"
+    "  Home End Page Up/Down to the row's start, end, with Ctrl the text's; a window\n"
+    "  Backspace Delete      erase before (a point at a time), at; with Ctrl by words\n"
+    "  Ctrl-S Ctrl-Q         save; quit, twice where not all is saved\n"
+    "  Ctrl-Z Ctrl-Y Ctrl-L  undo, redo a typed word, a paste; paint the screen anew\n"
+    "  Ctrl-Space or Ctrl-@  mark where a region begins, or select: Shift with a move\n"
+    "  Ctrl-X Ctrl-C Ctrl-V  cut, copy the region, or else the line; put it in\n"
+    "  Ctrl-W Ctrl-R F3 F4   find forward, back, next; replace; Escape gives it up\n"
+    "  Ctrl-K Ctrl-T         insert by a mark's letter; tell what is at the cursor\n"
+    "  F1, F2                show keys; turn: auto, ltr, rtl. More: man bidi_edit\n"
+    "\n"
+    "The last row: * where changes are not saved, else -; paragraph:place; a message.\n"
+    "Marks, in negative image, of what has no look. Ctrl-K and the letter insert it:\n"
+    "  e LRE E RLE o LRO O RLO p PDF i LRI I RLI f FSI P PDI  ? control  ~ no columns\n"
+    "  # too wide; without a mark l LRM r RLM a ALM n ZWNJ j ZWJ, u and a code, Enter\n";
+
+static const char *const directions[] = {[DIRECTION_AUTO] = "auto", [DIRECTION_LTR] = "ltr", [DIRECTION_RTL] = "rtl"};
+
+const char *direction_word(enum direction direction) {
+    return directions[direction];
+}
+
+int direction_of(const char *word) {
+    for (int i = 0; i < (int)(sizeof directions / sizeof *directions); i++)
+        if (strcmp(word, directions[i]) == 0) return i;
+    return -1;
+}
+
+/* The line that `count` digits name. Returns false where they are not digits. */
+static bool line_of_digits(const char *digits, size_t count, unsigned long *line) {
+    unsigned long number = 0;
+    for (size_t i = 0; i < count; i++) {
+        if (digits[i] < '0' || digits[i] > '9') return false;
+        number = number * 10 + (unsigned long)(digits[i] - '0');
+        if (number > too_large) number = too_large;
+    }
+    *line = number < too_large ? number : last_line;
+    return count > 0;
+}
+
+/* The first line needs no option, and 0 names it too. */
+static unsigned long line_option(unsigned long line) {
+    return line <= 1 ? 0 : line;
+}
+
+/* The path that a word names, with ./ before it if it begins as an option. */
+static const char *path_of(const char *word) {
+    return *word == '-' || *word == '+' ? text_of("./%s", word) : word;
+}
+
+/* What is read of a command line. `cause` is NULL as long as no word is refused. */
+struct reading {
+    struct call *call;
+    const char *cause, *file, *other;
+    bool is_recovery, is_forgetting, is_print;
+};
+
+static void take_direction(struct reading *reading, const char *value) {
+    int direction = direction_of(value);
+    if (direction < 0) reading->cause = text_of("--direction wants auto, ltr or rtl, not %s", shown(value));
+    else reading->call->direction = (enum direction)direction;
+}
+
+static void take_line(struct reading *reading, const char *value) {
+    unsigned long line;
+    if (!line_of_digits(value, strlen(value), &line)) reading->cause = text_of("--line wants a number, not %s", shown(value));
+    else reading->call->line = line_option(line);
+}
+
+static void take_other(struct reading *reading, const char *value) {
+    if (!*value) reading->cause = "OTHER has no name";
+    reading->other = value;
+}
+
+static void take_columns(struct reading *reading, const char *value) {
+    unsigned long columns = 0;
+    bool is_number = strlen(value) <= 3 && line_of_digits(value, strlen(value), &columns);
+    if (!is_number || columns < 1 || columns > LARGEST_SIDE)
+        reading->cause = text_of("--cols wants a number from 1 to 500, not %s", shown(value));
+    else reading->call->columns = (unsigned)columns;
+}
+
+/* Options with a value, which is the next word or follows =. */
+static const struct valued {
+    const char *name;
+    void (*take)(struct reading *reading, const char *value);
+} edit_values[] = {{"--direction", take_direction}, {"--line", take_line}, {"--to", take_other}, {NULL, NULL}},
+  print_values[] = {{"--cols", take_columns}, {"--direction", take_direction}, {NULL, NULL}};
+
+/* Takes an option with a value. Returns the number of words taken, 0 where the word is another. */
+static int take_valued(struct reading *reading, const struct valued *options, int count, char *const *words) {
+    for (; options->name; options++) {
+        size_t length = strlen(options->name);
+        if (strncmp(words[0], options->name, length) != 0) continue;
+        if (words[0][length] == '=') {
+            options->take(reading, words[0] + length + 1);
+            return 1;
+        }
+        if (words[0][length] != 0) continue;
+        if (count < 2) reading->cause = text_of("%s wants a value", options->name);
+        else options->take(reading, words[1]);
+        return 2;
+    }
+    return 0;
+}
+
+static bool is_any(const char *word, const char *const *names) {
+    for (; *names; names++)
+        if (strcmp(word, *names) == 0) return true;
+    return false;
+}
+
+/* Takes what follows + in a word, as other editors take it: nothing for the last line, a number, or a number with a column after
+ * a comma or colon, which is passed over. Another command is ignored. */
+static void take_plus(struct reading *reading, const char *words) {
+    unsigned long line;
+    if (!*words) reading->call->line = last_line;
+    else if (line_of_digits(words, strcspn(words, ",:"), &line)) reading->call->line = line_option(line);
+}
+
+/* Takes an option of one word. Returns false where it is none. */
+static bool take_option(struct reading *reading, const char *word) {
+    /* no new window, wait for the end: of other editors */
+    static const char *const ignored[] = {"-f", "-w", "-nw", "--nofork", "--wait", NULL};
+    if (strcmp(word, "--force") == 0) reading->call->is_forced = true;
+    else if (strcmp(word, "-n") == 0) reading->call->is_unkept = true;
+    else if (strcmp(word, "--no-joining") == 0) reading->call->is_unjoined = true;
+    else if (strcmp(word, "--recover") == 0) reading->is_recovery = true;
+    else if (strcmp(word, "--forget") == 0) reading->is_forgetting = true;
+    else if (*word == '+') take_plus(reading, word + 1);
+    else return is_any(word, ignored);
+    return true;
+}
+
+static void take_file(struct reading *reading, const char *word) {
+    if (reading->file) reading->cause = "one FILE is wanted";
+    else if (!*word) reading->cause = "FILE has no name";
+    else reading->file = word;
+}
+
+/* Takes the words after --print: FILE and options, in any order. */
+static void take_print_words(struct reading *reading, int count, char *const *words) {
+    bool is_option = true;
+    reading->is_print = true;
+    reading->other = NULL;
+    reading->call->kind = CALL_PRINT;
+    for (int taken; count > 0 && !reading->cause; count -= taken, words += taken) {
+        const char *word = words[0];
+        bool may_be_option = is_option && word[0] == '-' && word[1] != 0;
+        taken = may_be_option ? take_valued(reading, print_values, count, words) : 0;
+        if (taken > 0) continue;
+        taken = 1;
+        if (!may_be_option) take_file(reading, word);
+        else if (strcmp(word, "--") == 0) is_option = false;
+        else if (strcmp(word, "--marks") == 0) reading->call->has_marks = true;
+        else if (strcmp(word, "--no-joining") == 0) reading->call->is_unjoined = true;
+        else reading->cause = text_of("there is no option %s with --print", shown(word));
+        /* of several words after the end of the options none is looked at */
+        if (!is_option && count > 2 && may_be_option) reading->cause = "one FILE is wanted";
+    }
+    if (!reading->cause && !reading->file) reading->cause = "one FILE is wanted";
+}
+
+/* Settles the call by its options and the words after them, which should be one FILE, or none. */
+static void take_files(struct reading *reading, int count, char *const *words) {
+    bool is_lone = count == 0 && !reading->other && reading->is_recovery != reading->is_forgetting;
+    reading->call->kind = !reading->is_recovery ? reading->is_forgetting ? CALL_FORGET : CALL_EDIT : count > 0 ? CALL_RECOVER : CALL_LIST;
+    if (is_lone) return;
+    if (count > 1) reading->cause = "one FILE is wanted";
+    else if (count == 1 && !*words[0]) reading->cause = "FILE has no name";
+    else if (reading->is_recovery && reading->is_forgetting) reading->cause = "--forget goes without --recover";
+    else if (count == 0) reading->cause = "one FILE is wanted";
+    else if (reading->other && !reading->is_recovery) reading->cause = "--to goes with --recover";
+    else reading->file = words[0];
+}
+
+/* Takes all words. */
+static void take_words(struct reading *reading, int count, char *const *words) {
+    for (int taken; count > 0 && !reading->cause; count -= taken, words += taken) {
+        const char *word = words[0];
+        bool is_help = strcmp(word, "-h") == 0 || strcmp(word, "--help") == 0;
+        if (is_help || strcmp(word, "--version") == 0) {
+            reading->call->kind = is_help ? CALL_HELP : CALL_VERSION;
+            return;
+        }
+        if (strcmp(word, "--print") == 0) {
+            take_print_words(reading, count - 1, words + 1);
+            return;
+        }
+        bool is_end = strcmp(word, "--") == 0;
+        if (is_end || (*word != '+' && (*word != '-' || !word[1]))) {
+            take_files(reading, count - is_end, words + is_end);
+            return;
+        }
+        taken = take_valued(reading, edit_values, count, words);
+        if (taken > 0) continue;
+        taken = 1;
+        if (!take_option(reading, word)) reading->cause = text_of("there is no option %s", shown(word));
+    }
+    if (!reading->cause) take_files(reading, 0, words);
+}
+
+int read_words(int count, char *const *words, struct call *call, const char **cause) {
+    struct reading reading = {.call = call};
+    *call = (struct call){.kind = CALL_EDIT};
+    take_words(&reading, count, words);
+    if (reading.cause) {
+        *cause = text_of("%s\n%s", reading.cause, reading.is_print ? print_usage : usage);
+        return REFUSED_WORDS;
+    }
+    const char *const names[] = {reading.other, reading.file};
+    for (size_t i = 0; i < sizeof names / sizeof *names; i++) {
+        if (!names[i] || is_utf8(names[i], strlen(names[i]))) continue;
+        *cause = text_of("%s has a name that is not UTF-8: mv gives it another", shown(names[i]));
+        return REFUSED_NAME;
+    }
+    if (reading.file) call->file = path_of(reading.file);
+    if (reading.other) call->other = path_of(reading.other);
+    return 0;
+}
+
+/* The version of Unicode that the first line of DerivedBidiClass.txt names. */
+static const char *unicode_version(const char *classes) {
+    static const char before[] = "# DerivedBidiClass-";
+    char line[128] = "";
+    FILE *stream = fopen(classes, "re");
+    if (stream) {
+        if (!fgets(line, sizeof line, stream)) line[0] = 0;
+        fclose(stream);
+    }
+    if (strncmp(line, before, sizeof before - 1) != 0) return "unknown";
+    const char *version = line + sizeof before - 1;
+    size_t length = strspn(version, "0123456789.");
+    while (length > 0 && version[length - 1] == '.') length--;
+    return length > 0 ? text_of("%.*s", (int)length, version) : "unknown";
+}
+
+const char *version_text(const char *toolchain, const char *classes) {
+    return text_of("bidi-edit " EDITOR_VERSION "\ntoolchain %s\nUnicode %s\n", toolchain ? toolchain : "unknown", unicode_version(classes));
+}
