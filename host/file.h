@@ -1,0 +1,97 @@
+/* FILE: opened once, and used by its descriptors ever after. Links are followed at the opening and never again. */
+#ifndef FILE_H
+#define FILE_H
+
+#include <limits.h>
+#include <stdbool.h>
+#include <stdint.h>
+#include <sys/stat.h>
+
+#include "facts.h"
+
+/* The largest text, in bytes. */
+enum { LARGEST_TEXT = 16777216 };
+
+/* What tells one file from another, whatever its names: a new file may get the inode of a removed one, but not its time of birth,
+ * where the file system has one. */
+struct file_id {
+    dev_t device;
+    ino_t inode;
+    bool has_birth;
+    int64_t birth_seconds;
+    uint32_t birth_nanos;
+};
+
+/* What was at a name, the link itself if it was one. */
+struct look {
+    bool is_there;
+    struct stat found;
+};
+
+struct file {
+    /* As the command line has it. */
+    const char *typed;
+    /* The folder (O_PATH), and FILE's name in it, which was no link. */
+    int folder;
+    char name[NAME_MAX + 1];
+    /* FILE (O_PATH), and FILE to be read; -1 where nothing is there, or it cannot be read. */
+    int itself, text;
+    /* What was at the name at the opening. */
+    struct look look;
+    /* Of FILE, if it was there, and of its folder. */
+    struct file_id id, folder_id;
+    struct facts facts, folder_facts;
+    /* The absolute paths of FILE and of its folder, without links. */
+    char path[PATH_MAX], folder_path[PATH_MAX];
+    /* What messages call the folder. */
+    char folder_name[PATH_MAX];
+    /* A link was followed. */
+    bool is_linked;
+    /* The folder is gone: `folder` is the nearest one above that is there, `name` is empty, and nothing can be saved. */
+    bool is_lost;
+};
+
+/* Opens FILE, or its folder where it is not there. Returns NULL, or the message that refuses it: it is no plain file, or its
+ * folder is not there. No opening waits for what is no plain file. */
+const char *open_file(struct file *file, const char *typed);
+
+/* The same, also where FILE's folder is gone. */
+const char *open_lost_file(struct file *file, const char *typed);
+
+void close_file(struct file *file);
+
+/* Something is there that the user cannot read. */
+bool is_closed(const struct file *file);
+
+/* The message that refuses a FILE that cannot be read, or saved; NULL where it can be. */
+const char *refuse_access(const struct file *file, bool is_in_place);
+
+/* The message that names files which killed saves left beside FILE; NULL if there are none. */
+const char *leftovers_line(const struct file *file);
+
+/* The messages about a FILE that is not UTF-8 in this line, from 1; that is too large. */
+const char *not_utf8_message(const struct file *file, unsigned long long line);
+const char *too_long_message(const struct file *file);
+
+/* Looks at a name in a folder. Returns false at a fault other than that nothing is there. */
+bool look_at(int folder, const char *name, struct look *look);
+
+/* Looks at FILE's name now. */
+bool look_again(const struct file *file, struct look *look);
+
+/* Whether both looks are of one file; also with the same bytes, as far as size and times tell, owner, permissions and names. */
+bool is_same_file(const struct stat *one, const struct stat *other);
+bool is_unchanged(const struct stat *one, const struct stat *other);
+
+/* The file that is open. Returns false where the system does not tell. */
+bool find_id(int at, struct file_id *id);
+bool is_same_id(const struct file_id *one, const struct file_id *other);
+
+/* Opens the FILE that was there at the opening again, with these flags, if its name still leads to it. Returns -1 if not; errno is
+ * ESTALE where another file is there. */
+int reopen_file(const struct file *file, int flags);
+
+/* The path of an open file or folder by the system's word; false where it does not tell. Of one that is gone it is the last one. */
+bool path_of(int at, char path[PATH_MAX]);
+
+#endif

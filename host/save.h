@@ -1,0 +1,53 @@
+/* Saves of FILE, each served by a child of the host, so that no disk can hold up the host. */
+#ifndef SAVE_H
+#define SAVE_H
+
+#include <stdbool.h>
+#include <sys/types.h>
+
+#include "file.h"
+
+struct saved;
+
+struct saver {
+    /* Given before the first save. Files that the child keeps open: the session's folder, where saves go into FILE itself with the
+     * mark there, else -1; the session's lock, or -1. */
+    struct file *file;
+    int mark_folder, lock;
+    /* Saves go into FILE itself, with the mark beside it. */
+    bool is_itself;
+    /* What the saves so far left, in memory that the child writes to. */
+    struct saved *saved;
+    /* Where the child that runs answers, until `saver_finish`. */
+    int answer;
+};
+
+/* The names of the mark and of its draft in the session's folder (the part `place` notes that there may be one). */
+#define MARK_NAME "mark"
+#define MARK_DRAFT_NAME "mark.bx"
+
+/* Gets a saver ready, which takes `file` as it was opened for what was last seen. The caller then sets mark_folder, lock and
+ * is_itself, which are -1, -1 and false. Returns false without memory. */
+bool saver_open(struct saver *saver, struct file *file);
+
+/* Has the next save fail as if another program had changed FILE, unless FILE is gone then. */
+void saver_distrust(struct saver *saver);
+
+/* Forks the child that serves one save, from its BEGIN frame on `request` to the last answer on `answer`. Returns its process, or
+ * -1: then the save is answered as failed. */
+pid_t saver_start(struct saver *saver, int request, int answer);
+
+/* Takes in what the child left, once it has ended; answers for one that was killed. Never waits for a disk. */
+void saver_finish(struct saver *saver);
+
+/* What came of the last save: 0 where it is on the disk, else an enum save_cause. */
+int saver_cause(const struct saver *saver);
+
+/* FILE as the last save left or found it; false where no save looked at it. */
+bool saver_look(const struct saver *saver, struct look *look, struct file_id *id);
+
+/* FILE may have a part of its new text alone. A mark has the whole: this name beside FILE, or MARK_NAME in the session's folder,
+ * where it gives NULL. */
+bool saver_is_torn(const struct saver *saver, const char **name);
+
+#endif
