@@ -45,9 +45,10 @@ enum save_cause {
     SAVE_OTHER,
 };
 
-/* What the program shows in its last row, by number. */
+/* What the program shows in its last row, by number; NOTICE_NONE is never sent. */
 enum notice {
-    NOTICE_NO_SPACE = 1,
+    NOTICE_NONE,
+    NOTICE_NO_SPACE,
     NOTICE_FOLDER_GONE,
     NOTICE_NOT_PERMITTED,
     NOTICE_READ_ONLY,
@@ -82,12 +83,12 @@ bool read_frame(int file, unsigned char *room, struct frame *frame);
 /* Writes one frame to a file that blocks. Returns false at a fault. */
 bool write_frame(int file, enum frame_letter letter, const void *bytes, size_t length);
 
-/* Frames that wait for a pipe that does not block. `size_at` is where a frame of a size stands that is the last one, and of which
- * nothing is written; else it is QUEUE_ROOM. */
+/* Frames that wait for a pipe that does not block. `has_size` says whether the last one, at `size_at`, is a size. */
 enum { QUEUE_ROOM = 16384 };
 struct frame_queue {
     unsigned char bytes[QUEUE_ROOM];
     size_t start, end, size_at;
+    bool has_size;
 };
 
 /* Puts a frame at the end. A size takes the place of one that is the last. Returns false, and puts nothing, where there is no

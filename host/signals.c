@@ -1,11 +1,17 @@
 #include "signals.h"
 
-#include <stddef.h>
+#include <errno.h>
 #include <stdlib.h>
+#include <sys/time.h>
+#include <sys/wait.h>
 #include <time.h>
 #include <unistd.h>
 
-#include "writing.h"
+/* Milliseconds. A piece of a write has PIECE_MS, and the timer that ends it rings again after each RING_MS. A wait for a child
+ * looks for its end after each LOOK_MS at least. */
+enum { PIECE_MS = 100, RING_MS = 20, LOOK_MS = 50 };
+/* A pipe that has room takes PIECE bytes at once. A write or wait that fails is tried TRIES times in all. */
+enum { PIECE = 4096, TRIES = 3 };
 
 volatile sig_atomic_t end_signal, is_resized, is_continued;
 volatile int64_t end_time;
@@ -20,60 +26,101 @@ static const int waking[] = {SIGWINCH, SIGCONT, SIGCHLD};
 
 enum { ENDING = sizeof ending / sizeof *ending, WAKING = sizeof waking / sizeof *waking };
 
-static void note_waking(int number) {
-    if (number == SIGWINCH) is_resized = 1;
-    if (number == SIGCONT) is_continued = 1;
+int64_t now(void) {
+    struct timespec at = {0, 0};
+    clock_gettime(CLOCK_MONOTONIC, &at);
+    return (int64_t)at.tv_sec * 1000 + at.tv_nsec / 1000000;
 }
 
-/* The host's own timer and a pipe that it writes without a reader end nothing. */
-static void note_ending(int number, siginfo_t *info, void *context) {
-    (void)context;
-    if (number == SIGALRM && info->si_code == SI_KERNEL) return;
-    if (number == SIGPIPE && info->si_pid == getpid()) return;
+void note_end(int number) {
     if (end_signal) return;
     end_signal = number;
     end_time = now();
 }
 
-/* Handles a signal, but not an ending one that the caller has ignored. A pipe without a reader must not end the host. */
-static void handle(int number, bool is_ending) {
+static void note_waking(int number) {
+    if (number == SIGWINCH) is_resized = 1;
+    if (number == SIGCONT) is_continued = 1;
+}
+
+/* Whether a write of the host's own is the cause, or its timer. */
+static bool is_own(int number, const siginfo_t *info) {
+    if (number == SIGALRM) return info->si_code == SI_KERNEL;
+    return (number == SIGPIPE || number == SIGXFSZ) && info->si_pid == getpid();
+}
+
+static void note_ending(int number, siginfo_t *info, void *context) {
+    (void)context;
+    if (!is_own(number, info)) note_end(number);
+}
+
+/* Before signals are caught they end the host, but for those of its own writes. */
+static void die_unless_own(int number, siginfo_t *info, void *context) {
+    (void)context;
+    if (!is_own(number, info)) die_from(number);
+}
+
+/* Has a signal of the end handled, but not one that the caller has ignored. */
+static void handle_ending(int number, void (*handler)(int, siginfo_t *, void *)) {
     struct sigaction action = {0}, before;
+    if (sigaction(number, NULL, &before) != 0) return;
+    if (!(before.sa_flags & SA_SIGINFO) && before.sa_handler == SIG_IGN && number != SIGALRM) return;
     sigemptyset(&action.sa_mask);
-    if (is_ending) {
-        if (sigaction(number, NULL, &before) != 0) return;
-        if (before.sa_handler == SIG_IGN && number != SIGALRM) return;
-        action.sa_flags = SA_SIGINFO;
-        action.sa_sigaction = note_ending;
-    } else {
-        action.sa_handler = note_waking;
-    }
+    action.sa_flags = SA_SIGINFO;
+    action.sa_sigaction = handler;
     sigaction(number, &action, NULL);
 }
 
-void set_signals(void) {
+static void handle_waking(int number) {
+    struct sigaction action = {0};
+    sigemptyset(&action.sa_mask);
+    action.sa_handler = note_waking;
+    sigaction(number, &action, NULL);
+}
+
+/* Blocks a signal but in waits. */
+static void block(int number) {
     sigset_t mask;
     sigemptyset(&mask);
+    sigaddset(&mask, number);
+    sigprocmask(SIG_BLOCK, &mask, NULL);
+    sigdelset(&waiting_mask, number);
+}
+
+void set_first_signals(void) {
     sigprocmask(SIG_SETMASK, NULL, &first_mask);
     waiting_mask = first_mask;
-    for (size_t i = 0; i < ENDING + WAKING; i++) {
-        int number = i < ENDING ? ending[i] : waking[i - ENDING];
-        sigaddset(&mask, number);
-        sigdelset(&waiting_mask, number);
-    }
-    sigprocmask(SIG_BLOCK, &mask, NULL);
-    for (size_t i = 0; i < ENDING; i++) handle(ending[i], true);
-    for (size_t i = 0; i < WAKING; i++) handle(waking[i], false);
+    block(SIGCHLD);
+    handle_waking(SIGCHLD);
+    handle_ending(SIGPIPE, die_unless_own);
+    handle_ending(SIGXFSZ, die_unless_own);
+}
+
+void catch_signals(void) {
+    for (size_t i = 0; i < ENDING; i++) block(ending[i]);
+    for (size_t i = 0; i < WAKING; i++) block(waking[i]);
+    for (size_t i = 0; i < ENDING; i++) handle_ending(ending[i], note_ending);
+    for (size_t i = 0; i < WAKING; i++) handle_waking(waking[i]);
 }
 
 void give_back_signals(void) {
     sigprocmask(SIG_SETMASK, &first_mask, NULL);
 }
 
-void let_timer_in(bool is_let) {
+_Noreturn void die_from(int number) {
     sigset_t mask;
+    signal(number, SIG_DFL);
     sigemptyset(&mask);
-    sigaddset(&mask, SIGALRM);
-    sigprocmask(is_let ? SIG_UNBLOCK : SIG_BLOCK, &mask, NULL);
+    sigaddset(&mask, number);
+    sigprocmask(SIG_UNBLOCK, &mask, NULL);
+    kill(getpid(), number);
+    _exit(128 + number);
+}
+
+int64_t last_moment(int64_t least) {
+    if (!end_signal) return 0;
+    int64_t whole = end_time + END_MS, soonest = now() + least;
+    return whole > soonest ? whole : soonest;
 }
 
 int wait_for(struct pollfd *files, nfds_t count, int64_t end) {
@@ -88,12 +135,89 @@ void listen_once(void) {
     wait_for(NULL, 0, 1);
 }
 
-_Noreturn void die_from(int number) {
+/* Whether the file takes bytes before the time `end`, or for ever where it is 0. The last writes let no signal in. */
+static bool is_ready(int file, int64_t end, bool is_last) {
+    int tries = TRIES;
+    while (is_last || !end_signal) {
+        struct pollfd wanted = {.fd = file, .events = POLLOUT};
+        int64_t left = end - now();
+        int count = is_last ? poll(&wanted, 1, left > 0 ? (int)left : 0) : wait_for(&wanted, 1, end);
+        if (count > 0) return (wanted.revents & POLLNVAL) == 0;
+        if (count < 0 && errno != EINTR && --tries == 0) return false;
+        if (end != 0 && now() >= end) return false;
+    }
+    return false;
+}
+
+void write_ready(int file, const char *text, size_t length, int64_t limit, bool is_last) {
+    int64_t end = now() + limit;
+    int tries = TRIES;
+    while (length > 0 && tries > 0) {
+        ssize_t count = write(file, text, length);
+        if (count > 0) {
+            text += count;
+            length -= (size_t)count;
+        } else if (count < 0 && errno != EAGAIN && errno != EINTR) {
+            tries--;
+        } else if (!is_ready(file, end, is_last)) {
+            return;
+        }
+    }
+}
+
+/* Unblocks SIGALRM, by which the host's own timer rings, or blocks it again. */
+static void let_timer_in(bool is_let) {
     sigset_t mask;
-    signal(number, SIG_DFL);
     sigemptyset(&mask);
-    sigaddset(&mask, number);
-    sigprocmask(SIG_UNBLOCK, &mask, NULL);
-    kill(getpid(), number);
-    _exit(128 + number);
+    sigaddset(&mask, SIGALRM);
+    sigprocmask(is_let ? SIG_UNBLOCK : SIG_BLOCK, &mask, NULL);
+}
+
+/* Writes once. The timer rings again and again, since it may ring before the write begins. */
+static ssize_t write_piece(int file, const char *text, size_t length) {
+    struct itimerval timer = {{0, RING_MS * 1000L}, {0, PIECE_MS * 1000L}}, none = {{0, 0}, {0, 0}};
+    let_timer_in(true);
+    setitimer(ITIMER_REAL, &timer, NULL);
+    ssize_t count = write(file, text, length);
+    int error = errno;
+    setitimer(ITIMER_REAL, &none, NULL);
+    let_timer_in(false);
+    errno = error;
+    return count;
+}
+
+void write_within(int file, const char *text, size_t length, int64_t limit, bool is_last) {
+    int64_t end = limit == 0 ? 0 : now() + limit;
+    int tries = TRIES;
+    while (length > 0 && tries > 0 && is_ready(file, end, is_last)) {
+        ssize_t count = write_piece(file, text, length < PIECE ? length : PIECE);
+        if (count > 0) {
+            text += count;
+            length -= (size_t)count;
+        } else if (count < 0 && errno != EINTR && errno != EAGAIN) {
+            tries--;
+        }
+    }
+}
+
+bool wait_for_child(pid_t *child, int *status, int64_t end) {
+    for (;;) {
+        if (*child > 0 && waitpid(*child, status, WNOHANG) == *child) *child = 0;
+        int64_t start = now(), next = start + LOOK_MS;
+        if (*child <= 0 || (end != 0 && start >= end)) return *child <= 0;
+        /* the end of a child wakes the wait */
+        wait_for(NULL, 0, end == 0 || next < end ? next : end);
+    }
+}
+
+void kill_child(pid_t *child) {
+    int status = 0;
+    if (*child <= 0) return;
+    /* what fails once is tried again, since nothing else ends the child */
+    if (kill(*child, SIGKILL) != 0) kill(*child, SIGKILL);
+    wait_for_child(child, &status, now() + DYING_MS);
+}
+
+int shell_status(int status) {
+    return WIFSIGNALED(status) ? 128 + WTERMSIG(status) : WEXITSTATUS(status);
 }

@@ -1,0 +1,163 @@
+#include "frames.h"
+
+#include <errno.h>
+#include <string.h>
+#include <unistd.h>
+
+static void put_head(unsigned char *head, enum frame_letter letter, size_t length) {
+    head[0] = (unsigned char)letter;
+    head[1] = (unsigned char)(length >> 8);
+    head[2] = (unsigned char)length;
+}
+
+static size_t length_in(const unsigned char *head) {
+    return (size_t)head[1] << 8 | head[2];
+}
+
+size_t find_frame(const unsigned char *held, size_t length, struct frame *frame) {
+    if (length < FRAME_HEAD || length - FRAME_HEAD < length_in(held)) return 0;
+    frame->letter = (char)held[0];
+    frame->bytes = held + FRAME_HEAD;
+    frame->length = length_in(held);
+    return FRAME_HEAD + frame->length;
+}
+
+/* Reads so many bytes. */
+static bool read_all(int file, unsigned char *bytes, size_t length) {
+    while (length > 0) {
+        ssize_t count = read(file, bytes, length);
+        if (count == 0 || (count < 0 && errno != EINTR)) return false;
+        if (count < 0) continue;
+        bytes += count;
+        length -= (size_t)count;
+    }
+    return true;
+}
+
+bool read_frame(int file, unsigned char *room, struct frame *frame) {
+    unsigned char head[FRAME_HEAD];
+    if (!read_all(file, head, sizeof head)) return false;
+    frame->letter = (char)head[0];
+    frame->bytes = room;
+    frame->length = length_in(head);
+    return read_all(file, room, frame->length);
+}
+
+static bool write_all(int file, const unsigned char *bytes, size_t length) {
+    while (length > 0) {
+        ssize_t count = write(file, bytes, length);
+        if (count < 0 && errno != EINTR) return false;
+        if (count < 0) continue;
+        bytes += count;
+        length -= (size_t)count;
+    }
+    return true;
+}
+
+bool write_frame(int file, enum frame_letter letter, const void *bytes, size_t length) {
+    unsigned char head[FRAME_HEAD];
+    if (length > FRAME_MOST) return false;
+    put_head(head, letter, length);
+    return write_all(file, head, sizeof head) && write_all(file, bytes, length);
+}
+
+size_t queue_length(const struct frame_queue *queue) {
+    return queue->end - queue->start;
+}
+
+/* Whether the last frame is a size of which nothing is written. */
+static bool ends_with_size(const struct frame_queue *queue) {
+    return queue->has_size && queue->size_at >= queue->start;
+}
+
+bool put_frame(struct frame_queue *queue, enum frame_letter letter, const void *bytes, size_t length) {
+    bool is_size = letter == FRAME_SIZE;
+    if (is_size && ends_with_size(queue)) queue->end = queue->size_at;
+    size_t held = queue_length(queue);
+    if (length > QUEUE_ROOM - FRAME_HEAD || held > QUEUE_ROOM - FRAME_HEAD - length) return false;
+    if (QUEUE_ROOM - queue->end < FRAME_HEAD + length) {
+        memmove(queue->bytes, queue->bytes + queue->start, held);
+        queue->start = 0;
+        queue->end = held;
+    }
+    queue->has_size = is_size;
+    queue->size_at = queue->end;
+    put_head(queue->bytes + queue->end, letter, length);
+    if (length > 0) memcpy(queue->bytes + queue->end + FRAME_HEAD, bytes, length);
+    queue->end += FRAME_HEAD + length;
+    return true;
+}
+
+bool write_queue(struct frame_queue *queue, int file) {
+    while (queue->start < queue->end) {
+        ssize_t count = write(file, queue->bytes + queue->start, queue_length(queue));
+        if (count < 0 && errno == EINTR) continue;
+        if (count < 0) return errno == EAGAIN;
+        queue->start += (size_t)count;
+    }
+    queue->start = queue->end = 0;
+    queue->has_size = false;
+    return true;
+}
+
+/* The length of the word at the start of the held bytes, 0 where that is no word, and more than is held where more is to come. */
+static size_t word_length(const unsigned char *held, size_t length) {
+    static const char letters[] = {FRAME_OPENED, FRAME_FAULT, FRAME_JOURNAL, FRAME_REPLAYED, FRAME_END};
+    if (!memchr(letters, held[0], sizeof letters) || (length > 1 && held[1] > WORD_MOST >> 8)) return 0;
+    return length < FRAME_HEAD ? FRAME_HEAD : FRAME_HEAD + length_in(held);
+}
+
+static void keep_foreign(struct word_reader *reader, unsigned char byte) {
+    if (reader->foreign_length < sizeof reader->foreign) reader->foreign[reader->foreign_length++] = (char)byte;
+}
+
+/* Hands on the whole words among what is held, and keeps the beginning of one. */
+static void hand_on(struct word_reader *reader, void (*hear)(const struct frame *, void *), void *whose) {
+    size_t at = 0;
+    while (at < reader->length) {
+        unsigned char text[WORD_MOST + 1];
+        size_t length = word_length(reader->bytes + at, reader->length - at);
+        struct frame frame;
+        if (length > reader->length - at) break;
+        if (length == 0) {
+            keep_foreign(reader, reader->bytes[at++]);
+        } else if (find_frame(reader->bytes + at, length, &frame) > 0) {
+            memcpy(text, frame.bytes, frame.length);
+            text[frame.length] = 0;
+            frame.bytes = text;
+            hear(&frame, whose);
+            at += length;
+        } else {
+            break;
+        }
+    }
+    memmove(reader->bytes, reader->bytes + at, reader->length - at);
+    reader->length -= at;
+}
+
+void take_words(struct word_reader *reader, const unsigned char *bytes, size_t length, void (*hear)(const struct frame *, void *),
+                void *whose) {
+    while (length > 0) {
+        /* what is held is less than one word */
+        size_t room = sizeof reader->bytes - reader->length, count = length < room ? length : room;
+        memcpy(reader->bytes + reader->length, bytes, count);
+        reader->length += count;
+        bytes += count;
+        length -= count;
+        hand_on(reader, hear, whose);
+    }
+}
+
+void end_words(struct word_reader *reader) {
+    for (size_t i = 0; i < reader->length; i++) keep_foreign(reader, reader->bytes[i]);
+    reader->length = 0;
+}
+
+enum end_word end_word_of(const char *text) {
+    static const char *const words[] = {
+        [END_NONE] = "",           [END_SAVED] = "saved", [END_UNSAVED] = "unsaved", [END_DROPPED] = "dropped",
+        [END_INPUT] = "input", [END_OUTPUT] = "output", [END_READS] = "reads"};
+    for (enum end_word word = END_SAVED; word <= END_READS; word++)
+        if (strcmp(text, words[word]) == 0) return word;
+    return END_NONE;
+}
