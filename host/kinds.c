@@ -1,16 +1,23 @@
 #include "kinds.h"
 
+#include <dirent.h>
+#include <fcntl.h>
 #include <limits.h>
-#include <stddef.h>
 #include <stdio.h>
 #include <stdlib.h>
 #include <string.h>
+#include <sys/ioctl.h>
+#include <sys/stat.h>
 #include <unistd.h>
 
-#include "settings.h"
-#include "writing.h"
+#include "signals.h"
 
-const char *variable(const char *name) {
+/* How many milliseconds tmux may take to answer, the terminal around it to take what it is sent, and standard error a note. */
+enum { TMUX_MS = 2000, OUTER_MS = 500, NOTE_MS = 1000 };
+/* The most rows of a terminal that are told, and the bytes for each at most. */
+enum { MOST_ROWS = 500, ROW_BYTES = 16 };
+
+static const char *variable(const char *name) {
     const char *value = getenv(name);
     return value ? value : "";
 }
@@ -23,8 +30,68 @@ static bool begins(const char *text, const char *beginning) {
     return strncmp(text, beginning, strlen(beginning)) == 0;
 }
 
+/* Whether the process that started the first one on the terminal, mostly the terminal itself, has this word, or a file of this
+ * name, in its command line. */
+static bool is_started_with(const char *word) {
+    static char words[65536];
+    char path[64], look[1024];
+    snprintf(path, sizeof path, "/proc/%ld/stat", (long)getsid(0));
+    FILE *stream = fopen(path, "re");
+    if (!stream) return false;
+    look[fread(look, 1, sizeof look - 1, stream)] = 0;
+    fclose(stream);
+    /* after the process's name, which may have any letters, `) S PARENT`: its state and its parent */
+    const char *at = strrchr(look, ')');
+    snprintf(path, sizeof path, "/proc/%ld/cmdline", at && strlen(at) > 4 ? strtol(at + 4, NULL, 10) : 0L);
+    stream = fopen(path, "re");
+    if (!stream) return false;
+    size_t length = fread(words, 1, sizeof words - 1, stream);
+    words[length] = 0;
+    fclose(stream);
+    for (at = words; at < words + length; at += strlen(at) + 1) {
+        const char *name = strrchr(at, '/');
+        if (strcmp(at, word) == 0 || (name && strcmp(name + 1, word) == 0)) return true;
+    }
+    return false;
+}
+
+/* Whether a line of a plain file is this text but for blanks. Another file would make the host wait. */
+static bool file_has(const char *path, const char *text) {
+    char line[1024];
+    struct stat look;
+    bool is_found = false;
+    int file = open(path, O_RDONLY | O_NONBLOCK | O_NOCTTY | O_CLOEXEC);
+    FILE *stream = file >= 0 && fstat(file, &look) == 0 && S_ISREG(look.st_mode) ? fdopen(file, "r") : NULL;
+    if (!stream && file >= 0) close(file);
+    while (stream && !is_found && fgets(line, sizeof line, stream)) {
+        size_t length = 0;
+        for (const char *at = line; *at; at++)
+            if (!strchr(" \t\r\n", *at)) line[length++] = *at;
+        line[length] = 0;
+        is_found = strcmp(line, text) == 0;
+    }
+    if (stream) fclose(stream);
+    return is_found;
+}
+
+/* Whether a line of a file in a folder whose name ends so is this text but for blanks. */
+static bool files_have(const char *folder, const char *ending, const char *text) {
+    char path[PATH_MAX];
+    bool is_found = false;
+    DIR *names = opendir(folder);
+    if (!names) return false;
+    for (const struct dirent *entry = readdir(names); entry && !is_found; entry = readdir(names)) {
+        const char *tail = strrchr(entry->d_name, '.');
+        if (entry->d_name[0] == '.' || !tail || strcmp(tail, ending) != 0) continue;
+        int count = snprintf(path, sizeof path, "%s/%s", folder, entry->d_name);
+        is_found = count > 0 && count < (int)sizeof path && file_has(path, text);
+    }
+    closedir(names);
+    return is_found;
+}
+
 /* The kind by the terminal's name, as it told tmux. A VTE that told none may have left its variable. */
-static enum kind by_answer(const char *answer) {
+static enum kind kind_by_answer(const char *answer) {
     if (begins(answer, "VTE")) return VTE;
     if (begins(answer, "Konsole")) return KONSOLE;
     if (begins(answer, "kitty")) return KITTY;
@@ -32,7 +99,7 @@ static enum kind by_answer(const char *answer) {
 }
 
 /* The kind by TERM_PROGRAM. */
-static enum kind by_name(const char *name) {
+static enum kind kind_by_name(const char *name) {
     static const struct {
         const char *name;
         enum kind kind;
@@ -43,8 +110,8 @@ static enum kind by_name(const char *name) {
     return OTHER_KIND;
 }
 
-/* Finds the kind by the one variable that a terminal sets. */
-static enum kind by_variables(void) {
+/* The kind by the one variable that a terminal sets. */
+static enum kind kind_by_variables(void) {
     static const struct {
         const char *name;
         enum kind kind;
@@ -52,7 +119,7 @@ static enum kind by_variables(void) {
                      {"MLTERM", MLTERM},            {"KITTY_WINDOW_ID", KITTY}, {"ALACRITTY_WINDOW_ID", OTHER_KIND},
                      {"INSIDE_EMACS", OTHER_KIND}};
     const char *program = variable("TERM_PROGRAM");
-    enum kind found = by_name(program);
+    enum kind found = kind_by_name(program);
     int count = *program != 0;
     for (size_t i = 0; i < sizeof variables / sizeof *variables; i++) {
         if (!is_set(variables[i].name)) continue;
@@ -61,19 +128,20 @@ static enum kind by_variables(void) {
     }
     if (count == 1) return found;
     /* qterminal has no variable of its own, and no number for its window */
-    return count == 0 && strcmp(variable("WINDOWID"), "0") == 0 && is_started_by("qterminal") ? QTERMINAL : OTHER_KIND;
+    return count == 0 && strcmp(variable("WINDOWID"), "0") == 0 && is_started_with("qterminal") ? QTERMINAL : OTHER_KIND;
 }
 
-enum kind find_kind(const char *answer_to_tmux) {
+static enum kind find_kind(const char *answer_to_tmux) {
     const char *term = variable("TERM");
-    if (is_set("TMUX")) return by_answer(answer_to_tmux);
+    if (is_set("TMUX")) return kind_by_answer(answer_to_tmux);
     if (is_set("STY")) return OTHER_KIND;
-    if (begins(term, "tmux")) return by_answer(answer_to_tmux);
+    if (begins(term, "tmux")) return kind_by_answer(answer_to_tmux);
     if (strcmp(term, "xterm-kitty") == 0) return KITTY;
-    return begins(term, "xterm") || begins(term, "konsole") || begins(term, "mlterm") ? by_variables() : OTHER_KIND;
+    return begins(term, "xterm") || begins(term, "konsole") || begins(term, "mlterm") ? kind_by_variables() : OTHER_KIND;
 }
 
-bool keeps_title(enum kind kind) {
+/* Whether the terminal can save and restore its title. GNU screen cannot, and hides the terminal around it. */
+static bool keeps_title(enum kind kind) {
     static const char *const terms[] = {"tmux", "alacritty", "foot", "mlterm", "vte"};
     const char *term = variable("TERM");
     if (is_set("STY")) return false;
@@ -83,58 +151,147 @@ bool keeps_title(enum kind kind) {
     return is_set("XTERM_VERSION") || is_set("VTE_VERSION");
 }
 
+/* The path of a file or folder of the user's: below the folder that a variable names, else below one of the home. */
+static const char *own_path(char path[PATH_MAX], const char *name, const char *home_folder, const char *rest) {
+    int count = is_set(name) ? snprintf(path, PATH_MAX, "%s/%s", variable(name), rest)
+                             : snprintf(path, PATH_MAX, "%s/%s/%s", variable("HOME"), home_folder, rest);
+    if (count < 0 || count >= PATH_MAX) path[0] = 0;
+    return path;
+}
+
 /* Whether konsole reorders by itself: none of its profiles says otherwise, if it runs on this machine. */
 static bool reorders_in_konsole(void) {
+    static const char off[] = "BidiRenderingEnabled=false";
     char own[PATH_MAX];
-    if (is_set("SSH_CONNECTION")) return false;
-    if (is_set("XDG_DATA_HOME")) snprintf(own, sizeof own, "%s/konsole", variable("XDG_DATA_HOME"));
-    else snprintf(own, sizeof own, "%s/.local/share/konsole", variable("HOME"));
-    return !files_have(own, ".profile", "BidiRenderingEnabled=false", LINE_BEGINS) &&
-           !files_have("/usr/share/konsole", ".profile", "BidiRenderingEnabled=false", LINE_BEGINS);
+    return !is_set("SSH_CONNECTION") && !files_have(own_path(own, "XDG_DATA_HOME", ".local/share", "konsole"), ".profile", off) &&
+           !files_have("/usr/share/konsole", ".profile", off);
 }
 
 /* Whether mlterm was set or started not to reorder. */
 static bool reorders_not_in_mlterm(void) {
+    static const char off[] = "use_ctl=false";
     char own[PATH_MAX];
-    snprintf(own, sizeof own, "%s/.mlterm/main", variable("HOME"));
-    return file_has(own, "use_ctl=false", ENTRY_BEGINS) || file_has("/etc/mlterm/main", "use_ctl=false", ENTRY_BEGINS) ||
-           is_started_with("--ctl=false");
+    return file_has(own_path(own, "", ".mlterm", "main"), off) || file_has("/etc/mlterm/main", off) || is_started_with("--ctl=false");
 }
 
-struct reordering find_reordering(enum kind kind) {
-    struct reordering reordering = {"", ""};
-    if (kind == KONSOLE) {
-        reordering.off = "\033]50;BidiRenderingEnabled=false\a";
-        if (reorders_in_konsole()) reordering.on = "\033]50;BidiRenderingEnabled=true\a";
-    } else if (kind == MLTERM && !reorders_not_in_mlterm()) {
-        reordering.off = "\033]5379;use_ctl=false\a";
-        reordering.on = "\033]5379;use_ctl=true\a";
+static void find_reordering(struct terminal_kind *found) {
+    found->off = found->on = "";
+    if (found->kind == KONSOLE) {
+        found->off = "\033]50;BidiRenderingEnabled=false\a";
+        if (reorders_in_konsole()) found->on = "\033]50;BidiRenderingEnabled=true\a";
+    } else if (found->kind == MLTERM && !reorders_not_in_mlterm()) {
+        found->off = "\033]5379;use_ctl=false\a";
+        found->on = "\033]5379;use_ctl=true\a";
     }
-    return reordering;
 }
 
-/* Tells the line `wanted` of the terminal's file; standard error has a second to take it. */
+/* Tells the line `wanted` of the terminal's file. */
 static void tell_setting(const char *terminal, const char *file, const char *wanted) {
     char text[256];
     int length = snprintf(text, sizeof text, "bidi-edit: %s mirrors right-to-left words: the line '%s' in its %s ends that\n", terminal,
                           wanted, file);
-    write_within(STDERR_FILENO, text, (size_t)length, 1000, false);
+    write_within(STDERR_FILENO, text, (size_t)length, NOTE_MS, false);
 }
 
 /* Over ssh the terminal's files are elsewhere. */
-void tell_mirroring(enum kind kind) {
-    char folder[PATH_MAX], above[PATH_MAX];
-    if (is_set("SSH_CONNECTION") || (kind != KITTY && kind != QTERMINAL)) return;
-    if (is_set("XDG_CONFIG_HOME")) snprintf(above, sizeof above, "%s", variable("XDG_CONFIG_HOME"));
-    else snprintf(above, sizeof above, "%s/.config", variable("HOME"));
+static void tell_mirroring(enum kind kind) {
+    char path[PATH_MAX];
+    if (is_set("SSH_CONNECTION")) return;
     if (kind == QTERMINAL) {
-        bool is_told = snprintf(folder, sizeof folder, "%s/qterminal.org/qterminal.ini", above) >= (int)sizeof folder ||
-                       file_has(folder, "enabledBidiSupport=false", LINE_IS);
-        if (!is_told) tell_setting("qterminal", "qterminal.ini", "enabledBidiSupport=false");
-        return;
+        own_path(path, "XDG_CONFIG_HOME", ".config", "qterminal.org/qterminal.ini");
+        if (!file_has(path, "enabledBidiSupport=false")) tell_setting("qterminal", "qterminal.ini", "enabledBidiSupport=false");
+    } else if (kind == KITTY) {
+        const char *folder = variable("KITTY_CONFIG_DIRECTORY");
+        if (!*folder) folder = own_path(path, "XDG_CONFIG_HOME", ".config", "kitty");
+        if (!files_have(folder, ".conf", "force_ltryes")) tell_setting("kitty", "kitty.conf", "force_ltr yes");
     }
-    int length = is_set("KITTY_CONFIG_DIRECTORY") ? snprintf(folder, sizeof folder, "%s", variable("KITTY_CONFIG_DIRECTORY"))
-                                                  : snprintf(folder, sizeof folder, "%s/kitty", above);
-    if (length >= (int)sizeof folder || files_have(folder, ".conf", "force_ltr yes", LINE_IS)) return;
-    tell_setting("kitty", "kitty.conf", "force_ltr yes");
+}
+
+static _Noreturn void become_tmux(int out) {
+    /* a client in control mode is a program that reads tmux's protocol, so it does not count */
+    static char *const words[] = {"tmux", "display-message", "-p", "#{?client_control_mode,,#{client_tty} #{client_termtype}}", NULL};
+    int none = open("/dev/null", O_RDWR);
+    if (none < 0 || dup2(none, STDIN_FILENO) < 0 || dup2(out, STDOUT_FILENO) < 0 || dup2(none, STDERR_FILENO) < 0) _exit(126);
+    give_back_signals();
+    execvp(words[0], words);
+    _exit(127);
+}
+
+/* Reads what tmux says until it ends, or the time is over, or the host is to end. */
+static size_t read_answer(int file, char *answer, size_t room) {
+    int64_t end = now() + TMUX_MS;
+    size_t length = 0;
+    while (length < room && !end_signal && now() < end) {
+        struct pollfd wanted = {.fd = file, .events = POLLIN};
+        if (wait_for(&wanted, 1, end) <= 0) continue;
+        ssize_t count = read(file, answer + length, room - length);
+        if (count <= 0) break;
+        length += (size_t)count;
+    }
+    return length;
+}
+
+/* Gives what tmux answers, an empty text where it says nothing. `room` has the NUL too. */
+static void ask_tmux(char *answer, size_t room) {
+    int ends[2];
+    answer[0] = 0;
+    if (pipe2(ends, O_CLOEXEC) != 0) return;
+    pid_t child = fork();
+    if (child == 0) become_tmux(ends[1]);
+    close(ends[1]);
+    size_t length = child > 0 ? read_answer(ends[0], answer, room - 1) : 0;
+    answer[length] = 0;
+    close(ends[0]);
+    /* it has said all, or says nothing any more */
+    kill_child(&child);
+}
+
+/* Finds the terminal around tmux, if it is a device that the user may write, and gives its name as tmux knows it. */
+static const char *find_outer(struct terminal_kind *found, char *answer, size_t room) {
+    struct stat look;
+    ask_tmux(answer, room);
+    answer[strcspn(answer, "\n")] = 0;
+    char *name = strchr(answer, ' ');
+    if (name) *name = 0;
+    if (strlen(answer) < sizeof found->outer && stat(answer, &look) == 0 && S_ISCHR(look.st_mode) &&
+        faccessat(AT_FDCWD, answer, W_OK, AT_EACCESS) == 0)
+        snprintf(found->outer, sizeof found->outer, "%s", answer);
+    return name ? name + 1 : "";
+}
+
+void find_terminal_kind(struct terminal_kind *found) {
+    char answer[1024];
+    memset(found, 0, sizeof *found);
+    found->is_in_tmux = is_set("TMUX");
+    found->kind = find_kind(found->is_in_tmux ? find_outer(found, answer, sizeof answer) : "");
+    found->keeps_title = keeps_title(found->kind);
+    find_reordering(found);
+    tell_mirroring(found->kind);
+}
+
+/* Writes the sequence for each row of the terminal, and gives its cursor back: VTE keeps the mode by row. */
+static void tell_rows(int file, char letter, bool is_last) {
+    static char text[(MOST_ROWS + 2) * ROW_BYTES];
+    struct winsize window = {0};
+    if (ioctl(file, TIOCGWINSZ, &window) != 0) return;
+    unsigned rows = window.ws_row > MOST_ROWS ? MOST_ROWS : window.ws_row;
+    int length = snprintf(text, sizeof text, "\033[8%c\0337", letter);
+    for (unsigned row = 1; row <= rows; row++)
+        length += snprintf(text + length, sizeof text - (size_t)length, "\033[%u;1H\033[8%c", row, letter);
+    length += snprintf(text + length, sizeof text - (size_t)length, "\0338");
+    write_ready(file, text, (size_t)length, OUTER_MS, is_last);
+}
+
+void tell_outer(const struct terminal_kind *kind, bool is_kept, bool is_last) {
+    if (!kind->outer[0]) return;
+    int file = open(kind->outer, O_WRONLY | O_NONBLOCK | O_NOCTTY | O_CLOEXEC);
+    if (file < 0) return;
+    char letter = is_kept ? 'l' : 'h', text[128];
+    if (kind->kind == VTE) {
+        tell_rows(file, letter, is_last);
+    } else {
+        int length = snprintf(text, sizeof text, "\033[8%c%s", letter, is_kept ? kind->off : kind->on);
+        write_ready(file, text, (size_t)length, OUTER_MS, is_last);
+    }
+    close(file);
 }

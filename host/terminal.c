@@ -2,19 +2,49 @@
 
 #include <errno.h>
 #include <fcntl.h>
+#include <poll.h>
 #include <signal.h>
+#include <stdio.h>
 #include <string.h>
 #include <sys/ioctl.h>
 #include <termios.h>
 #include <unistd.h>
 
-/* The longest side of a window, as in the editor; the bytes that wait for the terminal at most; how often settings are tried. */
-enum { LONGEST = 500, MOST_SHOWN = 16384, TRIES = 3 };
+#include "kinds.h"
+#include "run.h"
+#include "signals.h"
+
+/* The longest side of a window, as in the editor; bytes that wait for the terminal at most, of a title, and of other sequences;
+ * how often settings are tried. */
+enum { LONGEST = 500, MOST_SHOWN = 16384, MOST_TITLE = 4096, MOST_SEQUENCES = 1024, TRIES = 3 };
+/* Milliseconds: for the first sequences; after which a paste that says nothing more is over. */
+enum { FIRST_MS = 3000, PASTE_SILENCE_MS = 1000 };
+
+/* Modes that the painter requires: arrows as CSI, ASCII, replace mode, origin at the window's top, no scroll region, autowrap
+ * (without it tmux joins marks to the letter before), a visible cursor, and no reordering by the terminal (ECMA-48: mode 8, BDSM,
+ * and SCP, which ends in ` k`). In xterm Alt and a letter send ESC and the letter, and not another letter. Pastes are marked. */
+#define MODES "\033[?1l\033(B\017\033[4l\033[?6l\033[r\033[?7h\033[?25h\033[8l\033[1 k\033[?1036h"
+#define PASTE "\033[?2004h"
+
+/* Modes that shells expect: reordering is on again, and the modes of arrows and Alt are restored where the terminal could save
+ * them. */
+#define END_MODES "\033[?2004l\033[0m\033[?1r\033[?1036r\033[?25h\033[0 k\033[8h"
+
+/* The cursor is saved too: where nothing was painted, the end of the alternate screen restores it to its place. */
+#define SAVED "\0337\033[?1s\033[?1036s"
+#define SAVED_TITLE "\033[22;0t"
+#define END_TITLE "\033[23;0t"
 
 int line = -1, screen = -1;
-struct queue shown;
+
 /* The settings from before, and the host's own. */
 static struct termios cooked, raw;
+static struct terminal_kind kind;
+/* Sent first; written by the program before its first painting; sent after a stop; sent at the end. */
+static char saving[MOST_SEQUENCES], before[MOST_SEQUENCES + MOST_TITLE], again[MOST_SEQUENCES], ending[MOST_SEQUENCES];
+/* What waits for the terminal. */
+static char shown[MOST_SHOWN];
+static size_t shown_length;
 
 bool open_terminal(void) {
     const char *name = "/dev/tty";
@@ -31,11 +61,15 @@ bool open_terminal(void) {
     return false;
 }
 
+static unsigned side(unsigned side, unsigned without) {
+    return side == 0 ? without : side > LONGEST ? LONGEST : side;
+}
+
 bool measure(struct size *size) {
     struct winsize window = {0};
     bool is_measured = line >= 0 && ioctl(line, TIOCGWINSZ, &window) == 0 && window.ws_row > 0 && window.ws_col > 0;
-    size->rows = window.ws_row == 0 ? 24 : window.ws_row > LONGEST ? LONGEST : window.ws_row;
-    size->columns = window.ws_col == 0 ? 80 : window.ws_col > LONGEST ? LONGEST : window.ws_col;
+    size->rows = side(window.ws_row, 24);
+    size->columns = side(window.ws_col, 80);
     return is_measured;
 }
 
@@ -65,10 +99,6 @@ static bool set(const struct termios *settings) {
     return false;
 }
 
-bool set_raw(void) {
-    return set(&raw);
-}
-
 bool is_raw(void) {
     struct termios settings;
     return tcgetattr(line, &settings) == 0 && !(settings.c_lflag & (tcflag_t)(ICANON | ISIG));
@@ -79,14 +109,104 @@ void restore_settings(void) {
     set(&cooked);
 }
 
-void show(const char *text) {
+/* Makes the sequence of a title without control characters, which would end it. */
+static void make_title(char text[MOST_TITLE], const char *title) {
+    size_t length = (size_t)snprintf(text, MOST_TITLE, "\033]2;");
+    for (; *title && length + 2 < MOST_TITLE; title++)
+        if ((unsigned char)*title >= ' ' && *title != 127) text[length++] = *title;
+    text[length++] = '\a';
+    text[length] = 0;
+}
+
+void prepare_screen(const char *title) {
+    char text[MOST_TITLE] = "";
+    find_terminal_kind(&kind);
+    /* tmux would drop them */
+    const char *off = kind.is_in_tmux ? "" : kind.off, *on = kind.is_in_tmux ? "" : kind.on;
+    if (kind.keeps_title) make_title(text, title);
+    snprintf(saving, sizeof saving, "%s%s", SAVED, kind.keeps_title ? SAVED_TITLE : "");
+    snprintf(before, sizeof before, "\033[?1049h%s%s%s%s", MODES, off, PASTE, text);
+    /* 1049 saves the cursor, 1047 keeps the saved one */
+    snprintf(again, sizeof again, "\033[?1047h%s%s%s", MODES, off, PASTE);
+    snprintf(ending, sizeof ending, "%s%s%s\033[?1049l", END_MODES, on, kind.keeps_title ? END_TITLE : "");
+}
+
+const char *first_sequences(void) {
+    return before;
+}
+
+bool begin_screen(void) {
+    if (!set(&raw)) return false;
+    tell_outer(&kind, true, false);
+    write_ready(line, saving, strlen(saving), FIRST_MS, false);
+    return true;
+}
+
+static void show(const char *text) {
     size_t length = strlen(text);
-    if (shown.end - shown.start + length <= MOST_SHOWN) add_bytes(&shown, text, length);
+    if (length > sizeof shown - shown_length) return;
+    memcpy(shown + shown_length, text, length);
+    shown_length += length;
+}
+
+void take_up_screen(void) {
+    set(&raw);
+    show(again);
+}
+
+void show_title(const char *title) {
+    char text[MOST_TITLE];
+    if (!kind.keeps_title) return;
+    make_title(text, title);
+    show(text);
+}
+
+void ring(void) {
+    show("\a");
+}
+
+bool is_showing(void) {
+    return shown_length > 0;
 }
 
 void go_on_showing(void) {
-    ssize_t count = write(line, shown.bytes + shown.start, shown.end - shown.start);
-    if (count > 0) take_bytes(&shown, (size_t)count);
+    ssize_t count = write(line, shown, shown_length);
+    if (count < 0 && (errno == EAGAIN || errno == EINTR)) return;
     /* a closed terminal takes nothing any more */
-    if (count < 0 && errno != EAGAIN && errno != EINTR) take_bytes(&shown, shown.end - shown.start);
+    size_t taken = count < 0 ? shown_length : (size_t)count;
+    shown_length -= taken;
+    memmove(shown, shown + taken, shown_length);
+}
+
+void restore_screen(int64_t limit) {
+    /* a sequence that was begun is ended first */
+    show(ending);
+    write_ready(line, shown, shown_length, limit, true);
+    shown_length = 0;
+    tell_outer(&kind, false, true);
+}
+
+void follow_paste(struct paste *paste, const unsigned char *bytes, size_t length) {
+    /* ESC [ 2 0 0 ~ and ESC [ 2 0 1 ~, six bytes each */
+    static const uint64_t begins = 0x1b5b3230307e, ends = 0x1b5b3230317e, six_bytes = 0xffffffffffff;
+    for (size_t i = 0; i < length; i++) {
+        paste->last_bytes = (paste->last_bytes << 8 | bytes[i]) & six_bytes;
+        if (paste->last_bytes == begins) paste->is_under_way = true;
+        if (paste->last_bytes == ends) paste->is_under_way = false;
+    }
+}
+
+void drain_paste(struct paste *paste, int64_t limit) {
+    int64_t end = now() + limit;
+    while (paste->is_under_way && now() < end) {
+        unsigned char bytes[4096];
+        int64_t left = end - now();
+        struct pollfd wanted = {.fd = line, .events = POLLIN};
+        int count = poll(&wanted, 1, left > PASTE_SILENCE_MS ? PASTE_SILENCE_MS : left > 0 ? (int)left : 0);
+        if (count == 0) break;
+        ssize_t length = read(line, bytes, sizeof bytes);
+        if (length == 0 || (length < 0 && errno != EAGAIN && errno != EINTR)) return;
+        if (length > 0) follow_paste(paste, bytes, (size_t)length);
+    }
+    if (paste->is_under_way) tcflush(line, TCIFLUSH);
 }

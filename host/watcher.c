@@ -6,36 +6,41 @@
 #include <signal.h>
 #include <stdint.h>
 #include <string.h>
+#include <sys/ioctl.h>
+#include <sys/mman.h>
+#include <sys/prctl.h>
+#include <termios.h>
 #include <unistd.h>
 
-#include "keeper.h"
-#include "processes.h"
-#include "restoring.h"
-#include "terminal.h"
-#include "writing.h"
+#include "signals.h"
 
-/* Milliseconds from the host's death on: how long the program has, the screen, and, all in all, the keeper. TOLD is the number of
- * things to be told. */
-enum { GRACE = 3000, SCREEN = 1000, WHOLE = 4500, TOLD = 3 };
+/* Milliseconds from the host's death on: how long the program has, a save, a paste that is under way, and the screen. */
+enum { GRACE_MS = 3000, SAVE_MS = 4500, PASTE_MS = 2000, TTY_RESTORE_MS = 1000 };
 
-/* Written in one piece, since a pipe does not mix short writes. */
-struct told_message {
-    enum told what;
-    pid_t process;
-};
+static const char watcher_name[] = "bidi-watcher";
 
+struct watched *watched;
 pid_t watcher;
 
-/* The pipe that the host and its children, before they become others, tell the watcher by. */
+/* The pipe that ends with the host. */
 static int life = -1;
 
-void tell_watcher(enum told what, pid_t process) {
-    struct told_message message;
-    memset(&message, 0, sizeof message);
-    message.what = what;
-    message.process = process;
-    /* a watcher that is gone harms nothing */
-    if (life >= 0 && write(life, &message, sizeof message) < 0) return;
+/* The words of the host's command line, one after another in memory. */
+static char *first_word;
+static size_t words_length;
+
+void note_command_line(int count, char **words) {
+    first_word = words[0];
+    words_length = 0;
+    for (int i = 0; i < count && words[i] == first_word + words_length; i++) words_length += strlen(words[i]) + 1;
+}
+
+/* Takes another name than the host's, by which many kill. */
+static void take_name(void) {
+    prctl(PR_SET_NAME, watcher_name);
+    if (words_length == 0) return;
+    memset(first_word, 0, words_length);
+    strncpy(first_word, watcher_name, words_length - 1);
 }
 
 /* Waits until a pipe's last writer is gone, or the time is over. */
@@ -50,56 +55,72 @@ static bool ends_before(int file, int64_t end) {
     return false;
 }
 
-/* Gives what is written to it until the host is gone, which ends this process before its own end. */
-static void listen_to_host(int told, pid_t processes[TOLD]) {
-    struct told_message message;
-    for (;;) {
-        ssize_t count = read(told, &message, sizeof message);
-        if (count == (ssize_t)sizeof message && message.what <= PROGRAM_BEGINS) processes[message.what] = message.process;
+static void ignore(int number) {
+    (void)number;
+}
+
+/* Waits until the host is gone, which ends this process before its own end. A child of the host may hold the pipe: the signal of
+ * the host's death comes all the same. */
+static void wait_for_host(int file, pid_t host) {
+    char byte;
+    while (getppid() == host) {
+        ssize_t count = read(file, &byte, 1);
         if (count == 0 || (count < 0 && errno != EINTR)) return;
     }
 }
 
-static _Noreturn void watch(int told, int words) {
-    pid_t processes[TOLD] = {0};
-    listen_to_host(told, processes);
+/* Drops the rest of a paste. Output is held meanwhile, so that a shell stops at its prompt and takes nothing of it. */
+static void end_paste(void) {
+    if (!watched->paste.is_under_way) return;
+    tcflow(line, TCOOFF);
+    drain_paste(&watched->paste, PASTE_MS);
+}
+
+static _Noreturn void watch(int file, int words, pid_t host) {
+    wait_for_host(file, host);
     int64_t start = now();
-    bool is_changed = processes[TERMINAL_CHANGES] != 0;
-    if (processes[FILTER_BEGINS] > 0) kill(processes[FILTER_BEGINS], SIGKILL);
+    bool is_paste = watched->paste.is_under_way, is_changed = watched->is_changed;
+    if (is_changed) end_paste();
     /* as soon as can be, since a shell sets its own now; where it has, they stay */
     if (is_changed && is_raw()) restore_settings();
-    if (!ends_before(words, start + GRACE) && processes[PROGRAM_BEGINS] > 0) kill(processes[PROGRAM_BEGINS], SIGKILL);
-    if (is_changed) restore_screen(SCREEN);
-    if (keeper.to >= 0) close(keeper.to);
-    if (keeper.from >= 0 && !ends_before(keeper.from, start + WHOLE)) kill(keeper.process, SIGKILL);
+    if (is_paste) tcflow(line, TCOON);
+    if (!ends_before(words, start + GRACE_MS) && watched->program > 0) kill(watched->program, SIGKILL);
+    if (is_changed) restore_screen(TTY_RESTORE_MS);
+    /* its pipe has ended with the program */
+    while (watched->saver > 0 && now() < start + SAVE_MS && kill(watched->saver, 0) == 0) poll(NULL, 0, 50);
+    if (watched->saver > 0) kill(watched->saver, SIGKILL);
     _exit(0);
 }
 
 /* Closes what would keep others waiting, and lets no signal but SIGKILL end the watcher. */
-static _Noreturn void become_watcher(int told, int words, int words_end) {
+static _Noreturn void become_watcher(int file, int words, int words_end, pid_t host) {
     sigset_t mask;
+    take_name();
     sigfillset(&mask);
+    sigdelset(&mask, SIGUSR1);
+    signal(SIGUSR1, ignore);
     sigprocmask(SIG_SETMASK, &mask, NULL);
+    prctl(PR_SET_PDEATHSIG, SIGUSR1);
     setpgid(0, 0);
+    /* who has no terminal is never in the background of one */
+    ioctl(line, TIOCNOTTY);
     const int others[] = {life, words_end, screen, STDIN_FILENO, STDOUT_FILENO, STDERR_FILENO};
     for (size_t i = 0; i < sizeof others / sizeof *others; i++) close(others[i]);
-    watch(told, words);
+    watch(file, words, host);
 }
 
 bool start_watcher(int words, int words_end) {
     int ends[2];
-    if (pipe2(ends, O_CLOEXEC) != 0) return false;
+    pid_t host = getpid();
+    watched = mmap(NULL, sizeof *watched, PROT_READ | PROT_WRITE, MAP_SHARED | MAP_ANONYMOUS, -1, 0);
+    if (watched == MAP_FAILED || pipe2(ends, O_CLOEXEC) != 0) return false;
     life = ends[1];
     watcher = fork();
-    if (watcher == 0) become_watcher(ends[0], words, words_end);
+    if (watcher == 0) become_watcher(ends[0], words, words_end, host);
     close(ends[0]);
-    if (watcher < 0) {
-        watcher = 0;
-        return false;
-    }
+    if (watcher < 0) watcher = 0;
     /* before the terminal changes: a kill of the whole job spares it */
-    setpgid(watcher, watcher);
-    return true;
+    return watcher > 0 && (setpgid(watcher, watcher) == 0 || errno == EACCES);
 }
 
 void end_watcher(void) {

@@ -1,22 +1,31 @@
-/* The watcher: a process beside the host, in a job of its own, that does what a killed host cannot do any more. */
+/* The watcher: a process beside the host, in a job and under a name of its own, that does what a killed host cannot do any more.
+ * It lives until the program has ended, and keeps what it inherits open so long, the lock of a session above all. */
 #ifndef WATCHER_H
 #define WATCHER_H
 
 #include <stdbool.h>
 #include <sys/types.h>
 
-/* What the watcher gets: that the terminal changes now, and the processes that have begun. */
-enum told { TERMINAL_CHANGES, FILTER_BEGINS, PROGRAM_BEGINS };
+#include "terminal.h"
+
+/* What host, program and watcher share: whether the terminal is changed, the program and the child of a save, 0 without one, and
+ * the terminal's paste. */
+struct watched {
+    volatile bool is_changed;
+    volatile pid_t program, saver;
+    struct paste paste;
+};
+
+extern struct watched *watched;
 
 /* Its process; 0 without one. */
 extern pid_t watcher;
 
-/* Starts it. It reads a pipe that ends with the host, holds the keeper's input as long as it lives, and sees the end of the
- * program by that of the program's words, whose reading and writing ends are given. */
-bool start_watcher(int words, int words_end);
+/* Takes note of the host's command line, which the watcher overwrites in its own copy. */
+void note_command_line(int count, char **words);
 
-/* Tells it something; a child tells its own number. */
-void tell_watcher(enum told what, pid_t process);
+/* Starts it. It sees the end of the program by that of the program's words, whose reading and writing ends are given. */
+bool start_watcher(int words, int words_end);
 
 /* Kills it: the host has restored the terminal itself. */
 void end_watcher(void);
