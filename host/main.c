@@ -1,32 +1,17 @@
-/* bidi-edit [WORD..]: runs the editor in this terminal.
- *
- * The keeper, a program beside it, decides about words, files and sessions. The host has what only the system can do: the
- * terminal, processes, signals and timers. It restores the terminal however the program, the keeper or it itself ends. */
+/* bidi-edit [WORD..]: runs the editor in this terminal, and restores the terminal however the program or it itself ends. */
 #include <fcntl.h>
-#include <pwd.h>
+#include <limits.h>
 #include <stdio.h>
 #include <stdlib.h>
 #include <string.h>
-#include <sys/ioctl.h>
+#include <sys/stat.h>
 #include <unistd.h>
 
-#include "children.h"
-#include "closing.h"
-#include "fault.h"
-#include "keeper.h"
-#include "kinds.h"
+#include "keep.h"
 #include "programs.h"
-#include "requests.h"
-#include "running.h"
 #include "signals.h"
 #include "terminal.h"
-#include "writing.h"
-
-/* How long the keeper has to end itself, in milliseconds: at an end without a session, and before printing, where it has no more
- * to do. */
-enum { LEAVING = 3000, PRINTING = 1000 };
-
-static struct programs programs;
+#include "watcher.h"
 
 /* Opens standard input, output and error where they are closed, so that no other file gets their numbers. */
 static void open_standard_files(void) {
@@ -38,107 +23,96 @@ static void open_standard_files(void) {
     if (file >= 0) close(file);
 }
 
-/* Says a variable, if it is set. */
-static void say_variable(const char *name) {
-    const char *value = getenv(name);
-    size_t room = strlen(name) + (value ? strlen(value) : 0) + 2;
-    char *text = value ? malloc(room) : NULL;
-    if (value && !text) lose_keeper();
-    if (!text) return;
-    snprintf(text, room, "%s=%s", name, value);
-    say('v', text);
-    free(text);
-}
-
-/* Says the home that root has whatever HOME says, and others where HOME says none. Else it is empty, since a user's database may
- * be far away. */
-static void say_home(void) {
-    const struct passwd *user = geteuid() == 0 || !*variable("HOME") ? getpwuid(geteuid()) : NULL;
-    say('h', user && user->pw_dir ? user->pw_dir : "");
-}
-
-/* Says the toolchain that was noted at the build. */
-static void say_toolchain(void) {
-    char kit[256];
-    FILE *stream = fopen(programs.kit.text, "re");
-    if (!stream) return;
-    if (fgets(kit, sizeof kit, stream)) {
-        kit[strcspn(kit, "\n")] = 0;
-        say('k', kit);
+/* Finds a command in PATH, as a shell does. */
+static bool find_in_path(const char *name, char found[PATH_MAX]) {
+    const char *at = getenv("PATH");
+    while (at) {
+        const char *end = strchrnul(at, ':');
+        int length = (int)(end - at);
+        int count = snprintf(found, PATH_MAX, "%.*s/%s", length > 0 ? length : 1, length > 0 ? at : ".", name);
+        if (count > 0 && count < PATH_MAX && access(found, X_OK) == 0) return true;
+        at = *end ? end + 1 : NULL;
     }
-    fclose(stream);
+    return false;
 }
 
-/* Sends the window's size: a session notes its first one. */
-static void say_window(struct size size) {
-    char text[32];
-    snprintf(text, sizeof text, "%u %u", size.rows, size.columns);
-    say('C', text);
+/* Finds the host's own file, through links: by the system, else by the word that it was started with. */
+static bool find_self(const char *own_word, char self[PATH_MAX]) {
+    char found[PATH_MAX];
+    ssize_t length = readlink("/proc/self/exe", self, PATH_MAX - 1);
+    if (length > 0) {
+        self[length] = 0;
+        if (access(self, F_OK) == 0) return true;
+    }
+    if (!own_word) return false;
+    if (strchr(own_word, '/')) return realpath(own_word, self) != NULL;
+    return find_in_path(own_word, found) && realpath(found, self);
 }
 
-/* Says all that the keeper hears at the start. */
-static void say_start(int count, char **own_words, struct size size) {
-    static const char *const names[] = {"HOME", "XDG_STATE_HOME", "XDG_RUNTIME_DIR", "TMPDIR", "BIDI_EDIT_DATA"};
-    struct winsize window = {0};
-    bool is_dumb = strcmp(variable("TERM"), "dumb") == 0;
-    for (int i = 1; i < count; i++) say('w', own_words[i]);
-    for (size_t i = 0; i < sizeof names / sizeof *names; i++) say_variable(names[i]);
-    if (line >= 0) say_window(size);
-    say_number('u', geteuid());
-    say_home();
-    say('d', programs.tables.text);
-    say_toolchain();
-    say('t', is_dumb ? "dumb" : line >= 0 ? "yes" : "no");
-    say_number('c', ioctl(STDOUT_FILENO, TIOCGWINSZ, &window) == 0 ? window.ws_col : 0);
-    say('.', "");
+/* Cuts off the last name. Returns false for a path without one. */
+static bool go_up(char *path) {
+    char *slash = strrchr(path, '/');
+    if (!slash || strcmp(path, "/") == 0) return false;
+    slash[slash == path ? 1 : 0] = 0;
+    return true;
 }
 
-/* Becomes the printing program. */
-static _Noreturn void print(const struct request *request) {
-    end_keeper(now() + PRINTING);
-    give_back_signals();
-    execv(programs.printer.text, request->printer.words);
-    tell_fault(programs.printer.text, " cannot be started");
-    exit(1);
+/* The path of a file below a folder, which stays; NULL without memory. */
+static char *below(const char *folder, const char *name) {
+    char *path = NULL;
+    return asprintf(&path, "%s/%s", strcmp(folder, "/") == 0 ? "" : folder, name) < 0 ? NULL : path;
 }
 
-/* Ends before the screen changed. */
-static _Noreturn void leave(enum outcome outcome, const struct request *request) {
-    end_keeper(now() + LEAVING);
-    if (outcome == SIGNALLED) die_from(end_signal);
-    if (outcome == EXIT) exit(request->status);
-    tell_keeper(": the editor is not started");
-    exit(1);
+static bool is_folder(const char *path) {
+    struct stat look;
+    return path && stat(path, &look) == 0 && S_ISDIR(look.st_mode);
 }
 
-/* Runs the session, from the change of the terminal to the keeper's end. */
-static _Noreturn void edit(const struct request *request, struct size size) {
-    unsigned long length = 0;
-    const char *cause = "";
-    bool has_filter = access(programs.filter.text, X_OK) == 0;
-    if (line < 0) fail("there is no terminal: start the editor in one (ssh -t gives one to a command)");
-    int status = run_program(request, programs.editor.text, has_filter ? programs.filter.text : NULL, size, &cause);
-    const char *said = other_words(&length);
-    if (length > 0) tell_foreign(said, length);
-    if (status < 0) tell_fault("the editor is not started: ", cause);
-    status = end_session(status < 0 ? 1 : status);
-    if (end_signal) die_from(end_signal);
-    exit(status);
+static bool find_in_repository(const char *top, struct programs *programs) {
+    programs->editor = below(top, "crates/bidi_edit/out/bidi_edit");
+    programs->printer = below(top, "crates/bidi_print/out/bidi_print");
+    programs->kit = below(top, "crates/bidi_edit/out/kit");
+    programs->tables = below(top, "data");
+    return programs->editor && programs->printer && programs->kit && programs->tables;
 }
 
-int main(int count, char **own_words) {
-    static struct request request;
-    struct size size;
+static bool find_installed(const char *top, struct programs *programs) {
+    programs->editor = below(top, "lib/bidi_edit/bidi_edit");
+    programs->printer = below(top, "lib/bidi_edit/bidi_print");
+    programs->kit = below(top, "lib/bidi_edit/kit");
+    programs->tables = below(top, "share/bidi_edit");
+    return programs->editor && programs->printer && programs->kit && programs->tables;
+}
+
+/* Finds programs and tables by the host's own place. Returns false where that cannot be found. */
+static bool find_programs(const char *own_word, struct programs *programs) {
+    static const char built[] = "/host/out";
+    char top[PATH_MAX];
+    if (!find_self(own_word, top) || !go_up(top)) return false;
+    /* host/out/bidi-edit in a repository, bin/bidi-edit elsewhere */
+    size_t length = strlen(top), tail = sizeof built - 1;
+    if (length > tail && strcmp(top + length - tail, built) == 0) {
+        top[length - tail] = 0;
+        char *crate = below(top, "crates/bidi_edit");
+        bool is_repository = is_folder(crate);
+        free(crate);
+        if (is_repository) return find_in_repository(top, programs);
+        top[length - tail] = '/';
+    }
+    return go_up(top) && find_installed(top, programs);
+}
+
+int main(int count, char **words) {
+    static struct programs programs;
     open_standard_files();
-    if (!find_programs(own_words[0], &programs)) fail("its own place cannot be found");
-    set_signals();
-    if (!start_keeper(programs.keeper.text)) fail("the keeper of sessions cannot be started");
+    set_first_signals();
+    note_command_line(count, words);
+    if (!find_programs(count > 0 ? words[0] : NULL, &programs)) {
+        fputs("bidi-edit: its own place cannot be found\n", stderr);
+        return 1;
+    }
     open_terminal();
-    measure(&size);
-    if (!add_word(&request.printer, programs.printer.text)) fail("there is no memory");
-    say_start(count, own_words, size);
-    enum outcome outcome = carry_out(&request);
-    if (outcome == PRINT) print(&request);
-    if (outcome == GO) edit(&request, size);
-    leave(outcome, &request);
+    int status = keep(count, words, &programs);
+    if (end_signal) die_from(end_signal);
+    return status;
 }

@@ -1,0 +1,295 @@
+#include "run.h"
+
+#include <errno.h>
+#include <signal.h>
+#include <string.h>
+#include <sys/ioctl.h>
+#include <sys/wait.h>
+#include <unistd.h>
+
+#include "program.h"
+#include "save.h"
+#include "signals.h"
+#include "terminal.h"
+#include "watcher.h"
+
+/* Milliseconds. GRACE_MS: the program's for its end, of which the first HAND_ON_MS are for what was typed to be handed on;
+ * DEATH_MS: a killed one's. RESTORE_MS: the terminal's to take what restores it, or RESTORE_BY_SIGNAL_MS after a signal. IDLE_MS:
+ * typed bytes that nothing follows for so long are all. PASTE_MS: for a paste to end. LEAST_MS: what a step has at least. */
+enum {
+    GRACE_MS = 3000,
+    HAND_ON_MS = 500,
+    DEATH_MS = 1000,
+    RESTORE_MS = 10000,
+    RESTORE_BY_SIGNAL_MS = 1000,
+    IDLE_MS = 50,
+    SECOND_MS = 1000,
+    PASTE_MS = 2000,
+    LEAST_MS = 200
+};
+
+/* The bytes of one read of the terminal, and the most that wait here: few, since a kill of the host loses them. */
+enum { TYPED_PIECE = 1024, TYPED_MOST = 4096 };
+
+/* The byte of Ctrl-C. */
+enum { CTRL_C = 3 };
+
+/* The state of the one run. The processes are 0 where there is none. */
+static struct {
+    struct pipes pipes;
+    pid_t program, saver;
+    int program_status;
+    /* What waits for the program, and what came from it. */
+    struct frame_queue queue;
+    struct word_reader reader;
+    /* The program is to get the window's size; the terminal says no more. */
+    bool is_size_owed, is_hung_up;
+    /* When IDLE is due, and the next second; when the program has to have ended, 0 before the session is to end. */
+    int64_t idle, second, end;
+    bool is_killed;
+} now_running;
+
+void give_notice(enum notice notice) {
+    unsigned char number = (unsigned char)notice;
+    put_frame(&now_running.queue, FRAME_NOTICE, &number, 1);
+}
+
+static void hear_words(struct run *run) {
+    if (now_running.pipes.words < 0 || read_words_of(run, &now_running.reader, now_running.pipes.words)) return;
+    close_file_of(&now_running.pipes.words);
+}
+
+/* Takes note of the children that have ended. */
+static void reap(struct run *run) {
+    int status = 0;
+    if (now_running.program > 0 && waitpid(now_running.program, &now_running.program_status, WNOHANG) == now_running.program) {
+        now_running.program = watched->program = 0;
+    }
+    if (now_running.saver > 0 && waitpid(now_running.saver, &status, WNOHANG) == now_running.saver) {
+        now_running.saver = watched->saver = 0;
+        saver_finish(run->saver);
+        if (run->on_saved) run->on_saved(run->whose);
+    }
+    if (watcher > 0 && waitpid(watcher, &status, WNOHANG) == watcher) watcher = 0;
+}
+
+/* Has a child serve the save that the program asks for. */
+static void start_save(struct run *run) {
+    int waiting = 0;
+    /* the program's end is no request */
+    if (ioctl(now_running.pipes.requests, FIONREAD, &waiting) != 0 || waiting == 0) {
+        close_file_of(&now_running.pipes.requests);
+        return;
+    }
+    pid_t child = saver_start(run->saver, now_running.pipes.requests, now_running.pipes.answers);
+    if (child > 0) now_running.saver = watched->saver = child;
+}
+
+static bool takes_typing(void) {
+    return !now_running.is_hung_up && (now_running.end != 0 || queue_length(&now_running.queue) < TYPED_MOST);
+}
+
+/* A start that has not come to its first painting is ended by Ctrl-C. What the program said before the user saw it is heard
+ * first. */
+static void mind_ctrl_c(struct run *run, const unsigned char *bytes, size_t length) {
+    if (run->said.is_opened || !memchr(bytes, CTRL_C, length)) return;
+    hear_words(run);
+    if (!run->said.is_opened) note_end(SIGINT);
+}
+
+/* Reads the terminal. What is typed after the end is dropped. */
+static void read_typing(struct run *run) {
+    unsigned char bytes[TYPED_PIECE];
+    ssize_t count = read(line, bytes, sizeof bytes);
+    if (count == 0 || (count < 0 && errno != EAGAIN && errno != EINTR)) now_running.is_hung_up = true;
+    if (count <= 0) return;
+    follow_paste(&watched->paste, bytes, (size_t)count);
+    mind_ctrl_c(run, bytes, (size_t)count);
+    if (now_running.end != 0 || end_signal) return;
+    put_frame(&now_running.queue, FRAME_TYPED, bytes, (size_t)count);
+    now_running.idle = now() + IDLE_MS;
+}
+
+static void close_input(void) {
+    close_file_of(&now_running.pipes.keys);
+    now_running.is_size_owed = false;
+    now_running.idle = 0;
+}
+
+/* Waits until the time `end`, or until something came, and reads and writes what can be. */
+static void wait_once(struct run *run, int64_t end) {
+    enum { WORDS, REQUESTS, KEYS, LINE, FILES };
+    bool is_saving = !run->saver || now_running.saver > 0, is_written = queue_length(&now_running.queue) > 0;
+    /* poll passes over a file of -1 */
+    struct pollfd files[FILES] = {
+        [WORDS] = {.fd = now_running.pipes.words, .events = POLLIN},
+        [REQUESTS] = {.fd = is_saving ? -1 : now_running.pipes.requests, .events = POLLIN},
+        [KEYS] = {.fd = is_written ? now_running.pipes.keys : -1, .events = POLLOUT},
+        [LINE] = {.fd = line, .events = 0},
+    };
+    if (takes_typing()) files[LINE].events |= POLLIN;
+    if (is_showing()) files[LINE].events |= POLLOUT;
+    if (files[LINE].events == 0) files[LINE].fd = -1;
+    if (wait_for(files, FILES, end) <= 0) return;
+    if (files[WORDS].revents) hear_words(run);
+    if (files[REQUESTS].revents) start_save(run);
+    if (files[LINE].revents && is_showing()) go_on_showing();
+    if (files[LINE].revents & ~POLLOUT && takes_typing()) read_typing(run);
+}
+
+/* Puts the window's size behind what was typed before, once the terminal has what comes before the repainting. */
+static void mind_size(void) {
+    struct size size;
+    if (!now_running.is_size_owed || is_showing()) return;
+    now_running.is_size_owed = false;
+    if (!measure(&size)) return;
+    const unsigned char bytes[] = {(unsigned char)(size.rows >> 8), (unsigned char)size.rows, (unsigned char)(size.columns >> 8),
+                                   (unsigned char)size.columns};
+    now_running.is_size_owed = !put_frame(&now_running.queue, FRAME_SIZE, bytes, sizeof bytes);
+}
+
+/* Takes note of signals for the window and of stops. */
+static void mind_terminal(void) {
+    bool is_input = now_running.pipes.keys >= 0;
+    if (is_input && is_continued) take_up_screen();
+    if (is_input && (is_resized || is_continued)) now_running.is_size_owed = true;
+    is_resized = is_continued = 0;
+    mind_size();
+}
+
+/* Bytes that came while the host was stopped follow what was typed before. */
+static void mind_idle(void) {
+    struct pollfd wanted = {.fd = line, .events = POLLIN};
+    if (now_running.idle == 0 || now() < now_running.idle || !takes_typing() || poll(&wanted, 1, 0) != 0) return;
+    if (put_frame(&now_running.queue, FRAME_IDLE, NULL, 0)) now_running.idle = 0;
+}
+
+/* Tells each second, the program only if it has read all before. */
+static void mind_second(struct run *run) {
+    int waiting = 0;
+    if (now() < now_running.second) return;
+    now_running.second = now() + SECOND_MS;
+    if (run->on_second) run->on_second(run->whose);
+    bool is_read = ioctl(now_running.pipes.keys, FIONREAD, &waiting) == 0 && waiting == 0;
+    if (is_read && queue_length(&now_running.queue) == 0) put_frame(&now_running.queue, FRAME_SECOND, NULL, 0);
+}
+
+/* Hands on what waits. */
+static void mind_queue(void) {
+    if (now_running.pipes.keys >= 0 && !write_queue(&now_running.queue, now_running.pipes.keys)) close_input();
+}
+
+/* Kills what does not end in time. Returns false where it does not even then. */
+static bool kill_late(void) {
+    if (now_running.is_killed) return false;
+    if (now_running.program > 0) {
+        kill(now_running.program, SIGKILL);
+        now_running.program_status = SIGKILL;
+    }
+    if (now_running.saver > 0) kill(now_running.saver, SIGKILL);
+    now_running.is_killed = true;
+    now_running.end = now() + DEATH_MS;
+    return true;
+}
+
+/* Ends the program's input where the session is to end, once it has what was typed. Returns false where the end is over. */
+static bool mind_end(void) {
+    bool is_over = end_signal || now_running.is_hung_up || now_running.program == 0;
+    if (is_over && now_running.end == 0) now_running.end = now() + GRACE_MS;
+    if (now_running.end == 0) return true;
+    bool is_handed_on = queue_length(&now_running.queue) == 0 || now() >= now_running.end - GRACE_MS + HAND_ON_MS;
+    if (is_handed_on || now_running.is_killed) close_input();
+    return now() < now_running.end || kill_late();
+}
+
+/* When the next thing is to be done without being woken. */
+static int64_t next_moment(void) {
+    bool is_handing_on = now_running.end != 0 && now_running.pipes.keys >= 0;
+    int64_t moments[] = {now_running.end, is_handing_on ? now_running.end - GRACE_MS + HAND_ON_MS : 0,
+                         takes_typing() ? now_running.idle : 0};
+    int64_t next = now_running.second;
+    for (size_t i = 0; i < sizeof moments / sizeof *moments; i++)
+        if (moments[i] != 0 && moments[i] < next) next = moments[i];
+    return next;
+}
+
+/* Goes on until the program and a save have ended, or cannot be ended. */
+static void go_on(struct run *run) {
+    for (reap(run); now_running.program > 0 || now_running.saver > 0; reap(run)) {
+        mind_terminal();
+        mind_second(run);
+        mind_idle();
+        mind_queue();
+        if (!mind_end()) return;
+        wait_once(run, next_moment());
+    }
+}
+
+/* So many milliseconds, or after a signal as many as are left, but LEAST_MS. */
+static int64_t within(int64_t limit) {
+    int64_t last = last_moment(LEAST_MS), left = last - now();
+    return last != 0 && left < limit ? left : limit;
+}
+
+/* Restores the terminal, and takes in what the program said last. */
+static void restore(struct run *run) {
+    close_input();
+    hear_words(run);
+    end_words(&now_running.reader);
+    drain_paste(&watched->paste, within(PASTE_MS));
+    restore_screen(within(end_signal ? RESTORE_BY_SIGNAL_MS : RESTORE_MS));
+    restore_settings();
+    close_pipes(&now_running.pipes);
+    end_watcher();
+    tell_foreign(&now_running.reader);
+}
+
+/* Starts the program in the changed terminal. Returns false, and the cause, where it cannot be started. */
+static bool start(struct run *run, struct program_ends *ends) {
+    struct size size, first;
+    measure(&size);
+    first = run->rows > 0 ? (struct size){run->rows, run->columns} : size;
+    run->cause = "the terminal takes no settings";
+    watched->is_changed = true;
+    if (!begin_screen()) return false;
+    run->cause = "no process can be started";
+    listen_once();
+    if (end_signal) return false;
+    pid_t program = start_program(run, ends, first.rows, first.columns);
+    if (program < 0) return false;
+    now_running.program = watched->program = program;
+    now_running.second = now() + SECOND_MS;
+    /* a recovered session began in another window, and may have ended in a third */
+    measure(&first);
+    now_running.is_size_owed = run->rows > 0 || first.rows != size.rows || first.columns != size.columns;
+    return true;
+}
+
+/* Makes what the program and the watcher need. */
+static bool prepare(struct run *run, struct program_ends *ends) {
+    run->cause = "the terminal tells no settings";
+    if (!note_settings()) return false;
+    prepare_screen(run->title);
+    run->cause = "no pipe can be made";
+    if (!open_pipes(&now_running.pipes, ends)) return false;
+    run->cause = "no process can be started";
+    if (start_watcher(now_running.pipes.words, ends->words)) return true;
+    close_pipes(&now_running.pipes);
+    close_program_ends(ends);
+    return false;
+}
+
+enum run_end run_program(struct run *run) {
+    struct program_ends ends;
+    run->said = (struct said){.end = END_NONE};
+    run->status = 1;
+    catch_signals();
+    if (!prepare(run, &ends)) return RUN_NOT_STARTED;
+    bool is_started = start(run, &ends);
+    close_program_ends(&ends);
+    if (is_started) go_on(run);
+    restore(run);
+    if (is_started) run->status = shell_status(now_running.program_status);
+    else if (end_signal) run->status = 128 + end_signal;
+    return is_started || end_signal ? RUN_ENDED : RUN_NOT_STARTED;
+}
