@@ -100,11 +100,25 @@ bool write_queue(struct frame_queue *queue, int file) {
     return true;
 }
 
+/* The most bytes of a word that begins with this letter; -1 for no word. All but one are so short that no text looks like them:
+ * its second byte would be a NUL. */
+static int most_of_word(unsigned char letter) {
+    switch (letter) {
+    case FRAME_OPENED: return 0;
+    case FRAME_JOURNAL: return 4;
+    case FRAME_END: return 7;
+    case FRAME_REPLAYED: return 64;
+    case FRAME_FAULT: return WORD_MOST;
+    default: return -1;
+    }
+}
+
 /* The length of the word at the start of the held bytes, 0 where that is no word, and more than is held where more is to come. */
 static size_t word_length(const unsigned char *held, size_t length) {
-    static const char letters[] = {FRAME_OPENED, FRAME_FAULT, FRAME_JOURNAL, FRAME_REPLAYED, FRAME_END};
-    if (!memchr(letters, held[0], sizeof letters) || (length > 1 && held[1] > WORD_MOST >> 8)) return 0;
-    return length < FRAME_HEAD ? FRAME_HEAD : FRAME_HEAD + length_in(held);
+    int most = most_of_word(held[0]);
+    if (most < 0 || (length > 1 && held[1] > most >> 8)) return 0;
+    if (length < FRAME_HEAD) return FRAME_HEAD;
+    return length_in(held) > (size_t)most ? 0 : FRAME_HEAD + length_in(held);
 }
 
 static void keep_foreign(struct word_reader *reader, unsigned char byte) {
@@ -121,15 +135,14 @@ static void hand_on(struct word_reader *reader, void (*hear)(const struct frame 
         if (length > reader->length - at) break;
         if (length == 0) {
             keep_foreign(reader, reader->bytes[at++]);
-        } else if (find_frame(reader->bytes + at, length, &frame) > 0) {
-            memcpy(text, frame.bytes, frame.length);
-            text[frame.length] = 0;
-            frame.bytes = text;
-            hear(&frame, whose);
-            at += length;
-        } else {
-            break;
+            continue;
         }
+        if (find_frame(reader->bytes + at, length, &frame) == 0) break;
+        memcpy(text, frame.bytes, frame.length);
+        text[frame.length] = 0;
+        frame.bytes = text;
+        hear(&frame, whose);
+        at += length;
     }
     memmove(reader->bytes, reader->bytes + at, reader->length - at);
     reader->length -= at;

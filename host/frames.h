@@ -63,8 +63,8 @@ enum notice {
  * the input, of the output, or more reads than can be counted. END_NONE: it did not say. */
 enum end_word { END_NONE, END_SAVED, END_UNSAVED, END_DROPPED, END_INPUT, END_OUTPUT, END_READS };
 
-/* FRAME_HEAD: the letter and the length. WORD_MOST: bytes of a frame on standard error at most, so few that no text looks like
- * one: its second byte would be a control character. */
+/* FRAME_HEAD: the letter and the length. WORD_MOST: bytes of a frame on standard error at most, so few that a text's second byte would
+ * be a control character. */
 enum { FRAME_HEAD = 3, FRAME_MOST = 65535, WORD_MOST = 2047 };
 
 struct frame {

@@ -49,20 +49,18 @@ static bool open_pipe(int *reading, int *writing) {
     return true;
 }
 
-bool open_pipes(struct pipes *pipes, struct program_ends *ends) {
+bool open_words(struct pipes *pipes, struct program_ends *ends) {
     *pipes = (struct pipes){-1, -1, -1, -1};
     *ends = (struct program_ends){-1, -1, -1, -1};
-    bool is_open = open_pipe(&ends->input, &pipes->keys) && open_pipe(&pipes->words, &ends->words) &&
-                   open_pipe(&pipes->requests, &ends->requests) && open_pipe(&ends->answers, &pipes->answers) &&
-                   fcntl(pipes->keys, F_SETFL, O_NONBLOCK) == 0 && fcntl(pipes->words, F_SETFL, O_NONBLOCK) == 0;
-    if (!is_open) {
-        close_pipes(pipes);
-        close_program_ends(ends);
-        return false;
-    }
+    return open_pipe(&pipes->words, &ends->words) && fcntl(pipes->words, F_SETFL, O_NONBLOCK) == 0;
+}
+
+bool open_pipes(struct pipes *pipes, struct program_ends *ends) {
+    bool is_open = open_pipe(&ends->input, &pipes->keys) && open_pipe(&pipes->requests, &ends->requests) &&
+                   open_pipe(&ends->answers, &pipes->answers) && fcntl(pipes->keys, F_SETFL, O_NONBLOCK) == 0;
     /* a larger pipe would serve as well */
-    fcntl(pipes->keys, F_SETPIPE_SZ, INPUT_ROOM);
-    return true;
+    if (is_open) fcntl(pipes->keys, F_SETPIPE_SZ, INPUT_ROOM);
+    return is_open;
 }
 
 /* Puts the words of a run behind those of the host. Returns false where there are too many. */

@@ -18,7 +18,9 @@ struct program_ends {
     int input, words, requests, answers;
 };
 
-/* Makes the pipes. Returns false, and has none open, where they cannot be made. */
+/* Makes the pipe of the words, the only one that the watcher may have, and later the others. Each returns false where that cannot
+ * be done. */
+bool open_words(struct pipes *pipes, struct program_ends *ends);
 bool open_pipes(struct pipes *pipes, struct program_ends *ends);
 
 /* Closes a file, if it is open, and notes that it is not. */

@@ -42,12 +42,12 @@ static struct {
     /* What waits for the program, and what came from it. */
     struct frame_queue queue;
     struct word_reader reader;
-    /* The program is to get the window's size; the terminal says no more. */
-    bool is_size_owed, is_hung_up;
-    /* When IDLE is due, and the next second; when the program has to have ended, 0 before the session is to end. */
-    int64_t idle, second, end;
-    bool is_killed;
-} now_running;
+    /* The program is to get the window's size; the terminal says no more; what did not end in time was killed. */
+    bool is_size_owed, is_hung_up, is_killed;
+    /* When IDLE is due, and the next second; when what was typed has to be handed on, and the program to have ended, 0 before the
+     * session is to end. */
+    int64_t idle, second, handed_on, end;
+} now_running = {.pipes = {-1, -1, -1, -1}};
 
 void give_notice(enum notice notice) {
     unsigned char number = (unsigned char)notice;
@@ -193,19 +193,21 @@ static bool kill_late(void) {
 }
 
 /* Ends the program's input where the session is to end, once it has what was typed. Returns false where the end is over. */
-static bool mind_end(void) {
+static bool mind_end(const struct run *run) {
     bool is_over = end_signal || now_running.is_hung_up || now_running.program == 0;
-    if (is_over && now_running.end == 0) now_running.end = now() + GRACE_MS;
-    if (now_running.end == 0) return true;
-    bool is_handed_on = queue_length(&now_running.queue) == 0 || now() >= now_running.end - GRACE_MS + HAND_ON_MS;
-    if (is_handed_on || now_running.is_killed) close_input();
+    if (!is_over) return true;
+    if (now_running.end == 0) {
+        /* a program that has read nothing yet loses nothing */
+        now_running.end = now() + (run->said.is_opened ? GRACE_MS : LEAST_MS);
+        now_running.handed_on = now() + HAND_ON_MS;
+    }
+    if (queue_length(&now_running.queue) == 0 || now() >= now_running.handed_on) close_input();
     return now() < now_running.end || kill_late();
 }
 
 /* When the next thing is to be done without being woken. */
 static int64_t next_moment(void) {
-    bool is_handing_on = now_running.end != 0 && now_running.pipes.keys >= 0;
-    int64_t moments[] = {now_running.end, is_handing_on ? now_running.end - GRACE_MS + HAND_ON_MS : 0,
+    int64_t moments[] = {now_running.end, now_running.pipes.keys >= 0 ? now_running.handed_on : 0,
                          takes_typing() ? now_running.idle : 0};
     int64_t next = now_running.second;
     for (size_t i = 0; i < sizeof moments / sizeof *moments; i++)
@@ -220,7 +222,7 @@ static void go_on(struct run *run) {
         mind_second(run);
         mind_idle();
         mind_queue();
-        if (!mind_end()) return;
+        if (!mind_end(run)) return;
         wait_once(run, next_moment());
     }
 }
@@ -239,9 +241,6 @@ static void restore(struct run *run) {
     drain_paste(&watched->paste, within(PASTE_MS));
     restore_screen(within(end_signal ? RESTORE_BY_SIGNAL_MS : RESTORE_MS));
     restore_settings();
-    close_pipes(&now_running.pipes);
-    end_watcher();
-    tell_foreign(&now_running.reader);
 }
 
 /* Starts the program in the changed terminal. Returns false, and the cause, where it cannot be started. */
@@ -265,30 +264,31 @@ static bool start(struct run *run, struct program_ends *ends) {
     return true;
 }
 
-/* Makes what the program and the watcher need. */
+/* Makes what the watcher and the program need. */
 static bool prepare(struct run *run, struct program_ends *ends) {
     run->cause = "the terminal tells no settings";
     if (!note_settings()) return false;
     prepare_screen(run->title);
     run->cause = "no pipe can be made";
-    if (!open_pipes(&now_running.pipes, ends)) return false;
+    if (!open_words(&now_running.pipes, ends)) return false;
     run->cause = "no process can be started";
-    if (start_watcher(now_running.pipes.words, ends->words)) return true;
-    close_pipes(&now_running.pipes);
-    close_program_ends(ends);
-    return false;
+    if (!start_watcher(now_running.pipes.words, ends->words)) return false;
+    run->cause = "no pipe can be made";
+    return open_pipes(&now_running.pipes, ends);
 }
 
 enum run_end run_program(struct run *run) {
-    struct program_ends ends;
+    struct program_ends ends = {-1, -1, -1, -1};
     run->said = (struct said){.end = END_NONE};
     run->status = 1;
     catch_signals();
-    if (!prepare(run, &ends)) return RUN_NOT_STARTED;
-    bool is_started = start(run, &ends);
+    bool is_prepared = prepare(run, &ends), is_started = is_prepared && start(run, &ends);
     close_program_ends(&ends);
     if (is_started) go_on(run);
-    restore(run);
+    if (is_prepared) restore(run);
+    close_pipes(&now_running.pipes);
+    end_watcher();
+    tell_foreign(&now_running.reader);
     if (is_started) run->status = shell_status(now_running.program_status);
     else if (end_signal) run->status = 128 + end_signal;
     return is_started || end_signal ? RUN_ENDED : RUN_NOT_STARTED;
