@@ -1,128 +1,231 @@
 #include "facts.h"
 
+#include <endian.h>
+#include <errno.h>
 #include <fcntl.h>
-#include <inttypes.h>
 #include <linux/magic.h>
-#include <stdbool.h>
-#include <stdint.h>
 #include <stdio.h>
 #include <string.h>
-#include <sys/stat.h>
 #include <sys/statvfs.h>
+#include <sys/types.h>
 #include <sys/vfs.h>
+#include <sys/xattr.h>
 #include <unistd.h>
-
-#include "attributes.h"
-#include "paths.h"
 
 /* Older headers lack this. */
 #ifndef STATX_ATTR_MOUNT_ROOT
 #define STATX_ATTR_MOUNT_ROOT 0x2000
 #endif
 
-/* The letters of the facts, in a text. */
-struct letters {
-    char text[16];
-    size_t count;
+/* Bytes. MOST: as many as the kernel gives for an attribute, or for the names of a file's. A POSIX list is a header and entries,
+ * of which a mode has three: owner, group and others. USUAL_NAME: the longest name of most file systems. */
+enum { MOST = 65536, POSIX_HEADER = 4, POSIX_ENTRY = 8, MODE_ENTRIES = 3, USUAL_NAME = 255 };
+
+/* Flag of an entry that new files get, in a list of NFS version 4. */
+enum { FILE_INHERIT = 1 };
+
+/* An attribute of a file, the same one of its folder, and the names of the file's attributes with a NUL after each. */
+static char value[MOST], other[MOST], names[MOST];
+
+/* The name of an open file for calls that take no O_PATH. */
+struct link {
+    char path[40];
 };
 
-/* Appends a letter, if it is so. */
-static void put_letter(struct letters *letters, char letter, bool is_so) {
-    if (is_so && letters->count + 1 < sizeof letters->text) letters->text[letters->count++] = letter;
+static struct link link_of(int at) {
+    struct link link;
+    snprintf(link.path, sizeof link.path, "/proc/self/fd/%d", at);
+    return link;
 }
 
-/* Writes a path as the kernel does in its list of mounts: blank, tab, newline and backslash as octal numbers. */
-static void escape(const char *path, char *escaped, size_t room) {
-    size_t length = 0;
-    for (; *path && length + 5 < room; path++) {
-        if (strchr(" \t\n\\", *path)) length += (size_t)snprintf(escaped + length, room - length, "\\%03o", (unsigned)*path);
-        else escaped[length++] = *path;
+static ssize_t get_attribute(int at, const char *name, char *room) {
+    ssize_t length = fgetxattr(at, name, room, MOST);
+    if (length >= 0 || errno != EBADF) return length;
+    return getxattr(link_of(at).path, name, room, MOST);
+}
+
+static ssize_t list_attributes(int at) {
+    ssize_t length = flistxattr(at, names, sizeof names);
+    if (length >= 0 || errno != EBADF) return length;
+    return listxattr(link_of(at).path, names, sizeof names);
+}
+
+/* Whether the file system has no such attribute, or the file none. */
+static bool is_none(ssize_t length) {
+    return length < 0 && (errno == ENODATA || errno == ENOTSUP || errno == ENOSYS);
+}
+
+/* The number in four bytes, the highest first, as XDR has it. */
+static uint32_t number_at(const char *at) {
+    uint32_t number = 0;
+    memcpy(&number, at, sizeof number);
+    return be32toh(number);
+}
+
+/* What a list of NFS, version 4, says: more than a mode, where it has entries other than one for the owner, the group and everyone
+ * each to allow and to deny; and whether new files get one of its entries. In XDR it is a count, and of each entry four numbers,
+ * its type (0 allows, 1 denies), flags, permissions and the length of a name, and the name, filled up to four bytes. */
+struct network_list {
+    enum answer is_more, is_given;
+};
+
+static struct network_list read_network_list(const char *list, size_t length) {
+    static const char *const whos[] = {"OWNER@", "GROUP@", "EVERYONE@"};
+    bool was_there[3][2] = {{false}}; /* by the name in `whos`, and by the type */
+    struct network_list read = {NO, NO}, unknown = {UNKNOWN, UNKNOWN};
+    if (length < 4) return unknown;
+    uint32_t count = number_at(list);
+    for (list += 4, length -= 4; count > 0; count--) {
+        if (length < 16) return unknown;
+        uint32_t type = number_at(list), flags = number_at(list + 4), size = number_at(list + 12);
+        uint32_t padded = (size + 3) / 4 * 4;
+        if (size > length - 16 || padded > length - 16) return unknown;
+        size_t who = 0;
+        while (who < 3 && (strlen(whos[who]) != size || memcmp(whos[who], list + 16, size) != 0)) who++;
+        if (type > 1 || who == 3 || was_there[who][type]) read.is_more = YES;
+        else was_there[who][type] = true;
+        if (flags & FILE_INHERIT) read.is_given = YES;
+        list += 16 + padded;
+        length -= 16 + padded;
     }
-    escaped[length] = 0;
+    return read;
 }
 
-/* Looks for a path without links in the kernel's list of mounts, where it is the fifth word of a line. 16383 is a byte less than
- * `root` has. */
-static enum answer is_in_mounts(const char *real) {
-    static char escaped[4 * PATH_MAX], words[4 * PATH_MAX + 256], root[4 * PATH_MAX];
-    FILE *mounts = fopen("/proc/self/mountinfo", "re");
-    if (!mounts) return UNKNOWN;
-    escape(real, escaped, sizeof escaped);
+static struct network_list find_network_list(int at) {
+    struct network_list none = {NO, NO}, unknown = {UNKNOWN, UNKNOWN};
+    ssize_t length = get_attribute(at, "system.nfs4_acl", value);
+    if (length >= 0) return read_network_list(value, (size_t)length);
+    return is_none(length) ? none : unknown;
+}
+
+/* Whether a file has this attribute, with more than `least` bytes. */
+static enum answer has_attribute(int at, const char *name, size_t least) {
+    ssize_t length = get_attribute(at, name, value);
+    if (length < 0) return is_none(length) ? NO : UNKNOWN;
+    return (size_t)length > least ? YES : NO;
+}
+
+static enum answer either(enum answer one, enum answer another) {
+    if (one == YES || another == YES) return YES;
+    return one == UNKNOWN || another == UNKNOWN ? UNKNOWN : NO;
+}
+
+enum answer has_access_list(int at) {
+    enum answer own = has_attribute(at, "system.posix_acl_access", POSIX_HEADER + MODE_ENTRIES * POSIX_ENTRY);
+    return own == YES ? YES : either(own, find_network_list(at).is_more);
+}
+
+enum answer gives_access_lists(int folder) {
+    enum answer given = has_attribute(folder, "system.posix_acl_default", POSIX_HEADER);
+    return given == YES ? YES : either(given, find_network_list(folder).is_given);
+}
+
+static bool is_one_of(const char *name, const char *const *words, size_t count) {
+    for (size_t i = 0; i < count; i++)
+        if (strcmp(name, words[i]) == 0) return true;
+    return false;
+}
+
+/* Whether an attribute is one that a new file in the folder would not have. The kernel makes sums of a file's content anew, and the
+ * user's own attributes are not kept. */
+static enum answer is_own(int at, int folder, const char *name) {
+    static const char *const labels[] = {"security.selinux", "security.SMACK64"}, *const sums[] = {"security.ima", "security.evm"};
+    if (is_one_of(name, sums, 2)) return NO;
+    if (!is_one_of(name, labels, 2)) return strncmp(name, "security.", 9) == 0 || strncmp(name, "trusted.", 8) == 0 ? YES : NO;
+    ssize_t length = get_attribute(at, name, value);
+    if (length < 0) return is_none(length) ? NO : UNKNOWN;
+    ssize_t folder_length = get_attribute(folder, name, other);
+    if (folder_length < 0) return is_none(folder_length) ? YES : UNKNOWN;
+    return length == folder_length && memcmp(value, other, (size_t)length) == 0 ? NO : YES;
+}
+
+enum answer has_label(int at, int folder) {
+    ssize_t length = list_attributes(at);
+    if (length < 0) return is_none(length) ? NO : UNKNOWN;
     enum answer found = NO;
-    while (found == NO && fgets(words, sizeof words, mounts))
-        if (sscanf(words, "%*s %*s %*s %*s %16383s", root) == 1 && strcmp(root, escaped) == 0) found = YES;
-    fclose(mounts);
+    for (const char *name = names; name < names + length && found != YES; name += strlen(name) + 1) {
+        enum answer this_one = is_own(at, folder, name);
+        if (this_one != NO) found = this_one;
+    }
     return found;
 }
 
-/* Whether something is mounted at a path: by the kernel's word, else by its list. */
-static enum answer is_mount(const char *path, const char *real) {
-    struct statx look;
-    if (statx(AT_FDCWD, path, AT_STATX_DONT_SYNC, 0, &look) == 0 && (look.stx_attributes_mask & STATX_ATTR_MOUNT_ROOT))
-        return (look.stx_attributes & STATX_ATTR_MOUNT_ROOT) ? YES : NO;
-    return is_in_mounts(real);
+/* The number of the mount that an open file is reached by; 0 where the system does not tell. */
+static unsigned long mount_of(int at) {
+    char path[40], line[128];
+    unsigned long number = 0;
+    snprintf(path, sizeof path, "/proc/self/fdinfo/%d", at);
+    FILE *told = fopen(path, "re");
+    while (told && number == 0 && fgets(line, sizeof line, told))
+        if (sscanf(line, "mnt_id: %lu", &number) != 1) number = 0;
+    if (told) fclose(told);
+    return number;
 }
 
-/* Whether a folder's files are in memory, and on no disk. */
-static bool is_in_memory(const char *folder) {
+enum answer is_mount(int at, int folder) {
+    struct statx look;
+    if (statx(at, "", AT_EMPTY_PATH | AT_STATX_DONT_SYNC, 0, &look) == 0 && (look.stx_attributes_mask & STATX_ATTR_MOUNT_ROOT))
+        return (look.stx_attributes & STATX_ATTR_MOUNT_ROOT) ? YES : NO;
+    unsigned long own = mount_of(at), above = mount_of(folder);
+    if (own == 0 || above == 0) return UNKNOWN;
+    return own == above ? NO : YES;
+}
+
+bool may_access(int at, int access) {
+    if (faccessat(at, "", access, AT_EMPTY_PATH | AT_EACCESS) == 0) return true;
+    if (errno != EINVAL && errno != ENOSYS && errno != ENOENT) return false;
+    return faccessat(AT_FDCWD, link_of(at).path, access, AT_EACCESS) == 0;
+}
+
+bool is_in_memory(int at) {
     struct statfs look;
-    if (statfs(folder, &look) != 0) return false;
+    if (fstatfs(at, &look) != 0) return false;
     return look.f_type == TMPFS_MAGIC || look.f_type == RAMFS_MAGIC;
 }
 
-/* Whether the sticky bit of the folder above lets only another user replace the file, as in /tmp. */
-static bool is_held_by_folder(struct path path, const struct stat *look) {
-    struct stat folder;
-    uid_t user = geteuid();
-    if (!go_up(&path) || stat(path.text, &folder) != 0 || !(folder.st_mode & S_ISVTX)) return false;
-    return user != 0 && user != look->st_uid && user != folder.st_uid;
+/* Root may take the reserve too. */
+static uint64_t room_in(const struct statvfs *look) {
+    uint64_t blocks = geteuid() == 0 ? look->f_bfree : look->f_bavail, room = 0;
+    return __builtin_mul_overflow(blocks, (uint64_t)look->f_frsize, &room) ? UINT64_MAX : room;
 }
 
-/* r, w and x: the user may read, write, and run or enter it; l: it has an access list; s: a label, as has_label says; m: it is a
- * mount; k: its folder keeps the user from replacing it; ?: one of l, s and m is not known. add_facts adds t: it is, or would be,
- * in memory. */
-static void put_own_letters(struct letters *letters, const char *path, const struct path *real, const struct stat *look) {
-    struct path above = *real;
-    go_up(&above);
-    put_letter(letters, 'r', faccessat(AT_FDCWD, path, R_OK, AT_EACCESS) == 0);
-    put_letter(letters, 'w', faccessat(AT_FDCWD, path, W_OK, AT_EACCESS) == 0);
-    put_letter(letters, 'x', faccessat(AT_FDCWD, path, X_OK, AT_EACCESS) == 0);
-    enum answer list = has_access_list(path), label = has_label(path, above.text), mount = is_mount(path, real->text);
-    put_letter(letters, 'l', list == YES);
-    put_letter(letters, 's', label == YES);
-    put_letter(letters, 'm', mount == YES);
-    put_letter(letters, 'k', is_held_by_folder(*real, look));
-    put_letter(letters, '?', list == UNKNOWN || label == UNKNOWN || mount == UNKNOWN);
-}
-
-/* The bytes that the user may still write there; root may take the reserve too. */
-static uint64_t free_room(const char *folder) {
+uint64_t free_room(int at) {
     struct statvfs look;
-    if (statvfs(folder, &look) != 0) return 0;
-    uint64_t blocks = geteuid() == 0 ? look.f_bfree : look.f_bavail;
-    uint64_t room = 0;
-    return __builtin_mul_overflow(blocks, (uint64_t)look.f_frsize, &room) ? UINT64_MAX : room;
+    return fstatvfs(at, &look) == 0 ? room_in(&look) : 0;
 }
 
-static void add_number(struct queue *queue, char letter, uint64_t number) {
-    char text[24];
-    snprintf(text, sizeof text, "%" PRIu64, number);
-    add_message(queue, letter, text);
+static bool is_held_by_folder(int at, int folder) {
+    struct stat own, above;
+    uid_t user = geteuid();
+    if (user == 0 || fstat(at, &own) != 0 || fstat(folder, &above) != 0 || !(above.st_mode & S_ISVTX)) return false;
+    return user != own.st_uid && user != above.st_uid;
 }
 
-void add_facts(struct queue *queue, const char *path) {
-    struct path real, folder;
-    struct letters letters = {{0}, 0};
-    struct stat look;
-    find_real_path(path, &real);
-    find_folder(&real, &folder);
-    if (stat(path, &look) == 0) put_own_letters(&letters, path, &real, &look);
-    put_letter(&letters, 't', is_in_memory(folder.text));
-    long longest = pathconf(folder.text, _PC_NAME_MAX);
-    add_message(queue, 'a', letters.text);
-    /* 255 is what most file systems have */
-    add_number(queue, 'l', longest > 0 ? (uint64_t)longest : 255);
-    add_number(queue, 'm', free_room(folder.text));
-    add_message(queue, 'r', real.text);
-    add_message(queue, '.', "");
+static void find_common_facts(int at, struct facts *facts) {
+    struct statvfs look;
+    *facts = (struct facts){.longest_name = USUAL_NAME};
+    facts->readable = may_access(at, R_OK);
+    facts->writable = may_access(at, W_OK);
+    facts->searchable = may_access(at, X_OK);
+    facts->in_memory = is_in_memory(at);
+    if (fstatvfs(at, &look) != 0) return;
+    facts->free_room = room_in(&look);
+    if (look.f_namemax > 0) facts->longest_name = look.f_namemax;
+}
+
+void find_facts(int at, int folder, struct facts *facts) {
+    find_common_facts(at, facts);
+    enum answer list = has_access_list(at), label = has_label(at, folder), mount = is_mount(at, folder);
+    facts->has_access_list = list == YES;
+    facts->has_label = label == YES;
+    facts->is_mount = mount == YES;
+    facts->is_held_by_folder = is_held_by_folder(at, folder);
+    facts->is_unsure = list == UNKNOWN || label == UNKNOWN || mount == UNKNOWN;
+}
+
+void find_folder_facts(int folder, struct facts *facts) {
+    find_common_facts(folder, facts);
+    enum answer given = gives_access_lists(folder);
+    facts->gives_access_lists = given == YES;
+    facts->is_unsure = given == UNKNOWN;
 }

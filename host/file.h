@@ -8,19 +8,10 @@
 #include <sys/stat.h>
 
 #include "facts.h"
+#include "session_judge.h"
 
 /* The largest text, in bytes. */
 enum { LARGEST_TEXT = 16777216 };
-
-/* What tells one file from another, whatever its names: a new file may get the inode of a removed one, but not its time of birth,
- * where the file system has one. */
-struct file_id {
-    dev_t device;
-    ino_t inode;
-    bool has_birth;
-    int64_t birth_seconds;
-    uint32_t birth_nanos;
-};
 
 /* What was at a name, the link itself if it was one. */
 struct look {
@@ -33,7 +24,7 @@ struct file {
     const char *typed;
     /* The folder (O_PATH), and FILE's name in it, which was no link. */
     int folder;
-    char name[NAME_MAX + 1];
+    char name[PATH_MAX];
     /* FILE (O_PATH), and FILE to be read; -1 where nothing is there, or it cannot be read. */
     int itself, text;
     /* What was at the name at the opening. */
@@ -41,8 +32,9 @@ struct file {
     /* Of FILE, if it was there, and of its folder. */
     struct file_id id, folder_id;
     struct facts facts, folder_facts;
-    /* The absolute paths of FILE and of its folder, without links. */
-    char path[PATH_MAX], folder_path[PATH_MAX];
+    /* The absolute paths of FILE and of its folder, without links; whether the latter led to the folder at the opening. */
+    char path[2 * PATH_MAX], folder_path[PATH_MAX];
+    bool is_at_path;
     /* What messages call the folder. */
     char folder_name[PATH_MAX];
     /* A link was followed. */
@@ -66,6 +58,12 @@ bool is_closed(const struct file *file);
 /* The message that refuses a FILE that cannot be read, or saved; NULL where it can be. */
 const char *refuse_access(const struct file *file, bool is_in_place);
 
+/* The name of a draft beside FILE is the first bytes of FILE's, as many as this, a point, DRAFT_LETTERS random letters and
+ * DRAFT_END. */
+#define DRAFT_END ".bx"
+enum { DRAFT_LETTERS = 8 };
+size_t draft_stem(const struct file *file);
+
 /* The message that names files which killed saves left beside FILE; NULL if there are none. */
 const char *leftovers_line(const struct file *file);
 
@@ -85,7 +83,6 @@ bool is_unchanged(const struct stat *one, const struct stat *other);
 
 /* The file that is open. Returns false where the system does not tell. */
 bool find_id(int at, struct file_id *id);
-bool is_same_id(const struct file_id *one, const struct file_id *other);
 
 /* Opens the FILE that was there at the opening again, with these flags, if its name still leads to it. Returns -1 if not; errno is
  * ESTALE where another file is there. */

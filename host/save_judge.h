@@ -44,7 +44,7 @@ enum found judge_look(const struct look *seen, const struct look *now, bool is_d
 /* Whether what an exchange took out of FILE's place is what was seen there: a rename changes the time of change. */
 bool is_taken_out(const struct look *seen, const struct look *out);
 
-/* The cause of a failed call. */
-enum save_cause cause_of(int error);
+/* The cause of a failed call, an enum save_cause; 0 for none. */
+int cause_of(int error);
 
 #endif

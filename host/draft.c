@@ -1,0 +1,231 @@
+#include "draft.h"
+
+#include <errno.h>
+#include <fcntl.h>
+#include <linux/fs.h>
+#include <stdio.h>
+#include <string.h>
+#include <sys/random.h>
+#include <sys/syscall.h>
+#include <sys/xattr.h>
+#include <unistd.h>
+
+#include "save_judge.h"
+
+/* BUFFER: bytes of a write, so that many small pieces take few. TRIES: random names, and exchanges that undo one another. */
+enum { BUFFER = 262144, TRIES = 20 };
+
+static unsigned char buffer[BUFFER];
+
+/* ---- names */
+
+/* Whether a call failed since the system or the file system lacks it. */
+static bool is_lacking(int error) {
+    return error == ENOSYS || error == EINVAL || error == EOPNOTSUPP;
+}
+
+/* Makes a random name for a draft of FILE. */
+static bool make_name(const struct file *file, char name[NAME_MAX + 1]) {
+    static const char letters[] = "abcdefghijklmnopqrstuvwxyz0123456789";
+    unsigned char bytes[DRAFT_LETTERS];
+    char random[DRAFT_LETTERS + 1] = {0};
+    if (getrandom(bytes, sizeof bytes, 0) != (ssize_t)sizeof bytes) return false;
+    for (size_t i = 0; i < sizeof bytes; i++) random[i] = letters[bytes[i] % (sizeof letters - 1)];
+    snprintf(name, NAME_MAX + 1, "%.*s.%s%s", (int)draft_stem(file), file->name, random, DRAFT_END);
+    return true;
+}
+
+static int rename_by(int folder, const char *from, const char *to, unsigned flags) {
+    return syscall(SYS_renameat2, folder, from, folder, to, flags) == 0 ? 0 : errno;
+}
+
+/* Gives a file without a name this one. */
+static int link_nameless(const struct draft *draft, const char *name) {
+    char path[40];
+    snprintf(path, sizeof path, "/proc/self/fd/%d", draft->file);
+    return linkat(AT_FDCWD, path, draft->folder, name, AT_SYMLINK_FOLLOW) == 0 ? 0 : errno;
+}
+
+/* Moves a file from a name to another that is free. */
+static int move_to_free(int folder, const char *from, const char *to) {
+    struct look there;
+    int error = rename_by(folder, from, to, RENAME_NOREPLACE);
+    if (!is_lacking(error)) return error;
+    if (linkat(folder, from, folder, to, 0) == 0) return unlinkat(folder, from, 0) == 0 ? 0 : errno;
+    if (errno != EPERM && !is_lacking(errno)) return errno;
+    /* neither call is there */
+    if (!look_at(folder, to, &there)) return errno;
+    if (there.is_there) return EEXIST;
+    return renameat(folder, from, folder, to) == 0 ? 0 : errno;
+}
+
+int draft_name_as(struct draft *draft, const char *name) {
+    int error = draft->name[0] ? move_to_free(draft->folder, draft->name, name) : link_nameless(draft, name);
+    if (error == 0) snprintf(draft->name, sizeof draft->name, "%s", name);
+    return error;
+}
+
+int draft_name(struct draft *draft, const struct file *file) {
+    char name[NAME_MAX + 1];
+    int error = draft->name[0] ? 0 : EEXIST;
+    for (int tries = 0; error == EEXIST && tries < TRIES; tries++) error = make_name(file, name) ? draft_name_as(draft, name) : EIO;
+    return error;
+}
+
+/* ---- the opening */
+
+static int open_at(struct draft *draft, int folder, const char *name, mode_t mode) {
+    *draft = (struct draft){.folder = folder, .file = openat(folder, name, O_RDWR | O_CREAT | O_EXCL | O_NOFOLLOW | O_CLOEXEC, mode)};
+    if (draft->file < 0) return errno;
+    snprintf(draft->name, sizeof draft->name, "%s", name);
+    return 0;
+}
+
+int draft_open(struct draft *draft, const struct file *file, int folder, mode_t mode, bool may_be_nameless) {
+    char name[NAME_MAX + 1];
+    int error = EEXIST;
+    *draft = (struct draft){.folder = folder, .file = -1};
+    /* a name is given by /proc */
+    if (may_be_nameless && access("/proc/self/fd", X_OK) == 0) draft->file = openat(folder, ".", O_TMPFILE | O_RDWR | O_CLOEXEC, mode);
+    if (draft->file >= 0) return 0;
+    for (int tries = 0; error == EEXIST && tries < TRIES; tries++) error = make_name(file, name) ? open_at(draft, folder, name, mode) : EIO;
+    return error;
+}
+
+int draft_open_own(struct draft *draft, int folder, const char *name, mode_t mode) {
+    *draft = (struct draft){.folder = folder, .file = -1};
+    if (unlinkat(folder, name, 0) != 0 && errno != ENOENT) return errno;
+    return open_at(draft, folder, name, mode);
+}
+
+/* ---- the text */
+
+static void write_all(struct draft *draft, const unsigned char *bytes, size_t length) {
+    while (length > 0 && draft->error == 0) {
+        ssize_t count = write(draft->file, bytes, length);
+        if (count > 0) {
+            bytes += count;
+            length -= (size_t)count;
+        } else if (count == 0 || errno != EINTR) {
+            draft->error = count == 0 ? EIO : errno;
+        }
+    }
+}
+
+void draft_put(struct draft *draft, const unsigned char *bytes, size_t length) {
+    while (length > 0 && draft->error == 0) {
+        size_t count = length < BUFFER - draft->held ? length : BUFFER - draft->held;
+        memcpy(buffer + draft->held, bytes, count);
+        draft->held += count;
+        bytes += count;
+        length -= count;
+        if (draft->held < BUFFER) return;
+        write_all(draft, buffer, draft->held);
+        draft->held = 0;
+    }
+}
+
+int draft_flush(struct draft *draft) {
+    write_all(draft, buffer, draft->held);
+    draft->held = 0;
+    return draft->error;
+}
+
+int sync_file(int file) {
+    return fsync(file) == 0 || is_lacking(errno) || errno == EROFS ? 0 : errno;
+}
+
+/* ---- rights */
+
+/* Gives the file an owner, or a group. For root a refusal is a fault; other users may be refused. */
+static int give(int file, uid_t owner, gid_t group, bool *is_given) {
+    *is_given = fchown(file, owner, group) == 0;
+    return *is_given || geteuid() != 0 ? 0 : errno;
+}
+
+int draft_take_over(const struct draft *draft, const struct stat *old, bool is_plain) {
+    struct taken taken = {.owner = true, .group = true, .is_plain = is_plain};
+    struct stat own;
+    int error = 0;
+    /* a list that the folder gave */
+    if (fremovexattr(draft->file, "system.posix_acl_access") != 0 && errno != ENODATA && !is_lacking(errno)) return errno;
+    if (fstat(draft->file, &own) != 0) return errno;
+    if (own.st_gid != old->st_gid) error = give(draft->file, (uid_t)-1, old->st_gid, &taken.group);
+    if (error == 0 && own.st_uid != old->st_uid) error = give(draft->file, old->st_uid, (gid_t)-1, &taken.owner);
+    if (error != 0) return error;
+    return fchmod(draft->file, mode_of_new(taken, old->st_mode)) == 0 ? 0 : errno;
+}
+
+/* ---- FILE's place */
+
+/* Whether what has the draft's name has an access list. */
+static bool has_list(const struct draft *draft) {
+    int at = openat(draft->folder, draft->name, O_PATH | O_NOFOLLOW | O_CLOEXEC);
+    if (at < 0) return false;
+    enum answer list = has_access_list(at);
+    close(at);
+    return list == YES;
+}
+
+/* Undoes an exchange: puts what came out of FILE's place back. What took the place of that meanwhile, and comes out now, is newer,
+ * so it goes back in its turn. Returns false where what has the draft's name at the end must stay. */
+static bool put_back(const struct draft *draft, const char *name, struct stat last_in) {
+    struct look goes_in, out;
+    for (int tries = 0; tries < TRIES; tries++) {
+        if (!look_at(draft->folder, draft->name, &goes_in) || !goes_in.is_there) return false;
+        if (rename_by(draft->folder, draft->name, name, RENAME_EXCHANGE) != 0) return false;
+        if (!look_at(draft->folder, draft->name, &out) || !out.is_there) return false;
+        if (is_same_file(&out.found, &last_in)) return true;
+        last_in = goes_in.found;
+    }
+    return false;
+}
+
+/* Puts the draft in FILE's place where the file system exchanges nothing. */
+static enum placed replace(struct draft *draft, const char *name) {
+    if (renameat(draft->folder, draft->name, draft->folder, name) != 0) return errno == EBUSY ? PLACE_MOUNTED : PLACE_FAILED;
+    draft->name[0] = 0;
+    return PLACED;
+}
+
+enum placed draft_exchange(struct draft *draft, const char *name, const struct look *seen, bool is_listless) {
+    struct stat own;
+    struct look out;
+    if (fstat(draft->file, &own) != 0) return PLACE_FAILED;
+    int error = rename_by(draft->folder, draft->name, name, RENAME_EXCHANGE);
+    if (is_lacking(error)) return replace(draft, name);
+    errno = error;
+    if (error == ENOENT) return PLACE_OTHER;
+    if (error != 0) return error == EBUSY ? PLACE_MOUNTED : PLACE_FAILED;
+    if (look_at(draft->folder, draft->name, &out) && is_taken_out(seen, &out) && (!is_listless || !has_list(draft))) return PLACED;
+    if (!put_back(draft, name, own)) draft->name[0] = 0;
+    else unlinkat(draft->folder, draft->name, 0);
+    draft->name[0] = 0;
+    return PLACE_CHANGED;
+}
+
+enum placed draft_create(struct draft *draft, const char *name) {
+    int error = draft_name_as(draft, name);
+    draft->name[0] = error == 0 ? 0 : draft->name[0];
+    errno = error;
+    if (error == EEXIST) return PLACE_OTHER;
+    return error == 0 ? PLACED : PLACE_FAILED;
+}
+
+/* ---- the end */
+
+void draft_close(struct draft *draft) {
+    if (draft->file >= 0) close(draft->file);
+    draft->file = -1;
+    draft->held = 0;
+}
+
+void draft_remove(struct draft *draft) {
+    struct stat own;
+    struct look there;
+    if (draft->file >= 0 && draft->name[0] && fstat(draft->file, &own) == 0 && look_at(draft->folder, draft->name, &there) &&
+        there.is_there && is_same_file(&own, &there.found))
+        unlinkat(draft->folder, draft->name, 0);
+    draft->name[0] = 0;
+    draft_close(draft);
+}

@@ -1,0 +1,370 @@
+#include "file.h"
+
+#include <dirent.h>
+#include <errno.h>
+#include <fcntl.h>
+#include <stdio.h>
+#include <stdlib.h>
+#include <string.h>
+#include <unistd.h>
+
+#include "say.h"
+
+/* MOST_LINKS: as in Linux. TRIES: openings of a FILE that other programs replace meanwhile. FRONT: more bytes than marks and headers
+ * of files take. MOST_NAMES: so many names of a folder are looked at for drafts; MOST_DRAFTS of them are told. MARK_BYTES: those of
+ * the end .bx. */
+enum { MOST_LINKS = 40, TRIES = 10, FRONT = 512, MOST_NAMES = 20000, MOST_DRAFTS = 10, MARK_BYTES = 3 };
+
+/* ---- looks */
+
+bool look_at(int folder, const char *name, struct look *look) {
+    memset(look, 0, sizeof *look);
+    look->is_there = fstatat(folder, name, &look->found, AT_SYMLINK_NOFOLLOW) == 0;
+    return look->is_there || errno == ENOENT;
+}
+
+bool look_again(const struct file *file, struct look *look) {
+    return look_at(file->folder, file->name, look);
+}
+
+bool find_id(int at, struct file_id *id) {
+    struct stat found;
+    struct statx told;
+    memset(id, 0, sizeof *id);
+    if (fstat(at, &found) != 0) return false;
+    id->device = found.st_dev;
+    id->inode = found.st_ino;
+    if (statx(at, "", AT_EMPTY_PATH | AT_STATX_DONT_SYNC, STATX_BTIME, &told) != 0 || !(told.stx_mask & STATX_BTIME)) return true;
+    id->has_birth = true;
+    id->birth_seconds = told.stx_btime.tv_sec;
+    id->birth_nanos = told.stx_btime.tv_nsec;
+    return true;
+}
+
+bool path_of(int at, char path[PATH_MAX]) {
+    static const char gone[] = " (deleted)";
+    char link[40];
+    struct stat found, there;
+    snprintf(link, sizeof link, "/proc/self/fd/%d", at);
+    ssize_t length = readlink(link, path, PATH_MAX - 1);
+    if (length <= 0 || path[0] != '/') return false;
+    path[length] = 0;
+    size_t end = (size_t)length, rest = sizeof gone - 1;
+    if (end <= rest || strcmp(path + end - rest, gone) != 0 || fstat(at, &found) != 0) return true;
+    if (lstat(path, &there) != 0 || !is_same_file(&found, &there)) path[end - rest] = 0;
+    return true;
+}
+
+/* ---- the walk to FILE */
+
+/* Cuts a path into its folder, `.` for a name alone, and its last name. Returns false where it is too long. */
+static bool split(const char *path, char folder[PATH_MAX], char name[PATH_MAX]) {
+    const char *slash = strrchr(path, '/');
+    size_t length = slash ? (size_t)(slash - path) : 0;
+    if (strlen(path) >= PATH_MAX) return false;
+    strcpy(name, slash ? slash + 1 : path);
+    strcpy(folder, slash ? "/" : ".");
+    if (length == 0) return true;
+    memcpy(folder, path, length);
+    folder[length] = 0;
+    return true;
+}
+
+/* Whether a path names a descriptor that a caller handed over, as a shell does for `<(..)`. */
+static bool is_handed_over(const char *path) {
+    if (strncmp(path, "/dev/std", 8) == 0 || strncmp(path, "/dev/fd/", 8) == 0) return true;
+    return strncmp(path, "/proc/", 6) == 0 && strstr(path + 6, "/fd/");
+}
+
+static int open_folder(int base, const char *path) {
+    return openat(base, path, O_PATH | O_DIRECTORY | O_CLOEXEC);
+}
+
+static bool is_folder(const char *path) {
+    struct stat found;
+    return stat(path, &found) == 0 && S_ISDIR(found.st_mode);
+}
+
+/* The message about a folder that cannot be opened. */
+static const char *refuse_folder(struct file *file, const char *folder) {
+    struct stat found;
+    if (stat(folder, &found) == 0) return text_of("%s is no folder, so it has no files: name another", shown(folder));
+    file->is_lost = true;
+    return text_of("%s is a folder that is not there: mkdir -p %s makes it", shown(folder), shown(folder));
+}
+
+static const char *refuse(const struct file *file, const char *cause) {
+    return text_of("%s %s", shown(file->typed), cause);
+}
+
+static void close_one(int *descriptor) {
+    if (*descriptor >= 0) close(*descriptor);
+    *descriptor = -1;
+}
+
+/* Goes on at the path that a link holds. Returns NULL, or the message. */
+static const char *follow_link(struct file *file, char words[PATH_MAX], bool *is_of_folder) {
+    ssize_t length = readlinkat(file->itself, "", words, PATH_MAX - 1);
+    if (length <= 0) return refuse(file, "is a link that leads nowhere: ls -l shows where to");
+    words[length] = 0;
+    if (!is_utf8(words)) return refuse(file, "is a link to a name that is not UTF-8: mv gives it another");
+    if (is_handed_over(words)) return refuse(file, "is what the caller handed over and no file: put it into a file, and edit that");
+    *is_of_folder = words[length - 1] == '/';
+    for (; length > 1 && words[length - 1] == '/'; length--) words[length - 1] = 0;
+    close_one(&file->itself);
+    return NULL;
+}
+
+/* Opens the folder of a path and the last name in it, a link as such; -1 where nothing is there. */
+static const char *take_step(struct file *file, const char *path) {
+    char folder_part[PATH_MAX];
+    int base = file->is_linked ? file->folder : AT_FDCWD;
+    if (!split(path, folder_part, file->name)) return refuse_folder(file, path);
+    int folder = open_folder(base, folder_part);
+    if (folder < 0 && file->is_linked) return refuse(file, "is a link that leads nowhere: ls -l shows where to");
+    if (folder < 0) return refuse_folder(file, folder_part);
+    if (!file->is_linked) strcpy(file->folder_name, folder_part);
+    close_one(&file->folder);
+    file->folder = folder;
+    file->itself = openat(folder, file->name, O_PATH | O_NOFOLLOW | O_CLOEXEC);
+    memset(&file->look, 0, sizeof file->look);
+    file->look.is_there = file->itself >= 0 && fstat(file->itself, &file->look.found) == 0;
+    return NULL;
+}
+
+/* Follows links to FILE, and opens its folder and what is there. */
+static const char *walk(struct file *file) {
+    char path[PATH_MAX];
+    bool is_of_folder = false;
+    const char *message = take_step(file, file->typed);
+    for (int links = 0; !message && file->look.is_there && S_ISLNK(file->look.found.st_mode); links++) {
+        if (links >= MOST_LINKS) return refuse(file, "is a link that leads in a circle: ls -l shows where to");
+        message = follow_link(file, path, &is_of_folder);
+        if (message) break;
+        file->is_linked = true;
+        message = take_step(file, path);
+    }
+    if (message) return message;
+    if (file->look.is_there && S_ISDIR(file->look.found.st_mode)) return refuse(file, "is a folder: name a file in it");
+    return is_of_folder ? refuse(file, "is a link that leads nowhere: ls -l shows where to") : NULL;
+}
+
+/* ---- the opening */
+
+/* Opens FILE to be read, if it is still the one that was found. Returns false where another one is there by now. A lease on FILE
+ * makes the opening wait, which a plain file alone may do. */
+static bool open_text(struct file *file) {
+    char link[40];
+    struct stat opened;
+    file->text = openat(file->folder, file->name, O_RDONLY | O_NONBLOCK | O_NOFOLLOW | O_CLOEXEC | O_NOCTTY);
+    if (file->text < 0 && errno == EAGAIN) {
+        snprintf(link, sizeof link, "/proc/self/fd/%d", file->itself);
+        file->text = open(link, O_RDONLY | O_CLOEXEC | O_NOCTTY);
+    }
+    if (file->text < 0) return errno != ENOENT && errno != ELOOP && errno != ENXIO;
+    if (fstat(file->text, &opened) == 0 && is_same_file(&opened, &file->look.found)) return true;
+    close_one(&file->text);
+    return false;
+}
+
+/* Finds the path of the folder without links, and FILE's. */
+static void name_paths(struct file *file) {
+    struct stat folder, there;
+    if (!path_of(file->folder, file->folder_path) && (file->is_linked || !realpath(file->folder_name, file->folder_path)))
+        strcpy(file->folder_path, file->folder_name);
+    if (file->is_linked) strcpy(file->folder_name, file->folder_path);
+    const char *between = strcmp(file->folder_path, "/") == 0 ? "" : "/";
+    snprintf(file->path, sizeof file->path, "%s%s%s", file->folder_path, between, file->name);
+    file->is_at_path = fstat(file->folder, &folder) == 0 && stat(file->folder_path, &there) == 0 && is_same_file(&folder, &there);
+}
+
+static void forget_file(struct file *file, const char *typed) {
+    *file = (struct file){.typed = typed, .folder = -1, .itself = -1, .text = -1};
+}
+
+/* Opens the plain file that was found. Returns false where another one is there by now. */
+static bool open_found(struct file *file) {
+    if (!file->look.is_there) return true;
+    find_id(file->itself, &file->id);
+    find_facts(file->itself, file->folder, &file->facts);
+    return !file->facts.readable || open_text(file);
+}
+
+/* Opens FILE once. `is_again`: another one took its place meanwhile. */
+static const char *try_to_open(struct file *file, bool *is_again) {
+    static const char handed_over[] = "is what the caller handed over and no file: put it into a file, and edit that";
+    static const char no_plain[] = "is no plain file but a device, pipe or socket: put what it gives into a file, and edit that";
+    size_t length = strlen(file->typed);
+    bool is_name_of_folder = length == 0 || file->typed[length - 1] == '/', is_handed = is_handed_over(file->typed);
+    if ((is_name_of_folder || is_handed) && is_folder(file->typed)) return refuse(file, "is a folder: name a file in it");
+    if (is_name_of_folder) return refuse(file, "is the name of a folder: name a file");
+    if (is_handed) return refuse(file, handed_over);
+    const char *message = walk(file);
+    if (message) return message;
+    if (file->look.is_there && !S_ISREG(file->look.found.st_mode)) return refuse(file, no_plain);
+    find_id(file->folder, &file->folder_id);
+    find_folder_facts(file->folder, &file->folder_facts);
+    name_paths(file);
+    if (!file->folder_facts.searchable)
+        return text_of("%s is a folder that is closed to you: its owner can open it by chmod a+x", shown(file->folder_name));
+    if (!is_utf8(file->folder_path))
+        return refuse(file, "is in a folder whose name is not UTF-8: mv gives it another");
+    *is_again = !open_found(file);
+    return *is_again ? refuse(file, no_plain) : NULL;
+}
+
+const char *open_file(struct file *file, const char *typed) {
+    const char *message = NULL;
+    bool is_again = true;
+    for (int tries = 0; is_again && tries < TRIES; tries++) {
+        is_again = false;
+        forget_file(file, typed);
+        message = try_to_open(file, &is_again);
+        if (message) close_file(file);
+    }
+    return message;
+}
+
+const char *open_lost_file(struct file *file, const char *typed) {
+    char above[PATH_MAX], folder[PATH_MAX], last[PATH_MAX], rest[2 * PATH_MAX] = "";
+    const char *message = open_file(file, typed);
+    if (!message || !file->is_lost || strlen(typed) >= PATH_MAX) return message;
+    strcpy(above, typed);
+    while (file->folder < 0 && split(above, folder, last)) {
+        char more[PATH_MAX];
+        int length = snprintf(more, sizeof more, "%s%s%s", last, rest[0] ? "/" : "", rest);
+        if (length < 0 || length >= (int)sizeof more) return message;
+        strcpy(rest, more);
+        file->folder = open_folder(AT_FDCWD, folder);
+        if (strcmp(folder, ".") == 0 || strcmp(folder, "/") == 0) break;
+        strcpy(above, folder);
+    }
+    if (file->folder < 0) return message;
+    strcpy(file->folder_name, folder);
+    strcpy(file->name, rest);
+    name_paths(file);
+    find_id(file->folder, &file->folder_id);
+    find_folder_facts(file->folder, &file->folder_facts);
+    split(file->path, file->folder_path, file->name);
+    file->is_at_path = false;
+    return NULL;
+}
+
+void close_file(struct file *file) {
+    close_one(&file->folder);
+    close_one(&file->itself);
+    close_one(&file->text);
+}
+
+int reopen_file(const struct file *file, int flags) {
+    struct stat opened;
+    errno = ENOENT;
+    if (!file->look.is_there || file->is_lost) return -1;
+    int again = openat(file->folder, file->name, flags | O_NOFOLLOW | O_NONBLOCK | O_CLOEXEC | O_NOCTTY);
+    if (again < 0) return -1;
+    if (fstat(again, &opened) == 0 && is_same_file(&opened, &file->look.found)) return again;
+    close(again);
+    errno = ESTALE;
+    return -1;
+}
+
+/* ---- refusals, and what is told */
+
+bool is_closed(const struct file *file) {
+    return file->look.is_there && !file->facts.readable;
+}
+
+/* The refusal of a name that is too long for a save; NULL for others. */
+static const char *refuse_long_name(const struct file *file) {
+    uint64_t longest = file->folder_facts.longest_name, most = longest > MARK_BYTES ? longest - MARK_BYTES : 0;
+    size_t length = strlen(file->name);
+    if (length <= most) return NULL;
+    return text_of("%s is a name of %zu bytes, too long to be saved: %llu are the most (the save needs %d more), and --force opens it all the same",
+                   shown(file->name), length, (unsigned long long)most, MARK_BYTES);
+}
+
+const char *refuse_access(const struct file *file, bool is_in_place) {
+    if (is_closed(file))
+        return refuse(file, "cannot be read by you: chmod u+r lets its owner read it, and --force opens an empty text in its place");
+    const char *message = refuse_long_name(file);
+    if (message) return message;
+    if (!file->folder_facts.writable && !is_in_place)
+        return text_of("%s is a folder that you cannot write, so no save can be made: copy the file elsewhere; --force opens it all the same",
+                       shown(file->folder_name));
+    if (file->look.is_there && !file->facts.writable)
+        return refuse(file, "is write-protected: chmod u+w lets its owner write it, and --force opens it all the same");
+    return NULL;
+}
+
+size_t draft_stem(const struct file *file) {
+    size_t length = strlen(file->name), rest = 1 + DRAFT_LETTERS + sizeof DRAFT_END - 1;
+    uint64_t longest = file->folder_facts.longest_name;
+    uint64_t most = longest > NAME_MAX ? NAME_MAX - rest : longest > rest ? longest - rest : 0;
+    if (length <= most) return length;
+    length = (size_t)most;
+    /* not within a character */
+    while (length > 0 && ((unsigned char)file->name[length] & 0xC0) == 0x80) length--;
+    return length;
+}
+
+/* Whether a name is one of a draft of FILE. */
+static bool is_draft(const struct file *file, size_t stem, const char *name) {
+    static const char letters[] = "abcdefghijklmnopqrstuvwxyz0123456789";
+    if (strncmp(name, file->name, stem) != 0 || name[stem] != '.') return false;
+    name += stem + 1;
+    return strspn(name, letters) == DRAFT_LETTERS && strcmp(name + DRAFT_LETTERS, DRAFT_END) == 0;
+}
+
+static char *add_name(const struct file *file, char *names, const char *name) {
+    const char *slash = strrchr(file->typed, '/');
+    if (file->is_linked) return text_of("%s %s", names, shown(text_of("%s/%s", strcmp(file->folder_path, "/") == 0 ? "" : file->folder_path, name)));
+    return text_of("%s %s", names, shown(text_of("%.*s%s", slash ? (int)(slash - file->typed) + 1 : 0, file->typed, name)));
+}
+
+/* Adds the names of drafts with random letters. */
+static char *add_drafts(const struct file *file, char *names) {
+    int folder = openat(file->folder, ".", O_RDONLY | O_DIRECTORY | O_CLOEXEC), count = 0, drafts = 0;
+    DIR *listed = folder >= 0 ? fdopendir(folder) : NULL;
+    size_t stem = draft_stem(file);
+    if (!listed) {
+        close_one(&folder);
+        return names;
+    }
+    for (struct dirent *entry = readdir(listed); entry && count < MOST_NAMES && drafts < MOST_DRAFTS; entry = readdir(listed), count++) {
+        if (!is_draft(file, stem, entry->d_name)) continue;
+        names = add_name(file, names, entry->d_name);
+        drafts++;
+    }
+    closedir(listed);
+    return names;
+}
+
+const char *leftovers_line(const struct file *file) {
+    char *names = text_of("%s", ""), name[PATH_MAX + 8];
+    for (int number = 0; number < 10; number++) {
+        snprintf(name, sizeof name, number ? "%s.bx%d" : "%s.bx", file->name, number);
+        struct stat found;
+        if (fstatat(file->folder, name, &found, 0) == 0) names = add_name(file, names, name);
+    }
+    names = add_drafts(file, names);
+    if (!names[0]) return NULL;
+    return text_of("perhaps left by a save that was killed; look at it, and remove what is not wanted:%s", names);
+}
+
+const char *not_utf8_message(const struct file *file, unsigned long long line) {
+    unsigned char front[FRONT];
+    ssize_t count = file->text >= 0 ? pread(file->text, front, sizeof front, 0) : 0;
+    size_t length = count > 0 ? (size_t)count : 0;
+    if (length >= 2 && (memcmp(front, "\xff\xfe", 2) == 0 || memcmp(front, "\xfe\xff", 2) == 0))
+        return refuse(file, "is UTF-16 and not UTF-8: iconv -f UTF-16 -t UTF-8 may help");
+    if (length > 0 && ((length >= 4 && memcmp(front, "\x7f" "ELF", 4) == 0) || memchr(front, 0, length)))
+        return refuse(file, "is a binary file and no text: od -c shows it");
+    return text_of("%s is not UTF-8 in line %llu: iconv -f CP1255 -t UTF-8 may help if it is in Windows' Hebrew (CP1256: Arabic)",
+                   shown(file->typed), line);
+}
+
+const char *too_long_message(const struct file *file) {
+    struct stat found;
+    long long size = file->text >= 0 && fstat(file->text, &found) == 0 ? (long long)found.st_size : 0;
+    return text_of("%s has %lld bytes, and %d are the most: split -C 16M cuts it at line ends", shown(file->typed), size, LARGEST_TEXT);
+}

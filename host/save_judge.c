@@ -1,0 +1,102 @@
+#include "save_judge.h"
+
+#include <errno.h>
+
+enum { SET_IDS = 06000, ALL_BITS = 07777, GROUP_BITS = 070, OTHERS_BITS = 07 };
+
+/* Why a file that the user can write must not be replaced. */
+static enum reason reason_for(const struct facts *file, nlink_t names, const struct facts *folder) {
+    if (!folder->writable || file->is_held_by_folder) return REASON_PROTECTED;
+    if (file->is_mount) return REASON_MOUNTED;
+    if (names > 1) return REASON_LINKED;
+    if (file->has_access_list) return REASON_LISTED;
+    if (file->has_label) return REASON_LABELLED;
+    return folder->gives_access_lists ? REASON_GIVEN_LIST : NO_REASON;
+}
+
+enum reason find_in_place(const struct facts *file, const struct look *look, const struct facts *folder) {
+    if (!look->is_there || !S_ISREG(look->found.st_mode) || !file->writable) return NO_REASON;
+    return reason_for(file, look->found.st_nlink, folder);
+}
+
+const char *reason_text(enum reason reason) {
+    switch (reason) {
+    case REASON_PROTECTED: return "is in a folder where you cannot replace it";
+    case REASON_MOUNTED: return "is mounted by itself";
+    case REASON_LINKED: return "has other names (hard links)";
+    case REASON_LISTED: return "has an access list";
+    case REASON_LABELLED: return "has a security label";
+    case REASON_GIVEN_LIST: return "is in a folder that gives access lists";
+    case NO_REASON: break;
+    }
+    return "";
+}
+
+const char *reason_harm(enum reason reason) {
+    switch (reason) {
+    case REASON_PROTECTED:
+    case REASON_MOUNTED: return "no save can be made";
+    case REASON_LINKED: return "a save would part it from them";
+    case REASON_LISTED: return "a save would drop it";
+    case REASON_LABELLED: return "a save may give it another";
+    case REASON_GIVEN_LIST: return "a save would give it one";
+    case NO_REASON: break;
+    }
+    return "";
+}
+
+mode_t mode_of_new(struct taken taken, mode_t old) {
+    mode_t mode = old & ALL_BITS;
+    bool has_group = taken.group && taken.is_plain;
+    if (taken.owner && has_group) return mode;
+    mode &= ~(mode_t)SET_IDS;
+    if (has_group) return mode;
+    /* the group may have had fewer rights than the bits say, so it gets what all others have */
+    return (mode & ~(mode_t)GROUP_BITS) | (mode & OTHERS_BITS) << 3;
+}
+
+enum found judge_look(const struct look *seen, const struct look *now, bool is_distrusted) {
+    if (!now->is_there) return FOUND_GONE;
+    if (!S_ISREG(now->found.st_mode) && !S_ISLNK(now->found.st_mode)) return FOUND_NOT_PLAIN;
+    if (!seen->is_there || is_distrusted) return FOUND_CHANGED;
+    return is_unchanged(&seen->found, &now->found) ? FOUND_SAME : FOUND_CHANGED;
+}
+
+bool is_same_file(const struct stat *one, const struct stat *other) {
+    return one->st_dev == other->st_dev && one->st_ino == other->st_ino;
+}
+
+static bool is_same_time(struct timespec one, struct timespec other) {
+    return one.tv_sec == other.tv_sec && one.tv_nsec == other.tv_nsec;
+}
+
+/* Whether all but the time of change is the same. */
+static bool is_alike(const struct stat *one, const struct stat *other) {
+    return is_same_file(one, other) && one->st_size == other->st_size && is_same_time(one->st_mtim, other->st_mtim) &&
+           one->st_mode == other->st_mode && one->st_uid == other->st_uid && one->st_gid == other->st_gid &&
+           one->st_nlink == other->st_nlink;
+}
+
+bool is_unchanged(const struct stat *one, const struct stat *other) {
+    return is_alike(one, other) && is_same_time(one->st_ctim, other->st_ctim);
+}
+
+bool is_taken_out(const struct look *seen, const struct look *out) {
+    return seen->is_there && out->is_there && is_alike(&seen->found, &out->found);
+}
+
+int cause_of(int error) {
+    switch (error) {
+    case 0: return 0;
+    case ENOSPC:
+    case EDQUOT: return SAVE_NO_SPACE;
+    case EPERM:
+    case EACCES: return SAVE_NOT_PERMITTED;
+    case ENOENT:
+    case ENOTDIR: return SAVE_FOLDER_GONE;
+    case EROFS: return SAVE_READ_ONLY;
+    case EFBIG: return SAVE_TOO_LARGE;
+    case ENOMEM: return SAVE_OUT_OF_MEMORY;
+    default: return SAVE_OTHER;
+    }
+}
