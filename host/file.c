@@ -283,9 +283,12 @@ static const char *refuse_long_name(const struct file *file) {
                    shown(file->name), length, (unsigned long long)most, MARK_BYTES);
 }
 
+const char *unreadable_message(const struct file *file) {
+    return refuse(file, "cannot be read by you: chmod u+r lets its owner read it, and --force opens an empty text in its place");
+}
+
 const char *refuse_access(const struct file *file, bool is_in_place) {
-    if (is_closed(file))
-        return refuse(file, "cannot be read by you: chmod u+r lets its owner read it, and --force opens an empty text in its place");
+    if (is_closed(file)) return unreadable_message(file);
     const char *message = refuse_long_name(file);
     if (message) return message;
     if (!file->folder_facts.writable && !is_in_place)

@@ -67,7 +67,8 @@ size_t draft_stem(const struct file *file);
 /* The message that names files which killed saves left beside FILE; NULL if there are none. */
 const char *leftovers_line(const struct file *file);
 
-/* The messages about a FILE that is not UTF-8 in this line, from 1; that is too large. */
+/* The messages about a FILE that cannot be read; that is not UTF-8 in this line, from 1; that is too large. */
+const char *unreadable_message(const struct file *file);
 const char *not_utf8_message(const struct file *file, unsigned long long line);
 const char *too_long_message(const struct file *file);
 

@@ -18,7 +18,7 @@
 #include "../save.h"
 #include "../save_judge.h"
 
-/* say.c wants this. */
+/* The words of causes, by number. */
 static const char *const causes[] = {
     "saved", "no space", "not permitted", "folder gone", "read-only disk", "file too large", "out of memory", "changed by another program",
     "not a plain file", "file cut off", "disk error",

@@ -1,0 +1,209 @@
+#include <errno.h>
+#include <fcntl.h>
+#include <limits.h>
+#include <signal.h>
+#include <stdatomic.h>
+#include <stdlib.h>
+#include <string.h>
+#include <sys/mman.h>
+#include <sys/prctl.h>
+#include <sys/syscall.h>
+#include <unistd.h>
+
+#include "frames.h"
+#include "saving.h"
+
+/* MOST_FILES: numbers of files that are closed one by one where the system cannot close all of them at once. */
+enum { MOST_FILES = 1024, ROOM = 2 * (FRAME_HEAD + FRAME_MOST) };
+
+/* The child writes a state to the slot that is not read, and then says that this one is. */
+struct saved {
+    struct state slots[2];
+    atomic_uint current;
+};
+
+static struct state *current(const struct saver *saver) {
+    return &saver->saved->slots[atomic_load(&saver->saved->current) & 1];
+}
+
+void publish(const struct save *save) {
+    struct saved *saved = save->saver->saved;
+    unsigned next = (atomic_load(&saved->current) + 1) & 1;
+    saved->slots[next] = save->state;
+    atomic_store(&saved->current, next);
+}
+
+/* ---- the child serves a save */
+
+/* What the user must know while FILE is torn and its mark is beside it. */
+static int cause_to_tell(const struct save *save, int cause) {
+    return cause != 0 && save->state.is_torn && save->state.torn[0] ? SAVE_CUT_OFF : cause;
+}
+
+/* Removes what a failed save made: the mark too, unless FILE needs it. */
+static void clean_up(struct save *save) {
+    if (save->state.is_torn && strcmp(save->draft.name, MARK_NAME) == 0 && save->saver->mark_folder >= 0) save->draft.name[0] = 0;
+    draft_remove(&save->draft);
+}
+
+/* Tells the host and the program how the save ended. */
+static _Noreturn void end(struct save *save, int answer, int cause) {
+    clean_up(save);
+    save->state.cause = cause_to_tell(save, cause);
+    save->state.is_answered = true;
+    publish(save);
+    unsigned char byte = (unsigned char)save->state.cause;
+    bool is_told = byte == 0 ? write_frame(answer, FRAME_DONE, NULL, 0) : write_frame(answer, FRAME_FAILED, &byte, 1);
+    _exit(is_told ? 0 : 1);
+}
+
+/* Reads frames of the save. Returns false at the end, where the program is gone. */
+static bool read_more(int request, unsigned char *room, size_t *length) {
+    for (;;) {
+        ssize_t count = read(request, room + *length, ROOM - *length);
+        if (count < 0 && errno == EINTR) continue;
+        if (count <= 0) return false;
+        *length += (size_t)count;
+        return true;
+    }
+}
+
+/* Does what a frame asks for. */
+static void obey(struct save *save, const struct frame *frame, int answer) {
+    int cause = 0;
+    switch (frame->letter) {
+    case FRAME_BEGIN:
+        cause = begin(save);
+        if (cause != 0) end(save, answer, cause);
+        if (!write_frame(answer, FRAME_DONE, NULL, 0)) _exit(1);
+        break;
+    case FRAME_PIECE:
+        draft_put(&save->draft, frame->bytes, frame->length);
+        break;
+    case FRAME_COMMIT:
+        end(save, answer, save->draft.file < 0 ? SAVE_OTHER : commit(save));
+    default:
+        break;
+    }
+}
+
+static _Noreturn void serve(struct save *save, int request, int answer) {
+    static unsigned char room[ROOM];
+    size_t length = 0;
+    while (read_more(request, room, &length)) {
+        struct frame frame;
+        size_t done = 0;
+        for (size_t size = find_frame(room, length, &frame); size > 0; size = find_frame(room + done, length - done, &frame)) {
+            obey(save, &frame, answer);
+            done += size;
+        }
+        length -= done;
+        memmove(room, room + done, length);
+    }
+    draft_remove(&save->draft);
+    _exit(1);
+}
+
+/* ---- the child is made, and taken in */
+
+static int by_number(const void *one, const void *other) {
+    return *(const int *)one - *(const int *)other;
+}
+
+static void close_range_of(int first, int last) {
+    if (first > last) return;
+#ifdef SYS_close_range
+    if (syscall(SYS_close_range, (unsigned)first, (unsigned)last, 0) == 0) return;
+#endif
+    for (int file = first; file <= last && file < MOST_FILES; file++) close(file);
+}
+
+/* Closes all files but the standard ones and these: others wait for the ends of pipes. */
+static void close_others(int *kept, size_t count) {
+    int next = STDERR_FILENO + 1;
+    qsort(kept, count, sizeof *kept, by_number);
+    for (size_t i = 0; i < count; i++) {
+        if (kept[i] < next) continue;
+        close_range_of(next, kept[i] - 1);
+        next = kept[i] + 1;
+    }
+    close_range_of(next, INT_MAX);
+}
+
+/* Has the child finish a save whatever asks the host to end, and whatever is killed by the host's name. */
+static void become_child(const struct saver *saver, int request, int answer) {
+    static const int ignored[] = {SIGHUP, SIGINT, SIGQUIT, SIGTERM, SIGTSTP, SIGTTIN, SIGTTOU, SIGPIPE, SIGXFSZ};
+    const struct file *file = saver->file;
+    int kept[] = {request, answer, file->folder, file->itself, saver->mark_folder, saver->lock};
+    int nothing = open("/dev/null", O_RDWR | O_CLOEXEC);
+    prctl(PR_SET_NAME, "bidi-saver");
+    for (size_t i = 0; i < sizeof ignored / sizeof *ignored; i++) signal(ignored[i], SIG_IGN);
+    /* what the C library says of a fault must not get into a file of these numbers */
+    for (int number = STDIN_FILENO; nothing >= 0 && number <= STDERR_FILENO; number++) dup2(nothing, number);
+    close_others(kept, sizeof kept / sizeof *kept);
+}
+
+bool saver_open(struct saver *saver, struct file *file) {
+    void *shared = mmap(NULL, sizeof(struct saved), PROT_READ | PROT_WRITE, MAP_SHARED | MAP_ANONYMOUS, -1, 0);
+    *saver = (struct saver){.file = file, .mark_folder = -1, .lock = -1, .answer = -1};
+    if (shared == MAP_FAILED) return false;
+    saver->saved = shared;
+    atomic_init(&saver->saved->current, 0);
+    struct state *state = current(saver);
+    state->seen = file->look;
+    state->old = file->look;
+    state->is_old_plain = !file->facts.has_access_list && !file->facts.is_unsure;
+    return true;
+}
+
+void saver_distrust(struct saver *saver) {
+    current(saver)->is_distrusted = true;
+}
+
+/* Fails a save for which there is no child. */
+static void refuse_save(int request, int answer) {
+    static unsigned char room[FRAME_MOST];
+    unsigned char cause = SAVE_OTHER;
+    struct frame frame;
+    if (read_frame(request, room, &frame)) write_frame(answer, FRAME_FAILED, &cause, 1);
+}
+
+pid_t saver_start(struct saver *saver, int request, int answer) {
+    current(saver)->is_answered = false;
+    saver->answer = answer;
+    pid_t child = fork();
+    if (child < 0) refuse_save(request, answer);
+    if (child != 0) return child;
+    become_child(saver, request, answer);
+    static struct save save;
+    save = (struct save){.saver = saver, .file = saver->file, .state = *current(saver), .folder = -1, .folder_to_sync = -1, .draft = {.file = -1}};
+    serve(&save, request, answer);
+}
+
+void saver_finish(struct saver *saver) {
+    struct state *state = current(saver);
+    unsigned char cause = SAVE_OTHER;
+    if (!state->is_answered) {
+        state->is_answered = true;
+        state->cause = cause;
+        write_frame(saver->answer, FRAME_FAILED, &cause, 1);
+    }
+    saver->answer = -1;
+}
+
+int saver_cause(const struct saver *saver) {
+    return current(saver)->cause;
+}
+
+bool saver_look(const struct saver *saver, struct look *look, struct file_id *id) {
+    const struct state *state = current(saver);
+    *look = state->seen;
+    *id = state->id;
+    return state->has_id;
+}
+
+bool saver_is_torn(const struct saver *saver, const char **name) {
+    const struct state *state = current(saver);
+    *name = state->torn[0] ? state->torn : NULL;
+    return state->is_torn;
+}
