@@ -10,7 +10,6 @@
 #include <unistd.h>
 
 #include "signals.h"
-#include "writing.h"
 
 /* Milliseconds that a text may take once the program ran: of a user who waits for the end, and after a signal. */
 enum { TELLING_MS = 10000, TELLING_BY_SIGNAL_MS = 1000 };
@@ -23,6 +22,7 @@ struct text {
 
 static struct text *texts;
 bool is_telling_limited;
+int output_fault;
 
 /* Writes a text as long as the file takes it. */
 static bool put_whole(int file, const char *text, size_t length) {
@@ -38,18 +38,19 @@ static bool put_whole(int file, const char *text, size_t length) {
     return true;
 }
 
-bool put_text(int file, const char *text) {
-    if (!is_telling_limited) return put_whole(file, text, strlen(text));
-    write_within(file, text, strlen(text), end_signal ? TELLING_BY_SIGNAL_MS : TELLING_MS, true);
-    return true;
+void put_text(int file, const char *text) {
+    if (is_telling_limited) write_within(file, text, strlen(text), end_signal ? TELLING_BY_SIGNAL_MS : TELLING_MS, true);
+    else if (!put_whole(file, text, strlen(text)) && file == STDOUT_FILENO) output_fault = errno;
+}
+
+void tell_no_memory(void) {
+    put_text(STDERR_FILENO, "bidi-edit: out of memory\n");
+    exit(1);
 }
 
 static char *room_for(size_t length) {
     struct text *text = length < SIZE_MAX - sizeof *text ? malloc(sizeof *text + length + 1) : NULL;
-    if (!text) {
-        put_text(STDERR_FILENO, "bidi-edit: out of memory\n");
-        exit(1);
-    }
+    if (!text) tell_no_memory();
     text->next = texts;
     texts = text;
     text->bytes[0] = 0;
@@ -113,15 +114,17 @@ static size_t character_at(const char *text, size_t length, uint32_t *character)
     return 0;
 }
 
-bool is_utf8(const char *text, size_t length) {
+size_t utf8_length(const char *text, size_t length) {
     uint32_t character;
-    while (length > 0) {
-        size_t count = character_at(text, length, &character);
-        if (count == 0) return false;
-        text += count;
-        length -= count;
+    for (size_t at = 0, count; at < length; at += count) {
+        count = character_at(text + at, length - at, &character);
+        if (count == 0) return at;
     }
-    return true;
+    return length;
+}
+
+bool is_utf8(const char *text) {
+    return utf8_length(text, strlen(text)) == strlen(text);
 }
 
 /* Whether a terminal would obey a character, take it for a direction or show it in no column, by Unicode's properties, as

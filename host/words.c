@@ -76,7 +76,7 @@ static unsigned long line_option(unsigned long line) {
 }
 
 /* The path that a word names, with ./ before it if it begins as an option. */
-static const char *path_of(const char *word) {
+static const char *word_path(const char *word) {
     return *word == '-' || *word == '+' ? text_of("./%s", word) : word;
 }
 
@@ -242,12 +242,12 @@ int read_words(int count, char *const *words, struct call *call, const char **ca
     }
     const char *const names[] = {reading.other, reading.file};
     for (size_t i = 0; i < sizeof names / sizeof *names; i++) {
-        if (!names[i] || is_utf8(names[i], strlen(names[i]))) continue;
+        if (!names[i] || is_utf8(names[i])) continue;
         *cause = text_of("%s has a name that is not UTF-8: mv gives it another", shown(names[i]));
         return REFUSED_NAME;
     }
-    if (reading.file) call->file = path_of(reading.file);
-    if (reading.other) call->other = path_of(reading.other);
+    if (reading.file) call->file = word_path(reading.file);
+    if (reading.other) call->other = word_path(reading.other);
     return 0;
 }
 

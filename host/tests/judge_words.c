@@ -9,8 +9,8 @@
 #include <unistd.h>
 
 #include "../say.h"
+#include "../signals.h"
 #include "../words.h"
-#include "../writing.h"
 
 /* What say.c wants of the host. */
 volatile sig_atomic_t end_signal;

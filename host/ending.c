@@ -1,0 +1,306 @@
+/* The end of a session: what was kept of what was typed, what becomes of the session, and what the user is told. */
+#include <errno.h>
+#include <fcntl.h>
+#include <stdint.h>
+#include <stdio.h>
+#include <stdlib.h>
+#include <string.h>
+#include <sys/stat.h>
+#include <unistd.h>
+
+#include "edit.h"
+#include "say.h"
+#include "signals.h"
+
+/* Milliseconds: for a text that is still being copied, and for a replay, each also after a signal. */
+enum { COPY_MS = 30000, COPY_BY_SIGNAL_MS = 1500, REPLAY_MS = 2000, REPLAY_BY_SIGNAL_MS = 1000 };
+
+/* Permissions that a recovered file gets. */
+enum { PERMISSIONS = 0777 };
+
+/* Whether the last fault that the program told is of this kind; gives its value. */
+static bool is_fault(const struct edit *edit, const char *kind, const char **value) {
+    const char *fault = edit->run.said.fault;
+    size_t length = strlen(kind);
+    if (strncmp(fault, kind, length) != 0 || (fault[length] != 0 && fault[length] != ' ')) return false;
+    *value = fault[length] ? fault + length + 1 : "";
+    return true;
+}
+
+/* The refusal of FILE, or of a table, with which the program ended; NULL if it opened the text. */
+static const char *refusal_of(const struct edit *edit, bool *is_of_file) {
+    const char *value;
+    *is_of_file = true;
+    if (is_fault(edit, "not-utf8", &value)) {
+        unsigned long long text_line = strtoull(value, NULL, 10);
+        return not_utf8_message(&edit->file, text_line > 0 ? text_line : 1);
+    }
+    if (is_fault(edit, "too-long", &value)) return too_long_message(&edit->file);
+    if (is_fault(edit, "unreadable", &value)) return text_of("%s cannot be read by you: chmod u+r lets its owner read it, and --force opens an empty text in its place", shown(edit->file.typed));
+    *is_of_file = false;
+    return is_fault(edit, "tables", &value) ? value : NULL;
+}
+
+/* Why the program ended, by its last word; NULL where it tells no fault. */
+static const char *fault_of(const struct edit *edit) {
+    switch (edit->run.said.end) {
+    case END_UNSAVED: return "input ended before saving";
+    case END_OUTPUT: return "output failed";
+    case END_INPUT: return "input failed";
+    case END_READS: return "too many reads";
+    default: return edit->run.said.fault[0] ? "out of memory" : NULL;
+    }
+}
+
+/* Tells why the program ended, in its own name unless FILE is refused. Returns whether it opened nothing. */
+static bool tell_fault_of(const struct edit *edit) {
+    bool is_of_file;
+    const char *refusal = refusal_of(edit, &is_of_file), *fault = refusal ? refusal : fault_of(edit);
+    if (refusal && is_of_file) warn("%s", refusal);
+    else if (fault) put_text(STDERR_FILENO, text_of("bidi_edit: %s\n", fault));
+    return refusal != NULL;
+}
+
+/* Opens FILE as it is now, if it is a plain file. */
+static int open_now(const struct edit *edit, struct stat *look) {
+    if (edit->file.is_lost) return -1;
+    int file = openat(edit->file.folder, edit->file.name, O_RDONLY | O_NONBLOCK | O_NOFOLLOW | O_CLOEXEC);
+    if (file >= 0 && (fstat(file, look) != 0 || !S_ISREG(look->st_mode))) {
+        close(file);
+        return -1;
+    }
+    return file;
+}
+
+/* Gives a recovered FILE that was gone the permissions that it had, unless it has other names. */
+static void give_mode(const struct edit *edit) {
+    struct stat look;
+    if (edit->lost_mode < 0 || !edit->was_saved) return;
+    int file = open_now(edit, &look);
+    if (file < 0) return;
+    /* if this fails, only the user can read and write the file */
+    if (look.st_nlink == 1 && fchmod(file, (mode_t)edit->lost_mode & PERMISSIONS) != 0) errno = 0;
+    close(file);
+}
+
+static bool is_there_now(const struct edit *edit) {
+    struct look look;
+    return look_again(&edit->file, &look) && look.is_there;
+}
+
+/* Tells of a text that was recovered as a new file beside FILE. */
+static void tell_aside(const struct edit *edit) {
+    if (edit->aside_of && is_there_now(edit))
+        warn("%s was changed since, so the recovered text is in %s", shown(edit->aside_of), shown(edit->file.typed));
+}
+
+/* Whether FILE's text, as it was opened, had CR LF at each line's end. */
+static bool had_all_crlf(const struct edit *edit) {
+    const struct session *session = &edit->session;
+    if (edit->is_itself) return edit->had_all_crlf;
+    int text = session_is_none(session) ? edit->file.text : session->text >= 0 ? session->text : session->source;
+    return text >= 0 && has_all_crlf(text);
+}
+
+/* Whether a file has lines, not all of which end with CR LF. */
+static bool has_other_ends(int file) {
+    const char *bytes;
+    size_t length;
+    struct line_ends ends;
+    ends_begin(&ends);
+    if (!map_file(file, &bytes, &length)) return false;
+    ends_more(&ends, bytes, length);
+    unmap_file(bytes, length);
+    return ends.has_lines && !ends_are_all_crlf(&ends);
+}
+
+/* Tells of other line ends than those that FILE had. */
+static void tell_line_ends(const struct edit *edit) {
+    struct stat look;
+    int file = edit->was_saved && had_all_crlf(edit) ? open_now(edit, &look) : -1;
+    if (file < 0) return;
+    if (has_other_ends(file))
+        warn("%s has lines that end with LF among those with CR LF: perl -pi -e 's/\\r?\\n/\\r\\n/' makes them alike", shown(edit->file.typed));
+    close(file);
+}
+
+/* Repairs FILE after a save into it that was cut off. Returns whether FILE is still torn. */
+static bool mend_now(struct edit *edit) {
+    struct mending mending;
+    const char *name;
+    if (edit->is_itself && saver_is_torn(&edit->saver, &name) && name) {
+        mending.mended = MENDED_STILL_TORN;
+        snprintf(mending.mark, sizeof mending.mark, "%s", name);
+        tell_mended(edit, &mending, warn);
+    }
+    if (!edit->is_in_place) return false;
+    if (session_mend(&edit->session, &edit->sessions, &edit->target, &mending) != 0) return session_has(&edit->session, PART_MARK);
+    return tell_mended(edit, &mending, warn);
+}
+
+/* ---- the session */
+
+/* Tells that what was typed is not kept, if there may be unsaved text. */
+static void tell_lost(enum left_how how, const char *cause) {
+    if (may_be_unsaved(how)) warn("what was typed is not kept, since %s", cause);
+}
+
+/* Tells that the session's folder is gone. */
+static void tell_gone(const struct edit *edit, enum left_how how) {
+    const char *cause = text_of("its folder %s is gone", shown(edit->session.path));
+    if (how == LEFT_DROPPED) warn("only what was saved is kept, since %s", cause);
+    else tell_lost(how, cause);
+}
+
+/* Why a session without its text is not kept. */
+static const char *cause_of_lost(const struct edit *edit) {
+    if (edit->unkept) return edit->unkept;
+    if (edit->session.is_changed) return text_of("%s was changed before it could be copied", shown(edit->file.typed));
+    return text_of("nothing can be written in %s", shown(edit->session.path));
+}
+
+/* Whether the tables and programs are those with which the session began. */
+static bool has_same_versions(const struct edit *edit) {
+    char versions[MOST_WORDS];
+    const char *files[] = {edit->programs->editor, edit->tables.classes, edit->tables.brackets, edit->tables.mirroring};
+    return versions_look(EDITOR_VERSION, files, sizeof files / sizeof *files, versions) && strcmp(versions, edit->versions) == 0;
+}
+
+/* Leaves the session's text beside its keys, for a recovery by another version. Returns whether FILE has the same text; false
+ * where the keys were not replayed in time. */
+static bool leave_text(struct edit *edit) {
+    struct session *session = &edit->session;
+    const char *bytes;
+    size_t length;
+    int text;
+    if (!is_replayed_at_end(session_journal_size(session), end_signal != 0) || !has_same_versions(edit)) return false;
+    /* FILE as it is now */
+    struct stat look;
+    int file = open_now(edit, &look);
+    if (edit->file.text >= 0) close(edit->file.text);
+    edit->file.text = file;
+    edit->file.look.is_there = is_there_now(edit);
+    enum replayed found = replay(edit, session, &text, end_signal ? REPLAY_BY_SIGNAL_MS : REPLAY_MS);
+    if (text < 0) return false;
+    if (map_file(text, &bytes, &length)) {
+        /* if this fails, another version of the editor recovers the text by the keys */
+        session_put(session, PART_SNAPSHOT, bytes, length);
+        unmap_file(bytes, length);
+    }
+    close(text);
+    return found == REPLAY_SAME;
+}
+
+/* What is known of the session, to settle its fate. On the way leaves the replayed text in it. */
+static struct left left_of(struct edit *edit, enum left_how how) {
+    struct session *session = &edit->session;
+    struct left left = {.how = how, .is_there = session_is_there(session)};
+    if (!left.is_there) return left;
+    left.is_torn = mend_now(edit);
+    left.has_keys = session_has_keys(session) || session_has(session, PART_UNSAVED);
+    left.is_secret = session_has(session, PART_SECRET);
+    bool is_wanted = left.is_torn || (left.has_keys && how != LEFT_SAVED);
+    left.is_filled = is_wanted && session_settle(session, end_signal ? COPY_BY_SIGNAL_MS : COPY_MS);
+    left.is_same = left.is_filled && left.has_keys && leave_text(edit);
+    return left;
+}
+
+/* FILE's path where its folder has another name by now, or none; then the session is found by that. Returns NULL where the path is
+ * as it was. */
+static const char *moved_path(struct edit *edit) {
+    char folder[PATH_MAX];
+    struct stat look;
+    const struct file *file = &edit->file;
+    if (fstat(file->folder, &look) != 0 || look.st_nlink == 0 || !path_of(file->folder, folder)) return NULL;
+    if (strcmp(folder, file->folder_path) == 0) return NULL;
+    const char *end = strcmp(folder, "/") == 0 ? "" : "/", *path = text_of("%s%s%s", folder, end, file->name);
+    if (session_put(&edit->session, edit->aside_of ? PART_BESIDE : PART_PATH, path, strlen(path)) != 0) return NULL;
+    return path;
+}
+
+/* Whether FILE's name leads to this path now. */
+static bool leads_to(const char *typed, const char *path) {
+    static struct file again;
+    if (open_lost_file(&again, typed)) return false;
+    bool is_same = strcmp(again.path, path) == 0;
+    close_file(&again);
+    return is_same;
+}
+
+/* Tells what is kept (`what` begins the line), and the command that gets it back (`behind` ends the line). Where FILE's name no
+ * longer leads to it, the session's place and FILE's path are told. */
+static void tell_kept(struct edit *edit, const char *what, const char *behind) {
+    const char *cut = edit->facts.is_journal_lost ? " up to where its journal could not be written" : "";
+    /* what is not saved beside FILE is found under FILE's name */
+    const char *typed = edit->aside_of && !is_there_now(edit) ? edit->aside_of : edit->file.typed;
+    const char *moved = moved_path(edit), *path = moved ? moved : edit->file.path;
+    bool is_found = typed == edit->aside_of || leads_to(typed, path);
+    const char *where = moved || !is_found ? text_of(" in %s", shown(edit->session.path)) : "";
+    warn("%s%s%s: bidi-edit --recover %s%s", what, cut, where, shown(is_found ? typed : path), behind);
+}
+
+/* Keeps the changes that the user dropped, until others are dropped. */
+static void drop_changes(struct edit *edit) {
+    if (edit->facts.is_journal_lost) session_note_cut(&edit->session);
+    sessions_forget_dropped(&edit->sessions, &edit->session);
+    /* if this fails, the next start asks about the session */
+    session_put_empty(&edit->session, PART_DROPPED);
+    tell_kept(edit, "what was dropped can be had back", "");
+}
+
+/* Leaves a session to be recovered. */
+static void leave_session(struct edit *edit) {
+    if (edit->facts.is_journal_lost) session_note_cut(&edit->session);
+    tell_kept(edit, "what was typed is kept", " gets it back");
+}
+
+/* Ends a session that was kept. */
+static void end_kept(struct edit *edit, enum left_how how) {
+    struct session *session = &edit->session;
+    struct left left = left_of(edit, how);
+    switch (fate_of(&left)) {
+    case FATE_GONE: tell_gone(edit, how); break;
+    case FATE_REMOVED:
+        if (!left.has_keys && edit->facts.is_journal_lost) tell_lost(how, "its journal could not be written");
+        session_remove(session);
+        break;
+    case FATE_LOST:
+        tell_lost(how, cause_of_lost(edit));
+        session_remove(session);
+        break;
+    case FATE_DROPPED: drop_changes(edit); break;
+    case FATE_WIPED:
+        session_remove(session);
+        warn("what was dropped is not kept, since only root can read %s", shown(edit->file.typed));
+        break;
+    case FATE_KEPT: leave_session(edit); break;
+    }
+}
+
+/* Tells of a signal that ended the program, unless one ended the host. */
+static void tell_signal(int status) {
+    static const char *const signals[] = {"HUP",  "INT",  "QUIT", "ILL",    "TRAP", "ABRT", "BUS",  "FPE",  "KILL", "USR1", "SEGV",
+                                          "USR2", "PIPE", "ALRM", "TERM",   "STKFLT", "CHLD", "CONT", "STOP", "TSTP", "TTIN", "TTOU",
+                                          "URG",  "XCPU", "XFSZ", "VTALRM", "PROF", "WINCH", "POLL", "PWR",  "SYS"};
+    int number = status - 128, count = (int)(sizeof signals / sizeof *signals);
+    if (end_signal || number < 1) return;
+    if (number <= count) warn("the editor was ended by the signal %s", signals[number - 1]);
+    else warn("the editor was ended by the signal %d", number);
+}
+
+int end_session(struct edit *edit) {
+    bool is_refused = tell_fault_of(edit);
+    enum left_how how = left_how(edit->run.said.end, is_refused);
+    give_mode(edit);
+    tell_aside(edit);
+    tell_line_ends(edit);
+    if (!session_is_none(&edit->session)) {
+        end_kept(edit, how);
+    } else {
+        mend_now(edit);
+        if (!edit->facts.is_unwanted && edit->unkept) tell_lost(how, edit->unkept);
+    }
+    tell_signal(edit->run.status);
+    /* what is saved, or dropped, is settled, whatever came after */
+    return how == LEFT_SAVED || how == LEFT_DROPPED ? 0 : edit->run.status;
+}

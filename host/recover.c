@@ -1,0 +1,383 @@
+/* Sessions of FILE that were left: questions about them, their replay, and how one goes on or is stored as another file. */
+#include <errno.h>
+#include <stdlib.h>
+#include <string.h>
+#include <sys/stat.h>
+#include <unistd.h>
+
+#include "ask.h"
+#include "beside.h"
+#include "edit.h"
+#include "say.h"
+
+static const char unsure[] =
+    "an editor of another version, or with other tables, kept that session, and not its text: the keys may make another one now";
+
+/* What becomes of a session that is to go on. OUTCOME_MISSED: another start has it by now. */
+enum outcome { OUTCOME_TAKEN, OUTCOME_OPENED, OUTCOME_MISSED, OUTCOME_END };
+
+/* ---- a session that is to go on */
+
+static int tell_unwritten(const char *path, int error) {
+    warn("%s cannot be written%s", shown(path), fault_words(error));
+    return STATUS_FAULT;
+}
+
+/* Copies a session's parts to free names beside FILE, and removes the session. It stays where a part cannot be read or written. */
+static int keep_parts(struct session *session, const char *typed) {
+    static const struct {
+        enum part part;
+        const char *ending, *what;
+    } parts[] = {{PART_TEXT, "session-text", "the text as it was opened"},
+                 {PART_JOURNAL, "session-journal", "the keys"},
+                 {PART_SNAPSHOT, "session-snapshot", "the text where the session was left"},
+                 {PART_SAVE, "session-save", "the text of a save that was cut off"}};
+    for (size_t i = 0; i < sizeof parts / sizeof *parts; i++) {
+        int file = session_open(session, parts[i].part);
+        if (file < 0 && errno == ENOENT) continue;
+        const char *name = free_name(typed, parts[i].ending);
+        if (file < 0) {
+            warn("the session in %s cannot be read: %s. It is left as it is", shown(session->path), parts[i].what);
+            return STATUS_FAULT;
+        }
+        int error = copy_to_new(name, file, 0600);
+        close(file);
+        if (error != 0) return tell_unwritten(name, error);
+        tell("%s: %s", shown(name), parts[i].what);
+    }
+    /* if it cannot be removed, the next start asks about it */
+    session_remove(session);
+    return GO_ON;
+}
+
+/* Tells that nothing can be written in the folder of sessions. */
+static int tell_unwritable(const struct edit *edit, int error) {
+    warn("nothing can be written in %s%s. bidi-edit --recover --to OTHER %s stores the text elsewhere", shown(edit->sessions.path),
+         fault_words(error), shown(edit->call->file));
+    return STATUS_FAULT;
+}
+
+/* Tells of a session whose journal lacks its end. */
+static void tell_cut(const struct session *session) {
+    if (!session_has(session, PART_CUT)) return;
+    tell("the session is cut behind its key %zu, where its journal could not be written", session_count_keys(session));
+}
+
+/* Settles the file with which a session goes on: FILE, or where it has another's text, a new file beside it. */
+static int settle_file(struct edit *edit, enum replayed found) {
+    const char *typed = edit->call->file;
+    if (found != REPLAY_FOREIGN || !edit->file.look.is_there) {
+        /* what is refused of a FILE whose folder is gone is told by the usual opening */
+        if (edit->file.is_lost) return find_file(edit, typed, false);
+        return check_access(edit);
+    }
+    edit->aside_of = typed;
+    const char *beside = free_name(typed, "recovered");
+    tell("another program or window has changed %s since; what was typed is recovered as %s", shown(typed), shown(beside));
+    int status = find_file(edit, beside, false);
+    if (status == GO_ON) status = check_access(edit);
+    if (status != GO_ON) warn("bidi-edit --recover --to OTHER %s stores the text elsewhere", shown(typed));
+    return status;
+}
+
+/* Whether a session notes FILE's path as its own. */
+static bool is_of_path(const struct edit *edit, const struct session *session) {
+    char *path = session_note(session, PART_PATH);
+    bool is_same = path && strcmp(path, edit->file.path) == 0;
+    free(path);
+    return is_same;
+}
+
+/* Goes on with a session; `found` is what FILE has. */
+static enum outcome go_on_with(struct edit *edit, struct session *session, enum replayed found, int *status) {
+    bool is_own = is_of_path(edit, session);
+    *status = settle_file(edit, found);
+    if (*status != GO_ON) return OUTCOME_END;
+    int error = session_go_on(session, edit->aside_of ? edit->file.path : NULL, is_own);
+    if (error != 0) {
+        *status = tell_unwritable(edit, error);
+        return OUTCOME_END;
+    }
+    edit->session = *session;
+    session_clear(session);
+    return OUTCOME_TAKEN;
+}
+
+/* Ends a session whose text FILE has. */
+static enum outcome end_where_same(const struct edit *edit, struct session *session) {
+    tell("%s holds all that was typed in its last session", shown(edit->file.typed));
+    session_remove(session);
+    return OUTCOME_OPENED;
+}
+
+/* Asks about a session whose keys cannot be replayed. FILE is opened in any case. */
+static enum outcome ask_what_to_keep(const struct edit *edit, struct session *session, int *status) {
+    tell("the session of %s in %s could not be replayed", shown(edit->file.typed), shown(session->path));
+    enum rest rest = ask_rest();
+    *status = rest == REST_NONE ? STATUS_NO : rest == REST_KEEP ? keep_parts(session, edit->file.typed) : GO_ON;
+    return *status == GO_ON ? OUTCOME_OPENED : OUTCOME_END;
+}
+
+static int tell_failed_replay(const struct edit *edit, const struct session *session) {
+    warn("the session of %s in %s could not be replayed, and is left as it is", shown(edit->file.typed), shown(session->path));
+    return STATUS_FAULT;
+}
+
+/* Goes on with a session by its keys. */
+static enum outcome take_by_keys(struct edit *edit, struct session *session, int *status) {
+    int text;
+    enum replayed found = replay(edit, session, &text, 0);
+    if (text >= 0) close(text);
+    if (found == REPLAY_UNREADABLE) return ask_what_to_keep(edit, session, status);
+    if (found == REPLAY_FAILED) {
+        *status = tell_failed_replay(edit, session);
+        return OUTCOME_END;
+    }
+    tell_cut(session);
+    return found == REPLAY_SAME ? end_where_same(edit, session) : go_on_with(edit, session, found, status);
+}
+
+/* Starts a new session from the text that a session left, and removes the old one. */
+static enum outcome take_by_text(struct edit *edit, struct session *session, int *status) {
+    struct session renewed;
+    enum replayed found = compare_text(edit, session);
+    if (found == REPLAY_SAME) return end_where_same(edit, session);
+    tell("an editor of another version, or with other tables, kept that session: its text is had back, and its undo history is not");
+    session_clear(&renewed);
+    int error = session_renew(&renewed, &edit->sessions, session, edit->versions);
+    if (error != 0) {
+        *status = tell_unwritable(edit, error);
+        return OUTCOME_END;
+    }
+    /* if the old one cannot be removed, the next start asks about it */
+    session_remove(session);
+    enum outcome outcome = go_on_with(edit, &renewed, found, status);
+    session_close(&renewed);
+    return outcome;
+}
+
+/* Goes on with a locked session. */
+static enum outcome take_locked(struct edit *edit, struct session *session, int *status) {
+    struct mending mending;
+    bool is_mended = session_mend(session, &edit->sessions, &edit->target, &mending) == 0;
+    if (is_mended && tell_mended(edit, &mending, tell)) {
+        *status = STATUS_FAULT;
+        return OUTCOME_END;
+    }
+    /* FILE as it is now, after the question */
+    *status = find_file(edit, edit->call->file, true);
+    if (*status != GO_ON) return OUTCOME_END;
+    if (session_has_versions(session, edit->versions)) return take_by_keys(edit, session, status);
+    if (session_has(session, PART_SNAPSHOT)) return take_by_text(edit, session, status);
+    tell("%s", unsure);
+    if (ask_to_go_on("Recover it all the same")) return take_by_keys(edit, session, status);
+    *status = STATUS_NO;
+    return OUTCOME_END;
+}
+
+/* Takes over a session, unless another start of the editor holds it by now. */
+static enum outcome take(struct edit *edit, struct session *session, int *status) {
+    switch (session_lock(session, PART_PATH)) {
+    case LOCK_TAKEN: return take_locked(edit, session, status);
+    case LOCK_FAILED: *status = tell_unwritable(edit, session->error); return OUTCOME_END;
+    default: tell("another start of the editor has that session by now"); return OUTCOME_MISSED;
+    }
+}
+
+/* ---- questions about FILE's sessions */
+
+/* Tells of a process of the user's that has FILE open, or may have it open where that cannot be seen from here (`is_sure`), and
+ * asks whether to go on. */
+static bool ask_of_other(const char *typed, const char *number, const char *machine, bool is_sure) {
+    static const char overwrites[] = "What one of them saves the other may overwrite.";
+    const char *file = shown(typed), *where = machine ? text_of(" on %s", machine) : "";
+    if (is_sure) tell("%s is open in another window of yours, process %s%s. %s", file, number, where, overwrites);
+    else
+        tell("%s may be open in another window of yours, process %s on %s, which cannot be seen from here. %s", file, number,
+             machine ? machine : THIS_MACHINE, overwrites);
+    return ask_to_go_on("Edit it all the same");
+}
+
+static const char *number_text(const struct session *session) {
+    struct process process;
+    return session_process(session, &process) ? text_of("%u", process.number) : "unknown";
+}
+
+/* Asks whether to go on beside another editor that has FILE open. Returns MET_NONE where there is none. */
+static enum met ask_beside(const struct edit *edit, const struct found *found) {
+    const char *typed = edit->call->file;
+    pid_t other = edit->file.is_lost ? 0 : note_open_file(&edit->file);
+    bool is_live = !session_is_none(&found->live);
+    const struct session *session = is_live ? &found->live : &found->elsewhere;
+    bool goes_on;
+    if (is_live || (other == 0 && !session_is_none(session)))
+        goes_on = ask_of_other(typed, number_text(session), machine_text(session), is_live);
+    else if (other != 0) goes_on = ask_of_other(typed, other > 0 ? text_of("%d", (int)other) : "unknown", NULL, true);
+    else return MET_NONE;
+    return goes_on ? MET_ASKED : MET_END;
+}
+
+/* Does what the user chooses for an unfinished session. */
+static enum outcome ask_what_to_do(struct edit *edit, struct session *session, int *status) {
+    tell("%s has an unfinished session of %s (keys typed: %zu)", shown(edit->file.typed), time_text(session), session_count_keys(session));
+    switch (ask_choice()) {
+    case CHOICE_RECOVER: return take(edit, session, status);
+    case CHOICE_LATER: return OUTCOME_OPENED;
+    case CHOICE_DELETE:
+        if (session_remove_unless_locked(session)) return OUTCOME_OPENED;
+        tell("another start of the editor has that session by now");
+        return OUTCOME_MISSED;
+    default: *status = STATUS_NO; return OUTCOME_END;
+    }
+}
+
+enum met meet_sessions(struct edit *edit, int *status) {
+    for (;;) {
+        struct found found;
+        /* a folder that cannot be read has no session that could be recovered */
+        if (sessions_of(&found, &edit->sessions, &edit->target) != 0) return MET_NONE;
+        enum met met = ask_beside(edit, &found);
+        enum outcome outcome = OUTCOME_END;
+        if (met == MET_END) *status = STATUS_NO;
+        else if (!session_is_none(&found.unfinished)) outcome = ask_what_to_do(edit, &found.unfinished, status);
+        bool is_settled = met == MET_END || session_is_none(&found.unfinished);
+        found_close(&found);
+        if (is_settled) return met;
+        if (outcome == OUTCOME_TAKEN) return MET_TAKEN;
+        if (outcome == OUTCOME_OPENED) return MET_ASKED;
+        if (outcome == OUTCOME_END) return MET_END;
+    }
+}
+
+/* ---- --recover FILE */
+
+/* Tells that FILE has no session to recover; where `is_live`, its only one is still running. */
+static int tell_no_session(const struct edit *edit, bool is_live) {
+    enum notice notice;
+    const char *file = shown(edit->file.typed), *unkept = unkept_by(&edit->sessions, &notice);
+    if (is_live) warn("the session of %s goes on", file);
+    else if (unkept) warn("there is no session of %s to recover (%s)", file, unkept);
+    else warn("there is no session of %s to recover", file);
+    return STATUS_FAULT;
+}
+
+/* Picks a session: an unfinished one, else one whose changes were dropped, else one of another machine. */
+static struct session *pick(struct found *found, bool *is_elsewhere) {
+    *is_elsewhere = session_is_none(&found->unfinished) && session_is_none(&found->dropped);
+    if (!session_is_none(&found->unfinished)) return &found->unfinished;
+    if (!*is_elsewhere) return &found->dropped;
+    return session_is_none(&found->elsewhere) ? NULL : &found->elsewhere;
+}
+
+/* Asks whether a session on another machine has ended. */
+static bool ask_of_elsewhere(const struct edit *edit, const struct session *session) {
+    const char *machine = machine_text(session);
+    tell("the session of %s began on %s, as process %s, and cannot be seen from here. It can be recovered where that has ended.",
+         shown(edit->file.typed), machine ? machine : THIS_MACHINE, number_text(session));
+    return ask_to_go_on("Has it ended");
+}
+
+/* Finds FILE's sessions. */
+static int find_sessions(struct edit *edit, struct found *found) {
+    int error = sessions_of(found, &edit->sessions, &edit->target);
+    if (error != 0) warn("nothing can be written in %s", shown(edit->sessions.path));
+    return error != 0 ? STATUS_FAULT : GO_ON;
+}
+
+/* Tries to recover one of the sessions that were found. */
+static enum outcome recover_found(struct edit *edit, struct found *found, int *status) {
+    bool is_elsewhere;
+    struct session *session = pick(found, &is_elsewhere);
+    *status = STATUS_NO;
+    if (!is_elsewhere && ask_beside(edit, found) == MET_END) return OUTCOME_END;
+    if (!session) {
+        *status = tell_no_session(edit, !session_is_none(&found->live));
+        return OUTCOME_END;
+    }
+    if (is_elsewhere && !ask_of_elsewhere(edit, session)) return OUTCOME_END;
+    return take(edit, session, status);
+}
+
+int recover_session(struct edit *edit, bool *is_taken) {
+    int status = find_file(edit, edit->call->file, true);
+    if (status != GO_ON) return status;
+    if (!mend_file(edit)) return STATUS_FAULT;
+    for (;;) {
+        struct found found;
+        status = find_sessions(edit, &found);
+        if (status != GO_ON) return status;
+        enum outcome outcome = recover_found(edit, &found, &status);
+        found_close(&found);
+        if (outcome == OUTCOME_MISSED) continue;
+        *is_taken = outcome == OUTCOME_TAKEN;
+        return outcome == OUTCOME_END ? status : GO_ON;
+    }
+}
+
+/* ---- --recover --to OTHER FILE */
+
+/* The text of a session, as an open file: by its keys, or as it was left if another version kept it. -1 where it cannot be had,
+ * which is told. */
+static int text_to_store(struct edit *edit, const struct session *session) {
+    int text = -1;
+    if (!session_has_versions(session, edit->versions)) {
+        text = session_open(session, PART_SNAPSHOT);
+        if (text >= 0) return text;
+        tell("%s", unsure);
+    }
+    enum replayed found = replay(edit, session, &text, 0);
+    if (found == REPLAY_UNREADABLE || found == REPLAY_FAILED) tell_failed_replay(edit, session);
+    else tell_cut(session);
+    return text;
+}
+
+/* Stores the text of a session that no other start has. */
+static int store(struct edit *edit, const struct session *session) {
+    const char *other = edit->call->other;
+    int text = text_to_store(edit, session);
+    if (text < 0) return STATUS_FAULT;
+    int error = copy_to_new(other, text, session_mode(session));
+    close(text);
+    if (error != 0) return tell_unwritten(other, error);
+    tell("the text of %s with what was typed (keys: %zu) is in %s", shown(edit->file.typed), session_count_keys(session), shown(other));
+    return 0;
+}
+
+/* Stores the text of one of the sessions that were found. One of another machine is refused: only --recover alone asks whether it
+ * has ended. */
+static int store_found(struct edit *edit, struct found *found) {
+    bool is_elsewhere;
+    struct stat look;
+    struct session *session = pick(found, &is_elsewhere);
+    const char *file = shown(edit->file.typed), *other = edit->call->other;
+    if (!session) return tell_no_session(edit, !session_is_none(&found->live));
+    if (is_elsewhere) {
+        warn("the session of %s began on another machine: bidi-edit --recover %s asks of it", file, file);
+        return STATUS_FAULT;
+    }
+    if (lstat(other, &look) == 0) {
+        warn("%s is there already: name a new file", shown(other));
+        return STATUS_FAULT;
+    }
+    enum lock_result lock = session_lock(session, PART_PATH);
+    if (lock == LOCK_HELD || lock == LOCK_GONE) {
+        warn("another start of the editor has that session by now");
+        return STATUS_FAULT;
+    }
+    /* no lock can be taken on a disk that is read-only, where no editor can run either */
+    return store(edit, session);
+}
+
+int store_session(struct edit *edit) {
+    struct found found;
+    int status = find_file(edit, edit->call->file, true);
+    if (status != GO_ON) return status;
+    /* the text can be stored elsewhere even if FILE cannot be repaired */
+    mend_file(edit);
+    if (!edit->file.typed) return STATUS_FAULT;
+    status = find_sessions(edit, &found);
+    if (status != GO_ON) return status;
+    status = store_found(edit, &found);
+    found_close(&found);
+    return status;
+}
