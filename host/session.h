@@ -7,6 +7,7 @@
 #include <stdbool.h>
 #include <stddef.h>
 #include <stdint.h>
+#include <sys/stat.h>
 #include <sys/types.h>
 #include <time.h>
 
@@ -121,10 +122,10 @@ const char *part_name(enum part part);
 
 /* A short file of a running session, by which it is made again where it is removed. */
 struct kept_part {
-    bool is_kept;
+    /* It is to be there; a child is writing it; it is on the disk. */
+    bool is_kept, is_sent, is_written;
     char *bytes;
     size_t size;
-    ino_t inode;
 };
 
 struct session {
@@ -136,21 +137,25 @@ struct session {
     /* What the program is to open at a fresh start (`--text /proc/self/fd/N`): the copy, FILE itself or a copy in memory; -1 for
      * an empty text. */
     int source;
-    /* The session's folder, for messages, and its name in the folder of sessions. */
+    /* The session's folder, for messages; it ends with its name in the folder of sessions. */
     char path[PATH_MAX];
-    const char *name;
     uid_t user;
     bool is_locked;
-    /* The text waits for room; the session has its text and path; FILE changed before it was copied. */
-    bool is_waiting, is_filled, is_changed;
+    /* The text waits for room; the copy has all of it; the session can be recovered; FILE changed before it was copied. */
+    bool is_waiting, has_text, is_filled, is_changed;
     /* Why the last write failed. */
     int error;
-    /* Its copying child: number and what it reports; -1 if there is none. */
+    /* `source` is FILE, which was like this before the program read it. */
+    bool is_source_file;
+    struct stat look;
+    /* The child that writes: its number, and the pipe of what it reports; -1 if there is none. */
     pid_t child;
     int report;
+    unsigned waited;
+    /* How much of the journal the mirror has; it has less than the journal; it is not on the disk yet. */
     off_t mirrored;
+    bool is_mirror_behind, is_mirror_new;
     struct kept_part parts[PARTS];
-    struct session_copy *copy;
 };
 
 /* A session that is none: all numbers -1. */
@@ -263,14 +268,14 @@ bool versions_look(const char *version, const char *const *files, size_t count, 
 struct found {
     struct session live, elsewhere, unfinished, dropped;
 };
-/* Finds them, in these folder and in those where another name of FILE may have them; removes those of FILE without unsaved text.
- * Returns the fault of a folder that cannot be read. */
+/* Finds them, in this folder (in any state) and in those where another name of FILE may have them; removes those of FILE without
+ * unsaved text. Returns the fault of the folder if it cannot be read. */
 int sessions_of(struct found *found, const struct sessions *sessions, const struct target *target);
 void found_close(struct found *found);
 
-/* All sessions of a folder, the oldest first, in new memory; those that are not the user's own are left out. */
-size_t sessions_all(const struct sessions *sessions, struct session **all);
-void sessions_free(struct session *all, size_t count);
+/* Calls `visit` for each session in a folder that is the user's own, the oldest first, until it returns false. Returns the fault of
+ * a folder that cannot be read. */
+int sessions_each(const struct sessions *sessions, bool (*visit)(void *, struct session *), void *context);
 
 enum session_state session_state(const struct session *session);
 enum belonging session_belonging(const struct session *session, const struct target *target);
@@ -280,15 +285,17 @@ void sessions_sweep(const struct sessions *sessions);
 /* Removes all sessions with dropped changes except this one, of whatever file. */
 void sessions_forget_dropped(const struct sessions *sessions, const struct session *except);
 
-/* A session that was removed: what is told of it. */
+/* A session that was removed, or could not be (`error`): what is told of it. */
 struct forgotten {
-    char *path;
+    const char *path;
     bool has_time, was_dropped;
     struct timespec changed;
+    int error;
 };
-/* Removes the sessions of a file, or of all for NULL, that no editor has here or elsewhere; returns what is to be told, in new
- * memory. `kept` counts those that could not be removed. */
-size_t sessions_forget(const struct sessions *sessions, const struct target *target, struct forgotten **forgotten, size_t *kept);
+/* Removes the sessions of a file, or of all for NULL, that no editor has here or elsewhere; calls `tell` for each that held unsaved
+ * text. */
+void sessions_forget(const struct sessions *sessions, const struct target *target, void (*tell)(void *, const struct forgotten *),
+                     void *context);
 
 /* ---- files after a save into them was cut off */
 

@@ -33,9 +33,9 @@ struct file_id {
 };
 bool file_id_of(const char *words, struct file_id *id);
 void words_of_file_id(const struct file_id *id, char words[MOST_WORDS]);
-bool is_same_file(const struct file_id *one, const struct file_id *other);
+bool is_same_id(const struct file_id *one, const struct file_id *other);
 /* Also where one of them was seen long ago. */
-bool is_surely_same_file(const struct file_id *one, const struct file_id *other);
+bool is_surely_same_id(const struct file_id *one, const struct file_id *other);
 
 /* A process that began or resumed a session, and its machine: containers of one machine have names of their own and one boot. */
 struct process {
@@ -54,10 +54,21 @@ mode_t mode_of(const char *words);
 
 /* ---- names and owners */
 
-/* Whether a name is a session's: fourteen digits of a time, a point, and six or eight letters or digits. */
-bool is_session_name(const char *name);
-/* Whether it is one of a folder that is being removed, or into which an older editor replayed keys. */
-bool is_dead_name(const char *name);
+/* What a folder in the folder of sessions is, by its name. */
+enum name_kind {
+    /* Nothing of the editor's: it is left alone. */
+    NAME_FOREIGN,
+    /* A session: fourteen digits of a time, a point, and six or eight random letters. */
+    NAME_SESSION,
+    /* A session that is being removed. */
+    NAME_DEAD,
+    /* Where an older editor replayed keys. */
+    NAME_REPLAY
+};
+enum name_kind kind_of_name(const char *name);
+/* The name of a session that is being removed is this one and the session's. */
+#define DEAD_BEGIN ".dead."
+
 /* Whether a folder of this owner and mode is the user's own, and nobody else may write it. */
 bool is_private(uid_t owner, mode_t mode, uid_t user);
 /* Whether no other user can exchange what the user has in a folder of this owner and mode. */
@@ -116,9 +127,11 @@ enum verdict compare_end(const struct mark_comparison *comparison, uint64_t size
 
 /* Counts a journal's keys, piece by piece, without replaying them. Not counted are a notice of the host, a size that the terminal
  * reports, and the Save right before a size, with which a resumed session begins. */
+enum after { AFTER_KEY, AFTER_SAVE, AFTER_ESCAPE, AFTER_SAVED_ESCAPE, IN_SEQUENCE, IN_SAVED_SEQUENCE, IN_NOTICE };
 struct key_count {
     size_t keys;
-    int after;
+    /* What the last bytes are, as far as the next one may belong to the same key; `SAVED`: a Save is right before it. */
+    enum after after;
 };
 void count_begin(struct key_count *count);
 void count_more(struct key_count *count, const char *bytes, size_t size);
@@ -148,9 +161,8 @@ enum keeping {
 };
 
 struct keeping_facts {
-    bool is_folder_there, is_copying, is_filled, is_changed;
-    /* Parts that are missing and could not be made again. */
-    unsigned missing;
+    /* `is_behind`: the journal was removed, and its new file lacks its end. */
+    bool is_folder_there, is_copying, is_filled, is_changed, is_behind;
 };
 enum keeping judge_keeping(const struct keeping_facts *facts);
 
@@ -159,7 +171,7 @@ struct notice_facts {
     bool is_new, is_typed_since;
     unsigned seconds_since;
 };
-enum { NOTICE_AGAIN = 5 };
+enum { NOTICE_AGAIN_SECONDS = 5 };
 bool is_notice_due(const struct notice_facts *facts);
 
 #endif

@@ -1,0 +1,391 @@
+/* What keeps a session's files: the copy of FILE, the child that writes, and the parts that are made again where they are removed. */
+#include <errno.h>
+#include <fcntl.h>
+#include <poll.h>
+#include <signal.h>
+#include <stdlib.h>
+#include <string.h>
+#include <sys/file.h>
+#include <sys/ioctl.h>
+#include <sys/mman.h>
+#include <sys/statvfs.h>
+#include <sys/wait.h>
+#include <time.h>
+#include <unistd.h>
+
+#include "folders.h"
+#include "parts.h"
+
+/* COPIED_AT_ONCE: the largest text that is copied before the program reads it, in bytes; LARGEST_COPIED: the largest that it edits.
+ * CALM: a FILE that was not written for this long, in seconds, is copied behind the first picture. BESIDE_TEXT, ROOM_FOR_KEYS: the
+ * room that a session takes beside its text: for its short files and the first keys; later for keys. LATE: seconds from which on a
+ * child that says nothing keeps nothing. */
+enum { COPIED_AT_ONCE = 1 << 20, LARGEST_COPIED = 1 << 24, CALM = 2, BESIDE_TEXT = 65536, ROOM_FOR_KEYS = 8192, LATE = 5 };
+
+/* What a child that writes reports. */
+struct report {
+    int error;
+    bool is_changed;
+};
+
+/* ---- what the program opens */
+
+/* Whether the disk of an open folder has this many free bytes for the user; true where it does not tell. Trying to write would use
+ * up the rest. */
+static bool has_room(int folder, uint64_t bytes) {
+    struct statvfs system;
+    return fstatvfs(folder, &system) != 0 || (uint64_t)system.f_bavail * system.f_frsize >= bytes;
+}
+
+/* Whether a file was written a moment ago, so that it may change while it is read. */
+static bool is_being_written(const struct stat *look) {
+    struct timespec now;
+    return clock_gettime(CLOCK_REALTIME, &now) == 0 && now.tv_sec - look->st_mtim.tv_sec <= CALM;
+}
+
+static void take_source(struct session *session, int file) {
+    if (session->source >= 0) close(session->source);
+    session->source = copy_descriptor(file);
+}
+
+/* Copies an open file over the session's text. */
+static int copy_over(struct session *session, int file) {
+    int error = ftruncate(session->text, 0) == 0 && lseek(session->text, 0, SEEK_SET) == 0 ? 0 : errno;
+    return error ? error : copy_file(file, 0, session->text);
+}
+
+/* Copies FILE before the program reads it: then that reads the copy. */
+static bool copy_at_once(struct session *session, int file) {
+    session->error = copy_over(session, file);
+    session->has_text = session->error == 0;
+    if (session->has_text) take_source(session, session->text);
+    return session->has_text;
+}
+
+/* Copies FILE into memory, until there is room for it. */
+static bool copy_to_memory(struct session *session, int file) {
+    int memory = memfd_create("text", MFD_CLOEXEC);
+    bool is_copied = memory >= 0 && copy_file(file, 0, memory) == 0;
+    if (is_copied) take_source(session, memory);
+    if (memory >= 0) close(memory);
+    return is_copied;
+}
+
+/* Shares FILE's blocks with the session's text, where the disk can do that. */
+static bool share_at_once(struct session *session, int file) {
+    if (!share_file(file, session->text)) return false;
+    session->has_text = true;
+    take_source(session, session->text);
+    return true;
+}
+
+static bool open_text(struct session *session) {
+    if (session->text < 0) session->text = part_open(session->folder, part_name(PART_TEXT), O_RDWR | O_CREAT | O_EXCL);
+    if (session->text < 0) session->error = errno;
+    return session->text >= 0;
+}
+
+void choose_source(struct session *session, int file) {
+    bool has_file = file >= 0 && fstat(file, &session->look) == 0;
+    uint64_t size = has_file ? (uint64_t)session->look.st_size : 0;
+    bool is_small = size <= COPIED_AT_ONCE || (is_being_written(&session->look) && size <= LARGEST_COPIED);
+    session->is_waiting = !open_text(session) || !has_room(session->folder, size + BESIDE_TEXT);
+    if (!has_file) {
+        session->has_text = session->text >= 0;
+        return;
+    }
+    if (!session->is_waiting && is_small) session->is_waiting = !copy_at_once(session, file);
+    if (!session->is_waiting && !session->has_text) share_at_once(session, file);
+    if (session->has_text || (session->is_waiting && size <= LARGEST_COPIED && copy_to_memory(session, file))) return;
+    take_source(session, file);
+    session->is_source_file = true;
+}
+
+/* ---- what the child writes */
+
+/* Whether FILE is still as it was before the program read it. A save that replaces FILE leaves the old bytes and their time. */
+static bool is_as_read(const struct session *session) {
+    struct stat now;
+    const struct stat *then = &session->look;
+    return fstat(session->source, &now) == 0 && now.st_size == then->st_size && now.st_mtim.tv_sec == then->st_mtim.tv_sec &&
+           now.st_mtim.tv_nsec == then->st_mtim.tv_nsec;
+}
+
+/* Copies the text from its source, and puts it on the disk. */
+static int write_text(struct session *session, bool *is_changed) {
+    int error = 0;
+    if (session->text < 0) return session->error ? session->error : EIO;
+    if (!session->has_text && session->source >= 0) {
+        *is_changed = session->is_source_file && !is_as_read(session);
+        if (!*is_changed) error = copy_over(session, session->source);
+        if (!*is_changed && !error) *is_changed = session->is_source_file && !is_as_read(session);
+        if (*is_changed) error = EIO;
+    }
+    if (!error && fsync(session->text) != 0) error = errno;
+    /* what there is no room for takes none; the first fault is the one to report */
+    if (error && !session->has_text && ftruncate(session->text, 0) != 0) return error;
+    return error;
+}
+
+static bool is_lacking(const struct session *session, enum part part) {
+    return session->parts[part].is_kept && !session->parts[part].is_written;
+}
+
+static int write_part(const struct session *session, enum part part) {
+    const struct kept_part *kept = &session->parts[part];
+    return is_lacking(session, part) ? put_part(session, part, kept->bytes, kept->size) : 0;
+}
+
+int write_session(struct session *session, bool *is_changed) {
+    int error = 0;
+    *is_changed = false;
+    if (session->mirror >= 0 && fdatasync(session->mirror) != 0) error = errno;
+    for (enum part part = 0; part < PARTS && !error; part++) {
+        if (part != PART_PATH) error = write_part(session, part);
+    }
+    if (!error && !session->is_filled) error = write_text(session, is_changed);
+    if (!error) error = write_part(session, PART_PATH);
+    /* the names are there, even if their folders are not synced */
+    fsync(session->folder);
+    fsync(session->parent);
+    return error;
+}
+
+/* ---- the child */
+
+/* Closes all but what the child uses, so that no pipe or terminal waits for its end. */
+static void close_others(const struct session *session, int report) {
+    const int kept[] = {session->parent, session->folder, session->lock, session->text, session->source, session->mirror, report};
+    unsigned from = 0;
+    for (;;) {
+        unsigned next = ~0U;
+        for (size_t at = 0; at < sizeof kept / sizeof *kept; at++) {
+            if (kept[at] >= 0 && (unsigned)kept[at] >= from && (unsigned)kept[at] < next) next = (unsigned)kept[at];
+        }
+        if (next > from) close_range(from, next == ~0U ? next : next - 1, 0);
+        if (next == ~0U) return;
+        from = next + 1;
+    }
+}
+
+_Noreturn static void work(struct session *session, int report) {
+    struct report said = {.error = 0};
+    close_others(session, report);
+    said.error = write_session(session, &said.is_changed);
+    int error = write_bytes(report, &said, sizeof said);
+    _exit(error ? 1 : 0);
+}
+
+/* Starts a child that writes. No signal reaches it, so that it runs none of the host's handlers. */
+static bool start_child(struct session *session) {
+    int ends[2];
+    sigset_t all, before;
+    if (pipe2(ends, O_CLOEXEC) != 0) return false;
+    sigfillset(&all);
+    sigprocmask(SIG_SETMASK, &all, &before);
+    session->child = fork();
+    if (session->child == 0) work(session, ends[1]);
+    sigprocmask(SIG_SETMASK, &before, NULL);
+    close(ends[1]);
+    session->report = ends[0];
+    session->waited = 0;
+    if (session->child > 0) return true;
+    session->error = EAGAIN;
+    close(ends[0]);
+    session->child = session->report = -1;
+    return false;
+}
+
+/* Takes over what was written, or what could not be. */
+static void take_report(struct session *session, const struct report *said) {
+    session->error = said->error;
+    if (said->is_changed) session->is_changed = true;
+    session->is_waiting = said->error == ENOSPC || said->error == EDQUOT;
+    if (said->error) return;
+    session->is_filled = session->has_text = true;
+    session->is_mirror_new = false;
+    for (enum part part = 0; part < PARTS; part++) {
+        if (session->parts[part].is_sent) session->parts[part].is_written = true;
+    }
+}
+
+/* Reaps a child that has reported. */
+static void reap(struct session *session) {
+    if (session->child > 0 && session->report < 0 && waitpid(session->child, NULL, WNOHANG) != 0) session->child = -1;
+}
+
+/* Hears the child, for this long at most. */
+static void hear_child(struct session *session, int milliseconds) {
+    struct report said;
+    struct pollfd file = {.fd = session->report, .events = POLLIN};
+    if (session->report >= 0 && poll(&file, 1, milliseconds) > 0) {
+        /* a child that was killed says nothing */
+        if (read(session->report, &said, sizeof said) != (ssize_t)sizeof said) said = (struct report){.error = EIO};
+        close(session->report);
+        session->report = -1;
+        take_report(session, &said);
+    }
+    reap(session);
+}
+
+void end_child(struct session *session) {
+    enum { LIMIT_MS = 200 };
+    if (session->child <= 0) return;
+    kill(session->child, SIGKILL);
+    /* a child whose disk is stalled ends when it can */
+    for (int waited = 0; waited < LIMIT_MS && waitpid(session->child, NULL, WNOHANG) == 0; waited++) poll(NULL, 0, 1);
+    if (session->report >= 0) close(session->report);
+    session->child = session->report = -1;
+}
+
+/* Whether it has all of its parts, so that it can be recovered. */
+static bool is_whole(const struct session *session) {
+    for (enum part part = 0; part < PARTS; part++) {
+        if (is_lacking(session, part)) return false;
+    }
+    return session->is_filled;
+}
+
+/* Has a child write, if something is to be written and no child runs. Returns false where none can be started. */
+static bool write_behind(struct session *session) {
+    bool has_work = !is_whole(session) || session->is_mirror_new;
+    if (session->child > 0 || session->is_changed || !has_work || !open_text(session)) return true;
+    for (enum part part = 0; part < PARTS; part++) session->parts[part].is_sent = is_lacking(session, part);
+    return start_child(session);
+}
+
+void session_fill(struct session *session) {
+    uint64_t size = session->source >= 0 ? (uint64_t)session->look.st_size : 0;
+    if (!session->is_waiting || has_room(session->folder, size + ROOM_FOR_KEYS)) write_behind(session);
+}
+
+/* ---- parts that were removed */
+
+/* Whether a part is the file that is open. */
+static bool leads_to(const struct session *session, enum part part, int file) {
+    struct stat named, open;
+    return fstatat(session->folder, part_name(part), &named, AT_SYMLINK_NOFOLLOW) == 0 && fstat(file, &open) == 0 && is_same_folder(&named, &open);
+}
+
+/* Takes the text that lost its name as the source of a new one. Until that is there, the session has no path. */
+static void renew_text(struct session *session) {
+    take_source(session, session->text);
+    fstat(session->text, &session->look);
+    close(session->text);
+    session->text = -1;
+    session->is_source_file = session->has_text = session->is_filled = false;
+    unlinkat(session->folder, part_name(PART_PATH), 0);
+    unlinkat(session->folder, part_name(PART_TEXT), 0);
+    session->parts[PART_PATH].is_written = false;
+}
+
+/* Notes which parts of a session were removed. */
+static void look_for_lost(struct session *session) {
+    struct stat found;
+    for (enum part part = 0; part < PARTS; part++) {
+        struct kept_part *kept = &session->parts[part];
+        if (!kept->is_written) continue;
+        bool is_there = fstatat(session->folder, part_name(part), &found, AT_SYMLINK_NOFOLLOW) == 0 && S_ISREG(found.st_mode);
+        kept->is_written = is_there && (size_t)found.st_size == kept->size;
+    }
+    if (session->is_filled && !leads_to(session, PART_TEXT, session->text)) renew_text(session);
+}
+
+/* Makes the lock's file again, for editors of before; the folder is locked all the time. */
+static void renew_lock(struct session *session) {
+    if (session->lock < 0 || leads_to(session, PART_LOCK, session->lock)) return;
+    int lock = part_open(session->folder, part_name(PART_LOCK), O_RDWR | O_CREAT);
+    if (lock < 0) return;
+    if (flock(lock, LOCK_EX | LOCK_NB) != 0) {
+        close(lock);
+        return;
+    }
+    close(session->lock);
+    session->lock = lock;
+}
+
+/* Makes the file `journal` again, where the one that the program appends to has lost its name. */
+static void renew_journal(struct session *session) {
+    if (leads_to(session, PART_JOURNAL, session->mirror >= 0 ? session->mirror : session->journal)) return;
+    unlinkat(session->folder, part_name(PART_JOURNAL), 0);
+    int journal = part_open(session->folder, part_name(PART_JOURNAL), O_RDWR | O_CREAT | O_EXCL);
+    session->is_mirror_behind = journal < 0;
+    if (journal < 0) {
+        session->error = errno;
+        return;
+    }
+    if (session->mirror >= 0) close(session->mirror);
+    session->mirror = journal;
+    session->mirrored = 0;
+    session->is_mirror_new = true;
+}
+
+/* Writes what the program appended since. */
+static void mirror_journal(struct session *session) {
+    struct stat found;
+    renew_journal(session);
+    if (session->mirror < 0 || fstat(session->journal, &found) != 0 || found.st_size == session->mirrored) return;
+    /* the program empties the journal where all is saved */
+    if (found.st_size < session->mirrored) session->mirrored = 0;
+    int error = ftruncate(session->mirror, session->mirrored) == 0 && lseek(session->mirror, session->mirrored, SEEK_SET) >= 0 ? 0 : errno;
+    if (!error) error = copy_file(session->journal, session->mirrored, session->mirror);
+    session->is_mirror_behind = error != 0;
+    if (error) {
+        session->error = error;
+        return;
+    }
+    session->mirrored = fstat(session->mirror, &found) == 0 ? found.st_size : 0;
+    session->is_mirror_new = true;
+}
+
+/* Looks after the parts. */
+static void look_after(struct session *session) {
+    if (session->journal >= 0) mirror_journal(session);
+    renew_lock(session);
+    if (session->child <= 0) look_for_lost(session);
+}
+
+enum keeping session_mind(struct session *session) {
+    struct keeping_facts facts = {.is_folder_there = session_is_there(session)};
+    hear_child(session, 0);
+    if (facts.is_folder_there) {
+        look_after(session);
+        session_fill(session);
+    }
+    facts.is_copying = session->report >= 0 && session->waited++ < LATE;
+    facts.is_filled = is_whole(session);
+    facts.is_changed = session->is_changed;
+    facts.is_behind = session->is_mirror_behind;
+    return judge_keeping(&facts);
+}
+
+/* Ends the child, which had its time. */
+static void await_child(struct session *session, int milliseconds) {
+    hear_child(session, milliseconds);
+    end_child(session);
+}
+
+bool session_settle(struct session *session, int milliseconds) {
+    struct report said;
+    if (!session_is_there(session)) return false;
+    await_child(session, milliseconds);
+    look_after(session);
+    if (write_behind(session)) {
+        await_child(session, milliseconds);
+    } else {
+        said.error = write_session(session, &said.is_changed);
+        take_report(session, &said);
+    }
+    return is_whole(session) && !session->is_mirror_behind;
+}
+
+void session_note_file(struct session *session, const struct target *target) {
+    char words[MOST_WORDS];
+    const struct kept_part *file = &session->parts[PART_FILE], *path = &session->parts[PART_PATH];
+    words_of_file_id(&target->id, words);
+    bool is_new = target->is_there && (!file->is_kept || strcmp(file->bytes, words) != 0);
+    if (is_new) keep_part(session, PART_FILE, words, strlen(words));
+    bool has_moved = path->is_kept && !session->parts[PART_BESIDE].is_kept && strcmp(path->bytes, target->path) != 0;
+    if (has_moved) keep_part(session, PART_PATH, target->path, strlen(target->path));
+    if (is_new || has_moved) write_behind(session);
+}

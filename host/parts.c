@@ -1,0 +1,389 @@
+#include "parts.h"
+
+#include <dirent.h>
+#include <errno.h>
+#include <fcntl.h>
+#include <stdio.h>
+#include <stdlib.h>
+#include <string.h>
+#include <sys/file.h>
+#include <sys/ioctl.h>
+#include <sys/stat.h>
+#include <sys/sysmacros.h>
+#include <unistd.h>
+
+#include "folders.h"
+
+/* COPIED: bytes that are copied or read at a time. LONGEST_WITHOUT_KEYS: the longest journal that is read to see whether it has
+ * sizes and notices alone; a longer one counts as having keys, which at worst keeps a session without any. */
+enum { COPIED = 65536, LARGEST_COPY = 1 << 30, LONGEST_WITHOUT_KEYS = 4096 };
+
+const char *part_name(enum part part) {
+    static const char *const names[PARTS] = {
+        [PART_TEXT] = "text",         [PART_PATH] = "path",         [PART_OPENED] = "opened",     [PART_BESIDE] = "beside",
+        [PART_BEGIN] = "begin",       [PART_PROCESS] = "process",   [PART_MODE] = "mode",         [PART_VERSIONS] = "versions",
+        [PART_JOURNAL] = "journal",   [PART_LOCK] = "lock",         [PART_DROPPED] = "dropped",   [PART_CUT] = "cut",
+        [PART_UNSAVED] = "unsaved",   [PART_UNJOINED] = "unjoined", [PART_SNAPSHOT] = "snapshot", [PART_MARK] = "mark",
+        [PART_MARK_DRAFT] = "mark.bx", [PART_PLACE] = "place",      [PART_SAVE] = "save",         [PART_FILE] = "file",
+        [PART_SECRET] = "secret",
+    };
+    return names[part];
+}
+
+const char *session_name(const struct session *session) {
+    const char *end = strrchr(session->path, '/');
+    return end ? end + 1 : session->path;
+}
+
+int copy_descriptor(int file) {
+    return file < 0 ? -1 : fcntl(file, F_DUPFD_CLOEXEC, 3);
+}
+
+/* ---- bytes */
+
+int part_open(int folder, const char *name, int flags) {
+    return openat(folder, name, flags | O_NOFOLLOW | O_NONBLOCK | O_CLOEXEC, FILE_MODE);
+}
+
+int write_bytes(int file, const void *bytes, size_t size) {
+    const char *rest = bytes;
+    while (size > 0) {
+        ssize_t count = write(file, rest, size);
+        if (count < 0 && errno == EINTR) continue;
+        if (count <= 0) return count < 0 ? errno : EIO;
+        rest += count;
+        size -= (size_t)count;
+    }
+    return 0;
+}
+
+int read_pieces(int file, off_t place, void (*read)(void *, const char *, size_t), void *context) {
+    static char piece[COPIED];
+    for (;;) {
+        ssize_t count = pread(file, piece, sizeof piece, place);
+        if (count < 0 && errno == EINTR) continue;
+        if (count <= 0) return count < 0 ? errno : 0;
+        read(context, piece, (size_t)count);
+        place += count;
+    }
+}
+
+struct copying {
+    int to, error;
+};
+
+static void copy_piece(void *context, const char *bytes, size_t size) {
+    struct copying *copying = context;
+    if (!copying->error) copying->error = write_bytes(copying->to, bytes, size);
+}
+
+bool share_file(int from, int to) {
+    enum { CLONE = 0x40049409 }; /* FICLONE */
+    return ioctl(to, CLONE, from) == 0;
+}
+
+int copy_file(int from, off_t place, int to) {
+    struct copying copying = {.to = to};
+    if (place == 0 && share_file(from, to)) return 0;
+    while (copy_file_range(from, &place, to, NULL, LARGEST_COPY, 0) > 0) continue;
+    /* a system that copies no further may still read */
+    int error = read_pieces(from, place, copy_piece, &copying);
+    return error ? error : copying.error;
+}
+
+int write_new(int folder, const char *name, const void *bytes, size_t size) {
+    int file = part_open(folder, name, O_WRONLY | O_CREAT | O_EXCL);
+    if (file < 0) return errno;
+    int error = write_bytes(file, bytes, size);
+    if (!error && fsync(file) != 0) error = errno;
+    close(file);
+    if (error) unlinkat(folder, name, 0);
+    return error;
+}
+
+/* ---- parts */
+
+bool session_has(const struct session *session, enum part part) {
+    struct stat found;
+    return fstatat(session->folder, part_name(part), &found, AT_SYMLINK_NOFOLLOW) == 0;
+}
+
+int session_open(const struct session *session, enum part part) {
+    return part_open(session->folder, part_name(part), O_RDONLY);
+}
+
+int put_part(const struct session *session, enum part part, const void *bytes, size_t size) {
+    char draft[64];
+    const char *name = part_name(part);
+    if (!session_has(session, part)) return write_new(session->folder, name, bytes, size);
+    snprintf(draft, sizeof draft, "%s.new", name);
+    unlinkat(session->folder, draft, 0);
+    int error = write_new(session->folder, draft, bytes, size);
+    if (!error && renameat(session->folder, draft, session->folder, name) != 0) error = errno;
+    if (error) unlinkat(session->folder, draft, 0);
+    return error;
+}
+
+bool is_guarded(enum part part) {
+    switch (part) {
+    case PART_PATH:
+    case PART_BESIDE:
+    case PART_BEGIN:
+    case PART_PROCESS:
+    case PART_MODE:
+    case PART_VERSIONS:
+    case PART_UNSAVED:
+    case PART_UNJOINED:
+    case PART_PLACE:
+    case PART_FILE:
+    case PART_SECRET: return true;
+    default: return false;
+    }
+}
+
+int session_put(struct session *session, enum part part, const void *bytes, size_t size) {
+    int error = put_part(session, part, bytes, size);
+    if (!error && is_guarded(part)) {
+        error = keep_part(session, part, bytes, size);
+        session->parts[part].is_written = !error;
+    }
+    return error;
+}
+
+int session_put_empty(struct session *session, enum part part) {
+    return session_has(session, part) ? 0 : session_put(session, part, "", 0);
+}
+
+int session_erase(struct session *session, enum part part) {
+    if (unlinkat(session->folder, part_name(part), 0) != 0 && errno != ENOENT) return errno;
+    forget_part(session, part);
+    return 0;
+}
+
+int keep_part(struct session *session, enum part part, const void *bytes, size_t size) {
+    char *copy = malloc(size + 1);
+    if (!copy) return ENOMEM;
+    memcpy(copy, bytes, size);
+    copy[size] = '\0';
+    free(session->parts[part].bytes);
+    session->parts[part] = (struct kept_part){.is_kept = true, .bytes = copy, .size = size};
+    return 0;
+}
+
+void forget_part(struct session *session, enum part part) {
+    free(session->parts[part].bytes);
+    session->parts[part] = (struct kept_part){.is_kept = false};
+}
+
+/* A short part's bytes, with NUL behind them, in new memory. */
+static char *note_bytes(const struct session *session, enum part part, size_t *size) {
+    int file = session_open(session, part);
+    char *bytes = file < 0 ? NULL : malloc(LARGEST_NOTE + 2);
+    size_t length = 0;
+    ssize_t count = bytes ? 1 : 0;
+    while (bytes && count > 0 && length <= LARGEST_NOTE) {
+        count = read(file, bytes + length, LARGEST_NOTE + 1 - length);
+        if (count > 0) length += (size_t)count;
+    }
+    if (file >= 0) close(file);
+    if (!bytes || count < 0 || length > LARGEST_NOTE) {
+        free(bytes);
+        return NULL;
+    }
+    bytes[length] = '\0';
+    *size = length;
+    return bytes;
+}
+
+char *session_note(const struct session *session, enum part part) {
+    size_t size;
+    char *bytes = note_bytes(session, part, &size);
+    if (bytes && strlen(bytes) == size) return bytes;
+    free(bytes);
+    return NULL;
+}
+
+void session_path_of(const struct session *session, enum part part, char path[PATH_MAX]) {
+    put_path(path, "%s/%s", session->path, part_name(part));
+}
+
+void session_note_cut(struct session *session) {
+    if (session_put_empty(session, PART_CUT) == 0) return;
+    /* on a full disk there may be room for a name */
+    if (linkat(session->folder, part_name(PART_BEGIN), session->folder, part_name(PART_CUT), 0) != 0) return;
+}
+
+/* ---- facts */
+
+bool file_id_at(int folder, const char *name, int flags, struct file_id *id) {
+    struct statx found;
+    if (statx(folder, name, flags | AT_NO_AUTOMOUNT, STATX_BASIC_STATS | STATX_BTIME, &found) == 0) {
+        *id = (struct file_id){.device = makedev(found.stx_dev_major, found.stx_dev_minor), .inode = found.stx_ino};
+        id->has_birth = (found.stx_mask & STATX_BTIME) != 0 && found.stx_btime.tv_sec >= 0;
+        if (id->has_birth) id->birth_seconds = found.stx_btime.tv_sec;
+        if (id->has_birth) id->birth_nanos = found.stx_btime.tv_nsec;
+        return true;
+    }
+    struct stat old;
+    if (errno != ENOSYS || fstatat(folder, name, &old, flags) != 0) return false;
+    *id = (struct file_id){.device = old.st_dev, .inode = old.st_ino};
+    return true;
+}
+
+char *session_file_path(const struct session *session) {
+    struct stat found;
+    char *beside = session_note(session, PART_BESIDE);
+    char *path = session_note(session, PART_PATH);
+    if (path && beside && stat(beside, &found) == 0) {
+        free(path);
+        return beside;
+    }
+    free(beside);
+    return path;
+}
+
+bool session_is_there(const struct session *session) {
+    struct stat own, named, parent, parent_named;
+    char above[PATH_MAX];
+    if (fstat(session->folder, &own) != 0 || fstat(session->parent, &parent) != 0) return false;
+    if (fstatat(session->parent, session_name(session), &named, AT_SYMLINK_NOFOLLOW) != 0) return false;
+    /* the folder of sessions itself may be away, with the session in it */
+    size_t length = (size_t)(session_name(session) - session->path);
+    if (length > 1) length--;
+    if (!put_path(above, "%.*s", (int)length, session->path) || lstat(above, &parent_named) != 0) return false;
+    return is_same_folder(&own, &named) && is_same_folder(&parent, &parent_named);
+}
+
+int each_entry(int folder, bool (*visit)(void *, int, const char *), void *context) {
+    int again = openat(folder, ".", O_RDONLY | O_DIRECTORY | O_CLOEXEC);
+    DIR *entries = again < 0 ? NULL : fdopendir(again);
+    if (!entries) {
+        int error = errno;
+        if (again >= 0) close(again);
+        return error;
+    }
+    bool goes_on = true;
+    const struct dirent *entry;
+    while (goes_on && (errno = 0, entry = readdir(entries))) {
+        bool is_link = strcmp(entry->d_name, ".") == 0 || strcmp(entry->d_name, "..") == 0;
+        if (!is_link) goes_on = visit(context, again, entry->d_name);
+    }
+    int error = goes_on ? errno : 0;
+    closedir(entries);
+    return error;
+}
+
+struct ownership {
+    uid_t user;
+    bool is_own;
+};
+
+static bool judge_owner(void *context, int folder, const char *name) {
+    struct ownership *ownership = context;
+    struct stat found;
+    bool is_seen = fstatat(folder, name, &found, AT_SYMLINK_NOFOLLOW) == 0;
+    ownership->is_own = is_seen && S_ISREG(found.st_mode) && found.st_uid == ownership->user;
+    return ownership->is_own;
+}
+
+bool session_is_own(const struct session *session) {
+    struct stat found;
+    struct ownership ownership = {.user = session->user, .is_own = true};
+    if (fstat(session->folder, &found) != 0 || !is_private(found.st_uid, found.st_mode, session->user)) return false;
+    return each_entry(session->folder, judge_owner, &ownership) == 0 && ownership.is_own;
+}
+
+static bool add_blocks(void *context, int folder, const char *name) {
+    uint64_t *blocks = context;
+    struct stat found;
+    if (fstatat(folder, name, &found, AT_SYMLINK_NOFOLLOW) == 0) *blocks += (uint64_t)found.st_blocks;
+    return true;
+}
+
+uint64_t session_kilobytes(const struct session *session) {
+    struct stat found;
+    uint64_t blocks = fstat(session->folder, &found) == 0 ? (uint64_t)found.st_blocks : 0;
+    if (each_entry(session->folder, add_blocks, &blocks) != 0) return 0;
+    /* the system counts blocks of 512 bytes */
+    return (blocks + 1) / 2;
+}
+
+static void count_piece(void *count, const char *bytes, size_t size) {
+    count_more(count, bytes, size);
+}
+
+/* Counts the keys of the journal; returns a fault other than a journal that is not there. */
+static int count_journal(const struct session *session, struct key_count *count) {
+    count_begin(count);
+    int journal = session_open(session, PART_JOURNAL);
+    if (journal < 0) return errno == ENOENT ? 0 : errno;
+    int error = read_pieces(journal, 0, count_piece, count);
+    close(journal);
+    return error;
+}
+
+size_t session_count_keys(const struct session *session) {
+    struct key_count count;
+    return count_journal(session, &count) == 0 ? count.keys : 0;
+}
+
+off_t session_journal_size(const struct session *session) {
+    struct stat found;
+    if (session->journal >= 0) return fstat(session->journal, &found) == 0 ? found.st_size : 0;
+    return fstatat(session->folder, part_name(PART_JOURNAL), &found, AT_SYMLINK_NOFOLLOW) == 0 ? found.st_size : 0;
+}
+
+bool session_has_keys(const struct session *session) {
+    struct key_count count;
+    if (session_journal_size(session) > LONGEST_WITHOUT_KEYS) return true;
+    return count_journal(session, &count) != 0 || count.keys > 0;
+}
+
+bool session_has_something(const struct session *session) {
+    return session_has_keys(session) || session_has(session, PART_UNSAVED) || session_has(session, PART_MARK);
+}
+
+bool session_process(const struct session *session, struct process *process) {
+    char *words = session_note(session, PART_PROCESS);
+    bool is_known = words && process_of(words, process);
+    free(words);
+    return is_known;
+}
+
+bool session_begin_words(const struct session *session, struct begin *begin) {
+    char *words = session_note(session, PART_BEGIN);
+    bool is_known = words && begin_of(words, begin);
+    free(words);
+    return is_known;
+}
+
+mode_t session_mode(const struct session *session) {
+    char *words = session_note(session, PART_MODE);
+    mode_t mode = mode_of(words ? words : "");
+    free(words);
+    return mode;
+}
+
+bool session_has_versions(const struct session *session, const char *versions) {
+    char *words = session_note(session, PART_VERSIONS);
+    bool is_same = words && strcmp(words, versions) == 0;
+    free(words);
+    return is_same;
+}
+
+bool session_changed(const struct session *session, struct timespec *time) {
+    struct stat found;
+    bool is_seen = fstatat(session->folder, part_name(PART_JOURNAL), &found, AT_SYMLINK_NOFOLLOW) == 0 || fstat(session->folder, &found) == 0;
+    if (is_seen) *time = found.st_mtim;
+    return is_seen;
+}
+
+static void take_ends(void *ends, const char *bytes, size_t size) {
+    ends_more(ends, bytes, size);
+}
+
+bool has_all_crlf(int file) {
+    struct line_ends ends;
+    ends_begin(&ends);
+    return read_pieces(file, 0, take_ends, &ends) == 0 && ends_are_all_crlf(&ends);
+}

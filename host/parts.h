@@ -1,0 +1,75 @@
+/* What the files of sessions share: small steps over parts, by descriptor. */
+#ifndef PARTS_H
+#define PARTS_H
+
+#include "session.h"
+
+enum { FILE_MODE = 0600 };
+
+/* Opens a part for reading; no link is followed, and no pipe waits. */
+int part_open(int folder, const char *name, int flags);
+
+/* Writes all bytes at the file's place; all of a file from a place on to the place of another one. */
+int write_bytes(int file, const void *bytes, size_t size);
+int copy_file(int from, off_t place, int to);
+
+/* Has an empty file share the blocks of another one, where the disk can do that. */
+bool share_file(int from, int to);
+
+/* Makes a new part with these bytes and syncs it; one that cannot be written whole is removed. */
+int write_new(int folder, const char *name, const void *bytes, size_t size);
+
+/* Calls `read` with the bytes of an open file, piece by piece, from a place on. */
+int read_pieces(int file, off_t place, void (*read)(void *, const char *, size_t), void *context);
+
+/* Calls `visit` with an open folder and each name in it, until it returns false. */
+int each_entry(int folder, bool (*visit)(void *, int, const char *), void *context);
+
+/* Which file an open one is, or one at a name in a folder. */
+bool file_id_at(int folder, const char *name, int flags, struct file_id *id);
+
+/* Another descriptor of the same open file; -1 for none. */
+int copy_descriptor(int file);
+
+/* The last name of the session's path. */
+const char *session_name(const struct session *session);
+
+/* Remembers a short part, so that `session_fill` and `session_mind` write it, and no longer remembers it. */
+int keep_part(struct session *session, enum part part, const void *bytes, size_t size);
+void forget_part(struct session *session, enum part part);
+
+/* Whether an editor has the session, by its locks. One whose lock cannot be tried counts as live. */
+bool session_is_live(const struct session *session);
+
+/* The session in the folder of this name; false where no folder is there. */
+bool session_at(struct session *session, const struct sessions *sessions, const char *name);
+
+/* Hands a session on; the first one is none then. */
+void session_move(struct session *to, struct session *from);
+
+/* Writes a part in place of the one that is there, if any. */
+int put_part(const struct session *session, enum part part, const void *bytes, size_t size);
+
+/* Whether a short part is made again where it is removed. */
+bool is_guarded(enum part part);
+
+/* Makes a session's folder with its lock and an empty journal. */
+int make_session(struct session *session, const struct sessions *sessions);
+
+/* Picks what the program opens, and copies FILE at once where that is quick or FILE is being written. */
+void choose_source(struct session *session, int file);
+
+/* Writes what is to be there and is not, the path last. Returns a fault, and whether FILE was changed before it was copied. */
+int write_session(struct session *session, bool *is_changed);
+
+/* Removes a session's folder of this name with all in it, first the path. */
+void remove_folder(const struct session *session, const char *name);
+
+/* Ends the child that writes, at once. */
+void end_child(struct session *session);
+
+/* Calls `visit` for each folder in the folder of sessions, the oldest first, until it returns false. The session is closed after
+ * the visit, unless it was moved. */
+int each_folder(const struct sessions *sessions, bool (*visit)(void *, struct session *, enum name_kind), void *context);
+
+#endif
