@@ -11,7 +11,7 @@
 /* Bytes that are copied at once. */
 enum { COPY = 262144 };
 
-void drop_mark(struct save *save) {
+void save_drop_mark(struct save *save) {
     int mark_folder = save->saver->mark_folder;
     if (mark_folder >= 0) unlinkat(mark_folder, MARK_NAME, 0);
     if (save->state.is_torn && save->state.torn[0]) unlinkat(save->folder, save->state.torn, 0);
@@ -35,7 +35,7 @@ static int keep_mark(struct save *save) {
     int mark_folder = save->saver->mark_folder, error = 0;
     if (mark_folder < 0) {
         error = name_mark(save);
-        return error == 0 ? sync_folder(save) : error;
+        return error == 0 ? save_sync_folder(save) : error;
     }
     if (renameat(mark_folder, MARK_DRAFT_NAME, mark_folder, MARK_NAME) != 0) return errno;
     snprintf(save->draft.name, sizeof save->draft.name, "%s", MARK_NAME);
@@ -66,7 +66,7 @@ static void note_torn(struct save *save) {
     state->is_torn = true;
     snprintf(state->torn, sizeof state->torn, "%s", name);
     /* known also if this process is killed */
-    publish(save);
+    save_publish(save);
 }
 
 /* Copies the draft's text to the emptied FILE. The draft is read by the file that was written: its name may lead elsewhere. */
@@ -86,7 +86,7 @@ static int fill(const struct save *save, int file) {
     }
 }
 
-int overwrite(struct save *save) {
+int save_in_place(struct save *save) {
     struct state *state = &save->state;
     int cause = 0, error = keep_mark(save);
     if (error != 0) return cause_of(error);
@@ -105,6 +105,6 @@ int overwrite(struct save *save) {
     }
     close(file);
     if (error != 0) return cause_of(error);
-    drop_mark(save);
+    save_drop_mark(save);
     return 0;
 }

@@ -32,10 +32,10 @@ static void note(struct save *save, const struct look *now) {
 static int look_now(struct save *save, bool *is_there) {
     struct look now;
     if (!look_at(save->folder, save->file->name, &now)) return cause_of(errno);
-    enum found found = judge_look(&save->state.seen, &now, save->state.is_distrusted);
-    *is_there = found == FOUND_SAME;
-    if (found == FOUND_NOT_PLAIN) return SAVE_NOT_PLAIN;
-    if (found != FOUND_CHANGED) return 0;
+    enum look_verdict verdict = judge_look(&save->state.seen, &now, save->state.is_distrusted);
+    *is_there = verdict == LOOK_SAME;
+    if (verdict == LOOK_NOT_PLAIN) return SAVE_NOT_PLAIN;
+    if (verdict != LOOK_CHANGED) return 0;
     note(save, &now);
     return SAVE_CHANGED;
 }
@@ -141,7 +141,7 @@ static int begin_here(struct save *save) {
     return cause_of(open_draft(save));
 }
 
-int begin(struct save *save) {
+int save_begin(struct save *save) {
     draft_remove(&save->draft);
     int cause = settle_folder(save);
     if (cause == 0) cause = begin_here(save);
@@ -161,7 +161,7 @@ static void lock_folder(struct save *save) {
     }
 }
 
-int sync_folder(const struct save *save) {
+int save_sync_folder(const struct save *save) {
     return save->folder_to_sync >= 0 ? sync_file(save->folder_to_sync) : 0;
 }
 
@@ -202,11 +202,11 @@ static int replace(struct save *save) {
         return SAVE_CHANGED;
     }
     /* the new name is on the disk before the old file goes */
-    sync_folder(save);
+    save_sync_folder(save);
     if (save->draft.name[0]) unlinkat(save->folder, save->draft.name, 0);
     save->draft.name[0] = 0;
     note_replaced(save, &before);
-    drop_mark(save);
+    save_drop_mark(save);
     return 0;
 }
 
@@ -220,7 +220,7 @@ static int complete(struct save *save) {
     return error == 0 ? sync_file(save->draft.file) : error;
 }
 
-int commit(struct save *save) {
+int save_commit(struct save *save) {
     bool was_there = save->is_there;
     int error = complete(save);
     if (error != 0) return cause_of(error);
@@ -230,5 +230,5 @@ int commit(struct save *save) {
     if (cause != 0) return cause;
     /* how a FILE is saved that came back meanwhile is settled at the next beginning */
     if (save->is_there != was_there && (save->is_there || save->is_in_place)) return SAVE_CHANGED;
-    return save->is_in_place ? overwrite(save) : replace(save);
+    return save->is_in_place ? save_in_place(save) : replace(save);
 }

@@ -55,11 +55,11 @@ mode_t mode_of_new(struct taken taken, mode_t old) {
     return (mode & ~(mode_t)GROUP_BITS) | (mode & OTHERS_BITS) << 3;
 }
 
-enum found judge_look(const struct look *seen, const struct look *now, bool is_distrusted) {
-    if (!now->is_there) return FOUND_GONE;
-    if (!S_ISREG(now->found.st_mode) && !S_ISLNK(now->found.st_mode)) return FOUND_NOT_PLAIN;
-    if (!seen->is_there || is_distrusted) return FOUND_CHANGED;
-    return is_unchanged(&seen->found, &now->found) ? FOUND_SAME : FOUND_CHANGED;
+enum look_verdict judge_look(const struct look *seen, const struct look *now, bool is_distrusted) {
+    if (!now->is_there) return LOOK_GONE;
+    if (!S_ISREG(now->found.st_mode) && !S_ISLNK(now->found.st_mode)) return LOOK_NOT_PLAIN;
+    if (!seen->is_there || is_distrusted) return LOOK_CHANGED;
+    return is_unchanged(&seen->found, &now->found) ? LOOK_SAME : LOOK_CHANGED;
 }
 
 bool is_same_file(const struct stat *one, const struct stat *other) {

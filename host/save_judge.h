@@ -38,8 +38,8 @@ struct taken {
 mode_t mode_of_new(struct taken taken, mode_t old);
 
 /* What a look at FILE's name tells, where `seen` was there last. */
-enum found { FOUND_SAME, FOUND_GONE, FOUND_CHANGED, FOUND_NOT_PLAIN };
-enum found judge_look(const struct look *seen, const struct look *now, bool is_distrusted);
+enum look_verdict { LOOK_SAME, LOOK_GONE, LOOK_CHANGED, LOOK_NOT_PLAIN };
+enum look_verdict judge_look(const struct look *seen, const struct look *now, bool is_distrusted);
 
 /* Whether what an exchange took out of FILE's place is what was seen there: a rename changes the time of change. */
 bool is_taken_out(const struct look *seen, const struct look *out);

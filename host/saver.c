@@ -26,7 +26,7 @@ static struct state *current(const struct saver *saver) {
     return &saver->saved->slots[atomic_load(&saver->saved->current) & 1];
 }
 
-void publish(const struct save *save) {
+void save_publish(const struct save *save) {
     struct saved *saved = save->saver->saved;
     unsigned next = (atomic_load(&saved->current) + 1) & 1;
     saved->slots[next] = save->state;
@@ -51,7 +51,7 @@ static _Noreturn void end(struct save *save, int answer, int cause) {
     clean_up(save);
     save->state.cause = cause_to_tell(save, cause);
     save->state.is_answered = true;
-    publish(save);
+    save_publish(save);
     unsigned char byte = (unsigned char)save->state.cause;
     bool is_told = byte == 0 ? write_frame(answer, FRAME_DONE, NULL, 0) : write_frame(answer, FRAME_FAILED, &byte, 1);
     _exit(is_told ? 0 : 1);
@@ -73,7 +73,7 @@ static void obey(struct save *save, const struct frame *frame, int answer) {
     int cause = 0;
     switch (frame->letter) {
     case FRAME_BEGIN:
-        cause = begin(save);
+        cause = save_begin(save);
         if (cause != 0) end(save, answer, cause);
         if (!write_frame(answer, FRAME_DONE, NULL, 0)) _exit(1);
         break;
@@ -81,7 +81,7 @@ static void obey(struct save *save, const struct frame *frame, int answer) {
         draft_put(&save->draft, frame->bytes, frame->length);
         break;
     case FRAME_COMMIT:
-        end(save, answer, save->draft.file < 0 ? SAVE_OTHER : commit(save));
+        end(save, answer, save->draft.file < 0 ? SAVE_OTHER : save_commit(save));
     default:
         break;
     }

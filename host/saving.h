@@ -46,19 +46,19 @@ struct save {
 };
 
 /* Begins a save: settles where it goes, and opens its draft. Ends it: FILE has the draft's text, and the text is on the disk. */
-int begin(struct save *save);
-int commit(struct save *save);
+int save_begin(struct save *save);
+int save_commit(struct save *save);
 
 /* Makes the draft the mark, and writes its text into FILE itself. */
-int overwrite(struct save *save);
+int save_in_place(struct save *save);
 
 /* Removes the mark of a FILE that may have been torn, and is complete now. */
-void drop_mark(struct save *save);
+void save_drop_mark(struct save *save);
 
 /* Syncs FILE's folder; 0 or an errno. */
-int sync_folder(const struct save *save);
+int save_sync_folder(const struct save *save);
 
 /* Has the host know the state. */
-void publish(const struct save *save);
+void save_publish(const struct save *save);
 
 #endif

@@ -118,28 +118,28 @@ static void check_modes(void) {
 static const struct {
     const char *name;
     char change;
-    enum found wanted, distrusted;
+    enum look_verdict wanted, distrusted;
     bool is_taken_out;
 } changes[] = {
-    {"nothing", '=', FOUND_SAME, FOUND_CHANGED, true},
-    {"gone", '-', FOUND_GONE, FOUND_GONE, false},
-    {"another device", 'd', FOUND_CHANGED, FOUND_CHANGED, false},
-    {"another inode", 'i', FOUND_CHANGED, FOUND_CHANGED, false},
-    {"another size", 's', FOUND_CHANGED, FOUND_CHANGED, false},
-    {"another second", 't', FOUND_CHANGED, FOUND_CHANGED, false},
-    {"another nanosecond", 'n', FOUND_CHANGED, FOUND_CHANGED, false},
-    {"another time of change", 'c', FOUND_CHANGED, FOUND_CHANGED, true},
-    {"another nanosecond of change", 'C', FOUND_CHANGED, FOUND_CHANGED, true},
-    {"another mode", 'm', FOUND_CHANGED, FOUND_CHANGED, false},
-    {"another owner", 'u', FOUND_CHANGED, FOUND_CHANGED, false},
-    {"another group", 'g', FOUND_CHANGED, FOUND_CHANGED, false},
-    {"another name", 'l', FOUND_CHANGED, FOUND_CHANGED, false},
-    {"read", 'a', FOUND_SAME, FOUND_CHANGED, true},
-    {"a link in its place", 'L', FOUND_CHANGED, FOUND_CHANGED, false},
-    {"a folder in its place", 'D', FOUND_NOT_PLAIN, FOUND_NOT_PLAIN, false},
-    {"a pipe in its place", 'P', FOUND_NOT_PLAIN, FOUND_NOT_PLAIN, false},
-    {"a device in its place", 'V', FOUND_NOT_PLAIN, FOUND_NOT_PLAIN, false},
-    {"a socket in its place", 'S', FOUND_NOT_PLAIN, FOUND_NOT_PLAIN, false},
+    {"nothing", '=', LOOK_SAME, LOOK_CHANGED, true},
+    {"gone", '-', LOOK_GONE, LOOK_GONE, false},
+    {"another device", 'd', LOOK_CHANGED, LOOK_CHANGED, false},
+    {"another inode", 'i', LOOK_CHANGED, LOOK_CHANGED, false},
+    {"another size", 's', LOOK_CHANGED, LOOK_CHANGED, false},
+    {"another second", 't', LOOK_CHANGED, LOOK_CHANGED, false},
+    {"another nanosecond", 'n', LOOK_CHANGED, LOOK_CHANGED, false},
+    {"another time of change", 'c', LOOK_CHANGED, LOOK_CHANGED, true},
+    {"another nanosecond of change", 'C', LOOK_CHANGED, LOOK_CHANGED, true},
+    {"another mode", 'm', LOOK_CHANGED, LOOK_CHANGED, false},
+    {"another owner", 'u', LOOK_CHANGED, LOOK_CHANGED, false},
+    {"another group", 'g', LOOK_CHANGED, LOOK_CHANGED, false},
+    {"another name", 'l', LOOK_CHANGED, LOOK_CHANGED, false},
+    {"read", 'a', LOOK_SAME, LOOK_CHANGED, true},
+    {"a link in its place", 'L', LOOK_CHANGED, LOOK_CHANGED, false},
+    {"a folder in its place", 'D', LOOK_NOT_PLAIN, LOOK_NOT_PLAIN, false},
+    {"a pipe in its place", 'P', LOOK_NOT_PLAIN, LOOK_NOT_PLAIN, false},
+    {"a device in its place", 'V', LOOK_NOT_PLAIN, LOOK_NOT_PLAIN, false},
+    {"a socket in its place", 'S', LOOK_NOT_PLAIN, LOOK_NOT_PLAIN, false},
 };
 
 static void set_kind(struct stat *found, mode_t kind) {
@@ -183,10 +183,10 @@ static void check_changes(void) {
         check(changes[i].name, is_taken_out(&seen, &now), changes[i].is_taken_out);
     }
     struct look link = change(seen, 'L');
-    check("a link that was seen", judge_look(&link, &link, false), FOUND_SAME);
-    check("a new file", judge_look(&nothing, &seen, false), FOUND_CHANGED);
-    check("a new link", judge_look(&nothing, &link, false), FOUND_CHANGED);
-    check("still nothing", judge_look(&nothing, &nothing, false), FOUND_GONE);
+    check("a link that was seen", judge_look(&link, &link, false), LOOK_SAME);
+    check("a new file", judge_look(&nothing, &seen, false), LOOK_CHANGED);
+    check("a new link", judge_look(&nothing, &link, false), LOOK_CHANGED);
+    check("still nothing", judge_look(&nothing, &nothing, false), LOOK_GONE);
     check("nothing was seen, and a file is taken out", is_taken_out(&nothing, &seen), false);
 }
 
