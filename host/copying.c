@@ -172,8 +172,17 @@ _Noreturn static void work(struct session *session, int report) {
     struct report said = {.error = 0};
     close_others(session, report);
     said.error = write_session(session, &said.is_changed);
+    /* whoever hears of the end may unlock the session */
+    close(session->lock);
+    close(session->folder);
     int error = write_bytes(report, &said, sizeof said);
     _exit(error ? 1 : 0);
+}
+
+static time_t seconds_now(void) {
+    struct timespec now = {0};
+    clock_gettime(CLOCK_MONOTONIC, &now);
+    return now.tv_sec;
 }
 
 /* Starts a child that writes. No signal reaches it, so that it runs none of the host's handlers. */
@@ -188,7 +197,7 @@ static bool start_child(struct session *session) {
     sigprocmask(SIG_SETMASK, &before, NULL);
     close(ends[1]);
     session->report = ends[0];
-    session->waited = 0;
+    session->since = seconds_now();
     if (session->child > 0) return true;
     session->error = EAGAIN;
     close(ends[0]);
@@ -352,7 +361,7 @@ enum keeping session_mind(struct session *session) {
         look_after(session);
         session_fill(session);
     }
-    facts.is_copying = session->report >= 0 && session->waited++ < LATE;
+    facts.is_copying = session->report >= 0 && seconds_now() - session->since < LATE;
     facts.is_filled = is_whole(session);
     facts.is_changed = session->is_changed;
     facts.is_behind = session->is_mirror_behind;

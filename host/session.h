@@ -148,10 +148,10 @@ struct session {
     /* `source` is FILE, which was like this before the program read it. */
     bool is_source_file;
     struct stat look;
-    /* The child that writes: its number, and the pipe of what it reports; -1 if there is none. */
+    /* The child that writes: its number, the pipe of what it reports, and when it began; -1 if there is none. */
     pid_t child;
     int report;
-    unsigned waited;
+    time_t since;
     /* How much of the journal the mirror has; it has less than the journal; it is not on the disk yet. */
     off_t mirrored;
     bool is_mirror_behind, is_mirror_new;
