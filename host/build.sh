@@ -20,7 +20,7 @@ command -v "${compiler%% *}" >/dev/null || {
     echo "bidi-edit: there is no C compiler ${compiler%% *}: on Debian, apt install gcc libc6-dev gives one" >&2
     exit 1
 }
-set -- -std=c11 -D_GNU_SOURCE -Wall -Wextra -Wpedantic -Wconversion -Werror -O2 -fstack-protector-strong -fPIE -pie -Wl,-z,relro,-z,now
+set -- -std=c11 -D_GNU_SOURCE -Wall -Wextra -Wpedantic -Wconversion -Werror -O2 -fstack-protector-strong -fPIE -pie -pthread -Wl,-z,relro,-z,now
 case $kind in
 '') set -- "$@" -D_FORTIFY_SOURCE=2 ;;
 sanitized) set -- "$@" -g -fno-omit-frame-pointer -fsanitize=address,undefined -fno-sanitize-recover=all ;;

@@ -106,13 +106,14 @@ int main(int count, char **words) {
     static struct programs programs;
     open_standard_files();
     set_first_signals();
-    note_command_line(count, words);
-    if (!find_programs(count > 0 ? words[0] : NULL, &programs)) {
+    note_own_word(words[0]);
+    if (!find_programs(words[0], &programs)) {
         fputs("bidi-edit: its own place cannot be found\n", stderr);
         return 1;
     }
     open_terminal();
     int status = keep(count, words, &programs);
+    listen_once();
     if (end_signal) die_from(end_signal);
     return status;
 }

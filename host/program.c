@@ -171,7 +171,7 @@ static void hear_aside(struct run *run, int words, int64_t end) {
     struct word_reader reader = {.length = 0};
     struct pollfd wanted = {.fd = words, .events = POLLIN};
     while (read_words_of(run, &reader, words)) {
-        int64_t last = last_moment(0);
+        int64_t last = last_moment();
         if (end == 0 || (last != 0 && last < end)) end = last;
         if (end != 0 && now() >= end) return;
         wait_for(&wanted, 1, end);

@@ -15,7 +15,7 @@
 
 /* Milliseconds. GRACE_MS: the program's for its end, of which the first HAND_ON_MS are for what was typed to be handed on;
  * DEATH_MS: a killed one's. RESTORE_MS: the terminal's to take what restores it, or RESTORE_BY_SIGNAL_MS after a signal. IDLE_MS:
- * typed bytes that nothing follows for so long are all. PASTE_MS: for a paste to end. LEAST_MS: what a step has at least. */
+ * typed bytes that nothing follows for so long are all. PASTE_MS: for a paste to end. */
 enum {
     GRACE_MS = 3000,
     HAND_ON_MS = 500,
@@ -24,8 +24,7 @@ enum {
     RESTORE_BY_SIGNAL_MS = 1000,
     IDLE_MS = 50,
     SECOND_MS = 1000,
-    PASTE_MS = 2000,
-    LEAST_MS = 200
+    PASTE_MS = 2000
 };
 
 /* The bytes of one read of the terminal, and the most that wait here: few, since a kill of the host loses them. */
@@ -227,12 +226,6 @@ static void go_on(struct run *run) {
     }
 }
 
-/* So many milliseconds, or after a signal as many as are left, but LEAST_MS. */
-static int64_t within(int64_t limit) {
-    int64_t last = last_moment(LEAST_MS), left = last - now();
-    return last != 0 && left < limit ? left : limit;
-}
-
 /* Restores the terminal, and takes in what the program said last. */
 static void restore(struct run *run) {
     close_input();
@@ -285,6 +278,8 @@ enum run_end run_program(struct run *run) {
     bool is_prepared = prepare(run, &ends), is_started = is_prepared && start(run, &ends);
     close_program_ends(&ends);
     if (is_started) go_on(run);
+    /* a signal to the whole job ends the program too */
+    listen_once();
     if (is_prepared) restore(run);
     close_pipes(&now_running.pipes);
     end_watcher();

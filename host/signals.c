@@ -117,10 +117,14 @@ _Noreturn void die_from(int number) {
     _exit(128 + number);
 }
 
-int64_t last_moment(int64_t least) {
-    if (!end_signal) return 0;
-    int64_t whole = end_time + END_MS, soonest = now() + least;
-    return whole > soonest ? whole : soonest;
+int64_t last_moment(void) {
+    return end_signal ? end_time + END_MS : 0;
+}
+
+int64_t within(int64_t limit) {
+    int64_t left = last_moment() - now();
+    if (!end_signal || left > limit) return limit;
+    return left > LEAST_MS ? left : LEAST_MS;
 }
 
 int wait_for(struct pollfd *files, nfds_t count, int64_t end) {
@@ -187,7 +191,7 @@ static ssize_t write_piece(int file, const char *text, size_t length) {
 }
 
 void write_within(int file, const char *text, size_t length, int64_t limit, bool is_last) {
-    int64_t end = limit == 0 ? 0 : now() + limit;
+    int64_t end = limit == 0 ? 0 : now() + (is_last ? within(limit) : limit);
     int tries = TRIES;
     while (length > 0 && tries > 0 && is_ready(file, end, is_last)) {
         ssize_t count = write_piece(file, text, length < PIECE ? length : PIECE);

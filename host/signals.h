@@ -12,9 +12,9 @@
 #include <stdint.h>
 #include <sys/types.h>
 
-/* A host that got a signal is gone END_MS later, as far as the kernel lets it. A child that is killed has ended within DYING_MS,
- * if at all. */
-enum { END_MS = 4300, DYING_MS = 300 };
+/* A host that got a signal is gone END_MS later, as far as the kernel lets it; what it still has to do then has LEAST_MS. A child
+ * that is killed has ended within DYING_MS, if at all. */
+enum { END_MS = 4300, LEAST_MS = 100, DYING_MS = 300 };
 
 /* The first signal that asked for the end, or 0, and when it came; whether the window changed; whether a stop has ended. */
 extern volatile sig_atomic_t end_signal, is_resized, is_continued;
@@ -37,8 +37,11 @@ _Noreturn void die_from(int number);
 
 int64_t now(void);
 
-/* When all is to be over because of a signal: at least `least` milliseconds from now. 0 without a signal. */
-int64_t last_moment(int64_t least);
+/* When all is to be over because of a signal; 0 without one. */
+int64_t last_moment(void);
+
+/* So many milliseconds, or after a signal those that are left, but LEAST_MS. */
+int64_t within(int64_t limit);
 
 /* Waits for the files and for signals until the time `end`, for ever where it is 0. Returns what poll returns. */
 int wait_for(struct pollfd *files, nfds_t count, int64_t end);
@@ -50,7 +53,7 @@ void listen_once(void);
 void write_ready(int file, const char *text, size_t length, int64_t limit, bool is_last);
 
 /* Writes to a file that may block, for at most `limit` milliseconds, for ever where it is 0, or until an ending signal if it is
- * not the last. Only once signals are caught. */
+ * not the last, which has to keep to `within`. Only once signals are caught. */
 void write_within(int file, const char *text, size_t length, int64_t limit, bool is_last);
 
 /* Waits for a child until the time `end`, for ever where it is 0, and sets its number to 0 once it has ended. Signals do not cut

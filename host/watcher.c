@@ -2,7 +2,9 @@
 
 #include <errno.h>
 #include <fcntl.h>
+#include <limits.h>
 #include <poll.h>
+#include <pthread.h>
 #include <signal.h>
 #include <stdint.h>
 #include <string.h>
@@ -22,25 +24,29 @@ static const char watcher_name[] = "bidi-watcher";
 struct watched *watched;
 pid_t watcher;
 
-/* The pipe that ends with the host. */
-static int life = -1;
+/* The word that the host was started with. */
+static char *own_word = NULL;
 
-/* The words of the host's command line, one after another in memory. */
-static char *first_word;
-static size_t words_length;
-
-void note_command_line(int count, char **words) {
-    first_word = words[0];
-    words_length = 0;
-    for (int i = 0; i < count && words[i] == first_word + words_length; i++) words_length += strlen(words[i]) + 1;
+void note_own_word(char *word) {
+    own_word = word;
 }
 
-/* Takes another name than the host's, by which many kill. */
-static void take_name(void) {
+/* Forks the watcher under another name than the host's, by which many kill: it is never seen under that. */
+static pid_t fork_under_name(void) {
+    char name[16], word[PATH_MAX] = "";
+    size_t length = own_word ? strlen(own_word) : 0;
+    prctl(PR_GET_NAME, name);
     prctl(PR_SET_NAME, watcher_name);
-    if (words_length == 0) return;
-    memset(first_word, 0, words_length);
-    strncpy(first_word, watcher_name, words_length - 1);
+    if (length >= sizeof word) length = sizeof word - 1;
+    if (length > 0) {
+        memcpy(word, own_word, length);
+        strncpy(own_word, watcher_name, length);
+    }
+    pid_t child = fork();
+    if (child == 0) return 0;
+    prctl(PR_SET_NAME, name);
+    if (length > 0) memcpy(own_word, word, length);
+    return child;
 }
 
 /* Waits until a pipe's last writer is gone, or the time is over. */
@@ -55,18 +61,9 @@ static bool ends_before(int file, int64_t end) {
     return false;
 }
 
-static void ignore(int number) {
-    (void)number;
-}
-
-/* Waits until the host is gone, which ends this process before its own end. A child of the host may hold the pipe: the signal of
- * the host's death comes all the same. */
-static void wait_for_host(int file, pid_t host) {
-    char byte;
-    while (getppid() == host) {
-        ssize_t count = read(file, &byte, 1);
-        if (count == 0 || (count < 0 && errno != EINTR)) return;
-    }
+/* Waits until the host is gone: the kernel gives up the lock of a dead process before its parent, a shell, is told. */
+static void wait_for_host(void) {
+    while (pthread_mutex_lock(&watched->life) == EINTR) continue;
 }
 
 /* Drops the rest of a paste. Output is held meanwhile, so that a shell stops at its prompt and takes nothing of it. */
@@ -76,8 +73,8 @@ static void end_paste(void) {
     drain_paste(&watched->paste, PASTE_MS);
 }
 
-static _Noreturn void watch(int file, int words, pid_t host) {
-    wait_for_host(file, host);
+static _Noreturn void watch(int words) {
+    wait_for_host();
     int64_t start = now();
     bool is_paste = watched->paste.is_under_way, is_changed = watched->is_changed;
     if (is_changed) end_paste();
@@ -93,31 +90,33 @@ static _Noreturn void watch(int file, int words, pid_t host) {
 }
 
 /* Closes what would keep others waiting, and lets no signal but SIGKILL end the watcher. */
-static _Noreturn void become_watcher(int file, int words, int words_end, pid_t host) {
+static _Noreturn void become_watcher(int words, int words_end) {
     sigset_t mask;
-    take_name();
     sigfillset(&mask);
-    sigdelset(&mask, SIGUSR1);
-    signal(SIGUSR1, ignore);
     sigprocmask(SIG_SETMASK, &mask, NULL);
-    prctl(PR_SET_PDEATHSIG, SIGUSR1);
     setpgid(0, 0);
     /* who has no terminal is never in the background of one */
     ioctl(line, TIOCNOTTY);
-    const int others[] = {life, words_end, screen, STDIN_FILENO, STDOUT_FILENO, STDERR_FILENO};
+    const int others[] = {words_end, screen, STDIN_FILENO, STDOUT_FILENO, STDERR_FILENO};
     for (size_t i = 0; i < sizeof others / sizeof *others; i++) close(others[i]);
-    watch(file, words, host);
+    watch(words);
+}
+
+/* Makes what is shared, with a lock that the host holds as long as it lives. */
+static bool share(void) {
+    pthread_mutexattr_t kind;
+    void *shared = mmap(NULL, sizeof *watched, PROT_READ | PROT_WRITE, MAP_SHARED | MAP_ANONYMOUS, -1, 0);
+    if (shared == MAP_FAILED) return false;
+    watched = shared;
+    return pthread_mutexattr_init(&kind) == 0 && pthread_mutexattr_setpshared(&kind, PTHREAD_PROCESS_SHARED) == 0 &&
+           pthread_mutexattr_setrobust(&kind, PTHREAD_MUTEX_ROBUST) == 0 && pthread_mutex_init(&watched->life, &kind) == 0 &&
+           pthread_mutex_lock(&watched->life) == 0;
 }
 
 bool start_watcher(int words, int words_end) {
-    int ends[2];
-    pid_t host = getpid();
-    watched = mmap(NULL, sizeof *watched, PROT_READ | PROT_WRITE, MAP_SHARED | MAP_ANONYMOUS, -1, 0);
-    if (watched == MAP_FAILED || pipe2(ends, O_CLOEXEC) != 0) return false;
-    life = ends[1];
-    watcher = fork();
-    if (watcher == 0) become_watcher(ends[0], words, words_end, host);
-    close(ends[0]);
+    if (!share()) return false;
+    watcher = fork_under_name();
+    if (watcher == 0) become_watcher(words, words_end);
     if (watcher < 0) watcher = 0;
     /* before the terminal changes: a kill of the whole job spares it */
     return watcher > 0 && (setpgid(watcher, watcher) == 0 || errno == EACCES);

@@ -1,22 +1,20 @@
 """check_host.py HOST [--runs N] [NAME..]: checks the host with programs for tests around it; see scripts/check-host.sh."""
 import json, os, random, shutil, signal, subprocess, sys, tempfile, time
 sys.path.insert(0, os.path.dirname(os.path.abspath(__file__)))
-import cases, ends, facts, faults, keepers, kinds, shells
+import cases, ends, faults, kinds, saves, shells
 from terminals import become_reaper
 from tree import Tree
 
 # Processes that check side by side: more than there may be processors, since a check mostly waits.
 JOBS = 6
-CASES = {case.__name__: case for case in cases.ALL + keepers.ALL + facts.ALL + kinds.ALL + shells.ALL + faults.ALL}
+CASES = {case.__name__: case for case in cases.ALL + saves.ALL + kinds.ALL + shells.ALL + faults.ALL}
 
 
 def check_ends(tree, kind, runs):
     """One check: all runs of a kind. Gives a pair of its name and what is wrong, as the cases do."""
-    if kind == 'kill-filter' and not tree.has_filter:
-        return [('ends, kill-filter: skipped, since bidi_input is not built', '')]
     wrong, times = [], []
     for number in range(runs):
-        found, took = ends.try_once(tree, kind, f'note{os.getpid()}')
+        found, took = ends.try_once(tree, kind)
         times.append(took)
         if found:
             wrong.append(f'run {number}: {found}')
@@ -34,7 +32,6 @@ def worker(host, runs, names):
     tree = Tree(f'{folder}/tree', host)
     try:
         for name in names:
-            tree.stop_log()
             for result in CASES[name](tree) if name in CASES else check_ends(tree, name, runs):
                 print(json.dumps(result), flush=True)
     finally:

@@ -5,14 +5,14 @@ from terminals import Run
 
 # What the host writes last: the title is given back, the alternate screen ends.
 TAIL = b'\x1b[23;0t\x1b[?1049l'
-LIMIT = 5  # seconds from what ends the host until all is over (host/closing.c, host/watcher.c), and of waits for a screen
+LIMIT = 5  # seconds from what ends the host until all is over (END_MS in host/signals.h, host/watcher.c), and of waits for a screen
 
 # Statuses are as waitpid gives them: a signal's number, or an exit status in the second byte.
 
 # What ends the host, each by its signal. The last two kill it at once, and the watcher restores the terminal.
 SIGNALS = {name: getattr(signal, 'SIG' + name.upper()) for name in (
     'hup', 'int', 'quit', 'usr1', 'usr2', 'alrm', 'pipe', 'xcpu', 'xfsz', 'vtalrm', 'prof', 'io', 'pwr', 'abrt', 'sys')}
-KINDS = ['term', 'term-job', 'kill', 'kill-job', 'kill-program', 'kill-keeper', 'kill-filter', 'kill-watcher', 'stop', 'closed', 'blocked', *SIGNALS]
+KINDS = ['term', 'term-job', 'kill', 'kill-job', 'kill-name', 'kill-program', 'kill-watcher', 'stop', 'closed', 'blocked', *SIGNALS]
 
 
 def restored(output):
@@ -130,15 +130,12 @@ def act(kind, run, wrong):
     if kind == 'stop':
         run.rest(moment())
         return try_stop(run, wrong)
-    # 137: ended by the signal 9; without the keeper the host ends with 1
-    children = {'kill-program': ('bidi_edit', (137 << 8,)), 'kill-filter': ('bidi_input', None), 'kill-keeper': ('bidi_keep', (1 << 8,))}
-    if kind in children:
-        name, statuses = children[kind]
-        child = wait_for_child(run, name)
+    if kind == 'kill-program':
+        child = wait_for_child(run, 'bidi_edit')
         before = time.perf_counter()
         if child:
             send(child, signal.SIGKILL)
-        return before, statuses
+        return before, (137 << 8,)  # ended by the signal 9
     run.rest(moment())
     before = time.perf_counter()
     if kind == 'term':
@@ -160,26 +157,45 @@ def act(kind, run, wrong):
         number = signal.SIGKILL if kind == 'kill-job' else signal.SIGTERM
         send_job(run, number)
         return before, (number,)
+    if kind == 'kill-name':
+        return kill_by_name(run), (signal.SIGKILL,)
     number = signal.SIGKILL if kind == 'kill' else SIGNALS[kind]
     send(run.job, number)
     return before, (number,)
 
 
+def kill_by_name(run):
+    """Kills what `killall -9 bidi-edit` finds among the run's processes: by the name of the process, or of its file in its command
+    line, as killall of busybox does. Returns when that was done."""
+    while run.job in (there := run.processes()) and there[run.job][0] != 'bidi-edit':
+        time.sleep(0.001)
+    before = time.perf_counter()
+    for process, (comm, _, _) in run.processes().items():
+        try:
+            with open(f'/proc/{process}/cmdline', 'rb') as file:
+                words = file.read().split(b'\0')
+        except OSError:
+            continue
+        if comm == 'bidi-edit' or os.path.basename(words[0]) == b'bidi-edit':
+            send(process, signal.SIGKILL)
+    return before
+
+
 def kill_watcher(run):
-    """Kills the watcher, the one process in a job of its own, which harms nothing, and quits. Returns as `act` does."""
+    """Kills the watcher, which harms nothing, and quits. Returns as `act` does."""
     run.pump(LIMIT, b'hello')
-    watchers = [process for process in run.processes() if process != run.job and os.getpgid(process) == process]
-    for process in watchers:
-        send(process, signal.SIGKILL)
+    watcher = run.child('bidi-watcher')
+    if watcher:
+        send(watcher, signal.SIGKILL)
     before = time.perf_counter()
     run.type(b'\x11')
     return before, (0,)
 
 
-def try_once(tree, kind, name):
+def try_once(tree, kind):
     """Ends one run. Returns what is wrong, and the seconds until all was over."""
-    file = tree.file('flood' if kind == 'blocked' and random.random() < 0.3 else name)
-    run = Run(tree.words('edit', random.choice(('plain', 'plain', 'titles', 'told')), file), HOME=f'{tree.top}/home')
+    ways = 'flood' if kind == 'blocked' and random.random() < 0.3 else random.choice(('', '', 'chatty', 'saves'))
+    run = Run([tree.host, tree.new_file('note')], **tree.variables(ways))
     wrong = []
     before, statuses = kill_watcher(run) if kind == 'kill-watcher' else act(kind, run, wrong)
     if not run.pump(LIMIT):

@@ -1,7 +1,7 @@
 """Each system call of the host failed in turn, by strace: the terminal is restored, no process is left, and a session that does not
 go on says why."""
 import os, re, shutil, signal
-from cases import QUIT
+from cases import QUIT, SAVE
 from ends import restored
 from terminals import Run
 
@@ -23,13 +23,12 @@ def session(tree, strace):
 
 
 def try_session(tree, strace):
-    """One try. strace is a grandchild (-D), so that the process that is signalled and waited for is the host. The keeper sends a title
-    and a bell each second (the kind `titles`), so that the host writes in idle times too."""
+    """One try. strace is a grandchild (-D), so that the process that is signalled and waited for is the host."""
     # all waits are limits: a failed call may make the host wait, and strace makes it slow
-    run = Run(['strace', '-D', *strace, *tree.words('edit', 'titles', tree.file('faults'))], HOME=f'{tree.top}/home')
+    run = Run(['strace', '-D', *strace, tree.host, tree.new_file('faults')], **tree.variables())
     if run.pump(4, b'hello'):
         run.resize(30, 90)
-        run.type(b'abc')
+        run.type(b'abc' + SAVE)
         run.rest(0.2)
     if run.status is None:
         run.type(QUIT)

@@ -13,7 +13,7 @@ MLTERM = b'\x1b]5379;use_ctl='
 def see(tree, home=None, **variables):
     """What a session writes in a terminal with these variables; where it does not end well, with words before it that say so."""
     variables.setdefault('XTERM_VERSION', '')
-    run = Run(tree.words('edit', 'plain', tree.file('kinds')), HOME=home or f'{tree.top}/home', **variables)
+    run = Run([tree.host, tree.new_file('kinds')], **{**tree.variables(home=home), **variables})
     run.pump(5, b'hello')
     run.type(QUIT)
     run.pump(5)

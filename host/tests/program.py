@@ -8,13 +8,14 @@ before OPENED: refused (a fault of the text), stalled (waits for ever), foreign 
 after it: flood (writes without end, reads nothing), deaf (reads nothing, and does not end), broken (ends by a fault), ends (ends
     at once), mixed (other text between words), mute (says no END)
 while it runs: chatty (the journal is lost and kept again at each key), slow (a tenth of a second for each key), saves (a save at
-    each key), notes (each frame is noted in FILE.frames, a line a frame: its letter and its bytes in hexadecimal), keeps (does not
+    each key), large (a save of the letters again and again, up to 16 MB), notes (each frame is noted in FILE.frames, a line a frame: its letter and its bytes in hexadecimal), keeps (does not
     end at the end of its input)
 
 With --replay and --to it stores the text of --text with the letters of the journal, and says `known` and their number."""
 import os, signal, sys, time
 
 QUIT, SAVE = 0x11, 0x13
+LARGEST = 16777216  # bytes of a text
 WAYS = set(os.environ.get('STAND_IN', '').split(','))
 # What the host says without a value of its own.
 SWITCHES = {'--frames', '--new', '--unsaved'}
@@ -168,7 +169,7 @@ def main():
             if key == QUIT:
                 end(b'saved' if typed == saved else b'dropped')
             if key == SAVE or 'saves' in WAYS:
-                cause = saves.save(typed)
+                cause = saves.save((typed * (LARGEST // len(typed) + 1))[:LARGEST] if 'large' in WAYS else typed)
                 told = b'failed %d' % cause if cause else b'saved'
                 saved = saved if cause else typed
             if key < 32:

@@ -1,4 +1,4 @@
-"""The host as a job of interactive shells: in the background and back, stopped and back, killed."""
+"""The host as a job of interactive shells: in the background and back, stopped and back, killed, also in a paste."""
 import os, shutil, signal, termios
 from cases import QUIT, holds, same
 from ends import TAIL
@@ -12,8 +12,8 @@ SHELLS = (['bash', '--norc', '--noprofile', '--noediting', '-i'], ['bash', '--no
 def in_shell(tree, words):
     """The checks in the shell that these words start. Its prompt is `P> `."""
     name = ' '.join(words)
-    plain = f"'{tree.host}' edit plain '{tree.file('job')}'".encode()
-    run = Run(words, PS1='P> ', HOME=f'{tree.top}/home')
+    plain = f"'{tree.host}' '{tree.new_file('job')}'".encode()
+    run = Run(words, PS1='P> ', **tree.variables())
 
     def show(keys):
         """What is written after these keys."""
@@ -37,7 +37,7 @@ def in_shell(tree, words):
     yield holds(f'{name}: Quit', TAIL in shown and b'P> ' in shown, shown)
     before = termios.tcgetattr(run.slave)
     run.output = b''
-    run.type(plain + b'\n')
+    run.type(f"'{tree.host}' '{tree.new_file('job')}'\n".encode())
     run.pump(5, b'hello')
     run.output = b''
     os.kill(run.child('bidi-edit'), signal.SIGKILL)
@@ -54,4 +54,43 @@ def shells(tree):
             yield from in_shell(tree, words)
 
 
-ALL = [shells]
+def paste(run, file):
+    """Types a marked paste whose lines make the file, in pieces, as a terminal sends them: the host ends in the midst of it."""
+    run.type(b'\x1b[200~text\n')
+    run.rest(0.1)
+    yield
+    for _ in range(20):
+        run.type(f'touch {file}\n'.encode())
+        run.rest(0.01)
+    run.type(b'\x1b[201~')
+
+
+def paste_in_shell(tree, words, number):
+    """The rest of a paste that is under way as the host ends goes to no shell, and the shell takes what is typed then."""
+    name, made = f"{' '.join(words)}, paste, {signal.Signals(number).name}", tree.new_file('made')
+    run = Run(words, PS1='P> ', **tree.variables())
+    run.pump(5, b'P> ')
+    run.type(f"'{tree.host}' '{tree.new_file('job')}'\n".encode())
+    run.pump(5, b'hello')
+    steps = paste(run, made)
+    next(steps)
+    os.kill(run.child('bidi-edit'), number)
+    next(steps, None)
+    yield holds(f'{name}: restored', run.pump(5, TAIL), run.output)
+    run.rest(1.5)
+    yield holds(f'{name}: the shell runs nothing of it', not os.path.exists(made))
+    run.output = b''
+    run.type(b'echo a$((1+1))b\n')
+    yield holds(f'{name}: the shell goes on', run.pump(5, b'a2b'), run.output)
+    run.close()
+
+
+def pastes(tree):
+    for words in SHELLS:
+        for number in (signal.SIGTERM, signal.SIGKILL):
+            if shutil.which(words[0]):
+                for _ in range(3):
+                    yield from paste_in_shell(tree, words, number)
+
+
+ALL = [shells, pastes]

@@ -1,9 +1,8 @@
-"""An installation for the tests: the host as bin/bidi-edit, and programs for tests in lib/bidi_edit."""
-import os, shutil, subprocess
+"""An installation for the tests: the host as bin/bidi-edit, and a program for tests in place of bidi_edit."""
+import os, shutil
 
 HERE = os.path.dirname(os.path.abspath(__file__))
 REPOSITORY = os.path.dirname(os.path.dirname(HERE))
-FILTER = f'{REPOSITORY}/crates/bidi_input/out/bidi_input'
 
 
 def write(path, text, mode=0o755):
@@ -13,51 +12,38 @@ def write(path, text, mode=0o755):
 
 
 class Tree:
-    """An installation in a folder `top`, with fake_keeper.py, fake_editor.c and a printing program that prints its words.
+    """An installation in a folder `top`, with program.py, and a printing program that prints its words.
 
-    Without a built filter the host copies the keys itself. `log` is the file of what the keeper hears, from `start_log` on.
-    """
+    `file` gives paths of FILEs in a folder of their own, `home` is where sessions are: each new one has none."""
 
     def __init__(self, folder, host):
         self.top = folder
         self.host = f'{folder}/bin/bidi-edit'
-        self.log = f'{folder}/log'
+        self.count = 0
         lib = f'{folder}/lib/bidi_edit'
-        for name in ('bin', 'lib/bidi_edit', 'share/bidi_edit', 'home', 'work'):
+        for name in ('bin', 'lib/bidi_edit', 'share', 'work', 'temporary'):
             os.makedirs(f'{folder}/{name}')
         shutil.copy2(host, self.host)
-        shutil.copy2(f'{HERE}/fake_keeper.py', f'{lib}/bidi_keep')
+        shutil.copy2(f'{HERE}/program.py', f'{lib}/bidi_edit')
         write(f'{lib}/bidi_print', '#!/bin/sh\nprintf "printed"\nprintf " <%s>" "$@"\necho\n')
         write(f'{lib}/kit', 'toolchain 1.2\n', 0o644)
-        compiler = os.environ.get('CC', 'cc').split()
-        subprocess.run([*compiler, '-std=c11', '-O2', '-Wall', '-Wextra', '-o', f'{lib}/bidi_edit', f'{HERE}/fake_editor.c'], check=True)
-        self.has_filter = os.path.exists(FILTER)
-        if self.has_filter:
-            shutil.copy2(FILTER, f'{lib}/bidi_input')
+        os.symlink(f'{REPOSITORY}/data', f'{folder}/share/bidi_edit')
 
     def file(self, name):
         """The path of a file in the folder for FILEs."""
         return f'{self.top}/work/{name}'
 
-    def words(self, *words):
-        """The command line of the host with these words, which fake_keeper.py obeys."""
-        return [self.host, *words]
+    def new_file(self, name):
+        """The path of a FILE that no start has had."""
+        self.count += 1
+        return self.file(f'{name}{self.count}')
 
-    def start_log(self):
-        """Has the keeper note what it hears from now on."""
-        if os.path.exists(self.log):
-            os.unlink(self.log)
-        write(f'{self.top}/lib/bidi_edit/log', self.log, 0o644)
+    def new_home(self):
+        """A home without sessions."""
+        self.count += 1
+        os.mkdir(f'{self.top}/home{self.count}', 0o700)
+        return f'{self.top}/home{self.count}'
 
-    def stop_log(self):
-        """Has the keeper note nothing from now on."""
-        if os.path.exists(f'{self.top}/lib/bidi_edit/log'):
-            os.unlink(f'{self.top}/lib/bidi_edit/log')
-
-    def heard(self):
-        """What the keeper heard, a message a line: its letter and text."""
-        try:
-            with open(self.log, 'rb') as file:
-                return file.read().split(b'\n')[:-1]
-        except FileNotFoundError:
-            return []
+    def variables(self, ways='', home=None):
+        """The environment of a start: the home, a folder for temporary files where FILE is not, and what program.py does."""
+        return {'HOME': home or self.new_home(), 'TMPDIR': f'{self.top}/temporary', 'STAND_IN': ways}

@@ -1,0 +1,88 @@
+"""Saves through the host: each is served by a child of it, which may hang or be killed. cases.py says what a case is."""
+import os, signal, time
+from cases import QUIT, SAVE, finish, holds, same, start
+from ends import LIMIT
+
+
+def read(path):
+    with open(path, 'rb') as file:
+        return file.read()
+
+
+def saves(tree):
+    """Saves one after another, small and large."""
+    for ways, count in (('', 3), ('large', 1)):
+        run = start(tree, ways)
+        run.pump(5, b'hello')
+        for number in range(count):
+            run.output = b''
+            run.type(b'abc' + SAVE)
+            yield holds(f'saves {ways} {number}: told', run.pump(10, b'%d saved' % (3 * number + 3)), run.output)
+            text = b'abc' * (number + 1) if not ways else (b'abc' * 5592406)[:16777216]
+            yield holds(f'saves {ways} {number}: saved', read(run.file) == text)
+        run.type(QUIT)
+        yield from finish(run, f'saves {ways}', 0)
+
+
+def find_saver(run):
+    """The child that serves a save, stopped; 0 where none was caught."""
+    end = time.perf_counter() + LIMIT
+    while time.perf_counter() < end:
+        for process, (comm, _, parent) in run.processes().items():
+            if parent == run.job and comm == 'bidi-edit':
+                os.kill(process, signal.SIGSTOP)
+                return process
+    return 0
+
+
+def hanging(tree):
+    """A save that hangs, as on a disk that does not answer, holds up neither sizes, nor the end by a signal, nor that by a kill."""
+    for number in (signal.SIGTERM, signal.SIGKILL):
+        run = start(tree, 'large')
+        run.pump(5, b'hello')
+        run.type(b'abc' + SAVE)
+        saver = find_saver(run)
+        yield holds(f'hanging saves, {number.name}: caught', saver)
+        before = time.perf_counter()
+        os.kill(run.job, number)
+        yield holds(f'hanging saves, {number.name}: ended', run.pump(LIMIT))
+        yield same(f'hanging saves, {number.name}: processes', run.left(max(0, before + LIMIT - time.perf_counter())), {})
+        yield from finish(run, f'hanging saves, {number.name}', number)
+        yield holds(f'hanging saves, {number.name}: FILE is not written', not os.path.exists(run.file))
+
+
+def killed(tree):
+    """A child that is killed in a save: the save fails, and the next one succeeds."""
+    run = start(tree, 'large')
+    run.pump(5, b'hello')
+    run.type(b'abc' + SAVE)
+    saver = find_saver(run)
+    yield holds('killed saves: caught', saver)
+    if saver:
+        os.kill(saver, signal.SIGKILL)
+    yield holds('killed saves: told', run.pump(5, b'failed 10'), run.output[-200:])  # SAVE_OTHER
+    yield holds('killed saves: FILE is not written', not os.path.exists(run.file))
+    run.type(SAVE)
+    yield holds('killed saves: the next', run.pump(10, b'3 saved'), run.output[-200:])
+    run.type(QUIT)
+    yield from finish(run, 'killed saves', 0)
+
+
+def program_killed(tree):
+    """The program is killed in a save: FILE is as it was, and no draft stays."""
+    run = start(tree, 'large')
+    run.pump(5, b'hello')
+    run.type(b'abc' + SAVE)
+    saver = find_saver(run)
+    yield holds('killed programs: caught', saver)
+    program = run.child('bidi_edit')
+    os.kill(program, signal.SIGKILL)
+    run.rest(0.1)
+    if saver:
+        os.kill(saver, signal.SIGCONT)
+    yield from finish(run, 'killed programs', 137 << 8)
+    folder = os.path.dirname(run.file)
+    yield same('killed programs: the folder', [name for name in os.listdir(folder) if name.startswith(os.path.basename(run.file))], [])
+
+
+ALL = [saves, hanging, killed, program_killed]
