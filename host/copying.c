@@ -25,7 +25,8 @@ enum { COPIED_AT_ONCE = 1 << 20, LARGEST_COPIED = 1 << 24, CALM = 2, BESIDE_TEXT
 /* What a child that writes reports. */
 struct report {
     int error;
-    bool is_changed;
+    /* FILE was changed before it was copied; the disk refused the copy's bytes, and may have lost them. */
+    bool is_changed, is_refused;
 };
 
 /* ---- what the program opens */
@@ -112,16 +113,19 @@ static bool is_as_read(const struct session *session) {
 }
 
 /* Copies the text from its source, and puts it on the disk. */
-static int write_text(struct session *session, bool *is_changed) {
+static int write_text(struct session *session, struct report *said) {
     int error = 0;
     if (session->text < 0) return session->error ? session->error : EIO;
     if (!session->has_text && session->source >= 0) {
-        *is_changed = session->is_source_file && !is_as_read(session);
-        if (!*is_changed) error = copy_over(session, session->source);
-        if (!*is_changed && !error) *is_changed = session->is_source_file && !is_as_read(session);
-        if (*is_changed) error = EIO;
+        said->is_changed = session->is_source_file && !is_as_read(session);
+        if (!said->is_changed) error = copy_over(session, session->source);
+        if (!said->is_changed && !error) said->is_changed = session->is_source_file && !is_as_read(session);
+        if (said->is_changed) error = EIO;
     }
-    if (!error && fsync(session->text) != 0) error = errno;
+    if (!error && fsync(session->text) != 0) {
+        error = errno;
+        said->is_refused = session->has_text;
+    }
     /* what there is no room for takes none; the first fault is the one to report */
     if (error && !session->has_text && ftruncate(session->text, 0) != 0) return error;
     return error;
@@ -136,19 +140,19 @@ static int write_part(const struct session *session, enum part part) {
     return is_lacking(session, part) ? put_part(session, part, kept->bytes, kept->size) : 0;
 }
 
-int write_session(struct session *session, bool *is_changed) {
-    int error = 0;
-    *is_changed = false;
-    if (session->mirror >= 0 && fdatasync(session->mirror) != 0) error = errno;
-    for (enum part part = 0; part < PARTS && !error; part++) {
-        if (part != PART_PATH) error = write_part(session, part);
+/* Writes what is to be there and is not, the path last. */
+static struct report write_missing(struct session *session) {
+    struct report said = {.error = 0};
+    if (session->mirror >= 0 && fdatasync(session->mirror) != 0) said.error = errno;
+    for (enum part part = 0; part < PARTS && !said.error; part++) {
+        if (part != PART_PATH) said.error = write_part(session, part);
     }
-    if (!error && !session->is_filled) error = write_text(session, is_changed);
-    if (!error) error = write_part(session, PART_PATH);
+    if (!said.error && !session->is_filled) said.error = write_text(session, &said);
+    if (!said.error) said.error = write_part(session, PART_PATH);
     /* the names are there, even if their folders are not synced */
     fsync(session->folder);
     fsync(session->parent);
-    return error;
+    return said;
 }
 
 /* ---- the child */
@@ -169,9 +173,8 @@ static void close_others(const struct session *session, int report) {
 }
 
 _Noreturn static void work(struct session *session, int report) {
-    struct report said = {.error = 0};
     close_others(session, report);
-    said.error = write_session(session, &said.is_changed);
+    struct report said = write_missing(session);
     /* whoever hears of the end may unlock the session */
     close(session->lock);
     close(session->folder);
@@ -205,17 +208,38 @@ static bool start_child(struct session *session) {
     return false;
 }
 
+/* Makes the text anew of what was its file, which has lost its name or its bytes on the disk. Until it is there, the session has no
+ * path. */
+static void renew_text(struct session *session) {
+    take_source(session, session->text);
+    fstat(session->text, &session->look);
+    close(session->text);
+    session->text = -1;
+    session->is_source_file = session->has_text = session->is_filled = false;
+    unlinkat(session->folder, part_name(PART_PATH), 0);
+    unlinkat(session->folder, part_name(PART_TEXT), 0);
+    session->parts[PART_PATH].is_written = false;
+}
+
 /* Takes over what was written, or what could not be. */
 static void take_report(struct session *session, const struct report *said) {
     session->error = said->error;
     if (said->is_changed) session->is_changed = true;
     session->is_waiting = said->error == ENOSPC || said->error == EDQUOT;
+    if (said->is_refused) renew_text(session);
     if (said->error) return;
     session->is_filled = session->has_text = true;
     session->is_mirror_new = false;
     for (enum part part = 0; part < PARTS; part++) {
         if (session->parts[part].is_sent) session->parts[part].is_written = true;
     }
+}
+
+int write_session(struct session *session) {
+    for (enum part part = 0; part < PARTS; part++) session->parts[part].is_sent = true;
+    struct report said = write_missing(session);
+    take_report(session, &said);
+    return said.error;
 }
 
 /* Reaps a child that has reported. */
@@ -274,18 +298,6 @@ void session_fill(struct session *session) {
 static bool leads_to(const struct session *session, enum part part, int file) {
     struct stat named, open;
     return fstatat(session->folder, part_name(part), &named, AT_SYMLINK_NOFOLLOW) == 0 && fstat(file, &open) == 0 && is_same_folder(&named, &open);
-}
-
-/* Takes the text that lost its name as the source of a new one. Until that is there, the session has no path. */
-static void renew_text(struct session *session) {
-    take_source(session, session->text);
-    fstat(session->text, &session->look);
-    close(session->text);
-    session->text = -1;
-    session->is_source_file = session->has_text = session->is_filled = false;
-    unlinkat(session->folder, part_name(PART_PATH), 0);
-    unlinkat(session->folder, part_name(PART_TEXT), 0);
-    session->parts[PART_PATH].is_written = false;
 }
 
 /* Notes which parts of a session were removed. */
@@ -375,15 +387,13 @@ static void await_child(struct session *session, int milliseconds) {
 }
 
 bool session_settle(struct session *session, int milliseconds) {
-    struct report said;
     if (!session_is_there(session)) return false;
     await_child(session, milliseconds);
     look_after(session);
     if (write_behind(session)) {
         await_child(session, milliseconds);
     } else {
-        said.error = write_session(session, &said.is_changed);
-        take_report(session, &said);
+        write_session(session);
     }
     return is_whole(session) && !session->is_mirror_behind;
 }

@@ -15,7 +15,7 @@ enum { HOUR = 3600 };
 
 /* ---- all folders */
 
-static int is_known(const struct dirent *entry) {
+static int is_of_editor(const struct dirent *entry) {
     return kind_of_name(entry->d_name) != NAME_FOREIGN;
 }
 
@@ -27,7 +27,7 @@ int each_folder(const struct sessions *sessions, bool (*visit)(void *, struct se
     struct dirent **names = NULL;
     struct session session;
     bool goes_on = true;
-    int count = sessions->folder < 0 ? 0 : scandirat(sessions->folder, ".", &names, is_known, order);
+    int count = sessions->folder < 0 ? 0 : scandirat(sessions->folder, ".", &names, is_of_editor, order);
     if (count < 0) return errno;
     for (int at = 0; at < count; at++) {
         if (goes_on && session_at(&session, sessions, names[at]->d_name)) {

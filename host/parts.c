@@ -84,8 +84,11 @@ bool share_file(int from, int to) {
 
 int copy_file(int from, off_t place, int to) {
     struct copying copying = {.to = to};
+    ssize_t count;
     if (place == 0 && share_file(from, to)) return 0;
-    while (copy_file_range(from, &place, to, NULL, LARGEST_COPY, 0) > 0) continue;
+    do {
+        count = copy_file_range(from, &place, to, NULL, LARGEST_COPY, 0);
+    } while (count > 0);
     /* a system that copies no further may still read */
     int error = read_pieces(from, place, copy_piece, &copying);
     return error ? error : copying.error;

@@ -59,8 +59,8 @@ int make_session(struct session *session, const struct sessions *sessions);
 /* Picks what the program opens, and copies FILE at once where that is quick or FILE is being written. */
 void choose_source(struct session *session, int file);
 
-/* Writes what is to be there and is not, the path last. Returns a fault, and whether FILE was changed before it was copied. */
-int write_session(struct session *session, bool *is_changed);
+/* Writes what is to be there and is not, in this process. */
+int write_session(struct session *session);
 
 /* Removes a session's folder of this name with all in it, first the path. */
 void remove_folder(const struct session *session, const char *name);

@@ -268,7 +268,6 @@ int session_begin(struct session *session, const struct sessions *sessions, cons
 int session_renew(struct session *renewed, const struct sessions *sessions, const struct session *old, const char *versions) {
     static const enum part copied[] = {PART_PATH, PART_BEGIN, PART_MODE, PART_FILE, PART_BESIDE, PART_UNJOINED, PART_SECRET};
     char words[MOST_WORDS];
-    bool is_changed = false;
     int error = make_session(renewed, sessions);
     if (error) return error;
     for (size_t at = 0; at < sizeof copied / sizeof *copied && !error; at++) {
@@ -284,7 +283,7 @@ int session_renew(struct session *renewed, const struct sessions *sessions, cons
     if (!error) error = snapshot < 0 || !renewed->parts[PART_PATH].is_kept ? ENOENT : 0;
     if (!error) choose_source(renewed, snapshot);
     if (!error && renewed->is_waiting) error = renewed->error ? renewed->error : ENOSPC;
-    if (!error) error = write_session(renewed, &is_changed);
+    if (!error) error = write_session(renewed);
     if (snapshot >= 0) close(snapshot);
     if (error) {
         session_remove(renewed);

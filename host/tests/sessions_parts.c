@@ -3,12 +3,14 @@
 #include <errno.h>
 #include <fcntl.h>
 #include <poll.h>
+#include <sched.h>
 #include <signal.h>
 #include <stdarg.h>
 #include <stdio.h>
 #include <stdlib.h>
 #include <string.h>
 #include <sys/file.h>
+#include <sys/mount.h>
 #include <sys/stat.h>
 #include <sys/wait.h>
 #include <unistd.h>
@@ -671,6 +673,107 @@ static void check_mending(void) {
     }
 }
 
+/* Mounts a small disk at `small`, for this process alone. */
+static bool mount_small(const char *options) {
+    if (mkdir(path_in("small"), 0700) != 0 || unshare(CLONE_NEWNS) != 0) return false;
+    return mount("none", "/", NULL, MS_REC | MS_PRIVATE, NULL) == 0 && mount("none", path_in("small"), "tmpfs", 0, options) == 0;
+}
+
+static void fill_small(void) {
+    run("cat /dev/zero >small/other 2>/dev/null; true");
+}
+
+/* A disk without room: the text waits in memory, whatever becomes of FILE, and is kept once there is room. */
+static void wait_for_room(void) {
+    struct sessions sessions;
+    struct session session;
+    struct target target = {.folder = -1};
+    char text[8] = "";
+    put_text(path_in("note"), "text");
+    setenv("XDG_STATE_HOME", path_in("small"), 1);
+    make_sessions(&sessions);
+    fill_small();
+    look_at(&target, "note");
+    check(begin(&session, &sessions, &target) == 0 && session.is_waiting, "room: the text waits");
+    put_text(path_in("note"), "other");
+    check(pread(session.source, text, sizeof text, 0) == 4 && strcmp(text, "text") == 0, "room: what is opened");
+    check(session_mind(&session) == KEEPS_NOT_YET, "room: it is told");
+    check(!session_has(&session, PART_PATH), "room: nobody finds a part");
+    check(!session_settle(&session, 1000), "room: nor at the end");
+    unlink(path_in("small/other"));
+    check(mind(&session) == KEEPS, "room: kept again");
+    check(strcmp(part_text(&session, PART_TEXT), "text") == 0, "room: its text");
+    write_bytes(session.journal, "abc", 3);
+    fill_small();
+    unlinkat(session.folder, "journal", 0);
+    unlinkat(session.folder, "path", 0);
+    /* what the journal took is free only once the program closes it */
+    fill_small();
+    check(mind(&session) == KEEPS_NOT_YET, "room: a removed journal has none");
+    check(!session_settle(&session, 1000), "room: that is told at the end");
+    unlink(path_in("small/other"));
+    check(mind(&session) == KEEPS && strcmp(part_text(&session, PART_JOURNAL), "abc") == 0, "room: the journal is there again");
+    check(session_remove(&session) == 0, "room: removed");
+    session_close(&session);
+    sessions_close(&sessions);
+    umount(path_in("small"));
+}
+
+/* A disk for a few files only: a session begins and has no room for the next of its files, or does not begin. */
+static void use_few_files(void) {
+    for (int files = 1; files < 12; files++) {
+        char options[64];
+        struct sessions sessions;
+        struct session session;
+        struct target target = {.folder = -1};
+        snprintf(options, sizeof options, "nr_inodes=%d", files);
+        if (mount("none", path_in("small"), "tmpfs", 0, options) != 0) abort();
+        put_text(path_in("note"), "text");
+        look_at(&target, "note");
+        find_folder(&sessions, top);
+        if (sessions_make(&sessions) && begin(&session, &sessions, &target) == 0) {
+            session_fill(&session);
+            enum keeping keeping = mind(&session);
+            check(keeping == KEEPS || (keeping == KEEPS_NOT_YET && !session_has(&session, PART_PATH)), "few files: kept, or told");
+            check(session_remove(&session) == 0, "few files: removed");
+            session_close(&session);
+        }
+        run("test -z \"$(find small -mindepth 2)\"");
+        check(!is_there(path_in("small/bidi_edit/2*")), "few files: nothing stays");
+        sessions_close(&sessions);
+        umount(path_in("small"));
+    }
+}
+
+/* In a child, so that the mounts are its own. */
+static void check_room(void) {
+    int counts[2] = {0}, report[2];
+    fflush(stdout);
+    if (pipe(report) != 0) abort();
+    pid_t child = fork();
+    if (child == 0) {
+        passed = failed = 0;
+        if (mount_small("size=256k")) {
+            wait_for_room();
+            use_few_files();
+        } else {
+            printf("skipped: no small disk can be mounted\n");
+        }
+        fflush(stdout);
+        counts[0] = passed;
+        counts[1] = failed;
+        write_bytes(report[1], counts, sizeof counts);
+        _exit(0);
+    }
+    waitpid(child, NULL, 0);
+    check(read(report[0], counts, sizeof counts) == (ssize_t)sizeof counts, "room: the child reports");
+    passed += counts[0];
+    failed += counts[1];
+    close(report[0]);
+    close(report[1]);
+    run("find . -mindepth 1 -maxdepth 1 -exec rm -rf {} +");
+}
+
 /* A session of others' files, or with a link in it, is not the user's own. */
 static void check_own(void) {
     struct sessions sessions;
@@ -713,6 +816,7 @@ int main(void) {
     check_removal();
     check_mending();
     check_own();
+    check_room();
     if (rmdir(top) != 0) printf("not removed: %s\n", top);
     printf("%d passed, %d failed\n", passed, failed);
     return failed > 0;
