@@ -41,8 +41,9 @@ static struct {
     /* What waits for the program, and what came from it. */
     struct frame_queue queue;
     struct word_reader reader;
-    /* The program is to get the window's size; the terminal says no more; what did not end in time was killed. */
-    bool is_size_owed, is_hung_up, is_killed;
+    /* The program is to get the window's size; the terminal says no more; what did not end in time was killed; bytes were typed
+     * since was_typed was called last. */
+    bool is_size_owed, is_hung_up, is_killed, is_typed;
     /* When IDLE is due, and the next second; when what was typed has to be handed on, and the program to have ended, 0 before the
      * session is to end. */
     int64_t idle, second, handed_on, end;
@@ -51,6 +52,12 @@ static struct {
 void give_notice(enum notice notice) {
     unsigned char number = (unsigned char)notice;
     put_frame(&now_running.queue, FRAME_NOTICE, &number, 1);
+}
+
+bool was_typed(void) {
+    bool is_typed = now_running.is_typed;
+    now_running.is_typed = false;
+    return is_typed;
 }
 
 static void hear_words(struct run *run) {
@@ -107,6 +114,7 @@ static void read_typing(struct run *run) {
     if (now_running.end != 0 || end_signal) return;
     put_frame(&now_running.queue, FRAME_TYPED, bytes, (size_t)count);
     now_running.idle = now() + IDLE_MS;
+    now_running.is_typed = true;
 }
 
 static void close_input(void) {

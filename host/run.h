@@ -60,6 +60,9 @@ enum run_end run_program(struct run *run);
 /* Has the program show a notice at once; before run_program, at its start. */
 void give_notice(enum notice notice);
 
+/* Whether bytes were typed since this was called last. Only in callbacks. */
+bool was_typed(void);
+
 /* Shows a title where the terminal can give its own back; rings the bell. Only in callbacks. */
 void show_title(const char *title);
 void ring(void);

@@ -43,8 +43,8 @@ static struct terminal_kind kind;
 /* Sent first; written by the program before its first painting; sent after a stop; sent at the end. */
 static char saving[MOST_SEQUENCES], before[MOST_SEQUENCES + MOST_TITLE], again[MOST_SEQUENCES], ending[MOST_SEQUENCES];
 /* What waits for the terminal. */
-static char shown[MOST_SHOWN];
-static size_t shown_length;
+static char waiting[MOST_SHOWN];
+static size_t waiting_length;
 
 bool open_terminal(void) {
     const char *name = "/dev/tty";
@@ -144,9 +144,9 @@ bool begin_screen(void) {
 
 static void show(const char *text) {
     size_t length = strlen(text);
-    if (length > sizeof shown - shown_length) return;
-    memcpy(shown + shown_length, text, length);
-    shown_length += length;
+    if (length > sizeof waiting - waiting_length) return;
+    memcpy(waiting + waiting_length, text, length);
+    waiting_length += length;
 }
 
 void take_up_screen(void) {
@@ -166,23 +166,23 @@ void ring(void) {
 }
 
 bool is_showing(void) {
-    return shown_length > 0;
+    return waiting_length > 0;
 }
 
 void go_on_showing(void) {
-    ssize_t count = write(line, shown, shown_length);
+    ssize_t count = write(line, waiting, waiting_length);
     if (count < 0 && (errno == EAGAIN || errno == EINTR)) return;
     /* a closed terminal takes nothing any more */
-    size_t taken = count < 0 ? shown_length : (size_t)count;
-    shown_length -= taken;
-    memmove(shown, shown + taken, shown_length);
+    size_t taken = count < 0 ? waiting_length : (size_t)count;
+    waiting_length -= taken;
+    memmove(waiting, waiting + taken, waiting_length);
 }
 
 void restore_screen(int64_t limit) {
     /* a sequence that was begun is ended first */
     show(ending);
-    write_ready(line, shown, shown_length, limit, true);
-    shown_length = 0;
+    write_ready(line, waiting, waiting_length, limit, true);
+    waiting_length = 0;
     tell_outer(&kind, false, true);
 }
 

@@ -29,7 +29,7 @@ def find_saver(run):
     end = time.perf_counter() + LIMIT
     while time.perf_counter() < end:
         for process, (comm, _, parent) in run.processes().items():
-            if parent == run.job and comm == 'bidi-edit':
+            if parent == run.job and comm == 'bidi-saver':
                 os.kill(process, signal.SIGSTOP)
                 return process
     return 0
