@@ -46,6 +46,8 @@ struct edit {
     enum notice unkept_notice;
     /* FILE's name, where the session goes on with a new file beside it; else NULL. */
     const char *aside_of;
+    /* FILE's path at the end, where its folder has another name by then; else NULL. */
+    const char *moved;
     /* FILE's permissions as the session notes them, where FILE is gone; else -1. */
     int lost_mode;
     /* FILE had CR LF at all line ends. */

@@ -36,7 +36,7 @@ static const char *refusal_of(const struct edit *edit, bool *is_of_file) {
         return not_utf8_message(&edit->file, text_line > 0 ? text_line : 1);
     }
     if (is_fault(edit, "too-long", &value)) return too_long_message(&edit->file);
-    if (is_fault(edit, "unreadable", &value)) return text_of("%s cannot be read by you: chmod u+r lets its owner read it, and --force opens an empty text in its place", shown(edit->file.typed));
+    if (is_fault(edit, "unreadable", &value)) return unreadable_message(&edit->file);
     *is_of_file = false;
     return is_fault(edit, "tables", &value) ? value : NULL;
 }
@@ -191,6 +191,23 @@ static bool leave_text(struct edit *edit) {
     return found == REPLAY_SAME;
 }
 
+static bool is_folder_gone(const struct file *file) {
+    struct stat look;
+    return fstat(file->folder, &look) == 0 && look.st_nlink == 0;
+}
+
+/* Finds FILE's path where its folder has another name by now, and notes it, so that the session is found under it. */
+static void note_moved(struct edit *edit) {
+    char folder[PATH_MAX];
+    const struct file *file = &edit->file;
+    if (is_folder_gone(file) || !path_of(file->folder, folder)) return;
+    bool has_moved = strcmp(folder, file->folder_path) != 0;
+    if (has_moved) edit->moved = text_of("%s/%s", strcmp(folder, "/") == 0 ? "" : folder, file->name);
+    if (has_moved && edit->aside_of) session_put(&edit->session, PART_BESIDE, edit->moved, strlen(edit->moved));
+    target_look(&edit->target, has_moved ? edit->moved : file->path, file->folder, file->name);
+    session_note_file(&edit->session, &edit->target);
+}
+
 /* What is known of the session, to settle its fate. On the way leaves the replayed text in it. */
 static struct left left_of(struct edit *edit, enum left_how how) {
     struct session *session = &edit->session;
@@ -198,24 +215,12 @@ static struct left left_of(struct edit *edit, enum left_how how) {
     if (!left.is_there) return left;
     left.is_torn = mend_now(edit);
     left.has_keys = session_has_keys(session) || session_has(session, PART_UNSAVED);
-    left.is_secret = session_has(session, PART_SECRET);
     bool is_wanted = left.is_torn || (left.has_keys && how != LEFT_SAVED);
+    if (is_wanted) note_moved(edit);
     left.is_filled = is_wanted && session_settle(session, end_signal ? COPY_BY_SIGNAL_MS : COPY_MS);
+    left.is_secret = session_has(session, PART_SECRET);
     left.is_same = left.is_filled && left.has_keys && leave_text(edit);
     return left;
-}
-
-/* FILE's path where its folder has another name by now, or none; then the session is found by that. Returns NULL where the path is
- * as it was. */
-static const char *moved_path(struct edit *edit) {
-    char folder[PATH_MAX];
-    struct stat look;
-    const struct file *file = &edit->file;
-    if (fstat(file->folder, &look) != 0 || look.st_nlink == 0 || !path_of(file->folder, folder)) return NULL;
-    if (strcmp(folder, file->folder_path) == 0) return NULL;
-    const char *end = strcmp(folder, "/") == 0 ? "" : "/", *path = text_of("%s%s%s", folder, end, file->name);
-    if (session_put(&edit->session, edit->aside_of ? PART_BESIDE : PART_PATH, path, strlen(path)) != 0) return NULL;
-    return path;
 }
 
 /* Whether FILE's name leads to this path now. */
@@ -227,15 +232,15 @@ static bool leads_to(const char *typed, const char *path) {
     return is_same;
 }
 
-/* Tells what is kept (`what` begins the line), and the command that gets it back (`behind` ends the line). Where FILE's name no
- * longer leads to it, the session's place and FILE's path are told. */
-static void tell_kept(struct edit *edit, const char *what, const char *behind) {
+/* Tells what is kept (`what` begins the line), and the command that gets it back (`behind` ends the line). Where FILE's folder is
+ * no longer there or has another name, the session's place and FILE's path are told. */
+static void tell_kept(const struct edit *edit, const char *what, const char *behind) {
     const char *cut = edit->facts.is_journal_lost ? " up to where its journal could not be written" : "";
     /* what is not saved beside FILE is found under FILE's name */
     const char *typed = edit->aside_of && !is_there_now(edit) ? edit->aside_of : edit->file.typed;
-    const char *moved = moved_path(edit), *path = moved ? moved : edit->file.path;
-    bool is_found = typed == edit->aside_of || leads_to(typed, path);
-    const char *where = moved || !is_found ? text_of(" in %s", shown(edit->session.path)) : "";
+    const char *path = edit->moved ? edit->moved : edit->file.path;
+    bool is_found = !is_folder_gone(&edit->file) && !edit->moved && (typed == edit->aside_of || leads_to(typed, path));
+    const char *where = is_found ? "" : text_of(" in %s", shown(edit->session.path));
     warn("%s%s%s: bidi-edit --recover %s%s", what, cut, where, shown(is_found ? typed : path), behind);
 }
 

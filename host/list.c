@@ -33,12 +33,15 @@ static const char *note_of(const struct session *session) {
     return state == SESSION_DROPPED ? " (dropped)" : "";
 }
 
-static void list_session(const struct session *session) {
+static bool list_session(void *context, struct session *session) {
+    (void)context;
+    if (!session_has_something(session)) return true;
     char *path = session_note(session, PART_PATH);
     const char *line = text_of("%s  keys: %zu  KB: %llu  %s%s\n", time_text(session), session_count_keys(session),
                                (unsigned long long)session_kilobytes(session), shown(path ? path : ""), note_of(session));
     free(path);
     put_text(STDOUT_FILENO, line);
+    return true;
 }
 
 /* Whether a folder of sessions can be used. Tells of one that others could change. */
@@ -48,77 +51,65 @@ static bool is_usable(const struct sessions *sessions) {
     return sessions->state == FOLDER_READY;
 }
 
-static void list_folder(const struct sessions *sessions) {
-    struct session *all;
-    size_t count = sessions_all(sessions, &all);
-    for (size_t i = 0; i < count; i++)
-        if (session_has_something(&all[i])) list_session(&all[i]);
-    sessions_free(all, count);
-}
-
 int list_sessions(void) {
     struct sessions *all;
     size_t count = sessions_find_all(&all);
     for (size_t i = 0; i < count; i++)
-        if (is_usable(&all[i])) list_folder(&all[i]);
+        if (is_usable(&all[i])) sessions_each(&all[i], list_session, NULL);
     sessions_close_all(all, count);
     return 0;
 }
 
-static void tell_forgotten(const struct forgotten *forgotten) {
-    const char *path = shown(forgotten->path ? forgotten->path : ""), *note = forgotten->was_dropped ? " (dropped)" : "";
-    char time[32];
-    if (!forgotten->has_time) {
-        tell("the session of %s is removed%s", path, note);
-        return;
+/* How many sessions were removed, and how many could not be. */
+struct counts {
+    size_t removed, kept;
+};
+
+static void tell_forgotten(void *context, const struct forgotten *forgotten) {
+    struct counts *counts = context;
+    char time[32] = "";
+    if (forgotten->has_time) time_words(&forgotten->changed, time);
+    const char *name = text_of("the session of %s%s%s", shown(forgotten->path), *time ? " of " : "", time);
+    if (forgotten->error != 0) {
+        counts->kept++;
+        warn("%s cannot be removed%s", name, fault_words(forgotten->error));
+    } else {
+        counts->removed++;
+        tell("%s is removed%s", name, forgotten->was_dropped ? " (dropped)" : "");
     }
-    time_words(&forgotten->changed, time);
-    tell("the session of %s of %s is removed%s", path, time, note);
 }
 
-/* Removes the ended sessions in a folder, of FILE or of all files, and tells of each; returns their number. */
-static size_t forget_in(const struct sessions *sessions, const struct target *target, size_t *kept) {
-    struct forgotten *forgotten = NULL;
-    size_t kept_here = 0, count = sessions_forget(sessions, target, &forgotten, &kept_here);
-    for (size_t i = 0; i < count; i++) {
-        tell_forgotten(&forgotten[i]);
-        free(forgotten[i].path);
-    }
-    free(forgotten);
-    *kept += kept_here;
-    return count;
-}
-
-/* Tells what came of it where nothing was removed, or not all. */
-static int tell_count(const char *typed, size_t count, size_t kept) {
-    if (kept > 0) warn("sessions that cannot be removed, and stay: %zu", kept);
-    else if (count == 0 && typed) tell("there is no session of %s to remove", shown(typed));
-    else if (count == 0) tell("there is no session to remove");
-    return kept > 0 ? STATUS_FAULT : 0;
-}
-
-static int forget_all_sessions(void) {
+/* Removes the ended sessions of all files. */
+static void forget_all_sessions(struct counts *counts) {
     struct sessions *all;
-    size_t folders = sessions_find_all(&all), count = 0, kept = 0;
-    for (size_t i = 0; i < folders; i++)
-        if (is_usable(&all[i])) count += forget_in(&all[i], NULL, &kept);
-    sessions_close_all(all, folders);
-    return tell_count(NULL, count, kept);
+    size_t count = sessions_find_all(&all);
+    for (size_t i = 0; i < count; i++)
+        if (is_usable(&all[i])) sessions_forget(&all[i], NULL, tell_forgotten, counts);
+    sessions_close_all(all, count);
+}
+
+/* Removes the ended sessions of FILE, also where another name of it has them. */
+static int forget_sessions_of(const char *typed, struct counts *counts) {
+    static struct edit edit;
+    struct sessions *near;
+    int status = find_file(&edit, typed, true);
+    if (status != GO_ON) return status;
+    if (edit.sessions.state == FOLDER_READY) sessions_forget(&edit.sessions, &edit.target, tell_forgotten, counts);
+    size_t count = sessions_find_near(&edit.sessions, &near);
+    for (size_t i = 0; i < count; i++)
+        if (near[i].state == FOLDER_READY) sessions_forget(&near[i], &edit.target, tell_forgotten, counts);
+    sessions_close_all(near, count);
+    close_edited(&edit);
+    return GO_ON;
 }
 
 int forget_sessions(const char *typed) {
-    static struct edit edit;
-    struct sessions *near;
-    size_t count = 0, kept = 0;
-    if (!typed) return forget_all_sessions();
-    int status = find_file(&edit, typed, true);
+    struct counts counts = {0, 0};
+    int status = GO_ON;
+    if (typed) status = forget_sessions_of(typed, &counts);
+    else forget_all_sessions(&counts);
     if (status != GO_ON) return status;
-    if (edit.sessions.state == FOLDER_READY) count += forget_in(&edit.sessions, &edit.target, &kept);
-    /* where another name of FILE may have them */
-    size_t folders = sessions_find_near(&edit.sessions, &near);
-    for (size_t i = 0; i < folders; i++)
-        if (near[i].state == FOLDER_READY) count += forget_in(&near[i], &edit.target, &kept);
-    sessions_close_all(near, folders);
-    close_edited(&edit);
-    return tell_count(typed, count, kept);
+    if (counts.removed + counts.kept == 0 && typed) tell("there is no session of %s to remove", shown(typed));
+    if (counts.removed + counts.kept == 0 && !typed) tell("there is no session to remove");
+    return counts.kept > 0 ? STATUS_FAULT : 0;
 }

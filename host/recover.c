@@ -237,12 +237,11 @@ enum met meet_sessions(struct edit *edit, int *status) {
         /* a folder that cannot be read has no session that could be recovered */
         if (sessions_of(&found, &edit->sessions, &edit->target) != 0) return MET_NONE;
         enum met met = ask_beside(edit, &found);
-        enum outcome outcome = OUTCOME_END;
-        if (met == MET_END) *status = STATUS_NO;
-        else if (!session_is_none(&found.unfinished)) outcome = ask_what_to_do(edit, &found.unfinished, status);
-        bool is_settled = met == MET_END || session_is_none(&found.unfinished);
+        bool is_asked = met != MET_END && !session_is_none(&found.unfinished);
+        enum outcome outcome = is_asked ? ask_what_to_do(edit, &found.unfinished, status) : OUTCOME_END;
         found_close(&found);
-        if (is_settled) return met;
+        if (met == MET_END) *status = STATUS_NO;
+        if (!is_asked) return met;
         if (outcome == OUTCOME_TAKEN) return MET_TAKEN;
         if (outcome == OUTCOME_OPENED) return MET_ASKED;
         if (outcome == OUTCOME_END) return MET_END;

@@ -1,0 +1,448 @@
+"""Cases of keeping.py: words, refusals, questions, recovery, and what is listed and removed."""
+import glob, os, re, shutil, signal, stat, subprocess, time
+from terminals import Run
+
+QUIT, SAVE = b'\x11', b'\x13'
+CHOICE = b'[r]ecover, [d]elete for good, [l]ater? '
+REST = b'open FILE and leave the session, or keep its parts as files beside FILE (open, keep)? '
+
+
+class Started:
+    """A start of the host in a terminal of its own, half a second later if `is_slow`; its standard output and error go to files, unless
+    `is_plain`."""
+
+    def __init__(self, place, words, variables, is_plain=False, is_slow=False):
+        self.place = place
+        place.count += 1
+        self.out_path, self.err_path = f'{place.top}/out{place.count}', f'{place.top}/err{place.count}'
+        line = ('sleep 0.5; ' if is_slow else '') + 'cd "$0" && exec "$@"' + ('' if is_plain else f' >{self.out_path} 2>{self.err_path}')
+        self.run = Run(['sh', '-c', line, place.files, place.host, *words], **place.variables(variables))
+
+    def out(self):
+        return open(self.out_path, encoding='utf-8').read()
+
+    def err(self):
+        return open(self.err_path, encoding='utf-8').read()
+
+    def sees(self, text, seconds=5):
+        """Waits for a text in the terminal, and forgets all before it."""
+        is_there = self.run.pump(seconds, text)
+        assert is_there, (text, self.run.output[-500:], self.out(), self.err())
+        self.run.output = self.run.output.partition(text)[2]
+        return self
+
+    def answers(self, question, answer):
+        self.sees(question)
+        time.sleep(0.05)  # what is typed before the question is shown is dropped
+        self.run.type(answer if isinstance(answer, bytes) else answer.encode() + b'\n')
+        return self
+
+    def type(self, keys):
+        self.run.type(keys)
+        return self
+
+    def ends(self, status, seconds=8):
+        """Waits for the end, and compares the status: an exit status, or less than 0 a signal's number."""
+        assert self.run.pump(seconds), ('goes on', self.run.output[-300:])
+        self.run.drain()
+        found = -os.WTERMSIG(self.run.status) if os.WIFSIGNALED(self.run.status) else os.WEXITSTATUS(self.run.status)
+        assert found == status, (found, self.out(), self.err(), self.run.output[-300:])
+        left = self.run.left(3)
+        assert left == {}, left
+        self.run.close()
+        return self
+
+    def kill(self):
+        """Kills the host."""
+        os.kill(self.run.job, signal.SIGKILL)
+        return self.ends(-signal.SIGKILL)
+
+    def words(self, name='a.txt'):
+        """The program's words."""
+        return open(f'{self.place.files}/{name}.words').read().split('\n')
+
+
+class Place:
+    """The folder of a case: `files` has FILEs, `home` the sessions."""
+
+    def __init__(self, host, top):
+        self.host, self.top, self.files, self.count = host, top, f'{top}/files', 0
+
+    def variables(self, more=None):
+        variables = {'HOME': f'{self.top}/home', 'TMPDIR': f'{self.top}/tmp', 'TYPIST': ''}
+        for name, value in (more or {}).items():
+            variables[name] = value
+        return variables
+
+    def start(self, *words, is_plain=False, is_slow=False, **variables):
+        return Started(self, words, variables, is_plain, is_slow)
+
+    def edit(self, *words, **variables):
+        """A start that comes to edit, and whose text is shown."""
+        return self.start(*words, **variables).sees(b'text <')
+
+    def tells(self, *words, redirection='', **variables):
+        """A start without a terminal: its status, standard output and error."""
+        done = subprocess.run(['setsid', '-w', 'sh', '-c', f'exec "$@" {redirection}', 'sh', self.host, *words], cwd=self.files, stdin=subprocess.DEVNULL, capture_output=True,
+                              env={**os.environ, 'TERM': 'xterm', **self.variables(variables)}, timeout=20)
+        return done.returncode, done.stdout.decode(), done.stderr.decode()
+
+    def path(self, name):
+        return f'{self.files}/{name}'
+
+    def put(self, name, text, mode=0o644):
+        with open(self.path(name), 'wb') as file:
+            file.write(text)
+        os.chmod(self.path(name), mode)
+
+    def text(self, name):
+        with open(self.path(name), 'rb') as file:
+            return file.read()
+
+    def sessions(self):
+        return sorted(glob.glob(f'{self.top}/home/.local/state/bidi_edit/[0-9]*'))
+
+    def part(self, name):
+        with open(f'{self.sessions()[0]}/{name}', 'rb') as file:
+            return file.read()
+
+    def put_part(self, name, text):
+        with open(f'{self.sessions()[0]}/{name}', 'wb') as file:
+            file.write(text)
+
+    def leave(self, name='a.txt', keys=b'abc'):
+        """Leaves a session of a file with keys that are not saved, by a hangup."""
+        started = self.edit(name).type(keys).sees(b'*')
+        os.kill(started.run.job, signal.SIGHUP)
+        return started.ends(-signal.SIGHUP)
+
+
+def told_words(place):
+    """Help, version, refusals of words."""
+    status, out, err = place.tells('--help')
+    assert status == 0 and out.startswith('usage: bidi-edit ') and not err
+    assert place.tells('--version') == (0, 'bidi-edit 0.4.0\ntoolchain some kit\nUnicode 15.0.0\n', ''), place.tells('--version')
+    status, out, err = place.tells()
+    assert status == 2 and err.startswith('bidi-edit: one FILE is wanted\nusage: ') and not out
+    for words in (['--help'], ['--version'], ['--forget']):
+        found = place.tells(*words, redirection='>/dev/full')
+        assert found == (1, '', 'bidi-edit: standard output cannot be written: no space\n'), found
+
+
+def refusals(place):
+    no_terminal = 'bidi-edit: there is no terminal: start the editor in one (ssh -t gives one to a command)\n'
+    assert place.tells('a.txt') == (2, '', no_terminal), place.tells('a.txt')
+    assert 'the terminal is dumb' in place.tells('a.txt', TERM='dumb')[2]
+    assert place.tells('none/a.txt') == (1, '', 'bidi-edit: none is a folder that is not there: mkdir -p none makes it\n')
+    os.symlink('loop', place.path('loop'))
+    assert 'in a circle' in place.tells('loop')[2]
+    assert place.tells('a.txt', XDG_STATE_HOME='x')[2] == 'bidi-edit: XDG_STATE_HOME names x, which is not absolute: ~/.local/state is taken\n' + no_terminal
+    told = 'bidi-edit: BIDI_EDIT_DATA names ., which lacks DerivedBidiClass.txt, BidiBrackets.txt or BidiMirroring.txt\n'
+    assert place.tells('a.txt', BIDI_EDIT_DATA='.') == (1, '', told)
+    place.put('latin', b'ok\n\xe9\n')
+    started = place.start('latin').ends(1)
+    assert started.err().startswith('bidi-edit: latin is not UTF-8 in line 2: iconv') and 'kept' not in started.err(), started.err()
+    assert place.sessions() == []
+
+
+def a_session(place):
+    """What the program is told, what the session's folder has, and that nothing stays where nothing was typed."""
+    place.put('a.txt', b'text\n')
+    started = place.edit('a.txt')
+    time.sleep(0.3)
+    words = started.words()
+    assert words[-1] == 'a.txt' and '--journal' in words and '--text' in words and '--replay' not in words, words
+    assert len(place.sessions()) == 1 and place.part('text') == b'text\n' and place.part('path').decode() == place.path('a.txt')
+    assert place.part('begin') == b'24 80 auto -\n', place.part('begin')
+    assert stat.S_IMODE(os.stat(place.sessions()[0]).st_mode) == 0o700
+    started.type(QUIT).ends(0)
+    assert place.sessions() == [] and started.err() == '' and started.out() == '', (started.out(), started.err())
+
+
+def keys_are_kept(place):
+    """Keys that were not saved are told, listed, and stored elsewhere."""
+    place.put('a.txt', b'text\n', 0o600)
+    started = place.leave()
+    assert started.err() == 'bidi_edit: input ended before saving\nbidi-edit: what was typed is kept: bidi-edit --recover a.txt gets it back\n', started.err()
+    assert place.part('snapshot') == b'abctext\n' and place.part('journal') == b'abc'
+    status, out, err = place.tells('--recover')
+    assert status == 0 and not err and re.fullmatch(rf'\d{{4}}-\d\d-\d\d \d\d:\d\d  keys: 3  KB: \d+  {place.path("a.txt")}\n', out), (out, err)
+    found = place.tells('--recover', '--to', 'b.txt', 'a.txt')
+    assert found == (0, 'bidi-edit: the text of a.txt with what was typed (keys: 3) is in b.txt\n', ''), found
+    assert place.text('b.txt') == b'abctext\n' and stat.S_IMODE(os.stat(place.path('b.txt')).st_mode) == 0o600
+    found = place.tells('--recover', '--to', 'b.txt', 'a.txt')
+    assert found == (1, '', 'bidi-edit: b.txt is there already: name a new file\n'), found
+    found = place.tells('--recover', '--to', 'none/b', 'a.txt')
+    assert found == (1, '', 'bidi-edit: none/b cannot be written: its folder is gone\n'), found
+    assert len(place.sessions()) == 1
+
+
+def questions(place):
+    """Answers by a letter or a word, in any case; any other is asked again, and the input's end refuses."""
+    place.put('a.txt', b'text\n')
+    place.leave()
+    started = place.start('a.txt')
+    for answer in ('y', '', 'x'):
+        started.answers(CHOICE, answer)
+    started.answers(CHOICE, b'\x04').ends(2)
+    assert 'bidi-edit: a.txt has an unfinished session of ' in started.out() and '(keys typed: 3)' in started.out(), started.out()
+    started = place.start('a.txt').answers(CHOICE, 'L').sees(b'text <text|>').type(QUIT).ends(0)
+    assert len(place.sessions()) == 1
+    started = place.start('a.txt').answers(CHOICE, ' R ').sees(b'text <abctext|> *').sees(b'notice 7')
+    assert '--replay' in started.words() and place.part('journal') == b'abc\x13\x1b[8;24;80t', place.part('journal')
+    os.kill(started.run.job, signal.SIGHUP)
+    started.ends(-signal.SIGHUP)
+    place.start('a.txt').answers(CHOICE, 'delete').sees(b'text <text|>').type(QUIT).ends(0)
+    assert place.sessions() == []
+
+
+def deletion(place):
+    """Only a whole word deletes, or a second question; not what was typed ahead, and not the input's end."""
+    place.put('a.txt', b'text\n')
+    place.leave()
+    sure = b'Delete it for good (yes, no)? '
+    # a letter and the input's end, twice
+    place.start('a.txt').answers(CHOICE, b'd\x04\x04').ends(2)
+    place.start('a.txt').answers(CHOICE, b'delete\x04\x04').ends(2)
+    place.start('a.txt').answers(CHOICE, 'd').answers(sure, b'\x04').ends(2)
+    place.start('a.txt').answers(CHOICE, 'd').answers(sure, 'no').answers(CHOICE, b'\x04').ends(2)
+    assert len(place.sessions()) == 1
+    # typed ahead, as the start still works
+    started = place.start('a.txt', is_plain=True, is_slow=True)
+    for answer in (b'd\n', b'delete\n', b'd\nyes\n'):
+        started.type(answer)
+    started.run.pump(5, CHOICE)
+    started.run.rest(0.5)
+    assert started.run.output.count(CHOICE) == 1 and b'Delete it' not in started.run.output, started.run.output
+    started.type(b'\x04')
+    assert started.run.pump(5)
+    started.run.close()
+    assert len(place.sessions()) == 1
+    place.start('a.txt').answers(CHOICE, 'd').answers(sure, 'yes').sees(b'text <text|>').type(QUIT).ends(0)
+    assert place.sessions() == []
+
+
+def dropped(place):
+    """Keys that the user dropped are not asked about, but can be recovered or removed."""
+    started = place.edit('a.txt').type(b'abc').sees(b'*').type(QUIT).ends(0)
+    assert started.err() == 'bidi-edit: what was dropped can be had back: bidi-edit --recover a.txt\n', started.err()
+    place.edit('a.txt').type(QUIT).ends(0)
+    assert '(dropped)' in place.tells('--recover')[1]
+    place.start('--recover', 'a.txt').sees(b'text <abc>').type(QUIT).ends(0)
+    status, out, err = place.tells('--forget', 'a.txt')
+    assert status == 0 and re.fullmatch(r'bidi-edit: the session of \S+/a.txt of .* is removed \(dropped\)\n', out), (out, err)
+    assert place.sessions() == []
+    assert place.tells('--forget') == (0, 'bidi-edit: there is no session to remove\n', '')
+    assert place.tells('--forget', 'a b') == (0, "bidi-edit: there is no session of 'a b' to remove\n", '')
+    assert place.tells('--recover', '--to', 'o', 'a.txt') == (1, '', 'bidi-edit: there is no session of a.txt to recover\n')
+
+
+def secrets(place):
+    """What was dropped of a FILE that root alone can read is not kept."""
+    if os.geteuid() != 0:
+        return
+    place.put('a.txt', b'text\n', 0o600)
+    started = place.edit('a.txt').type(b'abc').sees(b'*').type(QUIT).ends(0)
+    assert started.err() == 'bidi-edit: what was dropped is not kept, since only root can read a.txt\n' and place.sessions() == [], started.err()
+
+
+def live(place):
+    """A second start is told of a session that goes on, and does not recover it."""
+    place.put('a.txt', b'text\n')
+    os.link(place.path('a.txt'), place.path('b.txt'))
+    first = place.edit('a.txt')
+    question = b'Edit it all the same (yes, no)? '
+    for name in ('a.txt', 'b.txt'):
+        second = place.start(name).answers(question, 'maybe').answers(question, 'no').ends(2)
+        told = f'bidi-edit: {name} is open in another window of yours, process {first.run.job}. What one of them saves the other may overwrite.\n'
+        assert second.out() == told, (second.out(), told)
+    assert place.tells('--recover', '--to', 'x', 'a.txt') == (1, '', 'bidi-edit: the session of a.txt goes on\n')
+    place.start('a.txt').answers(question, 'y').sees(b'text <').type(QUIT).ends(0)
+    first.type(QUIT).ends(0)
+
+
+def without_a_session(place):
+    """A start that keeps no session is seen by others all the same, and no file is made."""
+    place.put('a.txt', b'text\n')
+    first = place.edit('-n', 'a.txt')
+    second = place.start('a.txt').answers(b'Edit it all the same (yes, no)? ', 'no').ends(2)
+    assert f'a.txt is open in another window of yours, process {first.run.job}. ' in second.out(), second.out()
+    assert not os.path.exists(f'{place.top}/home/.local') and first.err() == 'bidi-edit: unsaved text is not kept, since -n asks for that\n'
+    first.type(b'abc').sees(b'*').type(SAVE).sees(b'saved')
+    second = place.start('-n', 'a.txt').answers(b'Edit it all the same (yes, no)? ', 'no').ends(2)
+    first.type(QUIT).ends(0)
+    place.edit('a.txt').type(QUIT).ends(0)
+
+
+def two_at_once(place):
+    """Of two starts at the same time one at least is told of the other."""
+    place.put('a.txt', b'text\n')
+    for _ in range(5):
+        both = [place.start('a.txt', is_plain=True) for _ in range(2)]
+        for started in both:
+            started.run.rest(0.4)
+        told = [b'Edit it all the same' in started.run.output for started in both]
+        assert any(told), [started.run.output for started in both]
+        for started, is_told in zip(both, told):
+            started.type(b'no\n' if is_told else QUIT)
+            assert started.run.pump(5), started.run.output
+            started.run.drain()
+        # the last one has the pipes of the first
+        for started in reversed(both):
+            started.run.close()
+
+
+def cannot_be_replayed(place):
+    """A session that cannot be replayed is left, or its parts are kept: it is never offered to be dropped."""
+    place.put('a.txt', b'text\n')
+    place.leave()
+    place.put_part('begin', b'nonsense\n')
+    started = place.start('a.txt').answers(CHOICE, 'r')
+    for answer in ('d', 'l', ''):
+        started.answers(REST, answer)
+    started.answers(REST, 'open').sees(b'text <text|>').type(QUIT).ends(0)
+    assert 'could not be replayed' in started.out() and len(place.sessions()) == 1, started.out()
+    started = place.start('--recover', 'a.txt').answers(REST, 'keep').sees(b'text <text|>').type(QUIT).ends(0)
+    assert place.sessions() == [] and place.text('a.txt.session-journal') == b'abc' and 'a.txt.session-journal: the keys\n' in started.out()
+    assert place.text('a.txt.session-text') == b'text\n' and place.text('a.txt.session-snapshot') == b'abctext\n'
+    place.leave()
+    place.start('a.txt', TYPIST='replay-refused').answers(CHOICE, 'r').answers(REST, 'open').sees(b'text <text|>').type(QUIT).ends(0)
+    assert len(place.sessions()) == 1
+
+
+def replay_that_fails(place):
+    """A replay that is killed deletes nothing, and offers nothing."""
+    place.put('a.txt', b'text\n')
+    place.leave()
+    started = place.start('a.txt', TYPIST='replay-dies').answers(CHOICE, 'r').ends(1)
+    told = f'bidi-edit: the session of a.txt in {place.sessions()[0]} could not be replayed, and is left as it is\n'
+    assert started.err() == told, started.err()
+    assert place.tells('--recover', '--to', 'o', 'a.txt', TYPIST='replay-dies') == (1, '', told) and not os.path.exists(place.path('o'))
+    assert place.part('journal') == b'abc'
+    # at the end the session stays, without a replay that dies or takes long
+    for way in ('replay-dies', 'replay-hangs'):
+        started = place.start('a.txt', TYPIST=way).answers(CHOICE, 'later').sees(b'text <').type(b'x').sees(b'*')
+        os.kill(started.run.job, signal.SIGTERM)
+        started.ends(-signal.SIGTERM, 5)
+        assert 'what was typed is kept: ' in started.err(), started.err()
+
+
+def changed_beside(place):
+    """Where FILE has another's text, the session goes on beside it, and is found under FILE's name until that is saved."""
+    place.put('a.txt', b'text\n')
+    place.leave()
+    place.put('a.txt', b'other\n')
+    started = place.start('a.txt').answers(CHOICE, 'r').sees(b'text <abctext|> *').sees(b'notice 8')
+    assert 'has changed a.txt since; what was typed is recovered as a.txt.recovered\n' in started.out(), started.out()
+    started.type(b'd').sees(b'<abcdtext|>').kill()
+    started = place.start('a.txt').answers(CHOICE, 'r').sees(b'<abcdtext|>').type(SAVE).sees(b'saved').type(QUIT).ends(0)
+    assert started.err() == 'bidi-edit: a.txt was changed since, so the recovered text is in a.txt.recovered\n', started.err()
+    assert place.text('a.txt') == b'other\n' and place.text('a.txt.recovered') == b'abcdtext\n' and place.sessions() == []
+
+
+def changed_meanwhile(place):
+    """FILE changes between the question and its answer."""
+    place.put('a.txt', b'text\n')
+    place.leave()
+    started = place.start('a.txt').sees(CHOICE)
+    place.put('a.txt', b'other\n')
+    started.type(b'recover\n').sees(b'text <abctext|>').type(SAVE).sees(b'saved').type(QUIT).ends(0)
+    assert place.text('a.txt') == b'other\n' and place.text('a.txt.recovered') == b'abctext\n'
+
+
+def no_place_beside(place):
+    """Where no file can be made beside FILE, the other way is told."""
+    if os.geteuid() == 0:
+        subprocess.run(['chattr', '-i', place.files])
+        if subprocess.run(['chattr', '+i', place.files], stderr=subprocess.DEVNULL).returncode != 0:
+            return
+        subprocess.run(['chattr', '-i', place.files])
+    long = 'n' * 248
+    place.put(long, b'text\n')
+    place.leave(long)
+    place.put(long, b'other\n')
+    started = place.start(long).answers(CHOICE, 'r').ends(1)
+    assert started.err().endswith(f'bidi-edit: bidi-edit --recover --to OTHER {long} stores the text elsewhere\n'), started.err()
+    assert place.part('journal') == b'abc' and not os.path.exists(f'{place.sessions()[0]}/beside')
+
+
+def all_is_there(place):
+    """A FILE that has all of its session is just opened."""
+    place.put('a.txt', b'text\n')
+    place.leave()
+    place.put('a.txt', b'abctext\n')
+    started = place.start('a.txt').answers(CHOICE, 'r').sees(b'text <abctext|> -').type(QUIT).ends(0)
+    assert started.out().endswith('bidi-edit: a.txt holds all that was typed in its last session\n') and place.sessions() == []
+
+
+def another_version(place):
+    """What another version kept is not replayed unasked: its text is had back, or the user is asked."""
+    place.put('a.txt', b'text\n')
+    place.leave()
+    place.put_part('versions', b'bidi-edit 0.0.0\n')
+    before = place.sessions()
+    started = place.start('a.txt').answers(CHOICE, 'r').sees(b'text <abctext|> *')
+    assert 'its text is had back, and its undo history is not' in started.out() and '--unsaved' in started.words(), started.out()
+    assert place.sessions() != before and len(place.sessions()) == 1
+    os.kill(started.run.job, signal.SIGHUP)
+    started.ends(-signal.SIGHUP)
+    assert 'what was typed is kept' in started.err()
+    place.put_part('versions', b'bidi-edit 0.0.0\n')
+    place.put_part('journal', b'x')
+    os.unlink(f'{place.sessions()[0]}/snapshot')
+    sure = b'Recover it all the same (yes, no)? '
+    place.start('a.txt').answers(CHOICE, 'r').answers(sure, 'maybe').answers(sure, 'no').ends(2)
+    place.start('a.txt').answers(CHOICE, 'r').answers(sure, 'yes').sees(b'text <xabctext|>').kill()
+
+
+def elsewhere(place):
+    """A session on another machine is asked about."""
+    place.put('a.txt', b'text\n')
+    place.leave()
+    place.put_part('process', b'1 elsewhere 11111111-1111\n')
+    started = place.start('a.txt').answers(b'Edit it all the same (yes, no)? ', 'no').ends(2)
+    assert started.out().startswith('bidi-edit: a.txt may be open in another window of yours, process 1 on elsewhere, which cannot be seen from here. '), started.out()
+    assert '(on elsewhere)' in place.tells('--recover')[1]
+    found = place.tells('--recover', '--to', 'o', 'a.txt')
+    assert found == (1, '', 'bidi-edit: the session of a.txt began on another machine: bidi-edit --recover a.txt asks of it\n'), found
+    started = place.start('--recover', 'a.txt').answers(b'Has it ended (yes, no)? ', 'yes').sees(b'text <abctext|>').type(SAVE).sees(b'saved').type(QUIT).ends(0)
+    assert place.text('a.txt') == b'abctext\n' and place.sessions() == []
+
+
+def lost_file(place):
+    """FILE comes back with its permissions, and is never open to more people than it was."""
+    for mode in (0o600, 0o755, 0o640):
+        place.put('a.txt', b'text\n', mode)
+        place.leave()
+        os.unlink(place.path('a.txt'))
+        place.start('a.txt').answers(CHOICE, 'r').sees(b'text <abctext|>').type(SAVE).sees(b'saved').type(QUIT).ends(0)
+        found = stat.S_IMODE(os.stat(place.path('a.txt')).st_mode)
+        assert found == mode and place.text('a.txt') == b'abctext\n' and place.sessions() == [], oct(found)
+
+
+def lost_folder(place):
+    """A session whose FILE's folder is gone is stored elsewhere, listed and removed."""
+    os.mkdir(place.path('d'))
+    place.put('d/a.txt', b'text\n')
+    place.leave('d/a.txt')
+    shutil.rmtree(place.path('d'))
+    found = place.tells('--recover', '--to', 'o', 'd/a.txt')
+    assert found[0] == 0 and place.text('o') == b'abctext\n', found
+    started = place.start('--recover', 'd/a.txt').ends(1)
+    assert started.err() == 'bidi-edit: d is a folder that is not there: mkdir -p d makes it\n' and len(place.sessions()) == 1, started.err()
+    assert place.tells('--forget', 'd/a.txt')[1].endswith(' is removed\n') and place.sessions() == []
+
+
+def printing(place):
+    place.put('a.txt', b'text\n')
+    place.put('latin', b'a\n\xe9')
+    status, out, _ = place.tells('--print', 'a.txt')
+    assert status == 0 and out.startswith(' <--cols> <80> <--direction> <auto> <--classes> ') and out.endswith(' <a.txt>\n'), out
+    assert place.tells('--print', 'none') == (1, '', 'bidi-edit: none is not there\n')
+    assert place.tells('--print', '.') == (1, '', 'bidi-edit: . is a folder: name a file in it\n')
+    assert place.tells('--print', 'latin')[2].startswith('bidi-edit: latin is not UTF-8 in line 2: '), place.tells('--print', 'latin')
+
+
+CASES = [told_words, refusals, a_session, keys_are_kept, questions, deletion, dropped, secrets, live, without_a_session, two_at_once,
+         cannot_be_replayed, replay_that_fails, changed_beside, changed_meanwhile, no_place_beside, all_is_there, another_version, elsewhere,
+         lost_file, lost_folder, printing]
