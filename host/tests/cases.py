@@ -281,15 +281,19 @@ def limits(tree):
 
 
 def missing_programs(tree):
-    """Without the program nothing is edited."""
-    lib = f'{tree.top}/lib/bidi_edit'
-    os.rename(f'{lib}/bidi_edit', f'{lib}/bidi_edit.away')
+    """Without the program, or where it cannot be started, nothing is edited."""
+    program = f'{tree.top}/lib/bidi_edit/bidi_edit'
+    os.chmod(program, 0o644)
     run = start(tree)
     run.pump(6)
     run.drain()
-    yield holds('no program: told', b'bidi_edit cannot be started: No such file' in run.output, run.output)
-    yield from finish(run, 'no program', 127 << 8)
-    os.rename(f'{lib}/bidi_edit.away', f'{lib}/bidi_edit')
+    yield holds('no program: told', b'bidi_edit cannot be started: Permission denied' in run.output, run.output)
+    yield from finish(run, 'no program: cannot be started', 127 << 8)
+    os.rename(program, f'{program}.away')
+    run = start(tree)
+    yield from finish(run, 'no program: not there', 1 << 8)
+    os.rename(f'{program}.away', program)
+    os.chmod(program, 0o755)
 
 
 ALL = [edits, sizes, resizes, waiting_sizes, idles, large_pastes, standard_files, erases, refusals, starts_that_stall, without_terminal, printing,

