@@ -1,0 +1,363 @@
+"""sessions_faults.py HOST [NAME..]: checks from outside that a running session is kept whatever is done to its files, and that it is
+found again. HOST is an installed bidi-edit, or the host alone, which gets typist.py in place of the program. Each case has a folder of its own,
+in which it fails by an exception. Prints a line for each, and the totals. Exit status 1: a case failed."""
+import glob, os, re, shutil, signal, subprocess, sys, tempfile, termios, threading, time
+HERE = os.path.dirname(os.path.abspath(__file__))
+sys.path.insert(0, HERE)
+from terminals import Run, become_reaper
+
+QUIT = b'\x11'
+SECONDS = 2.5  # in which the host looks after the parts of a session
+SHOWN = re.compile(rb'text <|1:1')  # by typist.py, or by the program
+NOTICE = re.compile(rb'no copy is kept|notice 1')
+
+
+def installed(host, folder):
+    """The path of an installed host."""
+    if os.path.isdir(f'{os.path.dirname(host)}/../lib/bidi_edit'):
+        return host
+    os.makedirs(f'{folder}/bin')
+    os.makedirs(f'{folder}/lib/bidi_edit')
+    os.makedirs(f'{folder}/share')
+    shutil.copy2(host, f'{folder}/bin/bidi-edit')
+    shutil.copy2(f'{HERE}/typist.py', f'{folder}/lib/bidi_edit/bidi_edit')
+    os.symlink(f'{HERE}/../../data', f'{folder}/share/bidi_edit')
+    return f'{folder}/bin/bidi-edit'
+
+
+def wait_for(test, seconds=60):
+    """Waits until a test gives something, and returns that."""
+    end = time.monotonic() + seconds
+    while True:
+        found = test()
+        if found or time.monotonic() > end:
+            return found
+        time.sleep(0.05)
+
+
+class Editor:
+    """A start of the host in a terminal of its own, with standard error in a file."""
+
+    def __init__(self, place, words, folder, variables):
+        place.count += 1
+        self.place, self.err_path = place, f'{place.top}/err{place.count}'
+        line = f'cd "$0" && exec "$@" 2>{self.err_path}'
+        self.run = Run(['sh', '-c', line, folder, place.host, *words], **{**place.variables, **variables})
+
+    def err(self):
+        with open(self.err_path, encoding='utf-8') as file:
+            return file.read()
+
+    def is_editing(self):
+        """Whether the terminal gives each key, and the text is shown."""
+        self.run.rest(0.05)
+        return not termios.tcgetattr(self.run.slave)[3] & termios.ICANON and SHOWN.search(self.run.output)
+
+    def types(self, keys):
+        """Types, and waits until the screen rests."""
+        self.run.type(keys)
+        self.run.rest(0.3)
+        seen = None
+        while seen != len(self.run.output):
+            seen = len(self.run.output)
+            self.run.rest(0.5)
+        return self
+
+    def is_told_of_other(self):
+        """Waits for the question about another window, and refuses."""
+        assert self.run.pump(60, b'open in another window'), self.run.output
+        self.run.rest(1)
+        self.run.type(b'\x04')
+        return self.ends()
+
+    def hangs_up(self):
+        os.kill(self.run.job, signal.SIGHUP)
+        return self.ends()
+
+    def ends(self):
+        assert self.run.pump(40), ('goes on', self.run.output[-300:])
+        self.run.left(10)
+        self.run.close()
+        return self
+
+
+class Place:
+    """The folder of a case: `files` has FILEs; `state` the sessions."""
+
+    def __init__(self, host, top):
+        self.host, self.top, self.files, self.count = host, top, f'{top}/files', 0
+        self.is_stand_in = not os.path.exists(f'{os.path.dirname(host)}/../lib/bidi_edit/bidi_print')
+        self.variables = {'HOME': f'{top}/home', 'TMPDIR': f'{top}/tmp', 'XDG_STATE_HOME': f'{top}/state', 'TYPIST': ''}
+        for name in ('', '/home', '/tmp', '/files', '/state'):
+            os.mkdir(top + name, 0o700)
+
+    def put(self, name, text='text\n'):
+        with open(f'{self.files}/{name}', 'w') as file:
+            file.write(text)
+
+    def start(self, *words, folder=None, **variables):
+        return Editor(self, words, folder or self.files, variables)
+
+    def edit(self, *words, **more):
+        """A start whose session is complete."""
+        started = self.start(*words, **more)
+        assert wait_for(started.is_editing), (started.err(), started.run.output[-300:])
+        assert wait_for(lambda: self.parts('path')), started.run.output[-300:]
+        return started
+
+    def parts(self, name):
+        folders = [f'{self.variables["XDG_STATE_HOME"]}/bidi_edit', *glob.glob(f'{self.top}/tmp/bidi_edit.*')]
+        return [path for folder in folders for path in glob.glob(f'{folder}/2*/{name}')]
+
+    def part(self, name):
+        assert len(self.parts(name)) == 1, (name, self.parts(name))
+        return self.parts(name)[0]
+
+    def tells(self, *words, folder=None):
+        done = subprocess.run([self.host, *words], cwd=folder or self.files, env={**os.environ, **self.variables}, stdin=subprocess.DEVNULL,
+                              capture_output=True, timeout=100, text=True)
+        return done.returncode, done.stdout + done.stderr
+
+    def recovers(self, file, text, folder=None):
+        """Requires that the session of FILE has this text."""
+        other = f'{self.top}/other'
+        if os.path.exists(other):
+            os.remove(other)
+        status, said = self.tells('--recover', '--to', other, file, folder=folder)
+        assert status == 0, said
+        with open(other) as stored:
+            found = stored.read()
+        assert found == text, (found, said)
+
+
+def cleaned(place, *parts, keys=b'd', text='abcdtext\n'):
+    """These parts of a running session are removed; what is typed before and after is had back."""
+    place.put('a')
+    editor = place.edit('a').types(b'abc')
+    for part in parts:
+        os.remove(place.part(part))
+    editor.run.rest(SECONDS)
+    editor.types(keys).hangs_up()
+    assert 'what was typed is kept' in editor.err(), editor.err()
+    place.recovers('a', text)
+
+
+def removed_journal(place):
+    cleaned(place, 'journal')
+
+
+def removed_journal_and_kill(place):
+    """The host is killed a second later; what was typed since counts too."""
+    place.put('a')
+    editor = place.edit('a').types(b'abc')
+    os.remove(place.part('journal'))
+    editor.run.rest(SECONDS)
+    editor.types(b'd').run.rest(SECONDS)
+    os.kill(editor.run.job, signal.SIGKILL)
+    editor.ends()
+    place.recovers('a', 'abcdtext\n')
+
+
+def removed_text_and_path(place):
+    cleaned(place, 'text', 'path')
+
+
+def removed_notes(place):
+    cleaned(place, 'begin', 'versions', 'process', 'file', 'mode')
+
+
+def removed_lock(place):
+    """A second start finds that the session lives."""
+    place.put('a')
+    first = place.edit('a').types(b'abc')
+    os.remove(place.part('lock'))
+    place.start('a').is_told_of_other()
+    assert '(open now)' in place.tells('--recover')[1], place.tells('--recover')
+    first.hangs_up()
+    place.recovers('a', 'abctext\n')
+
+
+def foreign_folders(place):
+    """An old folder of the user's, whose name begins with a digit, is nobody's session."""
+    folder = f'{place.top}/state/bidi_edit/2026-taxes'
+    os.makedirs(folder, 0o700)
+    os.chmod(os.path.dirname(folder), 0o700)
+    with open(f'{folder}/papers', 'w') as file:
+        file.write('x')
+    os.utime(folder, (1e9, 1e9))
+    place.put('a')
+    place.edit('a').types(QUIT).ends()
+    assert os.path.exists(f'{folder}/papers')
+
+
+def hard_links(place):
+    """One name of FILE is in a folder for temporary files: its session is found by both."""
+    place.put('a')
+    os.link(f'{place.files}/a', f'{place.top}/tmp/b')
+    for one, other in ((f'{place.files}/a', f'{place.top}/tmp/b'), (f'{place.top}/tmp/b', f'{place.files}/a')):
+        first = place.edit(one).types(b'abc')
+        place.start(other).is_told_of_other()
+        first.hangs_up()
+        place.recovers(other, 'abctext\n')
+        place.tells('--forget', one)
+        assert not place.parts('path'), place.parts('path')
+
+
+def growing_file(place):
+    """A program appends to FILE all the time while the editor starts."""
+    place.put('a', '')
+    is_over = threading.Event()
+
+    def append():
+        with open(f'{place.files}/a', 'a') as file:
+            while not is_over.wait(0.0005):
+                print('line', file=file, flush=True)
+
+    writer = threading.Thread(target=append)
+    writer.start()
+    try:
+        time.sleep(0.2)
+        editor = place.start('a')
+        assert wait_for(editor.is_editing), editor.run.output
+        editor.run.rest(1)
+    finally:
+        is_over.set()
+        writer.join()
+    editor.types(b'abc').run.rest(SECONDS)
+    assert b'not kept' not in editor.run.output
+    editor.hangs_up()
+    assert 'what was typed is kept' in editor.err(), editor.err()
+    other = f'{place.top}/other'
+    status, said = place.tells('--recover', '--to', other, 'a')
+    assert status == 0, said
+    with open(other) as stored:
+        assert re.fullmatch('abc(line\n)+', stored.read())
+
+
+def full_disk(place):
+    """The notice that nothing is kept comes again after keys that hid it."""
+    disk = f'{place.top}/disk'
+    os.mkdir(disk)
+    if os.geteuid() != 0 or subprocess.run(['mount', '-t', 'tmpfs', '-o', 'size=256k', 'none', disk], check=False).returncode != 0:
+        print('skipped: no small disk can be mounted')
+        return
+    try:
+        place.variables['XDG_STATE_HOME'] = disk
+        place.put('a')
+        # the stand-in says that its journal is lost, as the program finds it
+        editor = place.edit('a', TYPIST='lost').types(b'abc')
+        with open(f'{disk}/other', 'wb', buffering=0) as file:
+            try:
+                while file.write(bytes(4096)):
+                    pass
+            except OSError:
+                pass
+        # more than the journal's last block takes; the stand-in does not bear that
+        for _ in range(1 if place.is_stand_in else 12):
+            editor.types(b'x' * 500)
+        editor.run.rest(3)
+        assert NOTICE.search(editor.run.output), editor.run.output[-500:]
+        editor.types(b'x')
+        editor.run.output = b''
+        for _ in range(8):
+            editor.types(b'y').run.rest(0.7)
+        assert NOTICE.search(editor.run.output), 'the notice does not come again'
+        os.remove(f'{disk}/other')
+        editor.run.rest(2 * SECONDS)
+        editor.hangs_up()
+    finally:
+        subprocess.run(['umount', '-l', disk], check=True)
+
+
+def renamed_folder(place):
+    """FILE's folder is renamed while it is edited."""
+    os.mkdir(f'{place.files}/one')
+    place.put('one/a')
+    editor = place.edit('one/a').types(b'abc')
+    os.rename(f'{place.files}/one', f'{place.files}/two')
+    editor.hangs_up()
+    place.recovers('two/a', 'abctext\n')
+
+
+def renamed_folder_and_kill(place):
+    """The same, and the host is killed."""
+    os.mkdir(f'{place.files}/one')
+    place.put('one/a')
+    editor = place.edit('one/a').types(b'abc')
+    os.rename(f'{place.files}/one', f'{place.files}/two')
+    os.kill(editor.run.job, signal.SIGKILL)
+    editor.ends()
+    place.recovers('two/a', 'abctext\n')
+
+
+def saved_and_renamed(place):
+    """A save gives FILE another inode; then its folder is renamed, and the host killed."""
+    os.mkdir(f'{place.files}/one')
+    place.put('one/a')
+    editor = place.edit('one/a').types(b'abc\x13').types(b'd')
+    editor.run.rest(SECONDS)
+    os.rename(f'{place.files}/one', f'{place.files}/two')
+    os.kill(editor.run.job, signal.SIGKILL)
+    editor.ends()
+    place.recovers('two/a', 'abcdtext\n')
+
+
+def gone_folder(place):
+    """The working folder, with FILE in it, is removed. What is told at the end finds the session from elsewhere."""
+    os.mkdir(f'{place.files}/one')
+    place.put('one/a')
+    editor = place.edit('a', folder=f'{place.files}/one').types(b'abc')
+    shutil.rmtree(f'{place.files}/one')
+    editor.hangs_up()
+    told = re.search(r'bidi-edit --recover (\S+) gets it back', editor.err())
+    assert told, editor.err()
+    place.recovers(told.group(1), 'abctext\n')
+
+
+def refused_removal(place):
+    """A session that cannot be removed stays whole, and that is told."""
+    place.put('a')
+    place.edit('a').types(b'abc').hangs_up()
+    folder = f'{place.top}/state/bidi_edit'
+    if os.geteuid() != 0 or subprocess.run(['chattr', '+i', folder], check=False, capture_output=True).returncode != 0:
+        print('skipped: no folder can be made immutable')
+        return
+    try:
+        said = place.tells('--forget', 'a')[1]
+    finally:
+        subprocess.run(['chattr', '-i', folder], check=True)
+    assert 'is removed' not in said, said
+    place.recovers('a', 'abctext\n')
+
+
+CASES = (removed_journal, removed_journal_and_kill, removed_text_and_path, removed_notes, removed_lock, foreign_folders, hard_links, growing_file,
+         full_disk, renamed_folder, renamed_folder_and_kill, saved_and_renamed, gone_folder, refused_removal)
+
+
+def main():
+    names = sys.argv[2:]
+    become_reaper()
+    for number in (signal.SIGPIPE, signal.SIGXFSZ):
+        signal.signal(number, signal.SIG_DFL)
+    # not in a folder for temporary files, whose sessions would be there
+    folder = tempfile.mkdtemp(prefix='sessions.', dir='/var/lib' if os.geteuid() == 0 else os.path.expanduser('~'))
+    passed = failed = 0
+    try:
+        host = installed(os.path.abspath(sys.argv[1]), f'{folder}/tree')
+        for case in CASES:
+            if names and case.__name__ not in names:
+                continue
+            try:
+                case(Place(host, f'{folder}/{case.__name__}'))
+                passed += 1
+                print(f'ok {case.__name__}', flush=True)
+            except Exception as fault:  # the next case goes on
+                failed += 1
+                print(f'FAILS {case.__name__}: {fault!r}', flush=True)
+    finally:
+        shutil.rmtree(folder, ignore_errors=True)
+    print(f'{passed} passed, {failed} failed')
+    sys.exit(1 if failed else 0)
+
+
+main()
