@@ -6,21 +6,20 @@
 #include <stdlib.h>
 #include <string.h>
 #include <sys/file.h>
-#include <sys/ioctl.h>
 #include <sys/mman.h>
-#include <sys/statvfs.h>
 #include <sys/wait.h>
 #include <time.h>
 #include <unistd.h>
 
-#include "folders.h"
+#include "facts.h"
+#include "file.h"
 #include "parts.h"
 
-/* COPIED_AT_ONCE: the largest text that is copied before the program reads it, in bytes; LARGEST_COPIED: the largest that it edits.
+/* COPIED_AT_ONCE: the largest text that is copied before the program reads it, in bytes; LARGEST_TEXT: the largest that it edits.
  * CALM: a FILE that was not written for this long, in seconds, is copied behind the first picture. BESIDE_TEXT, ROOM_FOR_KEYS: the
  * room that a session takes beside its text: for its short files and the first keys; later for keys. LATE: seconds from which on a
  * child that says nothing keeps nothing. */
-enum { COPIED_AT_ONCE = 1 << 20, LARGEST_COPIED = 1 << 24, CALM = 2, BESIDE_TEXT = 65536, ROOM_FOR_KEYS = 8192, LATE = 5 };
+enum { COPIED_AT_ONCE = 1 << 20, CALM = 2, BESIDE_TEXT = 65536, ROOM_FOR_KEYS = 8192, LATE = 5 };
 
 /* What a child that writes reports. */
 struct report {
@@ -30,13 +29,6 @@ struct report {
 };
 
 /* ---- what the program opens */
-
-/* Whether the disk of an open folder has this many free bytes for the user; true where it does not tell. Trying to write would use
- * up the rest. */
-static bool has_room(int folder, uint64_t bytes) {
-    struct statvfs system;
-    return fstatvfs(folder, &system) != 0 || (uint64_t)system.f_bavail * system.f_frsize >= bytes;
-}
 
 /* Whether a file was written a moment ago, so that it may change while it is read. */
 static bool is_being_written(const struct stat *look) {
@@ -89,15 +81,15 @@ static bool open_text(struct session *session) {
 void choose_source(struct session *session, int file) {
     bool has_file = file >= 0 && fstat(file, &session->look) == 0;
     uint64_t size = has_file ? (uint64_t)session->look.st_size : 0;
-    bool is_small = size <= COPIED_AT_ONCE || (is_being_written(&session->look) && size <= LARGEST_COPIED);
-    session->is_waiting = !open_text(session) || !has_room(session->folder, size + BESIDE_TEXT);
+    bool is_small = size <= COPIED_AT_ONCE || (is_being_written(&session->look) && size <= LARGEST_TEXT);
+    session->is_waiting = !open_text(session) || free_room(session->folder) < size + BESIDE_TEXT;
     if (!has_file) {
         session->has_text = session->text >= 0;
         return;
     }
     if (!session->is_waiting && is_small) session->is_waiting = !copy_at_once(session, file);
     if (!session->is_waiting && !session->has_text) share_at_once(session, file);
-    if (session->has_text || (session->is_waiting && size <= LARGEST_COPIED && copy_to_memory(session, file))) return;
+    if (session->has_text || (session->is_waiting && size <= LARGEST_TEXT && copy_to_memory(session, file))) return;
     take_source(session, file);
     session->is_source_file = true;
 }
@@ -289,7 +281,7 @@ static bool write_behind(struct session *session) {
 
 void session_fill(struct session *session) {
     uint64_t size = session->source >= 0 ? (uint64_t)session->look.st_size : 0;
-    if (!session->is_waiting || has_room(session->folder, size + ROOM_FOR_KEYS)) write_behind(session);
+    if (!session->is_waiting || free_room(session->folder) >= size + ROOM_FOR_KEYS) write_behind(session);
 }
 
 /* ---- parts that were removed */
@@ -297,7 +289,7 @@ void session_fill(struct session *session) {
 /* Whether a part is the file that is open. */
 static bool leads_to(const struct session *session, enum part part, int file) {
     struct stat named, open;
-    return fstatat(session->folder, part_name(part), &named, AT_SYMLINK_NOFOLLOW) == 0 && fstat(file, &open) == 0 && is_same_folder(&named, &open);
+    return fstatat(session->folder, part_name(part), &named, AT_SYMLINK_NOFOLLOW) == 0 && fstat(file, &open) == 0 && is_same_file(&named, &open);
 }
 
 /* Notes which parts of a session were removed. */

@@ -7,7 +7,6 @@
 #include <time.h>
 #include <unistd.h>
 
-#include "folders.h"
 #include "parts.h"
 
 /* The age, in seconds, from which on a folder without a path is one that a killed start left. */
@@ -59,7 +58,7 @@ int sessions_each(const struct sessions *sessions, bool (*visit)(void *, struct 
 
 void target_look(struct target *target, const char *path, int folder, const char *name) {
     *target = (struct target){.path = path, .folder = folder, .name = name};
-    target->is_there = folder >= 0 && file_id_at(folder, name, AT_SYMLINK_NOFOLLOW, &target->id);
+    target->is_there = folder >= 0 && file_id_at(folder, name, O_NOFOLLOW, &target->id);
 }
 
 /* Whether a path leads to FILE; and whether it leads anywhere. */

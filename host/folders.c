@@ -8,6 +8,7 @@
 #include <string.h>
 #include <unistd.h>
 
+#include "file.h"
 #include "session.h"
 
 enum { FOLDER_MODE = 0700 };
@@ -26,15 +27,6 @@ int open_folder(int above, const char *path) {
     return openat(above, path, O_PATH | O_DIRECTORY | O_CLOEXEC);
 }
 
-bool real_path_of(int folder, char path[PATH_MAX]) {
-    char link[64];
-    snprintf(link, sizeof link, "/proc/self/fd/%d", folder);
-    ssize_t length = readlink(link, path, PATH_MAX - 1);
-    if (length <= 0 || path[0] != '/') return false;
-    path[length] = '\0';
-    return true;
-}
-
 int open_nearest(const char *path) {
     char above[PATH_MAX];
     if (!put_path(above, "%s", path)) return -1;
@@ -48,17 +40,13 @@ int open_nearest(const char *path) {
     }
 }
 
-bool is_same_folder(const struct stat *one, const struct stat *other) {
-    return one->st_dev == other->st_dev && one->st_ino == other->st_ino;
-}
-
 int open_above(int folder, struct stat *found) {
     struct stat below;
     int above = open_folder(folder, "..");
     if (above < 0) return UNSEEN;
     int refused = UNSEEN;
     if (fstat(folder, &below) == 0 && fstat(above, found) == 0) {
-        if (!is_same_folder(&below, found)) return above;
+        if (!is_same_file(&below, found)) return above;
         refused = AT_ROOT;
     }
     close(above);
@@ -83,7 +71,7 @@ static void judge_above(struct sessions *sessions, int folder) {
     while (above >= 0) {
         if (!is_safe_above(found.st_uid, found.st_mode, sessions->user)) {
             sessions->state = FOLDER_DISTRUSTED;
-            if (!real_path_of(above, sessions->distrusted)) put_path(sessions->distrusted, "%s", sessions->path);
+            if (!path_of(above, sessions->distrusted)) put_path(sessions->distrusted, "%s", sessions->path);
         }
         int next = open_above(above, &found);
         close(above);
@@ -102,7 +90,7 @@ static void judge_at(struct sessions *sessions, int above, const char *name) {
         fail_with(sessions, errno);
         return;
     }
-    if (real_path_of(above, real)) put_path(sessions->path, "%s/%s", strcmp(real, "/") == 0 ? "" : real, name);
+    if (path_of(above, real)) put_path(sessions->path, "%s/%s", strcmp(real, "/") == 0 ? "" : real, name);
     if (fstat(folder, &found) != 0 || !S_ISDIR(found.st_mode) || !is_private(found.st_uid, found.st_mode, sessions->user)) {
         sessions->state = FOLDER_DISTRUSTED;
         memcpy(sessions->distrusted, sessions->path, sizeof sessions->distrusted);

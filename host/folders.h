@@ -19,11 +19,6 @@ int open_nearest(const char *path);
 enum { UNSEEN = -1, AT_ROOT = -2 };
 int open_above(int folder, struct stat *found);
 
-/* The path of an open folder, without links; false where the system does not tell. */
-bool real_path_of(int folder, char path[PATH_MAX]);
-
-bool is_same_folder(const struct stat *one, const struct stat *other);
-
 /* Opens and judges the folder of sessions at its path. */
 void sessions_judge(struct sessions *sessions);
 

@@ -7,7 +7,6 @@
 #include <sys/stat.h>
 #include <unistd.h>
 
-#include "folders.h"
 #include "parts.h"
 
 /* ---- FILE beside a mark */

@@ -6,12 +6,11 @@
 #include <stdio.h>
 #include <stdlib.h>
 #include <string.h>
-#include <sys/file.h>
 #include <sys/ioctl.h>
 #include <sys/stat.h>
-#include <sys/sysmacros.h>
 #include <unistd.h>
 
+#include "file.h"
 #include "folders.h"
 
 /* COPIED: bytes that are copied or read at a time. LONGEST_WITHOUT_KEYS: the longest journal that is read to see whether it has
@@ -128,20 +127,11 @@ int put_part(const struct session *session, enum part part, const void *bytes, s
 }
 
 bool is_guarded(enum part part) {
-    switch (part) {
-    case PART_PATH:
-    case PART_BESIDE:
-    case PART_BEGIN:
-    case PART_PROCESS:
-    case PART_MODE:
-    case PART_VERSIONS:
-    case PART_UNSAVED:
-    case PART_UNJOINED:
-    case PART_PLACE:
-    case PART_FILE:
-    case PART_SECRET: return true;
-    default: return false;
-    }
+    static const bool guarded[PARTS] = {
+        [PART_PATH] = true, [PART_BESIDE] = true,  [PART_BEGIN] = true,    [PART_PROCESS] = true, [PART_MODE] = true,   [PART_VERSIONS] = true,
+        [PART_PLACE] = true, [PART_UNSAVED] = true, [PART_UNJOINED] = true, [PART_FILE] = true,    [PART_SECRET] = true,
+    };
+    return guarded[part];
 }
 
 int session_put(struct session *session, enum part part, const void *bytes, size_t size) {
@@ -219,18 +209,10 @@ void session_note_cut(struct session *session) {
 /* ---- facts */
 
 bool file_id_at(int folder, const char *name, int flags, struct file_id *id) {
-    struct statx found;
-    if (statx(folder, name, flags | AT_NO_AUTOMOUNT, STATX_BASIC_STATS | STATX_BTIME, &found) == 0) {
-        *id = (struct file_id){.device = makedev(found.stx_dev_major, found.stx_dev_minor), .inode = found.stx_ino};
-        id->has_birth = (found.stx_mask & STATX_BTIME) != 0 && found.stx_btime.tv_sec >= 0;
-        if (id->has_birth) id->birth_seconds = found.stx_btime.tv_sec;
-        if (id->has_birth) id->birth_nanos = found.stx_btime.tv_nsec;
-        return true;
-    }
-    struct stat old;
-    if (errno != ENOSYS || fstatat(folder, name, &old, flags) != 0) return false;
-    *id = (struct file_id){.device = old.st_dev, .inode = old.st_ino};
-    return true;
+    int file = openat(folder, name, O_PATH | O_CLOEXEC | flags);
+    bool is_found = file >= 0 && find_id(file, id);
+    if (file >= 0) close(file);
+    return is_found;
 }
 
 char *session_file_path(const struct session *session) {
@@ -254,7 +236,7 @@ bool session_is_there(const struct session *session) {
     size_t length = (size_t)(session_name(session) - session->path);
     if (length > 1) length--;
     if (!put_path(above, "%.*s", (int)length, session->path) || lstat(above, &parent_named) != 0) return false;
-    return is_same_folder(&own, &named) && is_same_folder(&parent, &parent_named);
+    return is_same_file(&own, &named) && is_same_file(&parent, &parent_named);
 }
 
 int each_entry(int folder, bool (*visit)(void *, int, const char *), void *context) {

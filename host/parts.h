@@ -25,7 +25,7 @@ int read_pieces(int file, off_t place, void (*read)(void *, const char *, size_t
 /* Calls `visit` with an open folder and each name in it, until it returns false. */
 int each_entry(int folder, bool (*visit)(void *, int, const char *), void *context);
 
-/* Which file an open one is, or one at a name in a folder. */
+/* Which file is at a name in a folder. `flags`: O_NOFOLLOW, or 0. */
 bool file_id_at(int folder, const char *name, int flags, struct file_id *id);
 
 /* Another descriptor of the same open file; -1 for none. */

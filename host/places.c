@@ -4,9 +4,10 @@
 #include <stdlib.h>
 #include <string.h>
 #include <sys/stat.h>
-#include <sys/vfs.h>
 #include <unistd.h>
 
+#include "facts.h"
+#include "file.h"
 #include "folders.h"
 #include "session.h"
 
@@ -14,9 +15,8 @@
 #define OWN_NAME "bidi_edit"
 #define SHARED_MEMORY "/dev/shm"
 
-/* The folders of temporary files; the types of file systems in memory, as the kernel numbers them. */
-enum { TEMPORARY = 3, TYPE_TMPFS = 0x01021994 };
-#define TYPE_RAMFS 0x858458f6UL
+/* The number of folders of temporary files. */
+enum { TEMPORARY = 3 };
 
 /* How long what is in a folder stays. */
 enum stay { PERMANENT, IN_MEMORY, IN_TEMPORARY };
@@ -25,13 +25,6 @@ enum stay { PERMANENT, IN_MEMORY, IN_TEMPORARY };
 static const char *variable(const char *name) {
     const char *value = getenv(name);
     return value && *value ? value : NULL;
-}
-
-static bool is_in_memory(int folder) {
-    struct statfs system;
-    if (fstatfs(folder, &system) != 0) return false;
-    unsigned long type = (unsigned long)system.f_type & 0xffffffffUL;
-    return type == TYPE_TMPFS || type == TYPE_RAMFS;
 }
 
 /* The folders of temporary files; NULL for TMPDIR where it is not set. */
@@ -49,7 +42,7 @@ static void look_at_temporary(struct stat looks[TEMPORARY], bool is_there[TEMPOR
     bool has_root = stat("/", &root) == 0;
     for (size_t at = 0; at < TEMPORARY; at++) {
         is_there[at] = folders[at] && stat(folders[at], &looks[at]) == 0;
-        if (is_there[at] && has_root && is_same_folder(&looks[at], &root)) is_there[at] = false;
+        if (is_there[at] && has_root && is_same_file(&looks[at], &root)) is_there[at] = false;
     }
 }
 
@@ -66,7 +59,7 @@ static int temporary_above(int folder) {
     }
     while (folder >= 0) {
         for (int at = 0; at < first; at++) {
-            if (is_there[at] && is_same_folder(&looks[at], &found)) first = at;
+            if (is_there[at] && is_same_file(&looks[at], &found)) first = at;
         }
         int above = open_above(folder, &found);
         close(folder);
@@ -91,7 +84,7 @@ static bool own_folder_in(const char *folder, char path[PATH_MAX]) {
 /* The same, in an open folder that the environment calls `name`. */
 static bool own_folder_at(int folder, const char *name, char path[PATH_MAX]) {
     char real[PATH_MAX];
-    return own_folder_in(real_path_of(folder, real) ? real : name, path);
+    return own_folder_in(path_of(folder, real) ? real : name, path);
 }
 
 static bool own_folder_in_temporary(int at, char path[PATH_MAX]) {
@@ -175,7 +168,7 @@ static bool take_memory(int folder, const char *name, char path[PATH_MAX]) {
 static bool memory_folder(int folder_of_file, char path[PATH_MAX]) {
     char name[PATH_MAX];
     int root = open_root_of(folder_of_file);
-    if (root >= 0 && !real_path_of(root, name)) {
+    if (root >= 0 && !path_of(root, name)) {
         close(root);
         root = -1;
     }
@@ -225,7 +218,7 @@ static bool is_listed(const struct list *list, const struct sessions *sessions) 
         const struct sessions *listed = &list->all[at];
         if (strcmp(listed->path, sessions->path) == 0) return true;
         if (listed->folder < 0 || sessions->folder < 0) continue;
-        if (fstat(listed->folder, &other) == 0 && fstat(sessions->folder, &found) == 0 && is_same_folder(&found, &other)) return true;
+        if (fstat(listed->folder, &other) == 0 && fstat(sessions->folder, &found) == 0 && is_same_file(&found, &other)) return true;
     }
     return false;
 }

@@ -9,7 +9,7 @@ from terminals import Run, become_reaper
 QUIT = b'\x11'
 SECONDS = 2.5  # in which the host looks after the parts of a session
 SHOWN = re.compile(rb'text <|1:1')  # by typist.py, or by the program
-NOTICE = re.compile(rb'no copy is kept|notice 1')
+NOTICE = re.compile(rb'no copy is kept|notice [1-5]')
 
 
 def installed(host, folder):
