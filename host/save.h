@@ -18,7 +18,7 @@ struct saver {
     bool is_itself;
     /* What the saves so far left, in memory that the child writes to. */
     struct saved *saved;
-    /* Where the child that runs answers, until `saver_finish`. */
+    /* Where the last child answers. */
     int answer;
 };
 
@@ -33,12 +33,15 @@ bool saver_open(struct saver *saver, struct file *file);
 /* Has the next save fail as if another program had changed FILE, unless FILE is gone then. */
 void saver_distrust(struct saver *saver);
 
-/* Forks the child that serves one save, from its BEGIN frame on `request` to the last answer on `answer`. Returns its process, or
- * -1: then the save is answered as failed. */
+/* Forks the child that serves one save, from its BEGIN frame on `request`, which it answers on `answer`, to its end. Returns its
+ * process, or -1: then the save is answered as failed. To be called whenever `request` can be read and there is no child. */
 pid_t saver_start(struct saver *saver, int request, int answer);
 
-/* Takes in what the child left, once it has ended; answers for one that was killed. Never waits for a disk. */
-void saver_finish(struct saver *saver);
+/* Takes in what the child left, once it has ended, and answers. Returns false where it was killed, and did not end the save. Then
+ * the caller drops all that comes on `request`, and once nothing more comes, as the program waits for an answer, saver_refuse gives
+ * it. None of them waits for a disk. */
+bool saver_finish(struct saver *saver);
+void saver_refuse(struct saver *saver);
 
 /* What came of the last save: 0 where it is on the disk, else an enum save_cause. */
 int saver_cause(const struct saver *saver);

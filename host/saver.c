@@ -13,7 +13,8 @@
 #include "frames.h"
 #include "saving.h"
 
-/* MOST_FILES: numbers of files that are closed one by one where the system cannot close all of them at once. */
+/* MOST_FILES: numbers of files that are closed one by one where the system cannot close all of them at once. ROOM: bytes of two of
+ * the longest frames. */
 enum { MOST_FILES = 1024, ROOM = 2 * (FRAME_HEAD + FRAME_MOST) };
 
 /* The child writes a state to the slot that is not read, and then says that this one is. */
@@ -46,26 +47,13 @@ static void clean_up(struct save *save) {
     draft_remove(&save->draft);
 }
 
-/* Tells the host and the program how the save ended. */
-static _Noreturn void end(struct save *save, int answer, int cause) {
+/* Tells the host how the save ended, which answers. */
+static _Noreturn void end(struct save *save, int cause) {
     clean_up(save);
     save->state.cause = cause_to_tell(save, cause);
-    save->state.is_answered = true;
+    save->state.is_over = true;
     save_publish(save);
-    unsigned char byte = (unsigned char)save->state.cause;
-    bool is_told = byte == 0 ? write_frame(answer, FRAME_DONE, NULL, 0) : write_frame(answer, FRAME_FAILED, &byte, 1);
-    _exit(is_told ? 0 : 1);
-}
-
-/* Reads frames of the save. Returns false at the end, where the program is gone. */
-static bool read_more(int request, unsigned char *room, size_t *length) {
-    for (;;) {
-        ssize_t count = read(request, room + *length, ROOM - *length);
-        if (count < 0 && errno == EINTR) continue;
-        if (count <= 0) return false;
-        *length += (size_t)count;
-        return true;
-    }
+    _exit(0);
 }
 
 /* Does what a frame asks for. */
@@ -74,29 +62,30 @@ static void obey(struct save *save, const struct frame *frame, int answer) {
     switch (frame->letter) {
     case FRAME_BEGIN:
         cause = save_begin(save);
-        if (cause != 0) end(save, answer, cause);
+        if (cause != 0) end(save, cause);
         if (!write_frame(answer, FRAME_DONE, NULL, 0)) _exit(1);
         break;
     case FRAME_PIECE:
         draft_put(&save->draft, frame->bytes, frame->length);
         break;
     case FRAME_COMMIT:
-        end(save, answer, save->draft.file < 0 ? SAVE_OTHER : save_commit(save));
+        end(save, save->draft.file < 0 ? SAVE_OTHER : save_commit(save));
     default:
         break;
     }
 }
 
+/* Obeys frames until the save's end, or the program's. */
 static _Noreturn void serve(struct save *save, int request, int answer) {
     static unsigned char room[ROOM];
     size_t length = 0;
-    while (read_more(request, room, &length)) {
+    for (;;) {
+        ssize_t count = read(request, room + length, ROOM - length);
+        if (count == 0 || (count < 0 && errno != EINTR)) break;
+        if (count > 0) length += (size_t)count;
         struct frame frame;
         size_t done = 0;
-        for (size_t size = find_frame(room, length, &frame); size > 0; size = find_frame(room + done, length - done, &frame)) {
-            obey(save, &frame, answer);
-            done += size;
-        }
+        for (size_t size; (size = find_frame(room + done, length - done, &frame)) > 0; done += size) obey(save, &frame, answer);
         length -= done;
         memmove(room, room + done, length);
     }
@@ -169,7 +158,7 @@ static void refuse_save(int request, int answer) {
 }
 
 pid_t saver_start(struct saver *saver, int request, int answer) {
-    current(saver)->is_answered = false;
+    current(saver)->is_over = false;
     saver->answer = answer;
     pid_t child = fork();
     if (child < 0) refuse_save(request, answer);
@@ -180,15 +169,17 @@ pid_t saver_start(struct saver *saver, int request, int answer) {
     serve(&save, request, answer);
 }
 
-void saver_finish(struct saver *saver) {
-    struct state *state = current(saver);
+bool saver_finish(struct saver *saver) {
+    const struct state *state = current(saver);
+    unsigned char cause = (unsigned char)state->cause;
+    if (state->is_over) write_frame(saver->answer, cause == 0 ? FRAME_DONE : FRAME_FAILED, &cause, cause == 0 ? 0 : 1);
+    return state->is_over;
+}
+
+void saver_refuse(struct saver *saver) {
     unsigned char cause = SAVE_OTHER;
-    if (!state->is_answered) {
-        state->is_answered = true;
-        state->cause = cause;
-        write_frame(saver->answer, FRAME_FAILED, &cause, 1);
-    }
-    saver->answer = -1;
+    current(saver)->cause = cause;
+    write_frame(saver->answer, FRAME_FAILED, &cause, 1);
 }
 
 int saver_cause(const struct saver *saver) {

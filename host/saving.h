@@ -27,7 +27,7 @@ struct state {
     bool is_torn;
     char torn[NAME_MAX + 1];
     /* Of the last save, and FILE after it. */
-    bool is_answered;
+    bool is_over;
     int cause;
     bool has_id;
     struct file_id id;

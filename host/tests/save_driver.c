@@ -6,8 +6,8 @@
  *   torn           the name of the mark, `-` without one, `=` for the one in the folder
  *   facts          reason for saves in place
  * Exit status 1: FILE was refused; 2: usage. */
-#include <errno.h>
 #include <fcntl.h>
+#include <poll.h>
 #include <stdio.h>
 #include <stdlib.h>
 #include <string.h>
@@ -29,34 +29,57 @@ static struct saver saver;
 static int to_child = -1, from_child = -1;
 static int request = -1, answer = -1;
 static pid_t child;
+static bool is_killed;
 
 static void die(const char *what) {
     perror(what);
     exit(2);
 }
 
+/* Serves saves as the host does: a child for what is asked for, and the end of one that has ended. What is asked of one that was
+ * killed is dropped. */
+static void serve(void) {
+    struct pollfd asked = {.fd = request, .events = POLLIN};
+    char dropped[4096];
+    int status = 0;
+    if (child > 0 && waitpid(child, &status, WNOHANG) == child) {
+        child = 0;
+        is_killed = !saver_finish(&saver);
+    }
+    while (is_killed && poll(&asked, 1, 0) > 0 && read(request, dropped, sizeof dropped) > 0) continue;
+    if (child == 0 && !is_killed && poll(&asked, 1, 0) > 0) child = saver_start(&saver, request, answer);
+}
+
 /* The answer to a frame. */
 static const char *hear(void) {
     static unsigned char room[FRAME_MOST];
     struct frame frame;
+    struct pollfd answered = {.fd = from_child, .events = POLLIN};
+    for (serve(); poll(&answered, 1, 1) == 0; serve())
+        if (is_killed) saver_refuse(&saver);
+    is_killed = false;
     if (!read_frame(from_child, room, &frame)) return "no answer";
     if (frame.letter == FRAME_DONE) return causes[0];
     if (frame.letter != FRAME_FAILED || frame.length != 1 || room[0] > SAVE_OTHER) return "wrong answer";
     return causes[room[0]];
 }
 
-static void end_child(void) {
-    int status = 0;
-    while (waitpid(child, &status, 0) < 0 && errno == EINTR) continue;
-    saver_finish(&saver);
+/* Writes a frame, though the child may be gone. */
+static void send(enum frame_letter letter, const void *bytes, size_t length) {
+    unsigned char room[FRAME_HEAD + FRAME_MOST] = {(unsigned char)letter, (unsigned char)(length >> 8), (unsigned char)length};
+    struct pollfd ready = {.fd = to_child, .events = POLLOUT};
+    if (length > 0) memcpy(room + FRAME_HEAD, bytes, length);
+    for (size_t done = 0; done < FRAME_HEAD + length;) {
+        ssize_t count = write(to_child, room + done, FRAME_HEAD + length - done);
+        if (count > 0) done += (size_t)count;
+        else poll(&ready, 1, 1);
+        serve();
+    }
 }
 
 static const char *begin(void) {
-    if (!write_frame(to_child, FRAME_BEGIN, NULL, 0)) die("begin");
-    child = saver_start(&saver, request, answer);
-    const char *said = hear();
-    if (strcmp(said, causes[0]) != 0) end_child();
-    return said;
+    send(FRAME_BEGIN, NULL, 0);
+    return hear();
 }
 
 static void put(const char *path) {
@@ -64,15 +87,13 @@ static void put(const char *path) {
     int from = open(path, O_RDONLY | O_CLOEXEC);
     if (from < 0) die(path);
     for (ssize_t count = read(from, bytes, sizeof bytes); count > 0; count = read(from, bytes, sizeof bytes))
-        if (!write_frame(to_child, FRAME_PIECE, bytes, (size_t)count)) die("piece");
+        send(FRAME_PIECE, bytes, (size_t)count);
     close(from);
 }
 
 static const char *commit(void) {
-    if (!write_frame(to_child, FRAME_COMMIT, NULL, 0)) die("commit");
-    const char *said = hear();
-    end_child();
-    return said;
+    send(FRAME_COMMIT, NULL, 0);
+    return hear();
 }
 
 static const char *save(const char *path) {
@@ -123,6 +144,7 @@ int main(int count, char **words) {
         fputs("usage: save_driver [--mark FOLDER] [--itself] [--lost] [--force] FILE\n", stderr);
         return 2;
     }
+    fcntl(pipes[0][1], F_SETFL, O_NONBLOCK);
     request = pipes[0][0], to_child = pipes[0][1], from_child = pipes[1][0], answer = pipes[1][1];
     const char *message = is_lost ? open_lost_file(&file, words[at]) : open_file(&file, words[at]);
     bool is_in_place = find_in_place(&file.facts, &file.look, &file.folder_facts) != NO_REASON;

@@ -1,0 +1,558 @@
+#!/usr/bin/env python3
+"""save_faults.py [--old] DRIVER: what other programs do to FILE and its folder while it is opened and saved.
+
+DRIVER is save_driver, built from save_driver.c, which plays the program's side of a save. With --old it is one that saves through
+bx_store's FileStore and knows the lines `open PATH` and `save PATH`: most checks fail there. Some checks need root, strace, setfacl or
+mount, and are left out without. Prints a line for each failed check, and their number. Exit status 1: one failed.
+"""
+import os
+import shutil
+import signal
+import stat
+import subprocess
+import sys
+import tempfile
+import time
+
+OTHER = 54322
+LIMIT = 20
+
+is_old = sys.argv[1:2] == ["--old"]
+here = os.path.dirname(os.path.abspath(__file__))
+driver = os.path.abspath(sys.argv[-1])
+top = tempfile.mkdtemp()
+os.chmod(top, 0o755)
+passed, failed, skipped = [], [], []
+
+
+class Editor:
+    """A driver that has opened FILE."""
+
+    def __init__(self, path, *words, under=(), cwd=None):
+        command = [driver] if is_old else [driver, *words, path]
+        self.process = subprocess.Popen([*under, *command], stdin=subprocess.PIPE, stdout=subprocess.PIPE, text=True, bufsize=1, cwd=cwd)
+        self.opened = self.ask(f"open {path}") if is_old else self.hear()
+
+    def hear(self):
+        return self.process.stdout.readline().rstrip("\n")
+
+    def tell(self, line):
+        self.process.stdin.write(line + "\n")
+        self.process.stdin.flush()
+
+    def ask(self, line):
+        self.tell(line)
+        return self.hear()
+
+    def save(self, text):
+        """Saves a text, and gives the first words of the answer."""
+        return self.ask(f"save {write(new_name(), text)}").split(",")[0]
+
+    def start_save(self, text):
+        self.tell(f"save {write(new_name(), text)}")
+
+    def end(self):
+        self.process.stdin.close()
+        try:
+            self.process.wait(LIMIT)
+        except subprocess.TimeoutExpired:
+            self.process.kill()
+        self.process.stdout.close()
+
+
+names = 0
+
+
+def new_name():
+    global names
+    names += 1
+    return f"{top}/text{names}"
+
+
+def write(path, text, mode=None):
+    with open(path, "w") as out:
+        out.write(text)
+    if mode is not None:
+        os.chmod(path, mode)
+    return path
+
+
+def read(path):
+    try:
+        with open(path) as text:
+            return text.read()
+    except OSError as error:
+        return type(error).__name__
+
+
+def mode_of(path):
+    return stat.S_IMODE(os.lstat(path).st_mode)
+
+
+def has(command):
+    return shutil.which(command) is not None
+
+
+class Check:
+    """A check in a folder of its own."""
+
+    def __init__(self, name):
+        self.name = name
+        self.faults = []
+        self.folder = tempfile.mkdtemp(dir=top)
+        os.chmod(self.folder, 0o755)
+        self.note = f"{self.folder}/note"
+
+    def same(self, what, found, wanted):
+        if found != wanted:
+            self.faults.append(f"{what} is {found!r}, and not {wanted!r}")
+
+    def end(self):
+        if self.faults:
+            failed.append(self.name)
+            print(f"FAULT {self.name}: {'; '.join(self.faults)}")
+        else:
+            passed.append(self.name)
+
+
+def slow(call, seconds, *more):
+    """Words that run a command whose CALL takes so long."""
+    return ["strace", "-f", "-qq", "-o", "/dev/null", "-e", f"trace={call}", "-e", f"inject={call}:delay_enter={int(seconds * 1e6)}", *more]
+
+
+# ---- FILE is exchanged
+
+def link_in_place(check):
+    """FILE becomes a link to another's file: no save follows it."""
+    write(check.note, "old\n")
+    secret = write(f"{check.folder}/secret", "secret\n", 0o600)
+    editor = Editor(check.note)
+    os.remove(check.note)
+    os.symlink("secret", check.note)
+    check.same("the first save", editor.save("new\n"), "changed by another program")
+    check.same("the second save", editor.save("new\n"), "saved")
+    check.same("the other file", read(secret), "secret\n")
+    check.same("whether FILE is a link", os.path.islink(check.note), False)
+    check.same("FILE", read(check.note), "new\n")
+    editor.end()
+
+
+def link_behind_a_link(check):
+    """FILE was opened by a link, and what that led to becomes a link."""
+    os.mkdir(f"{check.folder}/in")
+    real = write(f"{check.folder}/in/real", "old\n")
+    secret = write(f"{check.folder}/secret", "secret\n", 0o600)
+    os.symlink("in/real", check.note)
+    editor = Editor(check.note)
+    os.remove(real)
+    os.symlink("../secret", real)
+    editor.save("new\n")
+    editor.save("new\n")
+    check.same("the other file", read(secret), "secret\n")
+    check.same("FILE's link", os.readlink(check.note), "in/real")
+    check.same("FILE", read(real), "new\n")
+    editor.end()
+
+
+def link_led_elsewhere(check):
+    """FILE was opened by a link, which leads to another's file by now."""
+    write(f"{check.folder}/real", "old\n")
+    secret = write(f"{check.folder}/secret", "secret\n", 0o600)
+    os.symlink("real", check.note)
+    editor = Editor(check.note)
+    os.remove(check.note)
+    os.symlink("secret", check.note)
+    editor.save("new\n")
+    editor.save("new\n")
+    check.same("the other file", read(secret), "secret\n")
+    check.same("the first file", read(f"{check.folder}/real"), "new\n")
+    editor.end()
+
+
+def both_save(check):
+    """Two editors save at the same time, the exchange of one is late: exactly one has saved."""
+    write(check.note, "old\n")
+    late = "rename" if is_old else "renameat2"
+    first, second = Editor(check.note, under=slow(late, 1)), Editor(check.note)
+    first.start_save("first\n")
+    time.sleep(0.5)
+    said = {"second\n": second.save("second\n"), "first\n": first.hear().split(",")[0]}
+    check.same("what is said", sorted(said.values()), ["changed by another program", "saved"])
+    check.same("what is said of FILE's text", said.get(read(check.note)), "saved")
+    check.same("what is there", os.listdir(check.folder), ["note"])
+    first.end()
+    second.end()
+
+
+def replaced_meanwhile(check):
+    """Another program renames a file to FILE right before the exchange."""
+    write(check.note, "old\n")
+    editor = Editor(check.note, under=slow("rename" if is_old else "renameat2", 1))
+    editor.start_save("new\n")
+    time.sleep(0.5)
+    os.rename(write(f"{check.folder}/theirs", "theirs\n"), check.note)
+    check.same("the save", editor.hear().split(",")[0], "changed by another program")
+    check.same("FILE", read(check.note), "theirs\n")
+    check.same("what is there", os.listdir(check.folder), ["note"])
+    check.same("the second save", editor.save("new\n"), "saved")
+    check.same("FILE after the second save", read(check.note), "new\n")
+    editor.end()
+
+
+def made_meanwhile(check):
+    """Another program makes FILE, which was not there, right before it is put there."""
+    editor = Editor(check.note, under=slow("rename" if is_old else "linkat", 1))
+    editor.start_save("new\n")
+    time.sleep(0.5)
+    write(check.note, "theirs\n")
+    check.same("the save", editor.hear().split(",")[0], "changed by another program")
+    check.same("FILE", read(check.note), "theirs\n")
+    check.same("the second save", editor.save("new\n"), "saved")
+    editor.end()
+
+
+# ---- rights
+
+def rights_of_other(path):
+    """Whether the other user may read a file."""
+    return subprocess.run(["setpriv", "--reuid", str(OTHER), "--regid", str(OTHER), "--clear-groups", "cat", path], capture_output=True).returncode == 0
+
+
+def set_list(path, *words):
+    subprocess.run(["setfacl", *words, path], check=True)
+
+
+def list_on_file(check):
+    """FILE gets an access list while the editor opens it, at each of its calls: no save turns it into rights of the group."""
+    for at in range(12):
+        write(check.note, "old\n", 0o640)
+        editor = Editor(check.note)
+        set_list(check.note, "-m", f"u:{OTHER}:rw")
+        editor.save("new\n")
+        editor.save("new\n")
+        check.same("FILE", read(check.note), "new\n")
+        said = subprocess.run(["getfacl", "-c", "-p", check.note], capture_output=True, text=True).stdout
+        check.same("the list", f"user:{OTHER}:rw-" in said and "group::r--" in said, True)
+        editor.end()
+        os.remove(check.note)
+
+
+def list_and_gone(check):
+    """A FILE with an access list is gone: what its mode says of the group was the list's mask."""
+    write(check.note, "old\n", 0o600)
+    editor = Editor(check.note)
+    set_list(check.note, "-m", f"u:{OTHER}:rw")
+    editor.save("new\n")
+    os.remove(check.note)
+    check.same("the save", editor.save("new\n"), "saved")
+    check.same("the mode", oct(mode_of(check.note)), oct(0o600))
+    editor.end()
+
+
+def list_amid_save(check):
+    """FILE gets an access list right before the exchange."""
+    write(check.note, "old\n", 0o660)
+    editor = Editor(check.note, under=slow("rename" if is_old else "renameat2", 1))
+    editor.start_save("new\n")
+    time.sleep(0.5)
+    set_list(check.note, "-m", f"u:{OTHER}:rw")
+    check.same("the save", editor.hear().split(",")[0], "changed by another program")
+    check.same("FILE", read(check.note), "old\n")
+    check.same("the second save", editor.save("new\n"), "saved")
+    said = subprocess.run(["getfacl", "-c", "-p", check.note], capture_output=True, text=True).stdout
+    check.same("the list", f"user:{OTHER}:rw-" in said, True)
+    editor.end()
+
+
+def default_list(check):
+    """FILE's folder is given a list for new files while the editor runs: nobody gets rights by a save."""
+    write(check.note, "old\n", 0o640)
+    editor = Editor(check.note)
+    set_list(check.folder, "-d", "-m", f"u:{OTHER}:rwx")
+    check.same("the save", editor.save("new\n"), "saved")
+    check.same("whether the other reads FILE", rights_of_other(check.note), False)
+    os.remove(check.note)
+    check.same("the save of a FILE that is gone", editor.save("new\n"), "saved")
+    check.same("whether the other reads the new FILE", rights_of_other(check.note), False)
+    check.same("the mode", oct(mode_of(check.note)), oct(0o640))
+    editor.end()
+
+
+def default_list_amid_save(check):
+    """The folder is given the list after the save has begun."""
+    write(check.note, "old\n", 0o640)
+    editor = Editor(check.note, under=slow("fsync", 1))
+    set_list(check.folder, "-d", "-m", f"u:{OTHER}:rwx")
+    editor.start_save("new\n")
+    time.sleep(0.5)
+    readable = [name for name in os.listdir(check.folder) if rights_of_other(f"{check.folder}/{name}")]
+    check.same("what the other reads meanwhile", readable, [])
+    editor.hear()
+    check.same("whether the other reads FILE", rights_of_other(check.note), False)
+    editor.end()
+
+
+def draft_is_closed(check):
+    """Nobody but the owner reads the draft, also where all may read FILE."""
+    write(check.note, "old\n", 0o644)
+    editor = Editor(check.note, under=slow("fsync", 1))
+    editor.start_save("new\n")
+    time.sleep(0.5)
+    others = [name for name in os.listdir(check.folder) if name != "note"]
+    check.same("what is there meanwhile, and is readable", [name for name in others if rights_of_other(f"{check.folder}/{name}")], [])
+    editor.hear()
+    editor.end()
+
+
+# ---- folders
+
+def exchange_for_ever(inner, theirs, away):
+    while True:
+        os.rename(inner, away)
+        os.rename(theirs, inner)
+        time.sleep(0.0005)
+        os.rename(inner, theirs)
+        os.rename(away, inner)
+        time.sleep(0.0005)
+
+
+def folder_exchanged_and_back(check):
+    """FILE's folder is exchanged for another's and back, again and again: nothing of the other's gets into it."""
+    inner, theirs, away = f"{check.folder}/inner", f"{check.folder}/theirs", f"{check.folder}/away"
+    for at in range(12):
+        for folder, owner in (inner, 0), (theirs, OTHER):
+            shutil.rmtree(folder, ignore_errors=True)
+            os.mkdir(folder, 0o755)
+            write(f"{folder}/note", "old\n" if folder == inner else "theirs\n", 0o666)
+            os.chown(folder, owner, owner)
+            os.chown(f"{folder}/note", owner, owner)
+        editor = Editor(f"{inner}/note")
+        switch = os.fork()
+        if switch == 0:
+            exchange_for_ever(inner, theirs, away)
+        for text in "a\n", "b\n", "c\n":
+            editor.save(text)
+        os.kill(switch, signal.SIGKILL)
+        os.waitpid(switch, 0)
+        folders = [folder for folder in (inner, theirs, away) if os.path.exists(folder)]
+        for folder in folders:
+            owner = os.stat(folder).st_uid
+            for name in os.listdir(folder):
+                check.same(f"the owner of {name} in the folder of {owner}", os.stat(f"{folder}/{name}").st_uid, owner)
+                check.same("what is in a folder", name, "note")
+        editor.end()
+        for folder in folders:
+            shutil.rmtree(folder)
+
+
+def folder_is_a_link(check):
+    """FILE's folder becomes a link to another folder."""
+    os.mkdir(f"{check.folder}/inner")
+    os.mkdir(f"{check.folder}/theirs")
+    write(f"{check.folder}/inner/note", "old\n")
+    editor = Editor(f"{check.folder}/inner/note")
+    os.rename(f"{check.folder}/inner", f"{check.folder}/away")
+    os.symlink("theirs", f"{check.folder}/inner")
+    for _ in range(3):
+        check.same("the save", editor.save("new\n"), "folder gone")
+    check.same("what is in the other folder", os.listdir(f"{check.folder}/theirs"), [])
+    check.same("what is in FILE's folder", os.listdir(f"{check.folder}/away"), ["note"])
+    check.same("FILE", read(f"{check.folder}/away/note"), "old\n")
+    os.remove(f"{check.folder}/inner")
+    os.rename(f"{check.folder}/away", f"{check.folder}/inner")
+    check.same("the save once the folder is back", editor.save("new\n"), "saved")
+    check.same("FILE at last", read(f"{check.folder}/inner/note"), "new\n")
+    editor.end()
+
+
+def folder_made_again(check):
+    """FILE's folder is removed, and made again: the save goes there."""
+    inner = f"{check.folder}/inner"
+    os.mkdir(inner)
+    write(f"{inner}/note", "old\n", 0o600)
+    editor = Editor(f"{inner}/note")
+    shutil.rmtree(inner)
+    check.same("the save without a folder", editor.save("new\n"), "folder gone")
+    os.mkdir(inner)
+    check.same("the save", editor.save("new\n"), "saved")
+    check.same("FILE", read(f"{inner}/note"), "new\n")
+    check.same("the mode", oct(mode_of(f"{inner}/note")), oct(0o600))
+    check.same("a later save", editor.save("newer\n"), "saved")
+    check.same("FILE after it", read(f"{inner}/note"), "newer\n")
+    editor.end()
+
+
+def folder_renamed(check):
+    """FILE's folder has another name: it is told, and the save goes on once the name is back."""
+    inner, other = f"{check.folder}/inner", f"{check.folder}/other"
+    os.mkdir(inner)
+    write(f"{inner}/note", "old\n")
+    editor = Editor("note", cwd=inner)
+    os.rename(inner, other)
+    check.same("the save", editor.save("new\n"), "folder gone")
+    check.same("what is there", os.listdir(other), ["note"])
+    os.rename(other, inner)
+    check.same("the save once it is back", editor.save("new\n"), "saved")
+    check.same("FILE", read(f"{inner}/note"), "new\n")
+    editor.end()
+
+
+def disk_unmounted(check):
+    """FILE's disk is unmounted: nothing gets into the folder under it."""
+    disk = f"{check.folder}/disk"
+    os.mkdir(disk)
+    subprocess.run(["mount", "-t", "tmpfs", "tmpfs", disk], check=True)
+    write(f"{disk}/note", "old\n")
+    editor = Editor(f"{disk}/note")
+    is_gone = subprocess.run(["umount", disk], capture_output=True).returncode == 0
+    if not is_gone:
+        check.same("the save to the disk that stays", editor.save("new\n"), "saved")
+        check.same("FILE", read(f"{disk}/note"), "new\n")
+        subprocess.run(["umount", "-l", disk], check=True)
+    answers = [editor.save("newer\n") for _ in range(3)]
+    check.same("saves to the disk that is gone", answers, ["folder gone"] * 3)
+    check.same("what is in the folder under the disk", os.listdir(disk), [])
+    editor.end()
+
+
+# ---- names of others
+
+def ten_names(check):
+    """Files of others with the names of drafts stop no save, and stay."""
+    write(check.note, "old\n")
+    for end in "", *range(1, 10):
+        write(f"{check.note}.bx{end}", "theirs\n")
+    before = sorted(os.listdir(check.folder))
+    editor = Editor(check.note)
+    check.same("the save", editor.save("new\n"), "saved")
+    check.same("FILE", read(check.note), "new\n")
+    os.link(check.note, f"{check.folder}/other")
+    editor.save("newer\n")
+    check.same("the save into the file itself", editor.save("newer\n"), "saved")
+    check.same("FILE after it", read(check.note), "newer\n")
+    os.remove(f"{check.folder}/other")
+    check.same("what is there", sorted(os.listdir(check.folder)), before)
+    check.same("what the others have", {read(f"{check.note}.bx{end}") for end in ("", *range(1, 10))}, {"theirs\n"})
+    editor.end()
+
+
+# ---- FILE that holds up
+
+def pipe_at_opening(check):
+    """FILE becomes a pipe between the look at it and the opening: it is refused, and nothing waits."""
+    write(check.note, "old\n")
+    under = ["strace", "-f", "-qq", "-o", "/dev/null", "-e", "trace=openat,open", "-P", check.note, "-e", "inject=openat,open:delay_enter=500000"]
+    command = [driver] if is_old else [driver, check.note]
+    process = subprocess.Popen([*under, *command] if is_old else [*slow("openat", 0.3, "-P", "note"), driver, "note"], cwd=check.folder,
+                               stdin=subprocess.PIPE, stdout=subprocess.PIPE, text=True)
+    if is_old:
+        process.stdin.write(f"open {check.note}\n")
+        process.stdin.flush()
+    time.sleep(0.45)
+    os.remove(check.note)
+    os.mkfifo(check.note)
+    try:
+        said, _ = process.communicate(timeout=10)
+    except subprocess.TimeoutExpired:
+        said = "it hangs"
+        process.kill()
+        process.wait()
+    check.same("what is said", said.strip(), "note is no plain file but a device, pipe or socket: put what it gives into a file, and edit that")
+
+
+def pipe_at_save(check):
+    """FILE becomes a pipe, for a save into the file itself too."""
+    for is_linked in False, True:
+        write(check.note, "old\n")
+        if is_linked:
+            os.link(check.note, f"{check.folder}/other")
+        editor = Editor(check.note)
+        os.remove(check.note)
+        os.mkfifo(check.note)
+        check.same("the save", editor.save("new\n"), "not a plain file")
+        check.same("whether it is a pipe", stat.S_ISFIFO(os.lstat(check.note).st_mode), True)
+        os.remove(check.note)
+        check.same("the save once it is gone", editor.save("new\n"), "saved")
+        editor.end()
+        os.remove(check.note)
+
+
+def end_by(process, number):
+    """Whether a process ends by a signal soon."""
+    process.send_signal(number)
+    try:
+        process.wait(3)
+        return True
+    except subprocess.TimeoutExpired:
+        process.kill()
+        return False
+
+
+def stalled_disk(check):
+    """A disk does not answer at the start, from one of its calls on: the usual signals end it."""
+    if is_old:
+        check.same("whether the start can be tried", False, True)
+        return
+    for call in "lookup", "getattr", "open", "getxattr", "listxattr", "statfs":
+        for number in signal.SIGINT, signal.SIGTERM:
+            folder = tempfile.mkdtemp(dir=check.folder)
+            disk = subprocess.Popen([sys.executable, f"{here}/stalled_disk.py", folder, call], stdin=subprocess.PIPE, stdout=subprocess.PIPE)
+            check.same("the disk", disk.stdout.readline(), b"ready\n")
+            process = subprocess.Popen([driver, f"{folder}/note"], stdin=subprocess.PIPE, stdout=subprocess.PIPE,
+                                       preexec_fn=lambda: signal.signal(signal.SIGINT, signal.SIG_DFL))
+            time.sleep(0.3)
+            check.same(f"whether it waits for {call}", process.poll(), None)
+            check.same(f"whether a signal ends the wait for {call}", end_by(process, number), True)
+            for at in disk, process:
+                at.communicate()
+
+
+def stalled_at_save(check):
+    """A disk does not answer during a save: the host is not held up, and the save's child holds nobody else."""
+    if is_old:
+        return
+    disk = subprocess.Popen([sys.executable, f"{here}/stalled_disk.py", check.folder, "create"], stdin=subprocess.PIPE, stdout=subprocess.PIPE)
+    check.same("the disk", disk.stdout.readline(), b"ready\n")
+    process = subprocess.Popen([driver, check.note], stdin=subprocess.PIPE, stdout=subprocess.PIPE, text=True)
+    check.same("the opening", process.stdout.readline(), f"opened {check.note}\n")
+    process.stdin.write("begin\n")
+    process.stdin.flush()
+    time.sleep(0.5)
+    check.same("whether a signal ends the host", end_by(process, signal.SIGTERM), True)
+    is_over = time.monotonic()
+    process.communicate()
+    check.same("whether the host's pipes are free", time.monotonic() - is_over < 2, True)
+    disk.communicate()
+
+
+CHECKS = [
+    (link_in_place, ()), (link_behind_a_link, ()), (link_led_elsewhere, ()),
+    (both_save, ("strace",)), (replaced_meanwhile, ("strace",)), (made_meanwhile, ("strace",)),
+    (list_on_file, ("setfacl",)), (list_and_gone, ("setfacl",)), (list_amid_save, ("setfacl", "strace")),
+    (default_list, ("setfacl", "root")), (default_list_amid_save, ("setfacl", "root", "strace")), (draft_is_closed, ("root", "strace")),
+    (folder_exchanged_and_back, ("root",)), (folder_is_a_link, ()), (folder_made_again, ()), (folder_renamed, ()),
+    (disk_unmounted, ("root", "mount")), (ten_names, ()),
+    (pipe_at_opening, ("strace",)), (pipe_at_save, ()), (stalled_disk, ("root", "mount")), (stalled_at_save, ("root", "mount")),
+]
+
+
+def main():
+    wanted = os.environ.get("CHECKS", "").split()
+    for run, needs in CHECKS:
+        if wanted and run.__name__ not in wanted:
+            continue
+        lacks = [need for need in needs if (os.geteuid() != 0 if need == "root" else not has(need))]
+        if lacks:
+            skipped.append(run.__name__)
+            print(f"skipped {run.__name__}: there is no {lacks[0]}")
+            continue
+        check = Check(run.__name__)
+        run(check)
+        check.end()
+    shutil.rmtree(top, ignore_errors=True)
+    print(f"{len(passed)} passed, {len(failed)} failed, {len(skipped)} skipped")
+    return 1 if failed else 0
+
+
+if __name__ == "__main__":
+    sys.exit(main())
