@@ -25,7 +25,7 @@ def installed(host, folder):
     return f'{folder}/bin/bidi-edit'
 
 
-def wait_for(test, seconds=60):
+def wait_for(test, seconds=200):
     """Waits until a test gives something, and returns that."""
     end = time.monotonic() + seconds
     while True:
@@ -40,7 +40,8 @@ class Editor:
 
     def __init__(self, place, words, folder, variables):
         place.count += 1
-        self.place, self.err_path = place, f'{place.top}/err{place.count}'
+        place.editors.append(self)
+        self.place, self.err_path, self.has_ended = place, f'{place.top}/err{place.count}', False
         line = f'cd "$0" && exec "$@" 2>{self.err_path}'
         self.run = Run(['sh', '-c', line, folder, place.host, *words], **{**place.variables, **variables})
 
@@ -65,7 +66,7 @@ class Editor:
 
     def is_told_of_other(self):
         """Waits for the question about another window, and refuses."""
-        assert self.run.pump(60, b'open in another window'), self.run.output
+        assert self.run.pump(200, b'open in another window'), self.run.output
         self.run.rest(1)
         self.run.type(b'\x04')
         return self.ends()
@@ -75,19 +76,25 @@ class Editor:
         return self.ends()
 
     def ends(self):
-        assert self.run.pump(40), ('goes on', self.run.output[-300:])
+        assert self.run.pump(100), ('goes on', self.run.output[-300:])
         self.run.left(10)
-        self.run.close()
+        self.close()
         return self
+
+    def close(self):
+        if not self.has_ended:
+            self.run.close()
+        self.has_ended = True
 
 
 class Place:
     """The folder of a case: `files` has FILEs; `state` the sessions."""
 
     def __init__(self, host, top):
-        self.host, self.top, self.files, self.count = host, top, f'{top}/files', 0
+        self.host, self.top, self.files, self.count, self.editors = host, top, f'{top}/files', 0, []
         self.is_stand_in = not os.path.exists(f'{os.path.dirname(host)}/../lib/bidi_edit/bidi_print')
-        self.variables = {'HOME': f'{top}/home', 'TMPDIR': f'{top}/tmp', 'XDG_STATE_HOME': f'{top}/state', 'TYPIST': ''}
+        self.variables = {'HOME': f'{top}/home', 'TMPDIR': f'{top}/tmp', 'XDG_STATE_HOME': f'{top}/state',
+                          'BIDI_EDIT_DATA': os.path.realpath(f'{HERE}/../../data'), 'TYPIST': ''}
         for name in ('', '/home', '/tmp', '/files', '/state'):
             os.mkdir(top + name, 0o700)
 
@@ -115,7 +122,7 @@ class Place:
 
     def tells(self, *words, folder=None):
         done = subprocess.run([self.host, *words], cwd=folder or self.files, env={**os.environ, **self.variables}, stdin=subprocess.DEVNULL,
-                              capture_output=True, timeout=100, text=True)
+                              capture_output=True, timeout=300, text=True)
         return done.returncode, done.stdout + done.stderr
 
     def recovers(self, file, text, folder=None):
@@ -347,13 +354,16 @@ def main():
         for case in CASES:
             if names and case.__name__ not in names:
                 continue
+            place = Place(host, f'{folder}/{case.__name__}')
             try:
-                case(Place(host, f'{folder}/{case.__name__}'))
+                case(place)
                 passed += 1
                 print(f'ok {case.__name__}', flush=True)
             except Exception as fault:  # the next case goes on
                 failed += 1
                 print(f'FAILS {case.__name__}: {fault!r}', flush=True)
+            for editor in place.editors:
+                editor.close()
     finally:
         shutil.rmtree(folder, ignore_errors=True)
     print(f'{passed} passed, {failed} failed')
