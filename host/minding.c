@@ -42,14 +42,12 @@ static void add_text(struct edit *edit, struct words *words) {
     if (journal) add_option(words, "--journal", journal);
 }
 
-static char **make_words(struct edit *edit) {
-    struct words words = {NULL, 0, 0};
-    add_option(&words, "--direction", edit->begin.direction);
-    if (edit->begin.line > 0) add_option(&words, "--line", text_of("%u", edit->begin.line));
-    add_tables(&words, &edit->tables, edit->is_joined);
-    add_text(edit, &words);
-    add_word(&words, edit->file.typed);
-    return words.words;
+static void make_words(struct edit *edit, struct words *words) {
+    add_option(words, "--direction", edit->begin.direction);
+    if (edit->begin.line > 0) add_option(words, "--line", text_of("%u", edit->begin.line));
+    add_tables(words, &edit->tables, edit->is_joined);
+    add_text(edit, words);
+    add_word(words, edit->file.typed);
 }
 
 /* Makes the titles: FILE's last name, the main keys (^S is Ctrl-S), and a note. */
@@ -140,12 +138,14 @@ static void begin_saves(struct edit *edit) {
 /* Runs the program, minds its session, and ends it. */
 int run_session(struct edit *edit) {
     struct run *program = &edit->run;
+    struct words words = {.count = 0};
     struct first_facts first = {.unkept = edit->unkept ? edit->unkept_notice : NOTICE_NONE, .is_unwanted = edit->call->is_unkept,
                                 .is_aside = edit->aside_of != NULL, .is_resumed = edit->is_resumed,
                                 .is_in_place = edit->is_in_place || edit->is_itself};
     *program = (struct run){.program = edit->programs->editor, .saver = &edit->saver, .whose = edit, .on_opened = on_opened,
                             .on_journal = on_journal, .on_second = on_second, .on_saved = on_saved};
-    program->words = make_words(edit);
+    make_words(edit, &words);
+    program->words = words.words;
     make_titles(edit);
     begin_facts(edit);
     begin_saves(edit);

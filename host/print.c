@@ -3,7 +3,6 @@
 #include <fcntl.h>
 #include <stdbool.h>
 #include <stddef.h>
-#include <stdlib.h>
 #include <sys/ioctl.h>
 #include <sys/stat.h>
 #include <unistd.h>
@@ -30,10 +29,9 @@ static const char *refusal_of(const char *file) {
 
 /* Why an open file is no text; NULL where it is one, or cannot be read, which the printing program tells. */
 static const char *check_text(const struct file *file) {
-    char *bytes = malloc(LARGEST_TEXT + 1);
+    static char bytes[LARGEST_TEXT + 1];
     ssize_t count = 1;
     size_t length = 0;
-    if (!bytes) tell_no_memory();
     while (count > 0 && length <= LARGEST_TEXT) {
         count = pread(file->text, bytes + length, LARGEST_TEXT + 1 - length, (off_t)length);
         if (count > 0) length += (size_t)count;
@@ -41,7 +39,6 @@ static const char *check_text(const struct file *file) {
     size_t valid = utf8_length(bytes, length);
     unsigned long long text_line = 1;
     for (size_t i = 0; i < valid; i++) text_line += bytes[i] == '\n';
-    free(bytes);
     if (length > LARGEST_TEXT) return too_long_message(file);
     return count == 0 && valid < length ? not_utf8_message(file, text_line) : NULL;
 }
@@ -68,7 +65,7 @@ static unsigned terminal_columns(void) {
 
 int print_file(const struct call *call, const struct programs *programs) {
     struct tables tables;
-    struct words words = {NULL, 0, 0};
+    struct words words = {.count = 0};
     const char *cause = find_tables(&tables, programs->tables);
     const char *why = cause ? NULL : refusal_of(call->file);
     if (why) cause = text_of("%s %s", shown(call->file), why);

@@ -29,7 +29,7 @@ static enum replayed replayed_of(const struct said *said, int status) {
 
 enum replayed replay(struct edit *edit, const struct session *session, int *text, int64_t limit) {
     struct run run = {0};
-    struct words words = {NULL, 0, 0};
+    struct words words = {.count = 0};
     struct begin begin;
     *text = -1;
     if (session->text < 0 || session->journal < 0 || !session_begin_words(session, &begin)) return REPLAY_UNREADABLE;

@@ -44,13 +44,7 @@ const char *find_tables(struct tables *tables, const char *own) {
 }
 
 void add_word(struct words *words, const char *word) {
-    if (words->count + 1 >= words->room) {
-        size_t room = words->room + 32;
-        char **larger = realloc(words->words, room * sizeof *larger);
-        if (!larger) tell_no_memory();
-        words->words = larger;
-        words->room = room;
-    }
+    if (words->count + 1 == WORDS_MOST) tell_no_memory();
     words->words[words->count++] = text_of("%s", word);
     words->words[words->count] = NULL;
 }

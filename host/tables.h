@@ -16,9 +16,10 @@ struct tables {
 const char *find_tables(struct tables *tables, const char *own);
 
 /* The words of a program's command line. A NULL is behind them. */
+enum { WORDS_MOST = 64 };
 struct words {
-    char **words;
-    size_t count, room;
+    char *words[WORDS_MOST];
+    size_t count;
 };
 void add_word(struct words *words, const char *word);
 void add_option(struct words *words, const char *option, const char *value);

@@ -24,7 +24,7 @@ class Started:
     def err(self):
         return open(self.err_path, encoding='utf-8').read()
 
-    def sees(self, text, seconds=5):
+    def sees(self, text, seconds=15):
         """Waits for a text in the terminal, and forgets all before it."""
         is_there = self.run.pump(seconds, text)
         assert is_there, (text, self.run.output[-500:], self.out(), self.err())
@@ -41,7 +41,7 @@ class Started:
         self.run.type(keys)
         return self
 
-    def ends(self, status, seconds=8):
+    def ends(self, status, seconds=15):
         """Waits for the end, and compares the status: an exit status, or less than 0 a signal's number."""
         assert self.run.pump(seconds), ('goes on', self.run.output[-300:])
         self.run.drain()

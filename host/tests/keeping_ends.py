@@ -69,6 +69,12 @@ def line_ends(place):
     assert started.err() == told, started.err()
 
 
+def remove_at_once(folder, place):
+    """Removes a folder in one step, since parts of it that are missing are made again."""
+    os.rename(folder, f'{place.top}/gone')
+    shutil.rmtree(f'{place.top}/gone')
+
+
 def folder_gone(place):
     """The session's folder is removed meanwhile: told by title, bell and notice, and at the end."""
     place.put('a.txt', b'text\n')
@@ -77,13 +83,13 @@ def folder_gone(place):
         started = place.edit('a.txt').type(b'abc').sees(b'*')
         time.sleep(0.3)
         folder = place.sessions()[0]
-        shutil.rmtree(folder)
+        remove_at_once(folder, place)
         started.sees(b'(what is typed is not kept now: save it)').sees(b'notice 2')
         started.type(keys) if keys else os.kill(started.run.job, signal.SIGTERM)
         started.ends(status)
         assert told.format(folder) in started.err(), started.err()
     started = place.edit('a.txt').type(b'abc').sees(b'*').type(SAVE).sees(b'saved')
-    shutil.rmtree(place.sessions()[0])
+    remove_at_once(place.sessions()[0], place)
     started.type(QUIT).ends(0)
     assert started.err() == '', started.err()
 
