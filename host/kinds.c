@@ -286,10 +286,11 @@ void tell_outer(const struct terminal_kind *kind, bool is_kept, bool is_last) {
     if (!kind->outer[0]) return;
     int file = open(kind->outer, O_WRONLY | O_NONBLOCK | O_NOCTTY | O_CLOEXEC);
     if (file < 0) return;
-    char letter = is_kept ? 'l' : 'h', text[128];
+    char letter = is_kept ? 'l' : 'h';
     if (kind->kind == VTE) {
         tell_rows(file, letter, is_last);
     } else {
+        char text[128];
         int length = snprintf(text, sizeof text, "\033[8%c%s", letter, is_kept ? kind->off : kind->on);
         write_ready(file, text, (size_t)length, OUTER_MS, is_last);
     }

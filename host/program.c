@@ -150,7 +150,8 @@ void tell_foreign(const struct word_reader *reader) {
     for (; count < reader->foreign_length; count++) {
         char letter = reader->foreign[count];
         bool is_control = (unsigned char)letter < ' ' || letter == 127;
-        letters[count] = !is_control || letter == '\n' ? letter : '?';
+        letters[count] = '?';
+        if (!is_control || letter == '\n') letters[count] = letter;
     }
     if (count > 0 && letters[count - 1] != '\n') letters[count++] = '\n';
     write_within(STDERR_FILENO, letters, count, end_signal ? FOREIGN_BY_SIGNAL_MS : FOREIGN_MS, true);

@@ -145,8 +145,7 @@ bool begin_screen(void) {
 static void show(const char *text) {
     size_t length = strlen(text);
     if (length > sizeof waiting - waiting_length) return;
-    memcpy(waiting + waiting_length, text, length);
-    waiting_length += length;
+    for (size_t i = 0; i < length; i++) waiting[waiting_length++] = text[i];
 }
 
 void take_up_screen(void) {

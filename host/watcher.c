@@ -7,6 +7,7 @@
 #include <pthread.h>
 #include <signal.h>
 #include <stdint.h>
+#include <stdio.h>
 #include <string.h>
 #include <sys/ioctl.h>
 #include <sys/mman.h>
@@ -16,10 +17,9 @@
 
 #include "signals.h"
 
-/* Milliseconds from the host's death on: how long the program has, a save, a paste that is under way, and the screen. */
-enum { GRACE_MS = 3000, SAVE_MS = 4500, PASTE_MS = 2000, TTY_RESTORE_MS = 1000 };
-
-static const char watcher_name[] = "bidi-watcher";
+/* Milliseconds from the host's death on: how long the program has, and a save. PASTE_MS: for a paste to end; TTY_RESTORE_MS: the
+ * terminal's to take what restores it; LOOK_MS: between looks at a process. */
+enum { GRACE_MS = 3000, SAVE_MS = 4500, PASTE_MS = 2000, TTY_RESTORE_MS = 1000, LOOK_MS = 50 };
 
 struct watched *watched;
 pid_t watcher;
@@ -31,21 +31,24 @@ void note_own_word(char *word) {
     own_word = word;
 }
 
+/* Exchanges the bytes of the own word for these, as many as it has. */
+static void set_own_word(const char *bytes, size_t length) {
+    for (size_t i = 0; i < length; i++) own_word[i] = bytes[i];
+}
+
 /* Forks the watcher under another name than the host's, by which many kill: it is never seen under that. */
 static pid_t fork_under_name(void) {
-    char name[16], word[PATH_MAX] = "";
-    size_t length = own_word ? strlen(own_word) : 0;
+    static char other_word[PATH_MAX] = "bidi-watcher", word[PATH_MAX];
+    char name[16];
+    size_t length = own_word ? strnlen(own_word, sizeof word - 1) : 0;
     prctl(PR_GET_NAME, name);
-    prctl(PR_SET_NAME, watcher_name);
-    if (length >= sizeof word) length = sizeof word - 1;
-    if (length > 0) {
-        memcpy(word, own_word, length);
-        strncpy(own_word, watcher_name, length);
-    }
+    prctl(PR_SET_NAME, other_word);
+    if (length > 0) snprintf(word, sizeof word, "%s", own_word);
+    set_own_word(other_word, length);
     pid_t child = fork();
     if (child == 0) return 0;
     prctl(PR_SET_NAME, name);
-    if (length > 0) memcpy(own_word, word, length);
+    set_own_word(word, length);
     return child;
 }
 
@@ -61,9 +64,11 @@ static bool ends_before(int file, int64_t end) {
     return false;
 }
 
-/* Waits until the host is gone: the kernel gives up the lock of a dead process before its parent, a shell, is told. */
-static void wait_for_host(void) {
-    while (pthread_mutex_lock(&watched->life) == EINTR) continue;
+/* Waits until the host is gone: the kernel gives up the lock of a dead process before its parent, a shell, is told. Where it does
+ * not, the host is looked for. */
+static void wait_for_host(pid_t host) {
+    if (pthread_mutex_lock(&watched->life) == EOWNERDEAD) return;
+    while (getppid() == host) poll(NULL, 0, LOOK_MS);
 }
 
 /* Drops the rest of a paste. Output is held meanwhile, so that a shell stops at its prompt and takes nothing of it. */
@@ -73,8 +78,8 @@ static void end_paste(void) {
     drain_paste(&watched->paste, PASTE_MS);
 }
 
-static _Noreturn void watch(int words) {
-    wait_for_host();
+static _Noreturn void watch(int words, pid_t host) {
+    wait_for_host(host);
     int64_t start = now();
     bool is_paste = watched->paste.is_under_way, is_changed = watched->is_changed;
     if (is_changed) end_paste();
@@ -84,13 +89,13 @@ static _Noreturn void watch(int words) {
     if (!ends_before(words, start + GRACE_MS) && watched->program > 0) kill(watched->program, SIGKILL);
     if (is_changed) restore_screen(TTY_RESTORE_MS);
     /* its pipe has ended with the program */
-    while (watched->saver > 0 && now() < start + SAVE_MS && kill(watched->saver, 0) == 0) poll(NULL, 0, 50);
+    while (watched->saver > 0 && now() < start + SAVE_MS && kill(watched->saver, 0) == 0) poll(NULL, 0, LOOK_MS);
     if (watched->saver > 0) kill(watched->saver, SIGKILL);
     _exit(0);
 }
 
 /* Closes what would keep others waiting, and lets no signal but SIGKILL end the watcher. */
-static _Noreturn void become_watcher(int words, int words_end) {
+static _Noreturn void become_watcher(int words, int words_end, pid_t host) {
     sigset_t mask;
     sigfillset(&mask);
     sigprocmask(SIG_SETMASK, &mask, NULL);
@@ -99,7 +104,7 @@ static _Noreturn void become_watcher(int words, int words_end) {
     ioctl(line, TIOCNOTTY);
     const int others[] = {words_end, screen, STDIN_FILENO, STDOUT_FILENO, STDERR_FILENO};
     for (size_t i = 0; i < sizeof others / sizeof *others; i++) close(others[i]);
-    watch(words);
+    watch(words, host);
 }
 
 /* Makes what is shared, with a lock that the host holds as long as it lives. */
@@ -115,8 +120,9 @@ static bool share(void) {
 
 bool start_watcher(int words, int words_end) {
     if (!share()) return false;
+    pid_t host = getpid();
     watcher = fork_under_name();
-    if (watcher == 0) become_watcher(words, words_end);
+    if (watcher == 0) become_watcher(words, words_end, host);
     if (watcher < 0) watcher = 0;
     /* before the terminal changes: a kill of the whole job spares it */
     return watcher > 0 && (setpgid(watcher, watcher) == 0 || errno == EACCES);
