@@ -36,9 +36,10 @@ static bool is_being_written(const struct stat *look) {
     return clock_gettime(CLOCK_REALTIME, &now) == 0 && now.tv_sec - look->st_mtim.tv_sec <= CALM;
 }
 
-static void take_source(struct session *session, int file) {
-    if (session->source >= 0) close(session->source);
+static bool take_source(struct session *session, int file) {
     session->source = copy_descriptor(file);
+    if (session->source < 0) session->error = errno;
+    return session->source >= 0;
 }
 
 /* Copies an open file over the session's text. */
@@ -50,26 +51,24 @@ static int copy_over(struct session *session, int file) {
 /* Copies FILE before the program reads it: then that reads the copy. */
 static bool copy_at_once(struct session *session, int file) {
     session->error = copy_over(session, file);
-    session->has_text = session->error == 0;
-    if (session->has_text) take_source(session, session->text);
+    session->has_text = session->error == 0 && take_source(session, session->text);
     return session->has_text;
 }
 
 /* Copies FILE into memory, until there is room for it. */
 static bool copy_to_memory(struct session *session, int file) {
     int memory = memfd_create("text", MFD_CLOEXEC);
-    bool is_copied = memory >= 0 && copy_file(file, 0, memory) == 0;
-    if (is_copied) take_source(session, memory);
-    if (memory >= 0) close(memory);
-    return is_copied;
+    if (memory >= 0 && copy_file(file, 0, memory) == 0) {
+        session->source = memory;
+    } else if (memory >= 0) {
+        close(memory);
+    }
+    return session->source >= 0;
 }
 
 /* Shares FILE's blocks with the session's text, where the disk can do that. */
-static bool share_at_once(struct session *session, int file) {
-    if (!share_file(file, session->text)) return false;
-    session->has_text = true;
-    take_source(session, session->text);
-    return true;
+static void share_at_once(struct session *session, int file) {
+    session->has_text = share_file(file, session->text) && take_source(session, session->text);
 }
 
 static bool open_text(struct session *session) {
@@ -78,20 +77,20 @@ static bool open_text(struct session *session) {
     return session->text >= 0;
 }
 
-void choose_source(struct session *session, int file) {
-    bool has_file = file >= 0 && fstat(file, &session->look) == 0;
-    uint64_t size = has_file ? (uint64_t)session->look.st_size : 0;
+int choose_source(struct session *session, int file) {
+    if (file >= 0 && fstat(file, &session->look) != 0) return errno;
+    uint64_t size = file >= 0 ? (uint64_t)session->look.st_size : 0;
     bool is_small = size <= COPIED_AT_ONCE || (is_being_written(&session->look) && size <= LARGEST_TEXT);
     session->is_waiting = !open_text(session) || free_room(session->folder) < size + BESIDE_TEXT;
-    if (!has_file) {
+    if (file < 0) {
         session->has_text = session->text >= 0;
-        return;
+        return 0;
     }
     if (!session->is_waiting && is_small) session->is_waiting = !copy_at_once(session, file);
     if (!session->is_waiting && !session->has_text) share_at_once(session, file);
-    if (session->has_text || (session->is_waiting && size <= LARGEST_TEXT && copy_to_memory(session, file))) return;
-    take_source(session, file);
+    if (session->has_text || (session->is_waiting && size <= LARGEST_TEXT && copy_to_memory(session, file))) return 0;
     session->is_source_file = true;
+    return take_source(session, file) ? 0 : session->error;
 }
 
 /* ---- what the child writes */
@@ -203,9 +202,8 @@ static bool start_child(struct session *session) {
 /* Makes the text anew of what was its file, which has lost its name or its bytes on the disk. Until it is there, the session has no
  * path. */
 static void renew_text(struct session *session) {
-    take_source(session, session->text);
-    fstat(session->text, &session->look);
-    close(session->text);
+    if (session->source >= 0) close(session->source);
+    session->source = session->text;
     session->text = -1;
     session->is_source_file = session->has_text = session->is_filled = false;
     unlinkat(session->folder, part_name(PART_PATH), 0);

@@ -227,16 +227,20 @@ char *session_file_path(const struct session *session) {
     return path;
 }
 
+int find_itself(const struct session *session) {
+    struct stat own, named;
+    if (fstat(session->folder, &own) != 0 || fstatat(session->parent, session_name(session), &named, AT_SYMLINK_NOFOLLOW) != 0) return errno;
+    return is_same_file(&own, &named) ? 0 : ENOENT;
+}
+
 bool session_is_there(const struct session *session) {
-    struct stat own, named, parent, parent_named;
+    struct stat parent, named;
     char above[PATH_MAX];
-    if (fstat(session->folder, &own) != 0 || fstat(session->parent, &parent) != 0) return false;
-    if (fstatat(session->parent, session_name(session), &named, AT_SYMLINK_NOFOLLOW) != 0) return false;
+    if (find_itself(session) != 0 || fstat(session->parent, &parent) != 0) return false;
     /* the folder of sessions itself may be away, with the session in it */
     size_t length = (size_t)(session_name(session) - session->path);
     if (length > 1) length--;
-    if (!put_path(above, "%.*s", (int)length, session->path) || lstat(above, &parent_named) != 0) return false;
-    return is_same_file(&own, &named) && is_same_file(&parent, &parent_named);
+    return put_path(above, "%.*s", (int)length, session->path) && lstat(above, &named) == 0 && is_same_file(&parent, &named);
 }
 
 int each_entry(int folder, bool (*visit)(void *, int, const char *), void *context) {

@@ -38,6 +38,9 @@ const char *session_name(const struct session *session);
 int keep_part(struct session *session, enum part part, const void *bytes, size_t size);
 void forget_part(struct session *session, enum part part);
 
+/* Returns 0 where the session has its name in its folder of sessions, ENOENT where it has not. */
+int find_itself(const struct session *session);
+
 /* Whether an editor has the session, by its locks. One whose lock cannot be tried counts as live. */
 bool session_is_live(const struct session *session);
 
@@ -57,7 +60,7 @@ bool is_guarded(enum part part);
 int make_session(struct session *session, const struct sessions *sessions);
 
 /* Picks what the program opens, and copies FILE at once where that is quick or FILE is being written. */
-void choose_source(struct session *session, int file);
+int choose_source(struct session *session, int file);
 
 /* Writes what is to be there and is not, in this process. */
 int write_session(struct session *session);

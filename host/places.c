@@ -142,18 +142,17 @@ static const char *runtime_folder(void) {
 /* Opens the first folder of an open folder's file system. */
 static int open_root_of(int folder) {
     struct stat found, next;
-    int top = open_folder(folder, ".");
-    if (top < 0 || fstat(top, &found) != 0) return top;
-    for (;;) {
-        int above = open_above(top, &next);
-        if (above < 0) return top;
-        if (next.st_dev != found.st_dev) {
-            close(above);
-            return top;
-        }
+    int top = open_folder(folder, "."), above = UNSEEN;
+    if (top >= 0 && fstat(top, &found) == 0) above = open_above(top, &next);
+    while (above >= 0 && next.st_dev == found.st_dev) {
         close(top);
         top = above;
+        above = open_above(top, &next);
     }
+    if (above >= 0) close(above);
+    if (above != UNSEEN || top < 0) return top;
+    close(top);
+    return UNSEEN;
 }
 
 /* Takes a folder for sessions in memory, if it is in memory and the user may write it. Closes it. */

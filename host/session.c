@@ -254,6 +254,7 @@ int session_begin(struct session *session, const struct sessions *sessions, cons
     int error = make_session(session, sessions);
     if (error) return error;
     error = keep_notes(session, opening);
+    if (!error) error = choose_source(session, opening->file);
     if (error) {
         session_remove(session);
         session_close(session);
@@ -261,7 +262,6 @@ int session_begin(struct session *session, const struct sessions *sessions, cons
     }
     announce(session, PART_PROCESS, session->parts[PART_PROCESS].bytes);
     announce(session, PART_OPENED, opening->target->path);
-    choose_source(session, opening->file);
     return 0;
 }
 
@@ -281,7 +281,7 @@ int session_renew(struct session *renewed, const struct sessions *sessions, cons
     if (!error) error = keep_part(renewed, PART_UNSAVED, "", 0);
     int snapshot = error ? -1 : session_open(old, PART_SNAPSHOT);
     if (!error) error = snapshot < 0 || !renewed->parts[PART_PATH].is_kept ? ENOENT : 0;
-    if (!error) choose_source(renewed, snapshot);
+    if (!error) error = choose_source(renewed, snapshot);
     if (!error && renewed->is_waiting) error = renewed->error ? renewed->error : ENOSPC;
     if (!error) error = write_session(renewed);
     if (snapshot >= 0) close(snapshot);
@@ -335,7 +335,8 @@ int session_remove(struct session *session) {
     char dead[NAME_MAX + 1];
     const char *name = session_name(session);
     end_child(session);
-    if (!session_is_there(session)) return 0;
+    int error = find_itself(session);
+    if (error) return error == ENOENT ? 0 : error;
     snprintf(dead, sizeof dead, DEAD_BEGIN "%.*s", NAME_MAX - (int)sizeof DEAD_BEGIN, name);
     if (renameat(session->parent, name, session->parent, dead) != 0) return errno;
     remove_folder(session, dead);
