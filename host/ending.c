@@ -1,6 +1,7 @@
 /* The end of a session: what was kept of what was typed, what becomes of the session, and what the user is told. */
 #include <errno.h>
 #include <fcntl.h>
+#include <poll.h>
 #include <stdint.h>
 #include <stdio.h>
 #include <stdlib.h>
@@ -12,8 +13,9 @@
 #include "say.h"
 #include "signals.h"
 
-/* Milliseconds: for a text that is still being copied, and for a replay, each also after a signal. */
-enum { COPY_MS = 30000, COPY_BY_SIGNAL_MS = 1500, REPLAY_MS = 2000, REPLAY_BY_SIGNAL_MS = 1000 };
+/* Milliseconds. COPY_MS: for a text that is still being copied, until a signal. WRITE_MS: to write what the session lacks then;
+ * REPLAY_MS: for a replay; each also after a signal. */
+enum { COPY_MS = 30000, WRITE_MS = 5000, WRITE_BY_SIGNAL_MS = 700, REPLAY_MS = 2000, REPLAY_BY_SIGNAL_MS = 1000 };
 
 /* Permissions that a recovered file gets. */
 enum { PERMISSIONS = 0777 };
@@ -180,7 +182,7 @@ static bool leave_text(struct edit *edit) {
     if (edit->file.text >= 0) close(edit->file.text);
     edit->file.text = file;
     edit->file.look.is_there = is_there_now(edit);
-    enum replayed found = replay(edit, session, &text, end_signal ? REPLAY_BY_SIGNAL_MS : REPLAY_MS);
+    enum replayed found = replay(edit, session, &text, within(end_signal ? REPLAY_BY_SIGNAL_MS : REPLAY_MS));
     if (text < 0) return false;
     if (map_file(text, &bytes, &length)) {
         /* if this fails, another version of the editor recovers the text by the keys */
@@ -208,6 +210,14 @@ static void note_moved(struct edit *edit) {
     session_note_file(&edit->session, &edit->target);
 }
 
+/* Has the session get what it lacks. Returns whether it can be recovered. A signal ends the wait for a slow disk. */
+static bool settle(struct session *session) {
+    int64_t end = now() + COPY_MS;
+    struct pollfd copied = {.fd = session->report, .events = POLLIN};
+    while (session->report >= 0 && !end_signal && now() < end && wait_for(&copied, 1, end) <= 0) continue;
+    return session_settle(session, (int)within(end_signal ? WRITE_BY_SIGNAL_MS : WRITE_MS));
+}
+
 /* What is known of the session, to settle its fate. On the way leaves the replayed text in it. */
 static struct left left_of(struct edit *edit, enum left_how how) {
     struct session *session = &edit->session;
@@ -217,7 +227,7 @@ static struct left left_of(struct edit *edit, enum left_how how) {
     left.has_keys = session_has_keys(session) || session_has(session, PART_UNSAVED);
     bool is_wanted = left.is_torn || (left.has_keys && how != LEFT_SAVED);
     if (is_wanted) note_moved(edit);
-    left.is_filled = is_wanted && session_settle(session, end_signal ? COPY_BY_SIGNAL_MS : COPY_MS);
+    left.is_filled = is_wanted && settle(session);
     left.is_secret = session_has(session, PART_SECRET);
     left.is_same = left.is_filled && left.has_keys && leave_text(edit);
     return left;

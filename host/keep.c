@@ -1,6 +1,7 @@
 #include "keep.h"
 
 #include <errno.h>
+#include <limits.h>
 #include <stdio.h>
 #include <stdlib.h>
 #include <string.h>
@@ -67,11 +68,11 @@ static int edit_recovered(struct edit *edit) {
     return is_taken ? go_on(edit) : edit_new(edit);
 }
 
-/* Tells that XDG_STATE_HOME is passed over, if it is set and not absolute. */
-static void tell_state_home(void) {
-    const char *path = getenv("XDG_STATE_HOME");
-    if (path && is_state_home_relative())
-        warn("XDG_STATE_HOME names %s, which is not absolute: ~/.local/state is taken", shown(path));
+/* Tells of variables that are passed over: an XDG_STATE_HOME that is not absolute, and a TMPDIR that no system takes. */
+static void tell_variables(void) {
+    const char *state = getenv("XDG_STATE_HOME"), *temporary = getenv("TMPDIR");
+    if (state && is_state_home_relative()) warn("XDG_STATE_HOME names %s, which is not absolute: ~/.local/state is taken", shown(state));
+    if (temporary && strlen(temporary) >= PATH_MAX) warn("TMPDIR has %zu bytes, too many for a path: it is passed over", strlen(temporary));
 }
 
 /* Edits, or recovers. */
@@ -82,7 +83,7 @@ static int edit_by(const struct call *call, const struct programs *programs) {
         warn("%s", cause);
         return STATUS_FAULT;
     }
-    tell_state_home();
+    tell_variables();
     const char *files[] = {programs->editor, edit.tables.classes, edit.tables.brackets, edit.tables.mirroring};
     if (!versions_look(EDITOR_VERSION, files, sizeof files / sizeof *files, edit.versions)) {
         warn("a program or table of the editor cannot be looked at: %s", strerror(errno));
@@ -122,8 +123,8 @@ static int obey(const struct call *call, const struct programs *programs) {
     case CALL_HELP: put_text(STDOUT_FILENO, help_text); return 0;
     case CALL_VERSION: return tell_version(programs);
     case CALL_PRINT: return print_file(call, programs);
-    case CALL_LIST: tell_state_home(); return list_sessions();
-    case CALL_FORGET: tell_state_home(); return forget_sessions(call->file);
+    case CALL_LIST: tell_variables(); return list_sessions();
+    case CALL_FORGET: tell_variables(); return forget_sessions(call->file);
     case CALL_EDIT:
     case CALL_RECOVER: break;
     }

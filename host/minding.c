@@ -68,10 +68,11 @@ static void on_journal(void *whose, bool is_kept) {
     edit->facts.is_journal_lost = !is_kept;
 }
 
-/* Another file is FILE now, by which its session is found. */
+/* After a save that succeeded another file is FILE, by which its session is found. */
 static void on_saved(void *whose) {
     struct edit *edit = whose;
     struct look look;
+    if (saver_cause(&edit->saver) != 0) return;
     edit->was_saved = true;
     if (session_is_none(&edit->session) || !saver_look(&edit->saver, &look, &edit->target.id)) return;
     edit->target.is_there = look.is_there;
