@@ -15,7 +15,8 @@
 
 /* Milliseconds. GRACE_MS: the program's for its end, of which the first HAND_ON_MS are for what was typed to be handed on;
  * DEATH_MS: a killed one's. RESTORE_MS: the terminal's to take what restores it, or RESTORE_BY_SIGNAL_MS after a signal. IDLE_MS:
- * typed bytes that nothing follows for so long are all. PASTE_MS: for a paste to end. */
+ * typed bytes that nothing follows for so long are all. PASTE_MS: for a paste to
+ * end. SILENCE_MS: a program that asks for nothing so long waits for an answer. */
 enum {
     GRACE_MS = 3000,
     HAND_ON_MS = 500,
@@ -24,6 +25,7 @@ enum {
     RESTORE_BY_SIGNAL_MS = 1000,
     IDLE_MS = 50,
     SECOND_MS = 1000,
+    SILENCE_MS = 1000,
     PASTE_MS = 2000
 };
 
@@ -44,9 +46,9 @@ static struct {
     /* The program is to get the window's size; the terminal says no more; what did not end in time was killed; bytes were typed
      * since was_typed was called last. */
     bool is_size_owed, is_hung_up, is_killed, is_typed;
-    /* When IDLE is due, and the next second; when what was typed has to be handed on, and the program to have ended, 0 before the
-     * session is to end. */
-    int64_t idle, second, handed_on, end;
+    /* When IDLE is due, and the next second; when the rest of a save whose child was killed is dropped; when what was typed has to
+     * be handed on, and the program to have ended. 0 for never. */
+    int64_t idle, second, dropped, handed_on, end;
 } now_running = {.pipes = {-1, -1, -1, -1}};
 
 void give_notice(enum notice notice) {
@@ -73,18 +75,36 @@ static void reap(struct run *run) {
     }
     if (now_running.saver > 0 && waitpid(now_running.saver, &status, WNOHANG) == now_running.saver) {
         now_running.saver = watched->saver = 0;
-        saver_finish(run->saver);
-        if (run->on_saved) run->on_saved(run->whose);
+        if (!saver_finish(run->saver)) now_running.dropped = now() + SILENCE_MS;
+        else if (run->on_saved) run->on_saved(run->whose);
     }
     if (watcher > 0 && waitpid(watcher, &status, WNOHANG) == watcher) watcher = 0;
 }
 
+/* Drops a part of a save whose child was killed: it is over once the program is silent. */
+static void drop_request(size_t length) {
+    char bytes[4096];
+    if (read(now_running.pipes.requests, bytes, length < sizeof bytes ? length : sizeof bytes) > 0) now_running.dropped = now() + SILENCE_MS;
+}
+
+/* Fails a save whose child was killed, after the rest of it. */
+static void mind_dropped(struct run *run) {
+    if (now_running.dropped == 0 || now() < now_running.dropped) return;
+    now_running.dropped = 0;
+    saver_refuse(run->saver);
+    if (run->on_saved) run->on_saved(run->whose);
+}
+
 /* Has a child serve the save that the program asks for. */
-static void start_save(struct run *run) {
+static void mind_request(struct run *run) {
     int waiting = 0;
     /* the program's end is no request */
     if (ioctl(now_running.pipes.requests, FIONREAD, &waiting) != 0 || waiting == 0) {
         close_file_of(&now_running.pipes.requests);
+        return;
+    }
+    if (now_running.dropped != 0) {
+        drop_request((size_t)waiting);
         return;
     }
     pid_t child = saver_start(run->saver, now_running.pipes.requests, now_running.pipes.answers);
@@ -139,7 +159,7 @@ static void wait_once(struct run *run, int64_t end) {
     if (files[LINE].events == 0) files[LINE].fd = -1;
     if (wait_for(files, FILES, end) <= 0) return;
     if (files[WORDS].revents) hear_words(run);
-    if (files[REQUESTS].revents) start_save(run);
+    if (files[REQUESTS].revents) mind_request(run);
     if (files[LINE].revents && is_showing()) go_on_showing();
     if (files[LINE].revents & ~POLLOUT && takes_typing()) read_typing(run);
 }
@@ -214,7 +234,7 @@ static bool mind_end(const struct run *run) {
 
 /* When the next thing is to be done without being woken. */
 static int64_t next_moment(void) {
-    int64_t moments[] = {now_running.end, now_running.pipes.keys >= 0 ? now_running.handed_on : 0,
+    int64_t moments[] = {now_running.end, now_running.dropped, now_running.pipes.keys >= 0 ? now_running.handed_on : 0,
                          takes_typing() ? now_running.idle : 0};
     int64_t next = now_running.second;
     for (size_t i = 0; i < sizeof moments / sizeof *moments; i++)
@@ -227,6 +247,7 @@ static void go_on(struct run *run) {
     for (reap(run); now_running.program > 0 || now_running.saver > 0; reap(run)) {
         mind_terminal();
         mind_second(run);
+        mind_dropped(run);
         mind_idle();
         mind_queue();
         if (!mind_end(run)) return;

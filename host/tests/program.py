@@ -8,7 +8,7 @@ before OPENED: refused (a fault of the text), stalled (waits for ever), foreign 
 after it: flood (writes without end, reads nothing), deaf (reads nothing, and does not end), broken (ends by a fault), ends (ends
     at once), mixed (other text between words), mute (says no END)
 while it runs: chatty (the journal is lost and kept again at each key), slow (a tenth of a second for each key), saves (a save at
-    each key), large (a save of the letters again and again, up to 16 MB), rests (a second in the midst of a save), notes (each
+    each key), large (a save of the letters again and again, up to 16 MB), rests (a while in the midst of a save), notes (each
     frame is noted in FILE.frames, a line a frame: its letter and its bytes in hexadecimal), keeps (does not end at the end of its
     input)
 
@@ -92,7 +92,7 @@ class Saves:
         for at in range(0, len(text), 65535):
             self.ask(b'P', text[at:at + 65535], False)
             if 'rests' in WAYS and at == 65535 * 9:
-                time.sleep(1)
+                time.sleep(0.6)
         return self.ask(b'C')
 
 
