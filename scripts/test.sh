@@ -1,6 +1,6 @@
 #!/bin/sh
 # test.sh: runs all tests: `rt ci`, which proves all crates and runs their tests, and then the checks of the host and of the keeper
-# with it, check-host.sh and check-keeper.sh, which take some two minutes and need cc and python3 beside the toolchain. The last
+# with it, check-host.sh and check-keeping.sh, which take some three minutes and need cc and python3 beside the toolchain. The last
 # line is 'N passed, M failed' for all of it; what cannot be checked counts as failed. Exit status 1: something failed.
 set -u
 
@@ -42,6 +42,6 @@ add 'rt ci' rt ci
 build_keeper
 # one that hangs is a fault
 add 'check-host.sh' timeout -k 5 300 sh scripts/check-host.sh
-add 'check-keeper.sh' timeout -k 5 120 sh scripts/check-keeper.sh
+add 'check-keeping.sh' timeout -k 5 240 sh scripts/check-keeping.sh
 echo "$passed passed, $failed failed"
 [ "$failed" = 0 ]

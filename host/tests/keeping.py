@@ -3,7 +3,7 @@ a home of its own, and fails by an exception. Prints a line for each, and the to
 import os, re, shutil, signal, stat, subprocess, sys, tempfile, time
 HERE = os.path.dirname(os.path.abspath(__file__))
 sys.path.insert(0, HERE)
-import keeping_cases, keeping_ends
+import keeping_cases, keeping_ends, keeping_files
 from terminals import become_reaper
 
 
@@ -32,7 +32,7 @@ def main():
     passed = failed = 0
     try:
         installed = install(f'{folder}/tree', host)
-        for case in keeping_cases.CASES + keeping_ends.CASES:
+        for case in keeping_cases.CASES + keeping_ends.CASES + keeping_files.CASES:
             if names and not any(case.__name__.startswith(name) for name in names):
                 continue
             top = f'{folder}/{case.__name__}'

@@ -16,7 +16,7 @@ class Started:
         place.count += 1
         self.out_path, self.err_path = f'{place.top}/out{place.count}', f'{place.top}/err{place.count}'
         line = ('sleep 0.5; ' if is_slow else '') + 'cd "$0" && exec "$@"' + ('' if is_plain else f' >{self.out_path} 2>{self.err_path}')
-        self.run = Run(['sh', '-c', line, place.files, place.host, *words], **place.variables(variables))
+        self.run = Run(['sh', '-c', line, place.files, *place.before, place.host, *words], **place.variables(variables))
 
     def out(self):
         return open(self.out_path, encoding='utf-8').read()
@@ -63,10 +63,10 @@ class Started:
 
 
 class Place:
-    """The folder of a case: `files` has FILEs, `home` the sessions."""
+    """The folder of a case: `files` has FILEs, `home` the sessions. `before` are words that precede the host."""
 
     def __init__(self, host, top):
-        self.host, self.top, self.files, self.count = host, top, f'{top}/files', 0
+        self.host, self.top, self.files, self.count, self.before = host, top, f'{top}/files', 0, []
 
     def variables(self, more=None):
         variables = {'HOME': f'{self.top}/home', 'TMPDIR': f'{self.top}/tmp', 'TYPIST': ''}
@@ -83,7 +83,7 @@ class Place:
 
     def tells(self, *words, redirection='', **variables):
         """A start without a terminal: its status, standard output and error."""
-        done = subprocess.run(['setsid', '-w', 'sh', '-c', f'exec "$@" {redirection}', 'sh', self.host, *words], cwd=self.files, stdin=subprocess.DEVNULL, capture_output=True,
+        done = subprocess.run(['setsid', '-w', 'sh', '-c', f'exec "$@" {redirection}', 'sh', *self.before, self.host, *words], cwd=self.files, stdin=subprocess.DEVNULL, capture_output=True,
                               env={**os.environ, 'TERM': 'xterm', **self.variables(variables)}, timeout=20)
         return done.returncode, done.stdout.decode(), done.stderr.decode()
 

@@ -128,6 +128,30 @@ def save(given, text):
         os.close(of)
 
 
+class Journal:
+    """What is typed, before it is obeyed; what could not be written waits, and is tried again each second."""
+
+    def __init__(self, given):
+        self.file = os.open(given['--journal'], os.O_WRONLY | os.O_APPEND) if '--journal' in given else None
+        self.waiting, self.is_lost = b'', False
+
+    def add(self, bytes_):
+        if self.file is None:
+            return
+        self.waiting += bytes_
+        try:
+            while self.waiting:
+                self.waiting = self.waiting[os.write(self.file, self.waiting):]
+        except OSError:
+            if not self.is_lost:
+                say(b'j', b'lost')
+            self.is_lost = True
+            return
+        if self.is_lost and 'lost' not in WAYS:
+            say(b'j', b'kept')
+            self.is_lost = False
+
+
 def end(text, given, word):
     if word == b'saved' and '--journal' in given:
         os.truncate(given['--journal'], 0)
@@ -150,7 +174,7 @@ def main():
         text.take(bytes_at(given['--replay']))
     say(b'o')
     put(1, given.get('--before', '').encode())
-    journal = os.open(given['--journal'], os.O_WRONLY | os.O_APPEND) if '--journal' in given else None
+    journal = Journal(given)
     if 'lost' in WAYS:
         say(b'j', b'lost')
     while True:
@@ -162,11 +186,12 @@ def main():
         letter, body = got
         if letter == b'n':
             told = told + b' notice %d' % body[0]
+        if letter == b's':
+            journal.add(b'')
         if letter != b'b':
             continue
         for key in body:
-            if journal is not None:
-                put(journal, bytes([key]))
+            journal.add(bytes([key]))
             if key == QUIT:
                 end(text, given, b'saved' if text.text() == text.saved else b'dropped')
             if key == SAVE:

@@ -1,0 +1,154 @@
+"""Cases of keeping.py: kinds of files, other names of FILE, full disks, and what is removed."""
+import glob, os, re, signal, subprocess, time
+from keeping_cases import CHOICE, QUIT, SAVE
+
+NOBODY = ['setpriv', '--reuid', '65534', '--regid', '65534', '--clear-groups']
+
+
+def forgets(place):
+    """All sessions that ended are removed, of one FILE or of all, and told; a live one stays."""
+    for name in ('a.txt', 'b.txt', 'c.txt'):
+        place.put(name, b'text\n')
+    place.leave('a.txt')
+    place.edit('b.txt').type(b'abc').sees(b'*').type(QUIT).ends(0)
+    live = place.edit('c.txt').type(b'abc').sees(b'*')
+    time.sleep(0.3)
+    assert place.tells('--forget', 'c.txt') == (0, 'bidi-edit: there is no session of c.txt to remove\n', '')
+    status, out, err = place.tells('--forget')
+    told = ''.join(sorted(out.splitlines(True)))
+    wanted = (rf'bidi-edit: the session of {place.path("a.txt")} of \S+ \S+ is removed\n'
+              rf'bidi-edit: the session of {place.path("b.txt")} of \S+ \S+ is removed \(dropped\)\n')
+    assert status == 0 and not err and re.fullmatch(wanted, told), (out, err)
+    assert len(place.sessions()) == 1
+    live.type(QUIT).ends(0)
+
+
+def foreign_names(place):
+    """Names that are not UTF-8 are refused with what helps."""
+    folder = os.path.join(os.fsencode(place.files), b'f\xe9')
+    os.mkdir(folder)
+    usual, place.files = place.files, os.fsdecode(folder)
+    assert place.tells('a.txt')[::2] == (1, 'bidi-edit: a.txt is in a folder whose name is not UTF-8: mv gives it another\n'), place.tells('a.txt')
+    place.files = usual
+    assert place.tells(os.fsdecode(b'a\xe9'))[::2] == (1, "bidi-edit: $'a\\351' has a name that is not UTF-8: mv gives it another\n")
+    os.symlink(b'a\xe9', place.path('link'))
+    assert 'is a link to a name that is not UTF-8' in place.tells('link')[2]
+    place.put('b', b'text\n')
+    place.leave('b')
+    status, out, _ = place.tells('--recover', '--to', 'b\x1b[2J', 'b')
+    assert status == 0 and '\x1b' not in out, out
+
+
+def closed_files(place):
+    """A FILE that cannot be read is refused, and --force opens an empty text as the refusal says."""
+    if os.geteuid() != 0:
+        return
+    place.put('a.txt', b'text\n', 0o200)
+    for path in (place.top, f'{place.top}/home', place.files, place.path('a.txt'), f'{place.top}/tmp'):
+        os.chown(path, 65534, 65534)
+    os.chmod(os.path.dirname(place.top), 0o755)
+    place.before = NOBODY
+    told = 'bidi-edit: a.txt cannot be read by you: chmod u+r lets its owner read it, and --force opens an empty text in its place\n'
+    assert place.tells('a.txt')[::2] == (1, told), place.tells('a.txt')
+    found = place.tells('--force', 'a.txt')
+    assert found[0] == 2 and found[2].startswith('bidi-edit: there is no terminal') and found[2].count('\n') == 1, found
+    assert place.tells('--print', 'a.txt')[::2] == (1, 'bidi-edit: a.txt cannot be read by you: chmod u+r lets its owner read it\n')
+    started = place.edit('--force', 'a.txt')
+    assert started.err() == 'bidi-edit: a.txt cannot be read by you: an empty text is opened, and saves overwrite what is there\n', started.err()
+    words = started.words()
+    assert words[words.index('--text') + 1] == '/dev/null', words
+    started.type(b'abc').sees(b'text <abc> *')
+    os.kill(started.run.child('bidi-edit') or started.run.job, signal.SIGHUP)
+    assert started.run.pump(8), started.run.output
+    started.run.drain()
+    started.run.close()
+    found = place.tells('--recover', '--to', 'b.txt', 'a.txt')
+    assert found[0] == 0 and place.text('b.txt') == b'abc', found
+
+
+def renamed(place):
+    """A second start of a FILE that was renamed is told of the first."""
+    place.put('a.txt', b'text\n')
+    os.symlink('a.txt', place.path('c.txt'))
+    first = place.edit('a.txt')
+    time.sleep(0.3)
+    for name in ('c.txt', 'd.txt'):
+        if name == 'd.txt':
+            os.rename(place.path('a.txt'), place.path('d.txt'))
+        second = place.start(name).answers(b'Edit it all the same (yes, no)? ', 'no').ends(2)
+        assert f'{name} is open in another window of yours' in second.out(), second.out()
+    first.type(QUIT).ends(0)
+
+
+def torn(place):
+    """A FILE that a killed save left torn is repaired, by its other name too, where the first is gone."""
+    for is_gone in (False, True):
+        place.put('a.txt', b'text\n')
+        os.link(place.path('a.txt'), place.path('b.txt'))
+        started = place.edit('a.txt').type(b'abc').sees(b'*').type(SAVE).sees(b'saved').type(b'd').sees(b'*')
+        time.sleep(0.3)
+        place.put_part('mark', b'abcdtext\n')
+        with open(place.path('a.txt'), 'r+b') as file:
+            file.truncate(3)
+        started.kill()
+        if is_gone:
+            os.unlink(place.path('a.txt'))
+        started = place.start('b.txt').answers(CHOICE, 'r').sees(b'text <abcdtext|>').type(QUIT).ends(0)
+        assert started.err().startswith('bidi-edit: a save of b.txt was cut off; its whole text is put back\n'), started.err()
+        assert place.text('b.txt') == b'abcdtext\n'
+        place.tells('--forget')
+        for name in glob.glob(place.path('*')):
+            os.unlink(name)
+
+
+def full_disk(place):
+    """No room for a session, then room, and then none for its journal."""
+    disk = f'{place.top}/disk'
+    os.mkdir(disk)
+    if os.geteuid() != 0 or subprocess.run(['mount', '-t', 'tmpfs', '-o', 'size=256k', 'none', disk], stderr=subprocess.DEVNULL).returncode != 0:
+        return
+    try:
+        place.put('a.txt', b'text\n')
+        filler = open(f'{disk}/filler', 'wb', buffering=0)
+
+        def fill():
+            try:
+                while True:
+                    filler.write(bytes(4096))
+            except OSError:
+                pass
+
+        fill()
+        started = place.edit('a.txt', XDG_STATE_HOME=disk)
+        assert started.err().startswith('bidi-edit: unsaved text is not kept, since '), started.err()
+        started.sees(b'notice 1').type(b'abc').sees(b'*')
+        if 'has no room for it' in started.err():
+            filler.truncate(0)
+            filler.seek(0)
+            started.sees(b'notice 6')
+            os.kill(started.run.job, signal.SIGTERM)
+            started.ends(-signal.SIGTERM)
+            assert 'what was typed is kept: ' in started.err(), started.err()
+            found = place.tells('--recover', '--to', 'o', 'a.txt', XDG_STATE_HOME=disk)
+            assert found[0] == 0 and place.text('o') == b'abctext\n', found
+        else:
+            os.kill(started.run.job, signal.SIGTERM)
+            started.ends(-signal.SIGTERM)
+            assert 'what was typed is not kept, since ' in started.err(), started.err()
+        filler.close()
+    finally:
+        subprocess.run(['umount', disk])
+
+
+def large(place):
+    """A text that is copied behind the first picture is recovered; one that changes meanwhile is told."""
+    text = b'0123456789abcde\n' * 200000
+    place.put('a.txt', text)
+    started = place.edit('a.txt').type(b'x').sees(b'*')
+    time.sleep(1)
+    started.kill()
+    found = place.tells('--recover', '--to', 'o', 'a.txt')
+    assert found[0] == 0 and place.text('o') == b'x' + text, found
+
+
+CASES = [forgets, foreign_names, closed_files, renamed, torn, full_disk, large]
