@@ -253,9 +253,9 @@ static const char *find_outer(struct terminal_kind *found, char *answer, size_t 
     answer[strcspn(answer, "\n")] = 0;
     char *name = strchr(answer, ' ');
     if (name) *name = 0;
-    if (strlen(answer) < sizeof found->outer && stat(answer, &look) == 0 && S_ISCHR(look.st_mode) &&
-        faccessat(AT_FDCWD, answer, W_OK, AT_EACCESS) == 0)
-        snprintf(found->outer, sizeof found->outer, "%s", answer);
+    size_t length = strlen(answer);
+    bool is_device = stat(answer, &look) == 0 && S_ISCHR(look.st_mode) && faccessat(AT_FDCWD, answer, W_OK, AT_EACCESS) == 0;
+    if (is_device && length < sizeof found->outer) memcpy(found->outer, answer, length + 1);
     return name ? name + 1 : "";
 }
 
