@@ -58,7 +58,7 @@ def closed_files(place):
     words = started.words()
     assert words[words.index('--text') + 1] == '/dev/null', words
     started.type(b'abc').sees(b'text <abc> *')
-    os.kill(started.run.child('bidi-edit') or started.run.job, signal.SIGHUP)
+    os.kill(started.run.job, signal.SIGHUP)
     assert started.run.pump(8), started.run.output
     started.run.drain()
     started.run.close()
