@@ -57,13 +57,19 @@ bool path_of(int at, char path[PATH_MAX]) {
 
 /* ---- the walk to FILE */
 
+/* Copies a path, of which at most PATH_MAX bytes are taken. */
+static void set_path(char to[PATH_MAX], const char *from) {
+    memccpy(to, from, 0, PATH_MAX);
+    to[PATH_MAX - 1] = 0;
+}
+
 /* Cuts a path into its folder, `.` for a name alone, and its last name. Returns false where it is too long. */
 static bool split(const char *path, char folder[PATH_MAX], char name[PATH_MAX]) {
     const char *slash = strrchr(path, '/');
     size_t length = slash ? (size_t)(slash - path) : 0;
     if (strlen(path) >= PATH_MAX) return false;
-    strcpy(name, slash ? slash + 1 : path);
-    strcpy(folder, slash ? "/" : ".");
+    set_path(name, slash ? slash + 1 : path);
+    set_path(folder, slash ? "/" : ".");
     if (length == 0) return true;
     memcpy(folder, path, length);
     folder[length] = 0;
@@ -123,7 +129,7 @@ static const char *take_step(struct file *file, const char *path) {
     int folder = open_folder(base, folder_part);
     if (folder < 0 && file->is_linked) return refuse(file, "is a link that leads nowhere: ls -l shows where to");
     if (folder < 0) return refuse_folder(file, folder_part);
-    if (!file->is_linked) strcpy(file->folder_name, folder_part);
+    if (!file->is_linked) set_path(file->folder_name, folder_part);
     close_one(&file->folder);
     file->folder = folder;
     file->itself = openat(folder, file->name, O_PATH | O_NOFOLLOW | O_CLOEXEC);
@@ -154,10 +160,10 @@ static const char *walk(struct file *file) {
 /* Opens FILE to be read, if it is still the one that was found. Returns false where another one is there by now. A lease on FILE
  * makes the opening wait, which a plain file alone may do. */
 static bool open_text(struct file *file) {
-    char link[40];
     struct stat opened;
     file->text = openat(file->folder, file->name, O_RDONLY | O_NONBLOCK | O_NOFOLLOW | O_CLOEXEC | O_NOCTTY);
     if (file->text < 0 && errno == EAGAIN) {
+        char link[40];
         snprintf(link, sizeof link, "/proc/self/fd/%d", file->itself);
         file->text = open(link, O_RDONLY | O_CLOEXEC | O_NOCTTY);
     }
@@ -171,8 +177,8 @@ static bool open_text(struct file *file) {
 static void name_paths(struct file *file) {
     struct stat folder, there;
     if (!path_of(file->folder, file->folder_path) && (file->is_linked || !realpath(file->folder_name, file->folder_path)))
-        strcpy(file->folder_path, file->folder_name);
-    if (file->is_linked) strcpy(file->folder_name, file->folder_path);
+        set_path(file->folder_path, file->folder_name);
+    if (file->is_linked) set_path(file->folder_name, file->folder_path);
     const char *between = strcmp(file->folder_path, "/") == 0 ? "" : "/";
     snprintf(file->path, sizeof file->path, "%s%s%s", file->folder_path, between, file->name);
     file->is_at_path = fstat(file->folder, &folder) == 0 && stat(file->folder_path, &there) == 0 && is_same_file(&folder, &there);
@@ -229,19 +235,19 @@ const char *open_lost_file(struct file *file, const char *typed) {
     char above[PATH_MAX], folder[PATH_MAX], last[PATH_MAX], rest[2 * PATH_MAX] = "";
     const char *message = open_file(file, typed);
     if (!message || !file->is_lost || strlen(typed) >= PATH_MAX) return message;
-    strcpy(above, typed);
+    set_path(above, typed);
     while (file->folder < 0 && split(above, folder, last)) {
         char more[PATH_MAX];
         int length = snprintf(more, sizeof more, "%s%s%s", last, rest[0] ? "/" : "", rest);
         if (length < 0 || length >= (int)sizeof more) return message;
-        strcpy(rest, more);
+        set_path(rest, more);
         file->folder = open_folder(AT_FDCWD, folder);
         if (strcmp(folder, ".") == 0 || strcmp(folder, "/") == 0) break;
-        strcpy(above, folder);
+        set_path(above, folder);
     }
     if (file->folder < 0) return message;
-    strcpy(file->folder_name, folder);
-    strcpy(file->name, rest);
+    set_path(file->folder_name, folder);
+    set_path(file->name, rest);
     name_paths(file);
     find_id(file->folder, &file->folder_id);
     find_folder_facts(file->folder, &file->folder_facts);

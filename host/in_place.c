@@ -50,8 +50,10 @@ static int keep_mark(struct save *save) {
 static int open_to_write(const struct save *save, int *cause) {
     struct stat found;
     int file = openat(save->folder, save->file->name, O_WRONLY | O_NOFOLLOW | O_NONBLOCK | O_CLOEXEC | O_NOCTTY);
-    if (file < 0) *cause = errno == ELOOP || errno == ENXIO || errno == ENOENT ? SAVE_CHANGED : cause_of(errno);
-    if (file < 0) return -1;
+    if (file < 0) {
+        *cause = errno == ELOOP || errno == ENXIO || errno == ENOENT ? SAVE_CHANGED : cause_of(errno);
+        return -1;
+    }
     if (fstat(file, &found) == 0 && is_unchanged(&save->state.seen.found, &found)) return file;
     *cause = SAVE_CHANGED;
     close(file);

@@ -130,7 +130,11 @@ static int settle_way(struct save *save) {
 static int open_draft(struct save *save) {
     int mark_folder = save->saver->mark_folder;
     mode_t mode = save->is_in_place || save->state.old.is_there ? 0600 : 0666;
-    if (save->is_in_place && mark_folder >= 0) return draft_open_own(&save->draft, mark_folder, MARK_DRAFT_NAME, mode);
+    if (save->is_in_place && mark_folder >= 0) {
+        /* FILE may need the mark that is there */
+        if (faccessat(mark_folder, MARK_NAME, F_OK, AT_SYMLINK_NOFOLLOW) == 0) save->state.is_torn = true;
+        return draft_open_own(&save->draft, mark_folder, MARK_DRAFT_NAME, mode);
+    }
     return draft_open(&save->draft, save->file, save->folder, mode, true);
 }
 

@@ -45,8 +45,9 @@ static void note(const char *text) {
 __attribute__((constructor)) static void read_variables(void) {
     log_path = getenv("FAULT_LOG");
     lacks = getenv("LACKS") ? getenv("LACKS") : "";
-    fault_at = getenv("FAULT_AT") ? atol(getenv("FAULT_AT")) : 0;
-    fault_error = getenv("FAULT_ERROR") ? atol(getenv("FAULT_ERROR")) : 0;
+    const char *at = getenv("FAULT_AT"), *error = getenv("FAULT_ERROR");
+    fault_at = at ? atol(at) : 0;
+    fault_error = error ? atol(error) : 0;
 }
 
 static bool is_lacking(const char *word) {
@@ -119,7 +120,18 @@ static bool is_folder(int file) {
     return real_syscall(SYS_fstat, file, (long)&found, 0, 0, 0) == 0 && S_ISDIR(found.st_mode);
 }
 
-WRAP(ssize_t, read, false, 0, (int file, void *bytes, size_t length), (file, bytes, length))
+/* How often a pipe is read depends on who is faster: such a call is not counted. */
+ssize_t read(int file, void *bytes, size_t length) {
+    struct stat found;
+    bool is_pipe = real_syscall(SYS_fstat, file, (long)&found, 0, 0, 0) == 0 && S_ISFIFO(found.st_mode);
+    if (!is_pipe && fails("read")) return -1;
+    ssize_t answer = real_syscall(SYS_read, file, (long)bytes, (long)length, 0, 0);
+    int kept = errno;
+    if (!is_pipe) after();
+    errno = kept;
+    return answer;
+}
+
 WRAP(ssize_t, write, false, 0, (int file, const void *bytes, size_t length), (file, bytes, length))
 WRAP(int, close, false, 0, (int file), (file))
 WRAP(int, fstat, false, 0, (int file, struct stat *found), (file, found))

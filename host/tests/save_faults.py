@@ -1,11 +1,13 @@
 #!/usr/bin/env python3
-"""save_faults.py [--old] DRIVER: what other programs do to FILE and its folder while it is opened and saved.
+"""save_faults.py [--old DATA] DRIVER: what other programs do to FILE and its folder while it is opened and saved.
 
-DRIVER is save_driver, built from save_driver.c, which plays the program's side of a save. With --old it is one that saves through
-bx_store's FileStore and knows the lines `open PATH` and `save PATH`: most checks fail there. Some checks need root, strace, setfacl or
-mount, and are left out without. Prints a line for each failed check, and their number. Exit status 1: one failed.
+DRIVER is save_driver, built from save_driver.c, which plays the program's side of a save. With --old it is the program bidi_edit, which
+saves by itself, and DATA is the folder of Unicode's tables: most checks fail there. Some checks need root, strace, setfacl or mount,
+and are left out without. CHECKS in the environment names the ones to be run. Prints a line for each failed check, and their number. Exit
+status 1: one failed.
 """
 import os
+import re
 import shutil
 import signal
 import stat
@@ -18,6 +20,7 @@ OTHER = 54322
 LIMIT = 20
 
 is_old = sys.argv[1:2] == ["--old"]
+tables = sys.argv[2] if is_old else ""
 here = os.path.dirname(os.path.abspath(__file__))
 driver = os.path.abspath(sys.argv[-1])
 top = tempfile.mkdtemp()
@@ -29,9 +32,8 @@ class Editor:
     """A driver that has opened FILE."""
 
     def __init__(self, path, *words, under=(), cwd=None):
-        command = [driver] if is_old else [driver, *words, path]
-        self.process = subprocess.Popen([*under, *command], stdin=subprocess.PIPE, stdout=subprocess.PIPE, text=True, bufsize=1, cwd=cwd)
-        self.opened = self.ask(f"open {path}") if is_old else self.hear()
+        self.process = subprocess.Popen([*under, driver, *words, path], stdin=subprocess.PIPE, stdout=subprocess.PIPE, text=True, bufsize=1, cwd=cwd)
+        self.opened = self.hear()
 
     def hear(self):
         return self.process.stdout.readline().rstrip("\n")
@@ -45,11 +47,14 @@ class Editor:
         return self.hear()
 
     def save(self, text):
-        """Saves a text, and gives the first words of the answer."""
-        return self.ask(f"save {write(new_name(), text)}").split(",")[0]
+        """Saves a text, and gives the answer."""
+        return self.ask(f"save {write(new_name(), text)}")
 
     def start_save(self, text):
         self.tell(f"save {write(new_name(), text)}")
+
+    def end_save(self):
+        return self.hear()
 
     def end(self):
         self.process.stdin.close()
@@ -58,6 +63,54 @@ class Editor:
         except subprocess.TimeoutExpired:
             self.process.kill()
         self.process.stdout.close()
+
+
+class OldEditor(Editor):
+    """The program that saves by itself, whose screen tells what came of it. A text is typed after Ctrl-X, which cuts the line."""
+
+    def __init__(self, path, *_words, under=(), cwd=None):
+        options = ["--rows", "3", "--cols", "70", "--classes", f"{tables}/DerivedBidiClass.txt", "--brackets", f"{tables}/BidiBrackets.txt",
+                   "--mirroring", f"{tables}/BidiMirroring.txt"]
+        self.process = subprocess.Popen([*under, driver, *options, path], stdin=subprocess.PIPE, stdout=subprocess.PIPE, stderr=subprocess.DEVNULL,
+                                        cwd=cwd)
+        os.set_blocking(self.process.stdout.fileno(), False)
+        self.text = None
+        self.wait_for(b"1:1")
+
+    def wait_for(self, *words):
+        """Reads the screen until one of the words is there. Where blanks stood, the painter moves the cursor."""
+        held, end = b"", time.monotonic() + LIMIT
+        while time.monotonic() < end:
+            held += self.process.stdout.read() or b""
+            plain = re.sub(rb"\x1b\[[0-9]*;[0-9]*H", b" ", held)
+            for word in words:
+                if word in plain:
+                    return word.decode()
+            time.sleep(0.02)
+        return "no answer"
+
+    def press(self, keys):
+        self.process.stdin.write(keys)
+        self.process.stdin.flush()
+
+    def start_save(self, text):
+        if text != self.text:
+            self.press(b"\x1b[1;5H\x18" + text.replace("\n", "\r").encode())
+            self.wait_for(b"* ")
+        self.text = text
+        self.press(b"\x13")
+
+    def end_save(self):
+        causes = [b"changed by another program", b"folder gone", b"not permitted", b"disk error", b"not a plain file", b"file cut off"]
+        return self.wait_for(*causes, b" saved")
+
+    def save(self, text):
+        self.start_save(text)
+        return self.end_save().strip()
+
+
+def open_file(path, *words, **others):
+    return (OldEditor if is_old else Editor)(path, *words, **others)
 
 
 names = 0
@@ -126,7 +179,7 @@ def link_in_place(check):
     """FILE becomes a link to another's file: no save follows it."""
     write(check.note, "old\n")
     secret = write(f"{check.folder}/secret", "secret\n", 0o600)
-    editor = Editor(check.note)
+    editor = open_file(check.note)
     os.remove(check.note)
     os.symlink("secret", check.note)
     check.same("the first save", editor.save("new\n"), "changed by another program")
@@ -143,7 +196,7 @@ def link_behind_a_link(check):
     real = write(f"{check.folder}/in/real", "old\n")
     secret = write(f"{check.folder}/secret", "secret\n", 0o600)
     os.symlink("in/real", check.note)
-    editor = Editor(check.note)
+    editor = open_file(check.note)
     os.remove(real)
     os.symlink("../secret", real)
     editor.save("new\n")
@@ -159,7 +212,7 @@ def link_led_elsewhere(check):
     write(f"{check.folder}/real", "old\n")
     secret = write(f"{check.folder}/secret", "secret\n", 0o600)
     os.symlink("real", check.note)
-    editor = Editor(check.note)
+    editor = open_file(check.note)
     os.remove(check.note)
     os.symlink("secret", check.note)
     editor.save("new\n")
@@ -173,10 +226,10 @@ def both_save(check):
     """Two editors save at the same time, the exchange of one is late: exactly one has saved."""
     write(check.note, "old\n")
     late = "rename" if is_old else "renameat2"
-    first, second = Editor(check.note, under=slow(late, 1)), Editor(check.note)
+    first, second = open_file(check.note, under=slow(late, 1)), open_file(check.note)
     first.start_save("first\n")
     time.sleep(0.5)
-    said = {"second\n": second.save("second\n"), "first\n": first.hear().split(",")[0]}
+    said = {"second\n": second.save("second\n"), "first\n": first.end_save()}
     check.same("what is said", sorted(said.values()), ["changed by another program", "saved"])
     check.same("what is said of FILE's text", said.get(read(check.note)), "saved")
     check.same("what is there", os.listdir(check.folder), ["note"])
@@ -187,11 +240,11 @@ def both_save(check):
 def replaced_meanwhile(check):
     """Another program renames a file to FILE right before the exchange."""
     write(check.note, "old\n")
-    editor = Editor(check.note, under=slow("rename" if is_old else "renameat2", 1))
+    editor = open_file(check.note, under=slow("rename" if is_old else "renameat2", 1))
     editor.start_save("new\n")
     time.sleep(0.5)
     os.rename(write(f"{check.folder}/theirs", "theirs\n"), check.note)
-    check.same("the save", editor.hear().split(",")[0], "changed by another program")
+    check.same("the save", editor.end_save(), "changed by another program")
     check.same("FILE", read(check.note), "theirs\n")
     check.same("what is there", os.listdir(check.folder), ["note"])
     check.same("the second save", editor.save("new\n"), "saved")
@@ -201,11 +254,11 @@ def replaced_meanwhile(check):
 
 def made_meanwhile(check):
     """Another program makes FILE, which was not there, right before it is put there."""
-    editor = Editor(check.note, under=slow("rename" if is_old else "linkat", 1))
+    editor = open_file(check.note, under=slow("rename" if is_old else "linkat", 1))
     editor.start_save("new\n")
     time.sleep(0.5)
     write(check.note, "theirs\n")
-    check.same("the save", editor.hear().split(",")[0], "changed by another program")
+    check.same("the save", editor.end_save(), "changed by another program")
     check.same("FILE", read(check.note), "theirs\n")
     check.same("the second save", editor.save("new\n"), "saved")
     editor.end()
@@ -226,7 +279,7 @@ def list_on_file(check):
     """FILE gets an access list while the editor opens it, at each of its calls: no save turns it into rights of the group."""
     for at in range(12):
         write(check.note, "old\n", 0o640)
-        editor = Editor(check.note)
+        editor = open_file(check.note)
         set_list(check.note, "-m", f"u:{OTHER}:rw")
         editor.save("new\n")
         editor.save("new\n")
@@ -240,7 +293,7 @@ def list_on_file(check):
 def list_and_gone(check):
     """A FILE with an access list is gone: what its mode says of the group was the list's mask."""
     write(check.note, "old\n", 0o600)
-    editor = Editor(check.note)
+    editor = open_file(check.note)
     set_list(check.note, "-m", f"u:{OTHER}:rw")
     editor.save("new\n")
     os.remove(check.note)
@@ -252,11 +305,11 @@ def list_and_gone(check):
 def list_amid_save(check):
     """FILE gets an access list right before the exchange."""
     write(check.note, "old\n", 0o660)
-    editor = Editor(check.note, under=slow("rename" if is_old else "renameat2", 1))
+    editor = open_file(check.note, under=slow("rename" if is_old else "renameat2", 1))
     editor.start_save("new\n")
     time.sleep(0.5)
     set_list(check.note, "-m", f"u:{OTHER}:rw")
-    check.same("the save", editor.hear().split(",")[0], "changed by another program")
+    check.same("the save", editor.end_save(), "changed by another program")
     check.same("FILE", read(check.note), "old\n")
     check.same("the second save", editor.save("new\n"), "saved")
     said = subprocess.run(["getfacl", "-c", "-p", check.note], capture_output=True, text=True).stdout
@@ -267,7 +320,7 @@ def list_amid_save(check):
 def default_list(check):
     """FILE's folder is given a list for new files while the editor runs: nobody gets rights by a save."""
     write(check.note, "old\n", 0o640)
-    editor = Editor(check.note)
+    editor = open_file(check.note)
     set_list(check.folder, "-d", "-m", f"u:{OTHER}:rwx")
     check.same("the save", editor.save("new\n"), "saved")
     check.same("whether the other reads FILE", rights_of_other(check.note), False)
@@ -281,13 +334,13 @@ def default_list(check):
 def default_list_amid_save(check):
     """The folder is given the list after the save has begun."""
     write(check.note, "old\n", 0o640)
-    editor = Editor(check.note, under=slow("fsync", 1))
+    editor = open_file(check.note, under=slow("fsync", 1))
     set_list(check.folder, "-d", "-m", f"u:{OTHER}:rwx")
     editor.start_save("new\n")
     time.sleep(0.5)
     readable = [name for name in os.listdir(check.folder) if rights_of_other(f"{check.folder}/{name}")]
     check.same("what the other reads meanwhile", readable, [])
-    editor.hear()
+    editor.end_save()
     check.same("whether the other reads FILE", rights_of_other(check.note), False)
     editor.end()
 
@@ -295,12 +348,12 @@ def default_list_amid_save(check):
 def draft_is_closed(check):
     """Nobody but the owner reads the draft, also where all may read FILE."""
     write(check.note, "old\n", 0o644)
-    editor = Editor(check.note, under=slow("fsync", 1))
+    editor = open_file(check.note, under=slow("fsync", 1))
     editor.start_save("new\n")
     time.sleep(0.5)
     others = [name for name in os.listdir(check.folder) if name != "note"]
     check.same("what is there meanwhile, and is readable", [name for name in others if rights_of_other(f"{check.folder}/{name}")], [])
-    editor.hear()
+    editor.end_save()
     editor.end()
 
 
@@ -326,7 +379,7 @@ def folder_exchanged_and_back(check):
             write(f"{folder}/note", "old\n" if folder == inner else "theirs\n", 0o666)
             os.chown(folder, owner, owner)
             os.chown(f"{folder}/note", owner, owner)
-        editor = Editor(f"{inner}/note")
+        editor = open_file(f"{inner}/note")
         switch = os.fork()
         if switch == 0:
             exchange_for_ever(inner, theirs, away)
@@ -350,7 +403,7 @@ def folder_is_a_link(check):
     os.mkdir(f"{check.folder}/inner")
     os.mkdir(f"{check.folder}/theirs")
     write(f"{check.folder}/inner/note", "old\n")
-    editor = Editor(f"{check.folder}/inner/note")
+    editor = open_file(f"{check.folder}/inner/note")
     os.rename(f"{check.folder}/inner", f"{check.folder}/away")
     os.symlink("theirs", f"{check.folder}/inner")
     for _ in range(3):
@@ -370,7 +423,7 @@ def folder_made_again(check):
     inner = f"{check.folder}/inner"
     os.mkdir(inner)
     write(f"{inner}/note", "old\n", 0o600)
-    editor = Editor(f"{inner}/note")
+    editor = open_file(f"{inner}/note")
     shutil.rmtree(inner)
     check.same("the save without a folder", editor.save("new\n"), "folder gone")
     os.mkdir(inner)
@@ -387,7 +440,7 @@ def folder_renamed(check):
     inner, other = f"{check.folder}/inner", f"{check.folder}/other"
     os.mkdir(inner)
     write(f"{inner}/note", "old\n")
-    editor = Editor("note", cwd=inner)
+    editor = open_file("note", cwd=inner)
     os.rename(inner, other)
     check.same("the save", editor.save("new\n"), "folder gone")
     check.same("what is there", os.listdir(other), ["note"])
@@ -403,7 +456,7 @@ def disk_unmounted(check):
     os.mkdir(disk)
     subprocess.run(["mount", "-t", "tmpfs", "tmpfs", disk], check=True)
     write(f"{disk}/note", "old\n")
-    editor = Editor(f"{disk}/note")
+    editor = open_file(f"{disk}/note")
     is_gone = subprocess.run(["umount", disk], capture_output=True).returncode == 0
     if not is_gone:
         check.same("the save to the disk that stays", editor.save("new\n"), "saved")
@@ -423,7 +476,7 @@ def ten_names(check):
     for end in "", *range(1, 10):
         write(f"{check.note}.bx{end}", "theirs\n")
     before = sorted(os.listdir(check.folder))
-    editor = Editor(check.note)
+    editor = open_file(check.note)
     check.same("the save", editor.save("new\n"), "saved")
     check.same("FILE", read(check.note), "new\n")
     os.link(check.note, f"{check.folder}/other")
@@ -466,7 +519,7 @@ def pipe_at_save(check):
         write(check.note, "old\n")
         if is_linked:
             os.link(check.note, f"{check.folder}/other")
-        editor = Editor(check.note)
+        editor = open_file(check.note)
         os.remove(check.note)
         os.mkfifo(check.note)
         check.same("the save", editor.save("new\n"), "not a plain file")
