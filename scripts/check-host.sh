@@ -1,7 +1,7 @@
 #!/bin/sh
-# check-host.sh [--sanitized] [--runs N] [NAME..]: checks host/, the part of the editor in C that has the terminal, with programs
-# for tests around it: ends at random moments, sessions, questions, refusals, standard files, facts about files, kinds of
-# terminals, shells. It wants a C compiler and python3, and takes less than three minutes. `--sanitized` checks a build with
+# check-host.sh [--sanitized] [--runs N] [NAME..]: checks how the host runs the program, with one for tests in its place: ends at
+# random moments, typed bytes and sizes, saves that hang, starts that stall, pastes, standard files, kinds of terminals, shells; and
+# first its frames. It wants a C compiler and python3, and takes less than three minutes. `--sanitized` checks a build with
 # AddressSanitizer and UBSan; `--runs N` ends each kind N times, by default 12; names select checks. The name `faults` selects one
 # that is made only then: strace fails each system call of the host in turn, which takes some minutes. The last line has the
 # totals. Exit status 1: a check failed; 77: there is no python3.
@@ -17,6 +17,21 @@ command -v python3 >/dev/null || {
     echo 'skipped: there is no python3'
     exit 77
 }
+
+# Checks the frames, which need no terminal.
+check_frames() {
+    folder=$(mktemp -d) || return
+    # shellcheck disable=SC2086 # the compiler's own options
+    ${CC:-cc} -std=c11 -D_GNU_SOURCE -Wall -Wextra -Wpedantic -Wconversion -Werror ${kind:+-fsanitize=address,undefined} \
+        -o "$folder/judge_frames" "$top/host/tests/judge_frames.c" "$top/host/frames.c" && "$folder/judge_frames"
+    status=$?
+    rm -rf -- "$folder"
+    return $status
+}
+
 # shellcheck disable=SC2086 # no word without a kind
 sh "$top/host/build.sh" $kind || exit 1
-exec python3 "$top/host/tests/check_host.py" "$top/host/out/${kind:+$kind/}bidi-edit" "$@"
+failed=0
+check_frames || failed=1
+python3 -B "$top/host/tests/check_host.py" "$top/host/out/${kind:+$kind/}bidi-edit" "$@" || failed=1
+exit $failed

@@ -166,18 +166,21 @@ def act(kind, run, wrong):
 
 def kill_by_name(run):
     """Kills what `killall -9 bidi-edit` finds among the run's processes: by the name of the process, or of its file in its command
-    line, as killall of busybox does. Returns when that was done."""
-    while run.job in (there := run.processes()) and there[run.job][0] != 'bidi-edit':
-        time.sleep(0.001)
-    before = time.perf_counter()
-    for process, (comm, _, _) in run.processes().items():
-        try:
-            with open(f'/proc/{process}/cmdline', 'rb') as file:
-                words = file.read().split(b'\0')
-        except OSError:
-            continue
-        if comm == 'bidi-edit' or os.path.basename(words[0]) == b'bidi-edit':
-            send(process, signal.SIGKILL)
+    line, as killall of busybox does. The host has another name for the moment of its watcher's birth. Returns when that was done."""
+    end = time.perf_counter() + LIMIT
+    while time.perf_counter() < end:
+        before, is_killed = time.perf_counter(), False
+        for process, (comm, _, _) in run.processes().items():
+            try:
+                with open(f'/proc/{process}/cmdline', 'rb') as file:
+                    words = file.read().split(b'\0')
+            except OSError:
+                continue
+            if comm == 'bidi-edit' or os.path.basename(words[0]) == b'bidi-edit':
+                send(process, signal.SIGKILL)
+                is_killed = True
+        if is_killed:
+            break
     return before
 
 
