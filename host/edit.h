@@ -90,7 +90,8 @@ int resume_session(struct edit *edit);
 
 /* ---- minding.c */
 
-/* The path by which the program opens what the host has open; `plain` is its path where the system has no /proc. */
+/* Whether the program can open what the host has open; the path by which it opens that, `plain` where it cannot. */
+bool has_proc(void);
 const char *handed_path(struct run *run, int file, const char *plain);
 
 /* The path of a session's part. */

@@ -43,14 +43,16 @@ static const char *refusal_of(const struct edit *edit, bool *is_of_file) {
     return is_fault(edit, "tables", &value) ? value : NULL;
 }
 
-/* Why the program ended, by its last word; NULL where it tells no fault. */
+/* Why the program ended, as far as it told; NULL where that was no fault. */
 static const char *fault_of(const struct edit *edit) {
+    const char *value;
+    if (is_fault(edit, "memory", &value)) return "out of memory";
     switch (edit->run.said.end) {
     case END_UNSAVED: return "input ended before saving";
     case END_OUTPUT: return "output failed";
     case END_INPUT: return "input failed";
     case END_READS: return "too many reads";
-    default: return edit->run.said.fault[0] ? "out of memory" : NULL;
+    default: return NULL;
     }
 }
 

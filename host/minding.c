@@ -8,8 +8,12 @@
 #include "edit.h"
 #include "say.h"
 
+bool has_proc(void) {
+    return access("/proc/self/fd", X_OK) == 0;
+}
+
 const char *handed_path(struct run *run, int file, const char *plain) {
-    if (access("/proc/self/fd", X_OK) != 0 || run->handed_count == MOST_HANDED) return plain;
+    if (!has_proc() || run->handed_count == MOST_HANDED) return plain;
     run->handed[run->handed_count++] = file;
     return text_of("/proc/self/fd/%d", file);
 }

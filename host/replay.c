@@ -27,13 +27,24 @@ static enum replayed replayed_of(const struct said *said, int status) {
     return REPLAY_FAILED;
 }
 
+/* Makes the file for the text, in memory. Without /proc the program needs a name, so the file is in the session's folder, until
+ * `plain` is removed. */
+static int make_text(const struct session *session, const char **plain) {
+    *plain = NULL;
+    if (has_proc()) return memfd_create("bidi-edit", MFD_CLOEXEC);
+    *plain = text_of("%s/%s", session->path, "replay");
+    unlink(*plain);
+    return open(*plain, O_RDWR | O_CREAT | O_EXCL | O_NOFOLLOW | O_CLOEXEC, 0600);
+}
+
 enum replayed replay(struct edit *edit, const struct session *session, int *text, int64_t limit) {
     struct run run = {0};
     struct words words = {.count = 0};
     struct begin begin;
+    const char *plain;
     *text = -1;
     if (session->text < 0 || session->journal < 0 || !session_begin_words(session, &begin)) return REPLAY_UNREADABLE;
-    int made = memfd_create("bidi-edit", MFD_CLOEXEC);
+    int made = make_text(session, &plain);
     if (made < 0) return REPLAY_FAILED;
     add_word(&words, edit->programs->editor);
     add_option(&words, "--rows", text_of("%u", begin.rows));
@@ -45,11 +56,12 @@ enum replayed replay(struct edit *edit, const struct session *session, int *text
     if (session_has(session, PART_UNSAVED)) add_word(&words, "--unsaved");
     add_option(&words, "--text", handed_path(&run, session->text, part_path(session, PART_TEXT)));
     add_option(&words, "--replay", handed_path(&run, session->journal, part_path(session, PART_JOURNAL)));
-    add_option(&words, "--to", handed_path(&run, made, "/dev/null"));
+    add_option(&words, "--to", handed_path(&run, made, plain));
     if (edit->file.text >= 0) add_option(&words, "--against", handed_path(&run, edit->file.text, edit->file.path));
     else if (edit->file.look.is_there) add_option(&words, "--against", "/dev/null");
     add_word(&words, edit->file.typed);
     int status = run_aside(&run, words.words, limit);
+    if (plain) unlink(plain);
     enum replayed replayed = replayed_of(&run.said, status);
     if (replayed == REPLAY_UNREADABLE || replayed == REPLAY_FAILED) close(made);
     else *text = made;
