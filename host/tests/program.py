@@ -68,12 +68,12 @@ def options():
 
 
 class Saves:
-    """Saves over two pipes, whose numbers the host gives."""
+    """Saves over two pipes: the host gives their numbers, or without /proc their paths."""
 
-    def __init__(self, numbers):
-        requests, answers = numbers.split(',')
-        self.to = os.open(f'/proc/self/fd/{requests}', os.O_WRONLY)
-        self.answers = os.open(f'/proc/self/fd/{answers}', os.O_RDONLY)
+    def __init__(self, pipes):
+        requests, answers = (f'/proc/self/fd/{pipe}' if pipe.isdigit() else pipe for pipe in pipes.split(','))
+        self.to = os.open(requests, os.O_WRONLY)
+        self.answers = os.open(answers, os.O_RDONLY)
 
     def ask(self, letter, text=b'', is_answered=True):
         """Asks, and gives the answer: 0 for done, else the cause."""

@@ -2,6 +2,7 @@
 import os, signal, time
 from cases import QUIT, SAVE, finish, holds, same, start
 from ends import LIMIT
+from terminals import Run
 
 LARGE = (b'abc' * 5592406)[:16777216]  # what program.py saves in its way `large`
 
@@ -92,4 +93,21 @@ def program_killed(tree):
     yield same('killed programs: the folder', [name for name in os.listdir(folder) if name.startswith(os.path.basename(run.file))], [])
 
 
-ALL = [saves, hanging, killed, program_killed]
+def without_proc(tree):
+    """Without /proc the pipes of saves have names, of which nothing stays."""
+    if os.geteuid() != 0:
+        yield 'without /proc: skipped, since nothing can be mounted', ''
+        return
+    before, file = set(os.listdir('/tmp')), tree.new_file('file')
+    # the check sees the processes by the old /proc
+    run = Run(['unshare', '-m', 'sh', '-c', 'mount -t tmpfs none /proc && exec "$@"', 'sh', tree.host, file], **tree.variables())
+    yield holds('without /proc: painted', run.pump(5, b'hello'), run.output)
+    run.type(b'abc' + SAVE)
+    yield holds('without /proc: told', run.pump(5, b'3 saved'), run.output[-200:])
+    yield same('without /proc: saved', read(file), b'abc')
+    run.type(QUIT)
+    yield from finish(run, 'without /proc', 0)
+    yield same('without /proc: nothing stays', [name for name in set(os.listdir('/tmp')) - before if name.startswith('bidi_edit.')], [])
+
+
+ALL = [saves, hanging, killed, program_killed, without_proc]
