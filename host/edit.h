@@ -123,10 +123,6 @@ enum replayed { REPLAY_SAME, REPLAY_KNOWN, REPLAY_FOREIGN, REPLAY_UNREADABLE, RE
 /* Replays; leaves the text in a file in memory, which the caller closes, `text`. `limit` as for run_aside. */
 enum replayed replay(struct edit *edit, const struct session *session, int *text, int64_t limit);
 
-/* The bytes of an open file, mapped; `length` is 0 and the bytes NULL for an empty one. Returns false where they cannot be had. */
-bool map_file(int file, const char **bytes, size_t *length);
-void unmap_file(const char *bytes, size_t length);
-
 /* What FILE has beside a session that left its text: that, the opened or a saved one, or another. */
 enum replayed compare_text(const struct edit *edit, const struct session *session);
 

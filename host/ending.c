@@ -6,10 +6,12 @@
 #include <stdio.h>
 #include <stdlib.h>
 #include <string.h>
+#include <sys/mman.h>
 #include <sys/stat.h>
 #include <unistd.h>
 
 #include "edit.h"
+#include "parts.h"
 #include "say.h"
 #include "signals.h"
 
@@ -106,16 +108,15 @@ static bool had_all_crlf(const struct edit *edit) {
     return text >= 0 && has_all_crlf(text);
 }
 
+static void take_ends(void *ends, const char *bytes, size_t size) {
+    ends_more(ends, bytes, size);
+}
+
 /* Whether a file has lines, not all of which end with CR LF. */
 static bool has_other_ends(int file) {
-    const char *bytes;
-    size_t length;
     struct line_ends ends;
     ends_begin(&ends);
-    if (!map_file(file, &bytes, &length)) return false;
-    ends_more(&ends, bytes, length);
-    unmap_file(bytes, length);
-    return ends.has_lines && !ends_are_all_crlf(&ends);
+    return read_pieces(file, 0, take_ends, &ends) == 0 && ends.has_lines && !ends_are_all_crlf(&ends);
 }
 
 /* Tells of other line ends than those that FILE had. */
@@ -170,27 +171,31 @@ static bool has_same_versions(const struct edit *edit) {
     return versions_look(EDITOR_VERSION, files, sizeof files / sizeof *files, versions) && strcmp(versions, edit->versions) == 0;
 }
 
+/* Puts an open text into the session. If this fails, another version of the editor recovers it by the keys. */
+static void put_snapshot(struct session *session, int text) {
+    struct stat look;
+    if (fstat(text, &look) != 0) return;
+    size_t length = (size_t)look.st_size;
+    void *bytes = length > 0 ? mmap(NULL, length, PROT_READ, MAP_PRIVATE, text, 0) : NULL;
+    if (bytes == MAP_FAILED) return;
+    session_put(session, PART_SNAPSHOT, bytes, length);
+    if (bytes) munmap(bytes, length);
+}
+
 /* Leaves the session's text beside its keys, for a recovery by another version. Returns whether FILE has the same text; false
  * where the keys were not replayed in time. */
 static bool leave_text(struct edit *edit) {
     struct session *session = &edit->session;
-    const char *bytes;
-    size_t length;
+    struct stat look;
     int text;
     if (!is_replayed_at_end(session_journal_size(session), end_signal != 0) || !has_same_versions(edit)) return false;
     /* FILE as it is now */
-    struct stat look;
-    int file = open_now(edit, &look);
     if (edit->file.text >= 0) close(edit->file.text);
-    edit->file.text = file;
+    edit->file.text = open_now(edit, &look);
     edit->file.look.is_there = is_there_now(edit);
     enum replayed found = replay(edit, session, &text, within(end_signal ? REPLAY_BY_SIGNAL_MS : REPLAY_MS));
     if (text < 0) return false;
-    if (map_file(text, &bytes, &length)) {
-        /* if this fails, another version of the editor recovers the text by the keys */
-        session_put(session, PART_SNAPSHOT, bytes, length);
-        unmap_file(bytes, length);
-    }
+    put_snapshot(session, text);
     close(text);
     return found == REPLAY_SAME;
 }

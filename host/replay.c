@@ -1,13 +1,13 @@
 /* Replays of a session's keys by the program, comparisons with FILE, and new files beside it. */
 #include <errno.h>
 #include <fcntl.h>
-#include <stdint.h>
 #include <string.h>
 #include <sys/mman.h>
 #include <sys/stat.h>
 #include <unistd.h>
 
 #include "edit.h"
+#include "parts.h"
 #include "say.h"
 
 /* Names of new files beside FILE are tried with numbers below this. */
@@ -68,33 +68,17 @@ enum replayed replay(struct edit *edit, const struct session *session, int *text
     return replayed;
 }
 
-bool map_file(int file, const char **bytes, size_t *length) {
-    struct stat look;
-    *bytes = NULL;
-    *length = 0;
-    if (file < 0 || fstat(file, &look) != 0 || !S_ISREG(look.st_mode)) return false;
-    if (look.st_size == 0) return true;
-    void *mapped = mmap(NULL, (size_t)look.st_size, PROT_READ, MAP_PRIVATE, file, 0);
-    if (mapped == MAP_FAILED) return false;
-    *bytes = mapped;
-    *length = (size_t)look.st_size;
-    return true;
-}
-
-void unmap_file(const char *bytes, size_t length) {
-    if (length > 0) munmap((void *)(uintptr_t)bytes, length);
-}
-
 /* Whether two open files have the same bytes. */
 static bool has_same_bytes(int one, int other) {
-    const char *bytes[2] = {NULL, NULL};
-    size_t lengths[2] = {0, 0};
-    bool is_mapped = map_file(one, &bytes[0], &lengths[0]);
-    bool is_same = is_mapped && map_file(other, &bytes[1], &lengths[1]) && lengths[0] == lengths[1] &&
-                   (lengths[0] == 0 || memcmp(bytes[0], bytes[1], lengths[0]) == 0);
-    unmap_file(bytes[0], lengths[0]);
-    unmap_file(bytes[1], lengths[1]);
-    return is_same;
+    static char pieces[2][65536];
+    off_t place = 0;
+    for (;;) {
+        ssize_t count = pread(one, pieces[0], sizeof pieces[0], place);
+        if (count < 0 || pread(other, pieces[1], sizeof pieces[1], place) != count) return false;
+        if (count == 0) return true;
+        if (memcmp(pieces[0], pieces[1], (size_t)count) != 0) return false;
+        place += count;
+    }
 }
 
 /* Whether a part of a session has FILE's bytes. */
@@ -120,19 +104,11 @@ const char *free_name(const char *typed, const char *ending) {
 }
 
 int copy_to_new(const char *path, int source, mode_t mode) {
-    const char *bytes;
-    size_t length, written = 0;
-    if (!map_file(source, &bytes, &length)) return EIO;
-    int error = 0, file = open(path, O_WRONLY | O_CREAT | O_EXCL | O_NOFOLLOW | O_CLOEXEC, 0600);
-    if (file < 0) error = errno;
-    while (error == 0 && written < length) {
-        ssize_t count = write(file, bytes + written, length - written);
-        if (count > 0) written += (size_t)count;
-        else if (count < 0 && errno != EINTR) error = errno;
-    }
-    if (error == 0 && (fsync(file) != 0 || fchmod(file, mode) != 0)) error = errno;
-    if (file >= 0 && close(file) != 0 && error == 0) error = errno;
-    if (file >= 0 && error != 0) unlink(path);
-    unmap_file(bytes, length);
+    int file = open(path, O_WRONLY | O_CREAT | O_EXCL | O_NOFOLLOW | O_CLOEXEC, 0600);
+    if (file < 0) return errno;
+    int error = copy_file(source, 0, file);
+    if (error == 0 && (fchmod(file, mode) != 0 || fsync(file) != 0)) error = errno;
+    if (close(file) != 0 && error == 0) error = errno;
+    if (error != 0) unlink(path);
     return error;
 }
