@@ -202,10 +202,15 @@ static bool start_child(struct session *session) {
 /* Makes the text anew of what was its file, which has lost its name or its bytes on the disk. Until it is there, the session has no
  * path. */
 static void renew_text(struct session *session) {
-    if (session->source >= 0) close(session->source);
-    session->source = session->text;
+    if (session->has_text) {
+        if (session->source >= 0) close(session->source);
+        session->source = session->text;
+        session->is_source_file = false;
+    } else {
+        close(session->text);
+    }
     session->text = -1;
-    session->is_source_file = session->has_text = session->is_filled = false;
+    session->has_text = session->is_filled = false;
     unlinkat(session->folder, part_name(PART_PATH), 0);
     unlinkat(session->folder, part_name(PART_TEXT), 0);
     session->parts[PART_PATH].is_written = false;
@@ -299,7 +304,7 @@ static void look_for_lost(struct session *session) {
         bool is_there = fstatat(session->folder, part_name(part), &found, AT_SYMLINK_NOFOLLOW) == 0 && S_ISREG(found.st_mode);
         kept->is_written = is_there && (size_t)found.st_size == kept->size;
     }
-    if (session->is_filled && !leads_to(session, PART_TEXT, session->text)) renew_text(session);
+    if (session->text >= 0 && !leads_to(session, PART_TEXT, session->text)) renew_text(session);
 }
 
 /* Makes the lock's file again, for editors of before; the folder is locked all the time. */
@@ -385,6 +390,7 @@ bool session_settle(struct session *session, int milliseconds) {
     } else {
         write_session(session);
     }
+    look_for_lost(session);
     return is_whole(session) && !session->is_mirror_behind;
 }
 

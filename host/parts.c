@@ -93,11 +93,20 @@ int copy_file(int from, off_t place, int to) {
     return error ? error : copying.error;
 }
 
-int write_new(int folder, const char *name, const void *bytes, size_t size) {
+/* Puts a file on the disk. One that a recovery can do without has its bytes there, and its name once the next file is there. */
+static int sync_file(int file, bool is_needed) {
+    if (is_needed) return fsync(file) == 0 ? 0 : errno;
+    /* some disks cannot do that, and write it later */
+    sync_file_range(file, 0, 0, SYNC_FILE_RANGE_WAIT_BEFORE | SYNC_FILE_RANGE_WRITE | SYNC_FILE_RANGE_WAIT_AFTER);
+    return 0;
+}
+
+/* Makes a new part with these bytes; one that cannot be written whole is removed. */
+static int write_new(int folder, const char *name, const void *bytes, size_t size, bool is_needed) {
     int file = part_open(folder, name, O_WRONLY | O_CREAT | O_EXCL);
     if (file < 0) return errno;
     int error = write_bytes(file, bytes, size);
-    if (!error && fsync(file) != 0) error = errno;
+    if (!error) error = sync_file(file, is_needed);
     close(file);
     if (error) unlinkat(folder, name, 0);
     return error;
@@ -117,10 +126,11 @@ int session_open(const struct session *session, enum part part) {
 int put_part(const struct session *session, enum part part, const void *bytes, size_t size) {
     char draft[64];
     const char *name = part_name(part);
-    if (!session_has(session, part)) return write_new(session->folder, name, bytes, size);
+    bool is_needed = part != PART_PROCESS && part != PART_FILE && part != PART_MODE;
+    if (!session_has(session, part)) return write_new(session->folder, name, bytes, size, is_needed);
     snprintf(draft, sizeof draft, "%s.new", name);
     unlinkat(session->folder, draft, 0);
-    int error = write_new(session->folder, draft, bytes, size);
+    int error = write_new(session->folder, draft, bytes, size, is_needed);
     if (!error && renameat(session->folder, draft, session->folder, name) != 0) error = errno;
     if (error) unlinkat(session->folder, draft, 0);
     return error;

@@ -16,9 +16,6 @@ int copy_file(int from, off_t place, int to);
 /* Has an empty file share the blocks of another one, where the disk can do that. */
 bool share_file(int from, int to);
 
-/* Makes a new part with these bytes and syncs it; one that cannot be written whole is removed. */
-int write_new(int folder, const char *name, const void *bytes, size_t size);
-
 /* Calls `read` with the bytes of an open file, piece by piece, from a place on. */
 int read_pieces(int file, off_t place, void (*read)(void *, const char *, size_t), void *context);
 

@@ -505,6 +505,32 @@ static void check_large(void) {
     }
 }
 
+/* The copy loses its name before the session is filled, one that is complete or one that waits. */
+static void check_cleaned_early(void) {
+    static char many[3 << 20];
+    memset(many, 'd', sizeof many);
+    for (int is_large = 0; is_large < 2; is_large++) {
+        struct sessions sessions;
+        struct session session;
+        struct target target = {.folder = -1};
+        struct stat copied;
+        off_t size = is_large ? (off_t)sizeof many : 100;
+        put_file(path_in("note"), many, (size_t)size);
+        make_old(path_in("note"));
+        make_sessions(&sessions);
+        look_at(&target, "note");
+        check(begin(&session, &sessions, &target) == 0, "cleaned early: it begins");
+        unlinkat(session.folder, "text", 0);
+        session_mind(&session);
+        check(mind(&session) == KEEPS, "cleaned early: kept");
+        check(fstatat(session.folder, "text", &copied, 0) == 0 && copied.st_size == size, "cleaned early: its text");
+        unlinkat(session.folder, "text", 0);
+        check(session_settle(&session, 2000), "cleaned early: kept at the end");
+        check(fstatat(session.folder, "text", &copied, 0) == 0 && copied.st_size == size, "cleaned early: its text at the end");
+        leave(&session, &sessions);
+    }
+}
+
 /* The file is replaced while its copy waits: the old bytes are copied. */
 static void check_replaced(void) {
     static char many[3 << 20];
@@ -809,6 +835,7 @@ int main(void) {
     check_links();
     check_growing();
     check_large();
+    check_cleaned_early();
     check_replaced();
     check_new_file();
     check_resumed();
