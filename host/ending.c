@@ -221,7 +221,9 @@ static void note_moved(struct edit *edit) {
 static bool settle(struct session *session) {
     int64_t end = now() + COPY_MS;
     struct pollfd copied = {.fd = session->report, .events = POLLIN};
-    while (session->report >= 0 && !end_signal && now() < end && wait_for(&copied, 1, end) <= 0) continue;
+    while (session->report >= 0 && !end_signal && now() < end) {
+        if (wait_for(&copied, 1, end) > 0) break;
+    }
     return session_settle(session, (int)within(end_signal ? WRITE_BY_SIGNAL_MS : WRITE_MS));
 }
 

@@ -54,6 +54,10 @@ enum notice trouble_now(const struct now_facts *facts) {
     case KEEPS_NOWHERE: return NOTICE_FOLDER_GONE;
     case KEEPS_NOT_YET: return notice_of(facts->error);
     case KEEPS_NOTHING: return NOTICE_UNKEPT;
+    /* whether it is kept again is not known yet */
+    case KEEPS_SOON:
+        if (facts->told != NOTICE_NONE) return facts->told;
+        break;
     default: break;
     }
     if (!facts->is_journal_lost) return NOTICE_NONE;

@@ -65,6 +65,7 @@ static const struct {
 } nows[] = {
     {"kept", {.has_session = true, .keeping = KEEPS, .is_filled = true}, NOTICE_NONE, TITLE_KEPT},
     {"copied at the moment", {.has_session = true, .keeping = KEEPS_SOON}, NOTICE_NONE, TITLE_KEPT},
+    {"copied again", {.has_session = true, .keeping = KEEPS_SOON, .told = NOTICE_NO_SPACE}, NOTICE_NO_SPACE, TITLE_LOST},
     {"none wanted", {.is_unwanted = true}, NOTICE_NONE, TITLE_UNKEPT},
     {"none possible", {.told = NOTICE_NOT_PERMITTED}, NOTICE_NOT_PERMITTED, TITLE_UNKEPT},
     {"text waits for room", {.has_session = true, .keeping = KEEPS_NOT_YET, .error = ENOSPC}, NOTICE_NO_SPACE, TITLE_UNKEPT},
