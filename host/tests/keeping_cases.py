@@ -346,6 +346,7 @@ def changed_meanwhile(place):
     place.leave()
     started = place.start('a.txt').sees(CHOICE)
     place.put('a.txt', b'other\n')
+    time.sleep(0.1)
     started.type(b'recover\n').sees(b'text <abctext|>').type(SAVE).sees(b'saved').type(QUIT).ends(0)
     assert place.text('a.txt') == b'other\n' and place.text('a.txt.recovered') == b'abctext\n'
 
