@@ -78,27 +78,30 @@ static void handle_waking(int number) {
     sigaction(number, &action, NULL);
 }
 
-/* Blocks a signal but in waits. */
-static void block(int number) {
+/* Blocks signals but in waits. */
+static void block(const int *numbers, size_t count) {
     sigset_t mask;
     sigemptyset(&mask);
-    sigaddset(&mask, number);
+    for (size_t i = 0; i < count; i++) {
+        sigaddset(&mask, numbers[i]);
+        sigdelset(&waiting_mask, numbers[i]);
+    }
     sigprocmask(SIG_BLOCK, &mask, NULL);
-    sigdelset(&waiting_mask, number);
 }
 
 void set_first_signals(void) {
+    static const int child[] = {SIGCHLD};
     sigprocmask(SIG_SETMASK, NULL, &first_mask);
     waiting_mask = first_mask;
-    block(SIGCHLD);
+    block(child, 1);
     handle_waking(SIGCHLD);
     handle_ending(SIGPIPE, die_unless_own);
     handle_ending(SIGXFSZ, die_unless_own);
 }
 
 void catch_signals(void) {
-    for (size_t i = 0; i < ENDING; i++) block(ending[i]);
-    for (size_t i = 0; i < WAKING; i++) block(waking[i]);
+    block(ending, ENDING);
+    block(waking, WAKING);
     for (size_t i = 0; i < ENDING; i++) handle_ending(ending[i], note_ending);
     for (size_t i = 0; i < WAKING; i++) handle_waking(waking[i]);
 }
