@@ -313,7 +313,7 @@ static void tell_signal(int status) {
 }
 
 int end_session(struct edit *edit) {
-    bool is_refused = tell_fault_of(edit);
+    bool is_refused = tell_fault_of(edit) || !edit->run.said.is_opened;
     enum left_how how = left_how(edit->run.said.end, is_refused);
     give_mode(edit);
     tell_aside(edit);
