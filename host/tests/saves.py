@@ -99,8 +99,9 @@ def without_proc(tree):
         yield 'without /proc: skipped, since nothing can be mounted', ''
         return
     before, file = set(os.listdir('/tmp')), tree.new_file('file')
-    # the check sees the processes by the old /proc
-    run = Run(['unshare', '-m', 'sh', '-c', 'mount -t tmpfs none /proc && exec "$@"', 'sh', tree.host, file], **tree.variables())
+    # the check sees the processes by the old /proc; the search for leaks needs one
+    run = Run(['unshare', '-m', 'sh', '-c', 'mount -t tmpfs none /proc && exec "$@"', 'sh', tree.host, file], ASAN_OPTIONS='detect_leaks=0',
+              **tree.variables())
     yield holds('without /proc: painted', run.pump(5, b'hello'), run.output)
     run.type(b'abc' + SAVE)
     yield holds('without /proc: told', run.pump(5, b'3 saved'), run.output[-200:])
