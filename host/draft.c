@@ -160,7 +160,7 @@ int draft_take_over(const struct draft *draft, const struct stat *old, bool is_p
 
 /* Whether what has the draft's name has an access list. */
 static bool has_list(const struct draft *draft) {
-    int at = openat(draft->folder, draft->name, O_PATH | O_NOFOLLOW | O_CLOEXEC);
+    int at = open_for_facts(draft->folder, draft->name);
     if (at < 0) return false;
     enum answer list = has_access_list(at);
     close(at);

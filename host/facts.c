@@ -115,9 +115,19 @@ enum answer has_access_list(int at) {
     return own == YES ? YES : either(own, find_network_list(at).is_more);
 }
 
-enum answer gives_access_lists(int folder) {
+static enum answer gives_lists(int folder) {
     enum answer given = has_attribute(folder, "system.posix_acl_default", POSIX_HEADER);
     return given == YES ? YES : either(given, find_network_list(folder).is_given);
+}
+
+enum answer gives_access_lists(int folder) {
+    enum answer given = gives_lists(folder);
+    /* without /proc only a folder that is open to be read tells */
+    int again = given == UNKNOWN ? openat(folder, ".", O_RDONLY | O_DIRECTORY | O_CLOEXEC) : -1;
+    if (again < 0) return given;
+    given = gives_lists(again);
+    close(again);
+    return given;
 }
 
 static bool is_one_of(const char *name, const char *const *words, size_t count) {

@@ -191,9 +191,11 @@ static void forget_file(struct file *file, const char *typed) {
 /* Opens the plain file that was found. Returns false where another one is there by now. */
 static bool open_found(struct file *file) {
     if (!file->look.is_there) return true;
+    if (!open_text(file)) return false;
     find_id(file->itself, &file->id);
-    find_facts(file->itself, file->folder, &file->facts);
-    return !file->facts.readable || open_text(file);
+    find_facts(file->text >= 0 ? file->text : file->itself, file->folder, &file->facts);
+    file->facts.readable = file->text >= 0;
+    return true;
 }
 
 /* Opens FILE once. `is_again`: another one took its place meanwhile. */
@@ -256,10 +258,19 @@ const char *open_lost_file(struct file *file, const char *typed) {
     return NULL;
 }
 
-void close_file(struct file *file) {
-    close_one(&file->folder);
+void release_file(struct file *file) {
     close_one(&file->itself);
     close_one(&file->text);
+}
+
+void close_file(struct file *file) {
+    close_one(&file->folder);
+    release_file(file);
+}
+
+int open_for_facts(int folder, const char *name) {
+    int at = openat(folder, name, O_RDONLY | O_NOFOLLOW | O_NONBLOCK | O_CLOEXEC | O_NOCTTY);
+    return at >= 0 ? at : openat(folder, name, O_PATH | O_NOFOLLOW | O_CLOEXEC);
 }
 
 int reopen_file(const struct file *file, int flags) {

@@ -50,6 +50,9 @@ const char *open_file(struct file *file, const char *typed);
 /* The same, also where FILE's folder is gone. */
 const char *open_lost_file(struct file *file, const char *typed);
 
+/* Closes FILE, once it was read and copied, and keeps its folder: some network disks rename an old file that is open, and keep it.
+ * close_file closes all. */
+void release_file(struct file *file);
 void close_file(struct file *file);
 
 /* Something is there that the user cannot read. */
@@ -84,6 +87,9 @@ bool is_unchanged(const struct stat *one, const struct stat *other);
 
 /* The file that is open. Returns false where the system does not tell. */
 bool find_id(int at, struct file_id *id);
+
+/* Opens the plain file that was found at a name in a folder, to be asked for its facts: without /proc, O_PATH alone tells few. */
+int open_for_facts(int folder, const char *name);
 
 /* Opens the FILE that was there at the opening again, with these flags, if its name still leads to it. Returns -1 if not; errno is
  * ESTALE where another file is there. */

@@ -20,7 +20,7 @@ static void note(struct save *save, const struct look *now) {
     save->state.seen = *now;
     save->state.is_distrusted = false;
     if (!now->is_there || !S_ISREG(now->found.st_mode)) return;
-    int itself = openat(save->folder, save->file->name, O_PATH | O_NOFOLLOW | O_CLOEXEC);
+    int itself = open_for_facts(save->folder, save->file->name);
     bool is_same = itself >= 0 && fstat(itself, &opened) == 0 && is_unchanged(&opened, &now->found);
     save->state.old = *now;
     save->state.is_old_plain = is_same && has_access_list(itself) == NO;
@@ -104,7 +104,7 @@ static int check_place(struct save *save) {
 /* Why saves must not replace the FILE that is there. */
 static enum reason reason_now(struct save *save) {
     struct facts facts, of_folder;
-    int itself = openat(save->folder, save->file->name, O_PATH | O_NOFOLLOW | O_CLOEXEC);
+    int itself = open_for_facts(save->folder, save->file->name);
     save->is_listless = false;
     if (itself < 0) return NO_REASON;
     find_facts(itself, save->folder, &facts);

@@ -123,7 +123,7 @@ static void close_others(int *kept, size_t count) {
 static void become_child(const struct saver *saver, int request, int answer) {
     static const int ignored[] = {SIGHUP, SIGINT, SIGQUIT, SIGTERM, SIGTSTP, SIGTTIN, SIGTTOU, SIGPIPE, SIGXFSZ};
     const struct file *file = saver->file;
-    int kept[] = {request, answer, file->folder, file->itself, saver->mark_folder, saver->lock};
+    int kept[] = {request, answer, file->folder, saver->mark_folder, saver->lock};
     int nothing = open("/dev/null", O_RDWR | O_CLOEXEC);
     prctl(PR_SET_NAME, "bidi-saver");
     for (size_t i = 0; i < sizeof ignored / sizeof *ignored; i++) signal(ignored[i], SIG_IGN);

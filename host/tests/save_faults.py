@@ -65,13 +65,16 @@ class Editor:
         self.process.stdout.close()
 
 
+def words_of_old(path):
+    return [driver, "--rows", "3", "--cols", "70", "--classes", f"{tables}/DerivedBidiClass.txt", "--brackets", f"{tables}/BidiBrackets.txt",
+            "--mirroring", f"{tables}/BidiMirroring.txt", path]
+
+
 class OldEditor(Editor):
     """The program that saves by itself, whose screen tells what came of it. A text is typed after Ctrl-X, which cuts the line."""
 
     def __init__(self, path, *_words, under=(), cwd=None):
-        options = ["--rows", "3", "--cols", "70", "--classes", f"{tables}/DerivedBidiClass.txt", "--brackets", f"{tables}/BidiBrackets.txt",
-                   "--mirroring", f"{tables}/BidiMirroring.txt"]
-        self.process = subprocess.Popen([*under, driver, *options, path], stdin=subprocess.PIPE, stdout=subprocess.PIPE, stderr=subprocess.DEVNULL,
+        self.process = subprocess.Popen([*under, *words_of_old(path)], stdin=subprocess.PIPE, stdout=subprocess.PIPE, stderr=subprocess.DEVNULL,
                                         cwd=cwd)
         os.set_blocking(self.process.stdout.fileno(), False)
         self.text = None
@@ -102,11 +105,11 @@ class OldEditor(Editor):
 
     def end_save(self):
         causes = [b"changed by another program", b"folder gone", b"not permitted", b"disk error", b"not a plain file", b"file cut off"]
-        return self.wait_for(*causes, b" saved")
+        return self.wait_for(*causes, b" saved").strip()
 
     def save(self, text):
         self.start_save(text)
-        return self.end_save().strip()
+        return self.end_save()
 
 
 def open_file(path, *words, **others):
@@ -144,6 +147,38 @@ def mode_of(path):
 
 def has(command):
     return shutil.which(command) is not None
+
+
+def below(process):
+    """The processes that a process started, and those that they did."""
+    with open(f"/proc/{process}/task/{process}/children") as told:
+        for child in told.read().split():
+            yield child
+            yield from below(child)
+
+
+def is_late(tracer, wanted):
+    """Whether strace, the process `tracer`, holds one of this name."""
+    try:
+        for process in below(tracer):
+            with open(f"/proc/{process}/stat") as told:
+                name, rest = told.read().split(" (", 1)[1].rsplit(") ", 1)
+            if name == wanted and rest[0] == "t":
+                return True
+    except OSError:
+        pass
+    return False
+
+
+own_name = os.path.basename(driver)[:15]
+
+
+def wait_until_late(tracer, name=own_name if is_old else "bidi-saver"):
+    """Waits until the slow call of a process has begun: strace holds it for so many looks in a row."""
+    row, end = 0, time.monotonic() + LIMIT
+    while row < 8 and time.monotonic() < end:
+        row = row + 1 if is_late(tracer.pid, name) else 0
+        time.sleep(0.01)
 
 
 class Check:
@@ -226,9 +261,9 @@ def both_save(check):
     """Two editors save at the same time, the exchange of one is late: exactly one has saved."""
     write(check.note, "old\n")
     late = "rename" if is_old else "renameat2"
-    first, second = open_file(check.note, under=slow(late, 1)), open_file(check.note)
+    first, second = open_file(check.note, under=slow(late, 3)), open_file(check.note)
     first.start_save("first\n")
-    time.sleep(0.5)
+    wait_until_late(first.process)
     said = {"second\n": second.save("second\n"), "first\n": first.end_save()}
     check.same("what is said", sorted(said.values()), ["changed by another program", "saved"])
     check.same("what is said of FILE's text", said.get(read(check.note)), "saved")
@@ -240,9 +275,9 @@ def both_save(check):
 def replaced_meanwhile(check):
     """Another program renames a file to FILE right before the exchange."""
     write(check.note, "old\n")
-    editor = open_file(check.note, under=slow("rename" if is_old else "renameat2", 1))
+    editor = open_file(check.note, under=slow("rename" if is_old else "renameat2", 3))
     editor.start_save("new\n")
-    time.sleep(0.5)
+    wait_until_late(editor.process)
     os.rename(write(f"{check.folder}/theirs", "theirs\n"), check.note)
     check.same("the save", editor.end_save(), "changed by another program")
     check.same("FILE", read(check.note), "theirs\n")
@@ -254,9 +289,9 @@ def replaced_meanwhile(check):
 
 def made_meanwhile(check):
     """Another program makes FILE, which was not there, right before it is put there."""
-    editor = open_file(check.note, under=slow("rename" if is_old else "linkat", 1))
+    editor = open_file(check.note, under=slow("rename" if is_old else "linkat", 3))
     editor.start_save("new\n")
-    time.sleep(0.5)
+    wait_until_late(editor.process)
     write(check.note, "theirs\n")
     check.same("the save", editor.end_save(), "changed by another program")
     check.same("FILE", read(check.note), "theirs\n")
@@ -305,9 +340,9 @@ def list_and_gone(check):
 def list_amid_save(check):
     """FILE gets an access list right before the exchange."""
     write(check.note, "old\n", 0o660)
-    editor = open_file(check.note, under=slow("rename" if is_old else "renameat2", 1))
+    editor = open_file(check.note, under=slow("rename" if is_old else "renameat2", 3))
     editor.start_save("new\n")
-    time.sleep(0.5)
+    wait_until_late(editor.process)
     set_list(check.note, "-m", f"u:{OTHER}:rw")
     check.same("the save", editor.end_save(), "changed by another program")
     check.same("FILE", read(check.note), "old\n")
@@ -334,10 +369,10 @@ def default_list(check):
 def default_list_amid_save(check):
     """The folder is given the list after the save has begun."""
     write(check.note, "old\n", 0o640)
-    editor = open_file(check.note, under=slow("fsync", 1))
+    editor = open_file(check.note, under=slow("fsync", 3))
     set_list(check.folder, "-d", "-m", f"u:{OTHER}:rwx")
     editor.start_save("new\n")
-    time.sleep(0.5)
+    wait_until_late(editor.process)
     readable = [name for name in os.listdir(check.folder) if rights_of_other(f"{check.folder}/{name}")]
     check.same("what the other reads meanwhile", readable, [])
     editor.end_save()
@@ -348,9 +383,9 @@ def default_list_amid_save(check):
 def draft_is_closed(check):
     """Nobody but the owner reads the draft, also where all may read FILE."""
     write(check.note, "old\n", 0o644)
-    editor = open_file(check.note, under=slow("fsync", 1))
+    editor = open_file(check.note, under=slow("fsync", 3))
     editor.start_save("new\n")
-    time.sleep(0.5)
+    wait_until_late(editor.process)
     others = [name for name in os.listdir(check.folder) if name != "note"]
     check.same("what is there meanwhile, and is readable", [name for name in others if rights_of_other(f"{check.folder}/{name}")], [])
     editor.end_save()
@@ -494,22 +529,23 @@ def ten_names(check):
 def pipe_at_opening(check):
     """FILE becomes a pipe between the look at it and the opening: it is refused, and nothing waits."""
     write(check.note, "old\n")
-    under = ["strace", "-f", "-qq", "-o", "/dev/null", "-e", "trace=openat,open", "-P", check.note, "-e", "inject=openat,open:delay_enter=500000"]
-    command = [driver] if is_old else [driver, check.note]
-    process = subprocess.Popen([*under, *command] if is_old else [*slow("openat", 0.3, "-P", "note"), driver, "note"], cwd=check.folder,
-                               stdin=subprocess.PIPE, stdout=subprocess.PIPE, text=True)
-    if is_old:
-        process.stdin.write(f"open {check.note}\n")
-        process.stdin.flush()
-    time.sleep(0.45)
+    words = words_of_old("note") if is_old else [driver, "note"]
+    # the first opening is a look
+    process = subprocess.Popen([*slow("openat", 2, "-P", "note"), *words], cwd=check.folder, stdin=subprocess.PIPE, stdout=subprocess.PIPE,
+                               stderr=subprocess.DEVNULL, text=True)
+    wait_until_late(process, own_name)
+    if not is_old:
+        time.sleep(2)
+        wait_until_late(process, own_name)
     os.remove(check.note)
     os.mkfifo(check.note)
     try:
         said, _ = process.communicate(timeout=10)
     except subprocess.TimeoutExpired:
         said = "it hangs"
-        process.kill()
-        process.wait()
+        # lets it go on
+        os.close(os.open(check.note, os.O_WRONLY | os.O_NONBLOCK))
+        process.communicate()
     check.same("what is said", said.strip(), "note is no plain file but a device, pipe or socket: put what it gives into a file, and edit that")
 
 
@@ -578,6 +614,111 @@ def stalled_at_save(check):
     disk.communicate()
 
 
+# ---- the opening
+
+def opened_as(check, path, *words, cwd=None):
+    """The first line about a FILE."""
+    editor = open_file(path, *words, cwd=cwd or check.folder)
+    editor.end()
+    return editor.opened
+
+
+def refusals(check):
+    """What is no plain file, or has no folder, is refused with cause and remedy."""
+    at = check.folder
+    write(f"{at}/plain", "text\n")
+    os.mkdir(f"{at}/inner")
+    os.mkfifo(f"{at}/pipe")
+    for link, to in ("circle", "circle"), ("one", "two"), ("two", "one"), ("nowhere", "none/x"), ("slash", "none/"), ("handed", "/dev/stdin"), \
+            ("to_folder", "inner"), ("to_pipe", "pipe"), ("below", "plain/x"), (b"bytes", b"\xff"):
+        os.symlink(to, os.path.join(at.encode(), link) if isinstance(link, bytes) else f"{at}/{link}")
+    os.mkdir(at.encode() + b"/\xff")
+    os.symlink(b"\xff/new", at.encode() + b"/in_bytes")
+    plain = "is no plain file but a device, pipe or socket: put what it gives into a file, and edit that"
+    handed = "is what the caller handed over and no file: put it into a file, and edit that"
+    for path, wanted in {
+        "inner": "inner is a folder: name a file in it",
+        "inner/": "inner/ is a folder: name a file in it",
+        ".": ". is a folder: name a file in it",
+        "/": "/ is a folder: name a file in it",
+        "to_folder": "to_folder is a folder: name a file in it",
+        "plain/": "plain/ is the name of a folder: name a file",
+        "none/": "none/ is the name of a folder: name a file",
+        "/dev/stdin": f"/dev/stdin {handed}",
+        "/proc/self/fd/0": f"/proc/self/fd/0 {handed}",
+        "handed": f"handed {handed}",
+        "pipe": f"pipe {plain}",
+        "to_pipe": f"to_pipe {plain}",
+        "/dev/null": f"/dev/null {plain}",
+        "circle": "circle is a link that leads in a circle: ls -l shows where to",
+        "one": "one is a link that leads in a circle: ls -l shows where to",
+        "nowhere": "nowhere is a link that leads nowhere: ls -l shows where to",
+        "slash": "slash is a link that leads nowhere: ls -l shows where to",
+        "below": "below is a link that leads nowhere: ls -l shows where to",
+        "bytes": "bytes is a link to a name that is not UTF-8: mv gives it another",
+        "in_bytes": "in_bytes is a link to a name that is not UTF-8: mv gives it another",
+        "plain/x": "plain is no folder, so it has no files: name another",
+        "none/x": "none is a folder that is not there: mkdir -p none makes it",
+        "plain/y/x": "plain/y is a folder that is not there: mkdir -p plain/y makes it",
+        "a" * 253: f"{'a' * 253} is a name of 253 bytes, too long to be saved: 252 are the most (the save needs 3 more), and --force opens it all the same",
+        "plain": f"opened {at}/plain",
+        "inner/../plain": f"opened {at}/plain",
+        "none": f"opened {at}/none",
+        "a" * 252: f"opened {at}/{'a' * 252}",
+    }.items():
+        check.same(f"what is said of {path[:20]}", opened_as(check, path), wanted)
+
+
+def many_links(check):
+    """Forty links are followed, and not more."""
+    write(f"{check.folder}/note", "text\n")
+    os.symlink("note", f"{check.folder}/link1")
+    for number in range(2, 42):
+        os.symlink(f"link{number - 1}", f"{check.folder}/link{number}")
+    check.same("forty links", opened_as(check, "link40"), f"opened {check.note}")
+    check.same("more", opened_as(check, "link41"), "link41 is a link that leads in a circle: ls -l shows where to")
+
+
+def lost_folder(check):
+    """A FILE whose folder is gone is named as it was, also from a working folder that is gone."""
+    check.same("a folder that is gone", opened_as(check, "gone/deep/note", "--lost", "--force"), f"opened {check.folder}/gone/deep/note")
+    os.mkdir(f"{check.folder}/work")
+    script = f"cd {check.folder}/work && rmdir {check.folder}/work && {driver} --force note </dev/null"
+    said = subprocess.run(["sh", "-c", script], capture_output=True, text=True).stdout.strip()
+    check.same("a working folder that is gone", said, f"opened {check.folder}/work/note")
+
+
+def leftovers(check):
+    """A start names what killed saves left, and nothing else."""
+    write(check.note, "text\n")
+    for name in "note.bx", "note.bx3", "note.a1b2c3d4.bx", "note.A1b2c3d4.bx", "note.a1b2c3d.bx", "other.a1b2c3d4.bx", "note.a1b2c3d4.bx1", "note.txt.bx":
+        write(f"{check.folder}/{name}", "left")
+    check.same("what is said", opened_as(check, "note"),
+               f"opened {check.note}: perhaps left by a save that was killed; look at it, and remove what is not wanted: note.bx note.bx3 note.a1b2c3d4.bx")
+
+
+def lists_of_folder(check):
+    """A folder with a list of its own gives none to new files; one with a list for new files does."""
+    write(check.note, "text\n")
+    set_list(check.folder, "-m", f"u:{OTHER}:rx")
+    check.same("with a list of its own", open_file(check.note).ask("facts"), "")
+    set_list(check.folder, "-d", "-m", f"u:{OTHER}:rx")
+    check.same("with a list for new files", open_file(check.note).ask("facts"), "is in a folder that gives access lists")
+
+
+def paths_once(check):
+    """A save resolves no path twice, and none but its folder's."""
+    log = f"{check.folder}/log"
+    os.mkdir(f"{check.folder}/in")
+    path = write(f"{check.folder}/in/note", "old\n")
+    editor = open_file(path, under=["strace", "-f", "-qq", "-o", log, "-e", "trace=%file,prctl"])
+    check.same("the save", editor.save("new\n"), "saved")
+    editor.end()
+    lines = read(log).split('PR_SET_NAME, "bidi-saver"')[1].split("\n")
+    paths = [word for line in lines for word in re.findall(r'"([^"]*/[^"]*)"', line) if not re.match(r"/(proc/self|dev/null|tmp/.*/text)", word)]
+    check.same("the paths", paths, [f"{check.folder}/in"])
+
+
 CHECKS = [
     (link_in_place, ()), (link_behind_a_link, ()), (link_led_elsewhere, ()),
     (both_save, ("strace",)), (replaced_meanwhile, ("strace",)), (made_meanwhile, ("strace",)),
@@ -587,11 +728,17 @@ CHECKS = [
     (disk_unmounted, ("root", "mount")), (ten_names, ()),
     (pipe_at_opening, ("strace",)), (pipe_at_save, ()), (stalled_disk, ("root", "mount")), (stalled_at_save, ("root", "mount")),
 ]
+# of the opening, which the old program leaves to others
+NEW_CHECKS = [
+    (refusals, ()), (many_links, ()), (lost_folder, ()), (leftovers, ()), (lists_of_folder, ("setfacl",)), (paths_once, ("strace",)),
+]
 
 
 def main():
+    # strace and the search for leaks exclude one another
+    os.environ.setdefault("ASAN_OPTIONS", "detect_leaks=0")
     wanted = os.environ.get("CHECKS", "").split()
-    for run, needs in CHECKS:
+    for run, needs in CHECKS + ([] if is_old else NEW_CHECKS):
         if wanted and run.__name__ not in wanted:
             continue
         lacks = [need for need in needs if (os.geteuid() != 0 if need == "root" else not has(need))]
