@@ -272,6 +272,13 @@ static void drop_changes(struct edit *edit) {
     tell_kept(edit, "what was dropped can be had back", "");
 }
 
+/* Removes the changes that the user dropped of a FILE that root alone can read. */
+static void wipe_changes(struct edit *edit) {
+    int error = session_remove(&edit->session);
+    if (error == 0) warn("what was dropped is not kept, since only root can read %s", shown(edit->file.typed));
+    else warn("what was dropped cannot be removed from %s%s", shown(edit->session.path), fault_words(error));
+}
+
 /* Leaves a session to be recovered. */
 static void leave_session(struct edit *edit) {
     if (edit->facts.is_journal_lost) session_note_cut(&edit->session);
@@ -293,10 +300,7 @@ static void end_kept(struct edit *edit, enum left_how how) {
         session_remove(session);
         break;
     case FATE_DROPPED: drop_changes(edit); break;
-    case FATE_WIPED:
-        session_remove(session);
-        warn("what was dropped is not kept, since only root can read %s", shown(edit->file.typed));
-        break;
+    case FATE_WIPED: wipe_changes(edit); break;
     case FATE_KEPT: leave_session(edit); break;
     }
 }

@@ -175,12 +175,17 @@ static enum outcome take_locked(struct edit *edit, struct session *session, int 
     return OUTCOME_END;
 }
 
+/* Tells that another start of the editor took the session first. */
+static void tell_missed(void) {
+    tell("another start of the editor has that session by now");
+}
+
 /* Takes over a session, unless another start of the editor holds it by now. */
 static enum outcome take(struct edit *edit, struct session *session, int *status) {
     switch (session_lock(session, PART_PATH)) {
     case LOCK_TAKEN: return take_locked(edit, session, status);
     case LOCK_FAILED: *status = tell_unwritable(edit, session->error); return OUTCOME_END;
-    default: tell("another start of the editor has that session by now"); return OUTCOME_MISSED;
+    default: tell_missed(); return OUTCOME_MISSED;
     }
 }
 
@@ -217,16 +222,23 @@ static enum met ask_beside(const struct edit *edit, const struct found *found) {
     return goes_on ? MET_ASKED : MET_END;
 }
 
+/* Deletes a session for good. One that cannot be deleted is asked about again. */
+static enum outcome delete_session(const struct edit *edit, struct session *session) {
+    enum lock_result lock = session_lock(session, PART_PATH);
+    int error = lock == LOCK_TAKEN ? session_remove(session) : session->error;
+    if (lock == LOCK_TAKEN && error == 0) return OUTCOME_OPENED;
+    if (lock == LOCK_HELD || lock == LOCK_GONE) tell_missed();
+    else warn("the session of %s in %s cannot be deleted%s", shown(edit->file.typed), shown(session->path), fault_words(error));
+    return OUTCOME_MISSED;
+}
+
 /* Does what the user chooses for an unfinished session. */
 static enum outcome ask_what_to_do(struct edit *edit, struct session *session, int *status) {
     tell("%s has an unfinished session of %s (keys typed: %zu)", shown(edit->file.typed), time_text(session), session_count_keys(session));
     switch (ask_choice()) {
     case CHOICE_RECOVER: return take(edit, session, status);
     case CHOICE_LATER: return OUTCOME_OPENED;
-    case CHOICE_DELETE:
-        if (session_remove_unless_locked(session)) return OUTCOME_OPENED;
-        tell("another start of the editor has that session by now");
-        return OUTCOME_MISSED;
+    case CHOICE_DELETE: return delete_session(edit, session);
     default: *status = STATUS_NO; return OUTCOME_END;
     }
 }
@@ -364,6 +376,10 @@ static int store_found(struct edit *edit, struct found *found) {
         return STATUS_FAULT;
     }
     /* no lock can be taken on a disk that is read-only, where no editor can run either */
+    if (lock == LOCK_FAILED) {
+        session->text = session_open(session, PART_TEXT);
+        session->journal = session_open(session, PART_JOURNAL);
+    }
     return store(edit, session);
 }
 

@@ -151,4 +151,25 @@ def large(place):
     assert found[0] == 0 and place.text('o') == b'x' + text, found
 
 
-CASES = [forgets, foreign_names, closed_files, renamed, torn, full_disk, large]
+def read_only_disk(place):
+    """A session on a disk that is read-only is neither deleted nor recovered, which is told, and its text is stored elsewhere."""
+    place.put('a.txt', b'text\n')
+    place.leave()
+    disk = os.path.dirname(place.sessions()[0])
+    if os.geteuid() != 0 or subprocess.run(['mount', '--bind', disk, disk], stderr=subprocess.DEVNULL).returncode != 0:
+        return
+    try:
+        subprocess.run(['mount', '-o', 'remount,ro,bind', disk], check=True)
+        started = place.start('a.txt').answers(CHOICE, 'delete').answers(CHOICE, 'recover').ends(1)
+        cannot = f'bidi-edit: the session of a.txt in {place.sessions()[0]} cannot be deleted: read-only disk\n'
+        other = f'bidi-edit: nothing can be written in {disk}: read-only disk. bidi-edit --recover --to OTHER a.txt stores the text elsewhere\n'
+        assert started.err() == cannot + other, started.err()
+        status, out, err = place.tells('--forget')
+        assert status == 1 and err.endswith(' cannot be removed: read-only disk\n') and not out, (out, err)
+        found = place.tells('--recover', '--to', 'o', 'a.txt')
+        assert found[0] == 0 and place.text('o') == b'abctext\n', found
+    finally:
+        subprocess.run(['umount', disk])
+
+
+CASES = [forgets, foreign_names, closed_files, renamed, torn, full_disk, read_only_disk, large]
