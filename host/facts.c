@@ -181,10 +181,12 @@ enum answer is_mount(int at, int folder) {
     return own == above ? NO : YES;
 }
 
+/* Where the system does not tell, the call itself will. */
 bool may_access(int at, int access) {
     if (faccessat(at, "", access, AT_EMPTY_PATH | AT_EACCESS) == 0) return true;
-    if (errno != EINVAL && errno != ENOSYS && errno != ENOENT) return false;
-    return faccessat(AT_FDCWD, link_of(at).path, access, AT_EACCESS) == 0;
+    bool is_lacking = errno == EINVAL || errno == ENOSYS || errno == ENOENT;
+    if (is_lacking && faccessat(AT_FDCWD, link_of(at).path, access, AT_EACCESS) == 0) return true;
+    return errno != EACCES && errno != EPERM && errno != EROFS;
 }
 
 bool is_in_memory(int at) {

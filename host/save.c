@@ -101,25 +101,27 @@ static int check_place(struct save *save) {
 
 /* ---- the beginning */
 
-/* Why saves must not replace the FILE that is there. */
-static enum reason reason_now(struct save *save) {
+/* Finds why saves must not replace the FILE that is there. */
+static int find_reason(struct save *save, enum reason *reason) {
     struct facts facts, of_folder;
     int itself = open_for_facts(save->folder, save->file->name);
-    save->is_listless = false;
-    if (itself < 0) return NO_REASON;
+    if (itself < 0) return errno == ENOENT ? SAVE_CHANGED : cause_of(errno);
     find_facts(itself, save->folder, &facts);
     find_folder_facts(save->folder, &of_folder);
     close(itself);
     save->is_listless = !facts.has_access_list;
-    return find_in_place(&facts, &save->state.seen, &of_folder);
+    *reason = find_in_place(&facts, &save->state.seen, &of_folder);
+    return 0;
 }
 
 /* Settles whether the save goes into FILE itself. */
 static int settle_way(struct save *save) {
     const struct saver *saver = save->saver;
+    enum reason reason = NO_REASON;
     save->is_in_place = save->is_listless = false;
     if (!save->is_there || !S_ISREG(save->state.seen.found.st_mode)) return 0;
-    enum reason reason = reason_now(save);
+    int cause = find_reason(save, &reason);
+    if (cause != 0) return cause;
     bool is_itself = save->state.is_held || (saver->is_itself && !save->state.is_replaced);
     save->is_in_place = saver->mark_folder >= 0 || is_itself || reason != NO_REASON;
     /* a mark beside FILE would not help: nothing can be put there */

@@ -56,6 +56,12 @@ static _Noreturn void end(struct save *save, int cause) {
     _exit(0);
 }
 
+/* Ends without the save's end: nobody hears of it. */
+static _Noreturn void give_up(struct save *save) {
+    draft_remove(&save->draft);
+    _exit(1);
+}
+
 /* Does what a frame asks for. */
 static void obey(struct save *save, const struct frame *frame, int answer) {
     int cause = 0;
@@ -63,7 +69,7 @@ static void obey(struct save *save, const struct frame *frame, int answer) {
     case FRAME_BEGIN:
         cause = save_begin(save);
         if (cause != 0) end(save, cause);
-        if (!write_frame(answer, FRAME_DONE, NULL, 0)) _exit(1);
+        if (!write_frame(answer, FRAME_DONE, NULL, 0)) give_up(save);
         break;
     case FRAME_PIECE:
         draft_put(&save->draft, frame->bytes, frame->length);
@@ -89,8 +95,7 @@ static _Noreturn void serve(struct save *save, int request, int answer) {
         length -= done;
         memmove(room, room + done, length);
     }
-    draft_remove(&save->draft);
-    _exit(1);
+    give_up(save);
 }
 
 /* ---- the child is made, and taken in */

@@ -238,7 +238,8 @@ def check_error(name, way, lacks, number, call, error):
         scene.names |= set(scene.left())
     else:
         scene.same("what is left", scene.left(), [])
-    is_lost_right = call in ("fgetxattr", "getxattr", "fchown") and answers == ["saved"]
+    # what is not permitted, or is not known, makes a new file of a file with two names, or of one with another's rights
+    is_lost_right = call in ("fgetxattr", "getxattr", "fchown", "faccessat") and answers == ["saved"]
     if not is_lost_right:
         scene.check_place()
     tell(scene, f"{errno.errorcode[error]} at {call} ({number})", lacks)
