@@ -51,7 +51,10 @@ static int move_to_free(int folder, const char *from, const char *to) {
     struct look there;
     int error = rename_by(folder, from, to, RENAME_NOREPLACE);
     if (!is_lacking(error)) return error;
-    if (linkat(folder, from, folder, to, 0) == 0) return unlinkat(folder, from, 0) == 0 ? 0 : errno;
+    if (linkat(folder, from, folder, to, 0) == 0) {
+        unlinkat(folder, from, 0);
+        return 0;
+    }
     if (errno != EPERM && !is_lacking(errno)) return errno;
     /* neither call is there */
     if (!look_at(folder, to, &there)) return errno;

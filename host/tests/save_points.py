@@ -146,9 +146,9 @@ class Scene:
         return sorted(set(os.listdir(self.folder)) - self.names)
 
     def check_left_by_kill(self):
-        """At most one draft is left: the old text, or a beginning of the new one, closed to others."""
+        """At most one draft is left, which may have two names: the old text, or a beginning of the new one, closed to others."""
         left = self.left()
-        self.same("the number of drafts", len(left) <= 1, True)
+        self.same("the number of drafts", len({os.lstat(f"{self.folder}/{name}").st_ino for name in left}) <= 1, True)
         for name in left:
             text, mode = read(f"{self.folder}/{name}"), stat.S_IMODE(os.lstat(f"{self.folder}/{name}").st_mode)
             is_own_name = DRAFT.fullmatch(name) or (self.is_in_place() and name.startswith("note.bx"))
