@@ -71,7 +71,7 @@ def words_of_old(path):
 
 
 class OldEditor(Editor):
-    """The program that saves by itself, whose screen tells what came of it. A text is typed after Ctrl-X, which cuts the line."""
+    """The program that saves by itself, whose screen tells what came of it. A text is typed after Ctrl-X (CSI 74 ~), which cuts the line."""
 
     def __init__(self, path, *_words, under=(), cwd=None):
         self.process = subprocess.Popen([*under, *words_of_old(path)], stdin=subprocess.PIPE, stdout=subprocess.PIPE, stderr=subprocess.DEVNULL,
@@ -98,7 +98,7 @@ class OldEditor(Editor):
 
     def start_save(self, text):
         if text != self.text:
-            self.press(b"\x1b[1;5H\x18" + text.replace("\n", "\r").encode())
+            self.press(b"\x1b[1;5H\x1b[74~" + text.replace("\n", "\r").encode())
             self.wait_for(b"* ")
         self.text = text
         self.press(b"\x13")
