@@ -50,7 +50,7 @@ struct edit {
     const char *moved;
     /* FILE's permissions as the session notes them, where FILE is gone; else -1. */
     int lost_mode;
-    /* FILE had CR LF at all line ends. */
+    /* Of a FILE without a session: it had CR LF at all line ends. */
     bool had_all_crlf;
 
     struct saver saver;

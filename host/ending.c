@@ -103,8 +103,8 @@ static void tell_aside(const struct edit *edit) {
 /* Whether FILE's text, as it was opened, had CR LF at each line's end. */
 static bool had_all_crlf(const struct edit *edit) {
     const struct session *session = &edit->session;
-    if (edit->is_itself) return edit->had_all_crlf;
-    int text = session_is_none(session) ? edit->file.text : session->text >= 0 ? session->text : session->source;
+    if (session_is_none(session)) return edit->had_all_crlf;
+    int text = session->text >= 0 ? session->text : session->source;
     return text >= 0 && has_all_crlf(text);
 }
 

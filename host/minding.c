@@ -62,9 +62,13 @@ static void make_titles(struct edit *edit) {
     for (size_t i = 0; i < sizeof notes / sizeof *notes; i++) edit->titles[i] = text_of("%s - ^S save ^Q quit%s", name, notes[i]);
 }
 
+/* FILE was read: it is copied, and not held open for longer than that. */
 static void on_opened(void *whose) {
     struct edit *edit = whose;
-    if (!session_is_none(&edit->session)) session_fill(&edit->session);
+    bool is_kept = !session_is_none(&edit->session);
+    if (is_kept) session_fill(&edit->session);
+    else edit->had_all_crlf = edit->file.text >= 0 && has_all_crlf(edit->file.text);
+    if (!is_kept || edit->is_resumed) release_file(&edit->file);
 }
 
 static void on_journal(void *whose, bool is_kept) {
@@ -103,6 +107,7 @@ static void on_second(void *whose) {
     facts->keeping = session_mind(session);
     facts->error = session->error;
     facts->is_filled = session->is_filled;
+    if (facts->is_filled) release_file(&edit->file);
     if (facts->is_journal_lost) facts->journal = cause_of_loss(session);
     enum notice trouble = trouble_now(facts);
     edit->notice.is_new = trouble != facts->told;
@@ -161,8 +166,6 @@ int run_session(struct edit *edit) {
     }
     /* a save makes the FILE that was gone */
     if (edit->lost_mode >= 0) umask(umask(0) | (program->mask = mask_for((unsigned)edit->lost_mode)));
-    /* where saves are written into FILE itself, only its text tells, and only now */
-    edit->had_all_crlf = edit->file.text >= 0 && edit->is_itself && has_all_crlf(edit->file.text);
     enum notice notice = first_notice(&first);
     if (notice != NOTICE_NONE) give_notice(notice);
     enum run_end end = run_program(program);

@@ -67,6 +67,13 @@ def line_ends(place):
     started.type(QUIT).ends(0)
     told = "bidi-edit: a.txt has lines that end with LF among those with CR LF: perl -pi -e 's/\\r?\\n/\\r\\n/' makes them alike\n"
     assert started.err() == told, started.err()
+    place.put('a.txt', b'text\r\n')
+    os.link(place.path('a.txt'), place.path('b.txt'))
+    started = place.edit('-n', '--force', 'a.txt').type(b'x').sees(b'*').type(SAVE).sees(b'saved')
+    with open(place.path('a.txt'), 'ab') as file:
+        file.write(b'more\n')
+    started.type(QUIT).ends(0)
+    assert started.err().endswith(told), started.err()
 
 
 def remove_at_once(folder, place):
