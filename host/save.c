@@ -85,10 +85,21 @@ static int settle_folder(struct save *save) {
     return 0;
 }
 
+/* Whether FILE's links lead to another file by now. That is told once: nothing follows them again. */
+static bool leads_elsewhere(struct save *save) {
+    struct stat there;
+    const struct stat *seen = &save->state.seen.found;
+    if (!save->file->is_linked || save->state.is_link_told || stat(save->file->typed, &there) != 0) return false;
+    /* one that stands in FILE's place was told */
+    save->state.is_link_told = !save->is_there || (!S_ISLNK(seen->st_mode) && !is_same_file(&there, seen));
+    return save->state.is_link_told;
+}
+
 /* Whether the folder's path still leads to it. A folder that was made again there is FILE's from the next save on. */
 static int check_place(struct save *save) {
     struct stat own, there;
     struct look now;
+    if (leads_elsewhere(save)) return SAVE_CHANGED;
     if (!save->file->is_at_path && !save->state.is_moved) return 0;
     int folder = open_folder_path(save);
     if (folder < 0) return errno == ENOENT || errno == ENOTDIR || errno == ELOOP ? SAVE_FOLDER_GONE : 0;

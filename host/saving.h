@@ -19,6 +19,8 @@ struct state {
     bool is_old_plain;
     /* The next look counts as one at another file; saves go into FILE itself until a new one replaces it; one did. */
     bool is_distrusted, is_held, is_replaced;
+    /* The user was told that FILE's links lead elsewhere. */
+    bool is_link_told;
     /* FILE's folder was made again: this one. */
     bool is_moved;
     dev_t device;
