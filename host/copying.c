@@ -223,6 +223,10 @@ static void take_report(struct session *session, const struct report *said) {
     session->is_waiting = said->error == ENOSPC || said->error == EDQUOT;
     if (said->is_refused) renew_text(session);
     if (said->error) return;
+    /* the program has opened it: memory is free again, and a FILE that a save replaced */
+    if (session->source >= 0) close(session->source);
+    session->source = -1;
+    session->is_source_file = false;
     session->is_filled = session->has_text = true;
     session->is_mirror_new = false;
     for (enum part part = 0; part < PARTS; part++) {

@@ -192,7 +192,6 @@ int make_session(struct session *session, const struct sessions *sessions) {
 static void open_parts(struct session *session) {
     session->text = session_open(session, PART_TEXT);
     session->has_text = session->text >= 0;
-    session->source = copy_descriptor(session->text);
     session->journal = part_open(session->folder, part_name(PART_JOURNAL), O_RDWR | O_CREAT | O_APPEND);
     if (session->journal < 0) session->journal = session_open(session, PART_JOURNAL);
     for (enum part part = 0; part < PARTS; part++) {

@@ -135,7 +135,7 @@ struct session {
      * /proc/self/fd/N); `mirror` is the file `journal` where that one was removed; -1 each. */
     int lock, text, journal, mirror;
     /* What the program is to open at a fresh start (`--text /proc/self/fd/N`): the copy, FILE itself or a copy in memory; -1 for
-     * an empty text. */
+     * an empty text, and once the session is filled. */
     int source;
     /* The session's folder, for messages; it ends with its name in the folder of sessions. */
     char path[PATH_MAX];

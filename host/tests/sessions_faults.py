@@ -9,7 +9,7 @@ from terminals import Run, become_reaper
 QUIT = b'\x11'
 SECONDS = 2.5  # in which the host looks after the parts of a session
 SHOWN = re.compile(rb'text <|1:1')  # by typist.py, or by the program
-NOTICE = re.compile(rb'no copy is kept|notice [1-5]')
+NOTICE = re.compile(rb'\x1b\[24;\d+Hcopy|notice [1-5]')
 
 
 def installed(host, folder):
@@ -260,9 +260,11 @@ def full_disk(place):
             except OSError:
                 pass
         # more than the journal's last block takes; the stand-in does not bear that
-        for _ in range(1 if place.is_stand_in else 12):
-            editor.types(b'x' * 500)
-        editor.run.rest(3)
+        end = time.monotonic() + 100
+        while not NOTICE.search(editor.run.output) and time.monotonic() < end:
+            if not place.is_stand_in:
+                editor.types(b'x' * 200)
+            editor.run.rest(0.5)
         assert NOTICE.search(editor.run.output), editor.run.output[-500:]
         editor.types(b'x')
         editor.run.output = b''
@@ -362,7 +364,7 @@ def main():
             except Exception as fault:  # the next case goes on
                 failed += 1
                 print(f'FAILS {case.__name__}: {fault!r}', flush=True)
-            for editor in place.editors:
+            for editor in reversed(place.editors):
                 editor.close()
     finally:
         shutil.rmtree(folder, ignore_errors=True)
