@@ -263,7 +263,7 @@ def full_disk(place):
         end = time.monotonic() + 100
         while not NOTICE.search(editor.run.output) and time.monotonic() < end:
             if not place.is_stand_in:
-                editor.types(b'x' * 200)
+                editor.types(b'\x1b[C\x1b[D' * 100)
             editor.run.rest(0.5)
         assert NOTICE.search(editor.run.output), editor.run.output[-500:]
         editor.types(b'x')
