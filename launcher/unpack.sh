@@ -1,0 +1,105 @@
+# shellcheck shell=sh
+# shellcheck disable=SC2034,SC2154 # words that the scripts give and take
+# Unpacks dist/, for dist.sh. `top` is the repository, `place` the folder to unpack to, `begun` the time of the start.
+
+say_fault() { # WORDS
+    printf 'bidi-edit: %s\n' "$1" >&2
+}
+
+# Prints the cause that commands told, without their names.
+cause_of() { # WORDS
+    case $1 in
+    *'No space left on device'*) echo 'No space left on device' ;;
+    *) printf '%s\n' "$1" | sed -n '$s/.*: //p' ;;
+    esac
+}
+
+# Marks the folder as checked when the start began.
+mark() { # FOLDER
+    TZ=UTC0 touch -t "$begun" "$1/lib/bidi_edit/SOURCES" 2>/dev/null || :
+}
+
+# Puts the host into the folder: compiled, or that of dist/ where it cannot be compiled, if its sources are still the same.
+make_host() { # FOLDER
+    if told=$(sh "$top/host/build.sh" into "$1/bin" 2>&1); then return; fi
+    if [ "$(host_digest)" = "$(noted host)" ]; then
+        told=$(cp -- "$1/lib/bidi_edit/host" "$1/bin/bidi-edit.$$" 2>&1 && mv -f -- "$1/bin/bidi-edit.$$" "$1/bin/bidi-edit" 2>&1) && return
+        rm -f -- "$1/bin/bidi-edit.$$"
+        say_fault "the host cannot be put into $(shown "$1/bin"): $(cause_of "$told")"
+        return 2
+    fi
+    printf '%s\n' "$told" >&2
+    say_fault 'the host in dist/ is no help, since the sources in host/ have changed'
+    return 2
+}
+
+# Unpacks all but the host into a new folder.
+fill() { # FOLDER
+    mkdir -p -- "$1/bin" "$1/lib/bidi_edit" "$1/share/bidi_edit" && tar -xzof "$top/dist/$dist_archive" -C "$1/lib/bidi_edit" &&
+        cp -- "$top"/data/*.txt "$1/share/bidi_edit/" && cp -- "$top/dist/SOURCES" "$1/lib/bidi_edit/SOURCES"
+}
+
+# Whether a program can be executed here. It ends at once with a fault for want of words.
+runs_here() { # FOLDER
+    "$1/lib/bidi_edit/bidi_print" </dev/null >/dev/null 2>&1
+    [ $? -lt 126 ]
+}
+
+# Makes the folder beside its place and then renames it, so that it is never there in part. `beside` is removed at the end.
+unpack() {
+    beside=$(mktemp -d "$place.XXXXXX" 2>&1) || {
+        say_fault "dist/ cannot be unpacked in $(shown "${place%/*}"): $(cause_of "$beside")"
+        return 2
+    }
+    trap 'rm -rf -- "$beside"' EXIT
+    trap 'exit 2' HUP INT TERM
+    told=$(fill "$beside/tree" 2>&1) || {
+        say_fault "dist/ cannot be unpacked in $(shown "${place%/*}"): $(cause_of "$told")"
+        return 2
+    }
+    runs_here "$beside/tree" || return 3
+    make_host "$beside/tree" || return
+    mark "$beside/tree"
+    [ ! -e "$place" ] || mv -T -- "$place" "$beside/old"
+    # without a lock another start may have put its own there
+    mv -T -- "$beside/tree" "$place" 2>/dev/null || is_unpacked "$place" || return 2
+}
+
+# Makes the place ready, one start at a time where there is flock; else the rename decides.
+prepare_alone() {
+    if command -v flock >/dev/null; then
+        flock 9
+        # what killed starts left
+        rm -rf -- "$place".??????
+    fi
+    is_unpacked "$place" || {
+        unpack
+        return
+    }
+    mark "$place"
+    make_host "$place"
+}
+
+# Makes the folder that the place is in, and a file for the lock.
+make_room() {
+    if [ "$place" = "$top/out/start" ]; then mkdir -p -- "$top/out"; else (umask 077 && mkdir -p -- "${place%/*}"); fi &&
+        is_own_place && : >>"$place.lock"
+}
+
+# Makes the place ready and sets `start`; the statuses are those of find_start.
+prepare() {
+    told=$(make_room 2>&1) || {
+        is_own_place || told=': it belongs to another user'
+        say_fault "dist/ cannot be unpacked in $(shown "${place%/*}"): $(cause_of "$told")"
+        return 2
+    }
+    (prepare_alone) 9>>"$place.lock"
+    case $? in
+    0) start=$place ;;
+    3)
+        cause='the programs in dist/ do not run on this machine'
+        return 1
+        ;;
+    *) return 2 ;;
+    esac
+}
