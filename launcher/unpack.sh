@@ -19,6 +19,12 @@ mark() { # FOLDER
     TZ=UTC0 touch -t "$begun" "$1/lib/bidi_edit/SOURCES" 2>/dev/null || :
 }
 
+# Says that there is no room for the folder, and gives the status for that.
+refuse_place() { # WORDS
+    say_fault "dist/ cannot be unpacked in $(shown "${place%/*}"): $(cause_of "$1")"
+    return 2
+}
+
 # Puts the host into the folder: compiled, or that of dist/ where it cannot be compiled, if its sources are still the same.
 make_host() { # FOLDER
     if told=$(sh "$top/host/build.sh" into "$1/bin" 2>&1); then return; fi
@@ -48,21 +54,22 @@ runs_here() { # FOLDER
 # Makes the folder beside its place and then renames it, so that it is never there in part. `beside` is removed at the end.
 unpack() {
     beside=$(mktemp -d "$place.XXXXXX" 2>&1) || {
-        say_fault "dist/ cannot be unpacked in $(shown "${place%/*}"): $(cause_of "$beside")"
-        return 2
+        refuse_place "$beside"
+        return
     }
     trap 'rm -rf -- "$beside"' EXIT
     trap 'exit 2' HUP INT TERM
     told=$(fill "$beside/tree" 2>&1) || {
-        say_fault "dist/ cannot be unpacked in $(shown "${place%/*}"): $(cause_of "$told")"
-        return 2
+        refuse_place "$told"
+        return
     }
     runs_here "$beside/tree" || return 3
     make_host "$beside/tree" || return
     mark "$beside/tree"
-    [ ! -e "$place" ] || mv -T -- "$place" "$beside/old"
+    [ ! -e "$place" ] || mv -T -- "$place" "$beside/old" 2>/dev/null || :
+    told=$(mv -T -- "$beside/tree" "$place" 2>&1) && return
     # without a lock another start may have put its own there
-    mv -T -- "$beside/tree" "$place" 2>/dev/null || is_unpacked "$place" || return 2
+    is_unpacked "$place" || refuse_place "$told"
 }
 
 # Makes the place ready, one start at a time where there is flock; else the rename decides.
@@ -89,9 +96,9 @@ make_room() {
 # Makes the place ready and sets `start`; the statuses are those of find_start.
 prepare() {
     told=$(make_room 2>&1) || {
-        is_own_place || told=': it belongs to another user'
-        say_fault "dist/ cannot be unpacked in $(shown "${place%/*}"): $(cause_of "$told")"
-        return 2
+        [ -n "$told" ] || told=': it belongs to another user'
+        refuse_place "$told"
+        return
     }
     (prepare_alone) 9>>"$place.lock"
     case $? in
