@@ -31,8 +31,8 @@ make_host() { # FOLDER
     if [ "$(host_digest)" = "$(noted host)" ]; then
         told=$(cp -- "$1/lib/bidi_edit/host" "$1/bin/bidi-edit.$$" 2>&1 && mv -f -- "$1/bin/bidi-edit.$$" "$1/bin/bidi-edit" 2>&1) && return
         rm -f -- "$1/bin/bidi-edit.$$"
-        say_fault "the host cannot be put into $(shown "$1/bin"): $(cause_of "$told")"
-        return 2
+        refuse_place "$told"
+        return
     fi
     printf '%s\n' "$told" >&2
     say_fault 'the host in dist/ is no help, since the sources in host/ have changed'
@@ -66,10 +66,10 @@ unpack() {
     runs_here "$beside/tree" || return 3
     make_host "$beside/tree" || return
     mark "$beside/tree"
+    # without a lock another start may have put its own there, now or before the rename
+    ! is_unpacked "$place" || return 0
     [ ! -e "$place" ] || mv -T -- "$place" "$beside/old" 2>/dev/null || :
-    told=$(mv -T -- "$beside/tree" "$place" 2>&1) && return
-    # without a lock another start may have put its own there
-    is_unpacked "$place" || refuse_place "$told"
+    told=$(mv -T -- "$beside/tree" "$place" 2>&1) || is_unpacked "$place" || refuse_place "$told"
 }
 
 # Makes the place ready, one start at a time where there is flock; else the rename decides.
@@ -90,7 +90,7 @@ prepare_alone() {
 # Makes the folder that the place is in, and a file for the lock.
 make_room() {
     if [ "$place" = "$top/out/start" ]; then mkdir -p -- "$top/out"; else (umask 077 && mkdir -p -- "${place%/*}"); fi &&
-        is_own_place && : >>"$place.lock"
+        is_own_place && { [ "$place" = "$top/out/start" ] || chmod 700 -- "${place%/*}"; } && : >>"$place.lock"
 }
 
 # Makes the place ready and sets `start`; the statuses are those of find_start.
