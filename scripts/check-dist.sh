@@ -8,12 +8,15 @@ set -u
 here=$(CDPATH='' cd -- "$(dirname -- "$0")" && pwd)
 # shellcheck source=scripts/report.sh
 . "$here/report.sh"
+top=${here%/*}
+# shellcheck source=launcher/dist.sh
+. "$top/launcher/dist.sh"
 folder=$(mktemp -d) || exit 1
 trap 'chmod -R u+w "$folder"; rm -rf -- "$folder"' EXIT
 trap 'exit 1' HUP INT TERM
 passed=0 failed=0 skipped=0
 # shellcheck disable=SC2034 # of the parts
-tree=$folder/tree names='bidi_edit bidi_input bidi_keep bidi_print play_scenes'
+tree=$folder/tree names=$dist_programs player=$dist_player
 export LC_ALL=C HOME="$folder/home" TOLD="$folder/told"
 unset XDG_CACHE_HOME
 umask 022

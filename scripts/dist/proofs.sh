@@ -10,12 +10,12 @@ found() { # CRATE
 }
 
 check_found() { # NAME
-    same "$1, from dist/" "$(found play_scenes)" 'out/start/lib/bidi_edit/play_scenes'
+    same "$1, from dist/" "$(found "$player")" "out/start/lib/bidi_edit/$player"
     build_all
-    same "$1, built here" "$(found play_scenes)" 'crates/play_scenes/out/play_scenes'
-    rm -r "$tree/crates/play_scenes/out"
+    same "$1, built here" "$(found "$player")" "crates/$player/out/$player"
+    rm -r "$tree/crates/$player/out"
     echo '// more' >>"$tree/crates/low/proofs/deep/Proof.antt"
-    same "$1, a changed proof" "$(found play_scenes)" ''
+    same "$1, a changed proof" "$(found "$player")" ''
     same "$1, a changed proof: rt is asked" "$(cat "$TOLD/calls")" run
     same "$1, a program that dist/ has not" "$(found unused)" ''
     same "$1, a program that dist/ has not: rt is asked" "$(cat "$TOLD/calls")" run
@@ -42,7 +42,7 @@ check_prove() { # NAME
     prove
     same "$1, all is the same" "$status $(cat "$folder/said")" '0 26 passed, 0 failed'
     same "$1, the programs are noted" "$(sed 's/ [0-9a-f]*$//' "$tree/out/proved" | paste -s -d ,)" \
-        'sources,program bidi_edit,program bidi_input,program bidi_keep,program bidi_print,program play_scenes'
+        'sources,program bidi_edit,program bidi_input,program bidi_keep,program bidi_print,program '"$player"
     make_dist
     same "$1, dist/ is made of these" "$status $(diff -r "$tree/dist" "$folder/first/dist")" '0 '
     fresh_tree
@@ -64,10 +64,10 @@ check_prove() { # NAME
     prove
     same "$1, a byte of the archive" "$status $(head -n 1 "$folder/said")" '1 FAILS dist/bidi-edit-x86_64-linux.tar.gz, its sum in dist/SHA256SUMS'
     fresh_tree
-    sed -i "s/^\(program play_scenes\) ./\1 g/" "$tree/dist/SOURCES"
+    sed -i "s/^\(program $player\) ./\1 g/" "$tree/dist/SOURCES"
     prove
     same "$1, a sum" "$status $(sed 's/:.*//' "$folder/said" | paste -s -d '|')" \
-        '1 FAILS dist/SOURCES, its sum in dist/SHA256SUMS|FAILS play_scenes, its sum in dist/SOURCES|24 passed, 2 failed'
+        '1 FAILS dist/SOURCES, its sum in dist/SHA256SUMS|FAILS '"$player"', its sum in dist/SOURCES|24 passed, 2 failed'
     fresh_tree
     : >"$TOLD/bad"
     rm -r "$tree/dist"

@@ -34,7 +34,7 @@ check_start() { # NAME
     nothing_beside "$1" "$tree/out" start
     same "$1, its files" "$(cd "$tree/out/start" && find . -type f | sort | sed 's|^\./||' | paste -s -d ' ')" \
         "bin/bidi-edit lib/bidi_edit/SOURCES lib/bidi_edit/bidi_edit lib/bidi_edit/bidi_input lib/bidi_edit/bidi_keep lib/bidi_edit/bidi_print \
-lib/bidi_edit/host lib/bidi_edit/kit lib/bidi_edit/play_scenes share/bidi_edit/ArabicShaping.txt share/bidi_edit/BidiBrackets.txt \
+lib/bidi_edit/host lib/bidi_edit/kit lib/bidi_edit/$player share/bidi_edit/ArabicShaping.txt share/bidi_edit/BidiBrackets.txt \
 share/bidi_edit/BidiMirroring.txt share/bidi_edit/DerivedBidiClass.txt share/bidi_edit/UnicodeData.txt"
     same "$1, the toolchain" "$(cat "$tree/out/start/lib/bidi_edit/kit")" 'a toolchain'
     same "$1, compiled here" "$(cmp -s "$tree/out/start/bin/bidi-edit" "$tree/out/start/lib/bidi_edit/host" || echo compiled)" compiled
@@ -63,7 +63,7 @@ share/bidi_edit/BidiMirroring.txt share/bidi_edit/DerivedBidiClass.txt share/bid
 
 # A changed source is told before the first start and after it, and one that is changed back is no fault.
 check_sources() { # NAME
-    for file in low/src/main.rt bidi_keep/specs/Lib.antt play_scenes/proofs/deep/Proof.antt; do
+    for file in low/src/main.rt bidi_keep/specs/Lib.antt $player/proofs/deep/Proof.antt; do
         echo '// more' >>"$tree/crates/$file"
         start
         refuses "$1, $file" 'the sources are not those that dist/ was made from'
