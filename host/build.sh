@@ -1,7 +1,7 @@
 #!/bin/sh
-# build.sh [sanitized | into FOLDER | static FOLDER]: compiles the host to out/bidi-edit, or to FOLDER/bidi-edit, with $CC, by default
-# cc, where a source is newer. With the word `sanitized` it compiles out/sanitized/bidi-edit with AddressSanitizer and UBSan, with
-# `static` one that loads no library. Exit status 1: it does not compile, or there is no compiler.
+# build.sh [sanitized | into FOLDER]: compiles the host to out/bidi-edit, or to FOLDER/bidi-edit, with $CC, by default cc, where a
+# source is newer. With the word `sanitized` it compiles out/sanitized/bidi-edit with AddressSanitizer and UBSan. Exit status 1: it
+# does not compile, or there is no compiler.
 set -eu
 
 here=$(CDPATH='' cd -- "$(dirname -- "$0")" && pwd)
@@ -10,9 +10,8 @@ case $#:${1:-} in
 0:) ;;
 1:sanitized) kind=$1 out=$here/out/$1 ;;
 2:into) written=$2 out=$2 ;;
-2:static) kind=$1 written=$2 out=$2 ;;
 *)
-    echo 'usage: build.sh [sanitized | into FOLDER | static FOLDER]' >&2
+    echo 'usage: build.sh [sanitized | into FOLDER]' >&2
     exit 2
     ;;
 esac
@@ -30,10 +29,8 @@ command -v "${compiler%% *}" >/dev/null || {
     exit 1
 }
 set -- -std=c11 -D_GNU_SOURCE -Wall -Wextra -Wpedantic -Wconversion -Werror -O2 -fstack-protector-strong -fPIE -pipe
-links='-pie -Wl,-z,relro,-z,now'
 case $kind in
 '') set -- "$@" -D_FORTIFY_SOURCE=2 ;;
-static) set -- "$@" -D_FORTIFY_SOURCE=2 && links='-static-pie -Wl,-z,relro,-z,now' ;;
 sanitized) set -- "$@" -g -fno-omit-frame-pointer -fsanitize=address,undefined -fno-sanitize-recover=all ;;
 esac
 # names.sh quotes the name
@@ -50,7 +47,7 @@ cd -- "$objects"
 # on all processors
 # shellcheck disable=SC2086 # the compiler's own options
 printf '%s\0' "$here"/*.c | xargs -0 -n 3 -P "$(nproc 2>/dev/null || echo 1)" $compiler "$@" -c || exit 1
-# shellcheck disable=SC2086 # options
-$compiler "$@" $links -o "$program.$$" ./*.o || exit 1
+# shellcheck disable=SC2086 # the compiler's own options
+$compiler "$@" -pie -Wl,-z,relro,-z,now -o "$program.$$" ./*.o || exit 1
 # a start meanwhile finds the old program or the new one
 mv -f -- "$program.$$" "$program"

@@ -6,11 +6,11 @@ say_fault() { # WORDS
     printf 'bidi-edit: %s\n' "$1" >&2
 }
 
-# Prints the cause that commands told, without their names.
+# Prints the cause that commands told in English, without their names. tar tells of a full disk by what it could not write.
 cause_of() { # WORDS
     case $1 in
-    *'No space left on device'*) echo 'No space left on device' ;;
-    *) printf '%s\n' "$1" | sed -n '$s/.*: //p' ;;
+    *'No space left on device'* | *'Wrote only'*) echo 'No space left on device' ;;
+    *) printf '%s\n' "$1" | grep -v 'Exiting with failure' | sed -n '$s/.*: //p' ;;
     esac
 }
 
@@ -29,7 +29,7 @@ refuse_place() { # WORDS
 make_host() { # FOLDER
     if told=$(sh "$top/host/build.sh" into "$1/bin" 2>&1); then return; fi
     if [ "$(host_digest)" = "$(noted host)" ]; then
-        told=$(cp -- "$1/lib/bidi_edit/host" "$1/bin/bidi-edit.$$" 2>&1 && mv -f -- "$1/bin/bidi-edit.$$" "$1/bin/bidi-edit" 2>&1) && return
+        told=$(export LC_ALL=C && cp -- "$1/lib/bidi_edit/host" "$1/bin/bidi-edit.$$" 2>&1 && mv -f -- "$1/bin/bidi-edit.$$" "$1/bin/bidi-edit" 2>&1) && return
         rm -f -- "$1/bin/bidi-edit.$$"
         refuse_place "$told"
         return
@@ -45,31 +45,30 @@ fill() { # FOLDER
         cp -- "$top"/data/*.txt "$1/share/bidi_edit/" && cp -- "$top/dist/SOURCES" "$1/lib/bidi_edit/SOURCES"
 }
 
-# Whether a program can be executed here. It ends at once with a fault for want of words.
-runs_here() { # FOLDER
-    "$1/lib/bidi_edit/bidi_print" </dev/null >/dev/null 2>&1
-    [ $? -lt 126 ]
+# Whether the programs can be executed here, by a call that changes nothing: the host starts the keeper, which tells the version.
+run_here() { # FOLDER
+    "$1/bin/bidi-edit" --version </dev/null >/dev/null 2>&1
 }
 
 # Makes the folder beside its place and then renames it, so that it is never there in part. `beside` is removed at the end.
 unpack() {
-    beside=$(mktemp -d "$place.XXXXXX" 2>&1) || {
+    beside=$(LC_ALL=C mktemp -d "$place.XXXXXX" 2>&1) || {
         refuse_place "$beside"
         return
     }
     trap 'rm -rf -- "$beside"' EXIT
     trap 'exit 2' HUP INT TERM
-    told=$(fill "$beside/tree" 2>&1) || {
+    told=$(export LC_ALL=C && fill "$beside/tree" 2>&1) || {
         refuse_place "$told"
         return
     }
-    runs_here "$beside/tree" || return 3
     make_host "$beside/tree" || return
+    run_here "$beside/tree" || return 3
     mark "$beside/tree"
     # without a lock another start may have put its own there, now or before the rename
     ! is_unpacked "$place" || return 0
     [ ! -e "$place" ] || mv -T -- "$place" "$beside/old" 2>/dev/null || :
-    told=$(mv -T -- "$beside/tree" "$place" 2>&1) || is_unpacked "$place" || refuse_place "$told"
+    told=$(LC_ALL=C mv -T -- "$beside/tree" "$place" 2>&1) || is_unpacked "$place" || refuse_place "$told"
 }
 
 # Makes the place ready, one start at a time where there is flock; else the rename decides.
@@ -95,7 +94,7 @@ make_room() {
 
 # Makes the place ready and sets `start`; the statuses are those of find_start.
 prepare() {
-    told=$(make_room 2>&1) || {
+    told=$(export LC_ALL=C && make_room 2>&1) || {
         [ -n "$told" ] || told=': it belongs to another user'
         refuse_place "$told"
         return

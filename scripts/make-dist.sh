@@ -32,13 +32,10 @@ need_proved() { # NAME
         refuse "$1 is not proved and built from these sources: scripts/prove.sh proves and builds all"
 }
 
-# Compiles the host. It loads no library, so that it runs on any Linux. The linker's warning is about users who are in no file: the
-# host asks for the home of root alone, or of a user without HOME.
+# Compiles the host. It is not linked statically: the C library would then load what the system's list of users needs, which may
+# not fit it, and the programs need a C library of the system's too.
 make_host() {
-    sh "$top/host/build.sh" static "$room/host" >"$room/told" 2>&1 || {
-        cat "$room/told" >&2
-        refuse 'the host cannot be compiled'
-    }
+    sh "$top/host/build.sh" into "$room/host" || refuse 'the host cannot be compiled'
     strip -o "$room/files/host" "$room/host/bidi-edit"
 }
 

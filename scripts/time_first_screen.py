@@ -17,9 +17,9 @@ def start():
     """Starts the editor on a terminal; returns its process and the terminal."""
     child, terminal = pty.fork()
     if child == 0:
+        fcntl.ioctl(0, termios.TIOCSWINSZ, struct.pack('HHHH', 24, 80, 0, 0))
         os.chdir(f'{folder}/clone')
         os.execve('./bidi-edit', ['./bidi-edit', f'{folder}/note'], environment)
-    fcntl.ioctl(terminal, termios.TIOCSWINSZ, struct.pack('HHHH', 24, 80, 0, 0))
     return child, terminal
 
 

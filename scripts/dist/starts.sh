@@ -114,14 +114,12 @@ check_machine() { # NAME
     chmod +x "$folder/other/uname"
     start PATH="$folder/other:$folder/bin:$PATH"
     refuses "$1, another" 'the programs in dist/ are for Linux on x86_64, and this is Linux on aarch64'
-    printf '#!/no/such/loader\n' >"$TOLD/built/bidi_print"
-    chmod +x "$TOLD/built/bidi_print"
+    printf '#!/no/such/loader\n' >"$TOLD/built/bidi_keep"
     build_all
     make_dist
     for name in $names; do rm -r "$tree/crates/$name/out"; done
     rm -rf "$tree/out"
     start
     refuses "$1, without a loader" 'the programs in dist/ do not run on this machine'
-    cp "$tree/../first/dist/"* "$tree/dist/"
-    (cd "$TOLD/built" && tar -xzf "$folder/first/dist/bidi-edit-x86_64-linux.tar.gz" bidi_print)
+    tar -xzf "$folder/first/dist/bidi-edit-x86_64-linux.tar.gz" -C "$TOLD/built" bidi_keep
 }
