@@ -25,17 +25,33 @@ refuse_place() { # WORDS
     return 2
 }
 
+# Runs a command whose messages are read. For a subshell.
+in_english() { # COMMAND..
+    export LC_ALL=C
+    "$@" 2>&1
+}
+
+# Puts the host of dist/ into the folder.
+copy_host() { # FOLDER
+    new=$1/bin/bidi-edit.$$
+    cp -- "$1/lib/bidi_edit/host" "$new" && mv -f -- "$new" "$1/bin/bidi-edit" && return
+    rm -f -- "$new"
+    return 1
+}
+
 # Puts the host into the folder: compiled, or that of dist/ where it cannot be compiled, if its sources are still the same.
 make_host() { # FOLDER
     if told=$(sh "$top/host/build.sh" into "$1/bin" 2>&1); then return; fi
     if [ "$(host_digest)" = "$(noted host)" ]; then
-        told=$(export LC_ALL=C && cp -- "$1/lib/bidi_edit/host" "$1/bin/bidi-edit.$$" 2>&1 && mv -f -- "$1/bin/bidi-edit.$$" "$1/bin/bidi-edit" 2>&1) && return
-        rm -f -- "$1/bin/bidi-edit.$$"
-        refuse_place "$told"
+        told=$(in_english copy_host "$1") || refuse_place "$told"
         return
     fi
-    printf '%s\n' "$told" >&2
-    say_fault 'the host in dist/ is no help, since the sources in host/ have changed'
+    case $told in
+    *'there is no C compiler'*)
+        say_fault 'there is no C compiler, and the host in dist/ is not of the sources in host/: on Debian, apt install gcc libc6-dev gives one'
+        ;;
+    *) printf '%s\n' "$told" >&2 ;;
+    esac
     return 2
 }
 
@@ -52,13 +68,13 @@ run_here() { # FOLDER
 
 # Makes the folder beside its place and then renames it, so that it is never there in part. `beside` is removed at the end.
 unpack() {
-    beside=$(LC_ALL=C mktemp -d "$place.XXXXXX" 2>&1) || {
+    beside=$(in_english mktemp -d "$place.XXXXXX") || {
         refuse_place "$beside"
         return
     }
     trap 'rm -rf -- "$beside"' EXIT
     trap 'exit 2' HUP INT TERM
-    told=$(export LC_ALL=C && fill "$beside/tree" 2>&1) || {
+    told=$(in_english fill "$beside/tree") || {
         refuse_place "$told"
         return
     }
@@ -68,7 +84,7 @@ unpack() {
     # without a lock another start may have put its own there, now or before the rename
     ! is_unpacked "$place" || return 0
     [ ! -e "$place" ] || mv -T -- "$place" "$beside/old" 2>/dev/null || :
-    told=$(LC_ALL=C mv -T -- "$beside/tree" "$place" 2>&1) || is_unpacked "$place" || refuse_place "$told"
+    told=$(in_english mv -T -- "$beside/tree" "$place") || is_unpacked "$place" || refuse_place "$told"
 }
 
 # Makes the place ready, one start at a time where there is flock; else the rename decides.
@@ -94,7 +110,7 @@ make_room() {
 
 # Makes the place ready and sets `start`; the statuses are those of find_start.
 prepare() {
-    told=$(export LC_ALL=C && make_room 2>&1) || {
+    told=$(in_english make_room) || {
         [ -n "$told" ] || told=': it belongs to another user'
         refuse_place "$told"
         return
