@@ -121,14 +121,11 @@ is_own_place() {
 }
 
 # Sets `start` to the folder that the programs of dist/ run from, after unpacking them if need be. With the word `thoroughly` it looks
-# at each source. Status 1: they are not for this tree or machine, as `cause` says; 2: they cannot be unpacked, as a line on standard
-# error says.
+# at each source. Status 1: they are not for this tree or machine, as `cause` says, which is empty where there is no dist/; 2: they
+# cannot be unpacked, as a line on standard error says.
 find_start() { # [thoroughly]
     cause='' start=$top/out/start
-    [ -f "$top/dist/SOURCES" ] || {
-        cause='there is no dist/SOURCES'
-        return 1
-    }
+    [ -f "$top/dist/SOURCES" ] || return 1
     if [ $# = 0 ] && is_ready "$start"; then return 0; fi
     find_place
     if [ $# = 0 ] && is_own_place && is_ready "$place"; then

@@ -104,7 +104,7 @@ check_sums() { # NAME
     refuses "$1, a sum" 'dist/bidi-edit-x86_64-linux.tar.gz does not have its sum in dist/SHA256SUMS'
     rm -r "$tree/dist"
     start
-    refuses "$1, no dist/" 'there is no dist/SOURCES'
+    same "$1, no dist/: proofs begin" "$(head -n 1 "$folder/said" | sed 's/, this once:.*//')" 'bidi-edit: proving and building the editor'
 }
 
 # Another machine, by a stand-in for uname, and one on which the programs cannot be executed.
