@@ -20,7 +20,7 @@ has_newer_source() { # CRATE STAMP
 # Sets `program` to the crate's program, proved and built of these sources: by an earlier `rt run` if nothing has changed since, else
 # that of dist/ if it is of these sources, which needs no toolchain, else by a new `rt run`, which may take minutes.
 find_built() { # CRATE
-    program=$top/crates/$1/out/$1
+    program=$top/crates/$1/out/$1 cause=''
     if is_proved "$program" && ! has_newer_source "$1" "$program.stamp"; then return; fi
     if in_dist "$1" && find_start thoroughly; then
         program=$start/lib/bidi_edit/$1
@@ -37,6 +37,6 @@ find_built() { # CRATE
         return
     fi
     rm -f "$begun"
-    echo "$1 was not built: see rt check" >&2
+    echo "$1 was not built: see rt check${cause:+ ($cause)}" >&2
     exit 1
 }
