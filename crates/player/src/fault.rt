@@ -9,9 +9,9 @@ use thiserror::Error;
 /// A fault. Its text is the line for standard error.
 #[derive(Debug, Drop, Error)]
 pub enum Fault {
-    #[error("usage: play_scenes CLASSES BRACKETS MIRRORING [JOINING CHARACTERS] < SCENES")]
+    #[error("usage: player CLASSES BRACKETS MIRRORING [JOINING CHARACTERS] < LINES")]
     Words,
-    /// The line of standard input with this number, from 1, is no scene.
+    /// The line of standard input with this number, from 1, is refused.
     #[error("line {0}: {1}")]
     BadLine(usize, &'static str),
     #[error("{0}")]
@@ -23,17 +23,26 @@ pub enum Fault {
 }
 
 impl Fault {
-    /// The fault of a line.
-    pub fn of_line(number: usize, fault: WordFault) -> Fault {
-        match fault {
-            WordFault::Bad(why) => Fault::BadLine(number, why),
-            WordFault::OutOfMemory => Fault::OutOfMemory,
+    /// The fault in the line with this number, from 1.
+    pub fn at(self, number: usize) -> Fault {
+        match self {
+            Fault::BadLine(_, why) => Fault::BadLine(number, why),
+            fault => fault,
         }
     }
 
-    /// Whether the command line or the scenes are at fault.
+    /// Whether the command line or a line is at fault.
     pub fn is_of_input(&self) -> bool {
         matches!(self, Fault::Words | Fault::BadLine(_, _))
+    }
+}
+
+impl From<WordFault> for Fault {
+    fn from(fault: WordFault) -> Self {
+        match fault {
+            WordFault::Bad(why) => Fault::BadLine(0, why),
+            WordFault::OutOfMemory => Fault::OutOfMemory,
+        }
     }
 }
 

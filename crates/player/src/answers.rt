@@ -1,4 +1,4 @@
-//! The answers of a scene, in buffers allocated before its world.
+//! The answers of a scene, in buffers allocated before its world, and how the words of any answer are written.
 
 use bx_grid::GridError;
 use bx_session::{Refused, Session};
@@ -70,6 +70,14 @@ pub fn add_flag(line: &mut String, flag: bool) -> Result<(), AllocError> {
 /// Appends a number.
 pub fn add_number(line: &mut String, number: usize) -> Result<(), AllocError> {
     write!(line, "{number}")
+}
+
+/// Appends a blank, unless a field begins here.
+pub fn add_blank(line: &mut String) -> Result<(), AllocError> {
+    if !line.is_empty() && !line.as_str().ends_with('\t') {
+        line.push(' ')?;
+    }
+    Ok(())
 }
 
 /// The letter of a session's refusal.

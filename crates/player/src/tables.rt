@@ -1,4 +1,4 @@
-//! The tables of scenes: the program's files, with the lines that a scene adds to them.
+//! The tables of lines: the program's files or none, with the lines that the field TABLES adds to them.
 
 use crate::fault::Fault;
 use crate::words::WordFault;
@@ -17,9 +17,15 @@ pub struct TableFiles {
     characters: Vec<u8>,
 }
 
-/// Appends a line.
+/// Appends a line, with a tab for U+2409 and a carriage return for U+240D.
 fn add_line(file: &mut Vec<u8>, line: &str) -> Result<(), WordFault> {
-    file.extend_from_slice(line.as_bytes())?;
+    for c in line.chars() {
+        match c {
+            '\u{2409}' => file.push(b'\t')?,
+            '\u{240d}' => file.push(b'\r')?,
+            _ => file.extend_from_slice(c.encode_utf8(&mut [0; 4]).as_bytes())?,
+        }
+    }
     file.push(b'\n')?;
     Ok(())
 }
@@ -66,7 +72,7 @@ impl TableFiles {
     }
 
     /// The tables of all files.
-    fn joined(&self, alloc: Global) -> Result<Tables, UcdError> {
+    pub fn joined(&self, alloc: Global) -> Result<Tables, UcdError> {
         let files = JoiningFiles {
             joining: &self.joining,
             characters: &self.characters,
@@ -92,18 +98,42 @@ impl TableFiles {
         }
     }
 
-    /// Reads the tables of all files and of the lines that the field TABLES adds. `number` is the scene's line, from 1.
-    pub fn with_lines(&self, alloc: Global, field: &str, number: usize) -> Result<Tables, Fault> {
+    /// No lines of any file.
+    fn empty(alloc: Global) -> TableFiles {
+        TableFiles {
+            classes: Vec::new(alloc),
+            brackets: Vec::new(alloc),
+            mirroring: Vec::new(alloc),
+            joining: Vec::new(alloc),
+            characters: Vec::new(alloc),
+        }
+    }
+
+    /// Reads the tables of the field TABLES, with the lines that it adds. The error of a refused table is within the result.
+    pub fn with_lines(
+        &self,
+        alloc: Global,
+        field: &str,
+    ) -> Result<Result<Tables, UcdError>, WordFault> {
         let mut parts = field.split('|');
-        if parts.next() != Some("joined") {
-            return Err(Fault::BadLine(number, "TABLES begins with joined"));
-        }
-        let mut files = self.copy(alloc)?;
-        for part in parts {
-            if let Err(fault) = files.add(part) {
-                return Err(Fault::of_line(number, fault));
+        let (mut files, is_joined) = match parts.next() {
+            Some("plain") => (self.copy(alloc)?, false),
+            Some("joined") => (self.copy(alloc)?, true),
+            Some("new") => (TableFiles::empty(alloc), false),
+            Some("new-joined") => (TableFiles::empty(alloc), true),
+            _ => {
+                return Err(WordFault::Bad(
+                    "TABLES begins with plain, joined, new or new-joined",
+                ));
             }
+        };
+        for part in parts {
+            files.add(part)?;
         }
-        Ok(files.joined(alloc)?)
+        Ok(if is_joined {
+            files.joined(alloc)
+        } else {
+            files.plain(alloc)
+        })
     }
 }

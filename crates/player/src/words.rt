@@ -1,9 +1,11 @@
-//! Parsers for the words of a scene's line.
+//! Parsers for the words of a line.
 
-use bx_terms::UnknownBase;
+use bx_document::DocumentError;
+use bx_terms::{OutOfMemory, UnknownBase};
+use bx_text::TextError;
 use std::alloc::{AllocError, AllocFailed, Global};
 
-/// Why a line is no scene.
+/// Why a line is refused.
 #[derive(Clone, Copy, Debug)]
 pub enum WordFault {
     /// The text says what was expected.
@@ -23,9 +25,41 @@ impl<T: Drop> From<AllocFailed<T>> for WordFault {
     }
 }
 
+impl From<OutOfMemory> for WordFault {
+    fn from(_error: OutOfMemory) -> Self {
+        WordFault::OutOfMemory
+    }
+}
+
+impl From<TextError> for WordFault {
+    fn from(error: TextError) -> Self {
+        match error {
+            TextError::NotABoundary | TextError::TooLong => WordFault::Bad("a shorter text is wanted"),
+            TextError::OutOfMemory => WordFault::OutOfMemory,
+        }
+    }
+}
+
+impl From<DocumentError> for WordFault {
+    fn from(error: DocumentError) -> Self {
+        match error {
+            DocumentError::TooLong => WordFault::Bad("a shorter text is wanted"),
+            DocumentError::OutOfMemory => WordFault::OutOfMemory,
+        }
+    }
+}
+
 impl From<UnknownBase> for WordFault {
     fn from(_error: UnknownBase) -> Self {
         WordFault::Bad("auto, ltr or rtl is wanted")
+    }
+}
+
+/// A field of a line, by its number from 0 after the kind.
+pub fn field<'a>(fields: &[&'a str], number: usize) -> Result<&'a str, WordFault> {
+    match fields.get(number) {
+        Some(field) => Ok(*field),
+        None => Err(WordFault::Bad("a field is missing")),
     }
 }
 

@@ -43,7 +43,7 @@ impl Terminal {
     }
 
     /// Changes the size, unless it is out of range.
-    fn resize(&mut self, height: u16, width: u16) -> Result<(), GridError> {
+    pub fn resize(&mut self, height: u16, width: u16) -> Result<(), GridError> {
         self.screen.window(height, width)?;
         (self.height, self.width) = (height, width);
         Ok(())

@@ -92,8 +92,6 @@ pub struct Scene<'a> {
     /// STEPS
     pub acts: Vec<Act<'a>>,
     pub mode: Mode,
-    /// The field TABLES; None if letters are not joined.
-    pub tables: Option<&'a str>,
 }
 
 /// Parses the rest of `rows=`: the cursor's line and column, a colon, and rows separated by bars.
@@ -106,7 +104,7 @@ fn rows_of(word: &str) -> Result<Look<'_>, WordFault> {
 }
 
 /// Parses a word that looks.
-fn look_of(word: &str) -> Result<Look<'_>, WordFault> {
+pub fn look_of(word: &str) -> Result<Look<'_>, WordFault> {
     match word {
         "place" => Ok(Look::Place),
         "mark" => Ok(Look::Mark),
@@ -235,7 +233,6 @@ impl<'a> Scene<'a> {
         let file = bytes_of(alloc, fields.next().ok_or(missing)?)?;
         let acts = acts_of(alloc, fields.next().ok_or(missing)?)?;
         let mode = mode_of(fields.next().unwrap_or("both"))?;
-        let tables = fields.next();
         if !acts.iter().all(|act| act.is_of(mode)) {
             return Err(WordFault::Bad("a word is none of this mode"));
         }
@@ -250,7 +247,6 @@ impl<'a> Scene<'a> {
             file,
             acts,
             mode,
-            tables,
         })
     }
 
