@@ -1,7 +1,7 @@
 #!/bin/sh
 # check-joined-rows.sh [ROWS]: prints texts with joined letters by bidi_print, and compares the rows: with those of ROWS, with the
 # output of fribidi for lines of words, and for each letter those by the tables of data/ with those by Unicode's own files. It is
-# not part of `rt ci`, which plays scenes with joined letters (crates/play_scenes/stdin). Exit status 1: a row differs; 77:
+# not part of `rt ci`, which plays scenes with joined letters (crates/player/stdin). Exit status 1: a row differs; 77:
 # something is missing (no ROWS, python3, fribidi, word list or unicode-data), and all else agrees.
 #
 # ROWS is a file of rows from an independent source, made with Unicode's five files. A line has fields with tabs between: the

@@ -1,9 +1,9 @@
 #!/bin/sh
-# check-schedules.sh FOLDER [PROGRAM]: plays random schedules from an independent model of the editor by play_scenes, or by
+# check-schedules.sh FOLDER [PROGRAM]: plays random schedules from an independent model of the editor by crates/player, or by
 # PROGRAM, step by step and by one call, and counts those whose answers all agree with the model. FOLDER has schedules.tsv,
 # settled.tsv and the small tables test-classes.txt, test-brackets.txt and test-mirroring.txt. A line of a schedule has the fields
 # of a scene, 1 to 7, the first of which names the tables, the small ones (test) or Debian's unicode-data (real), and then the
-# fields of its answers, 8 to 14. crates/play_scenes/src/main.rt tells what they are; field 5 is the call of the store that fails,
+# fields of its answers, 8 to 14. crates/player/src/main.rt tells what they are; field 5 is the call of the store that fails,
 # and field 9 has a digit for each step, 1 where the terminal then shows the picture last painted. Exit status 77: there are no
 # schedules or no tables. It is not part of `rt ci`.
 set -eu
@@ -55,12 +55,13 @@ gather() {
 # Builds the program, unless one is given.
 build() {
     [ -z "$program" ] || return 0
-    find_built play_scenes
+    find_built player
 }
 
 # Plays scenes over the tables of this kind. A quarter of an hour is enough for all of them.
 play() { # KIND
-    timeout 900 "$program" "$scratch/$1-classes.txt" "$scratch/$1-brackets.txt" "$scratch/$1-mirroring.txt"
+    sed 's/^/scene\t/' |
+        timeout 900 "$program" "$scratch/$1-classes.txt" "$scratch/$1-brackets.txt" "$scratch/$1-mirroring.txt"
 }
 
 # Whether the schedule on this line agrees with the model if another call of the store fails. The number of calls in a save is

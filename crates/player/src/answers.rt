@@ -80,6 +80,14 @@ pub fn add_blank(line: &mut String) -> Result<(), AllocError> {
     Ok(())
 }
 
+/// Appends a hyphen if a field is empty.
+pub fn add_none(line: &mut String) -> Result<(), AllocError> {
+    if line.is_empty() || line.as_str().ends_with('\t') {
+        line.push('-')?;
+    }
+    Ok(())
+}
+
 /// The letter of a session's refusal.
 pub fn letter_of_refusal(refused: Refused) -> char {
     match refused {

@@ -2,7 +2,7 @@
 ghost use Rattle.std.specs.Prelude.{All, IfOk};
 ghost use Rattle.bx_cells.specs.Units.{StandsIn};
 
-use crate::answers::add_blank;
+use crate::answers::{add_blank, add_none};
 use crate::words::{WordFault, count_of, field};
 use bx_cells::{Face, Unit, units};
 use bx_resolve::{Levels, levels};
@@ -52,11 +52,7 @@ fn add_level(line: &mut String, level: Option<u8>) -> Result<(), AllocError> {
 }
 
 /// Answers a `levels` line.
-pub fn levels_line(
-    alloc: Global,
-    tables: &Tables,
-    fields: &[&str],
-) -> Result<String, WordFault> {
+pub fn levels_line(alloc: Global, tables: &Tables, fields: &[&str]) -> Result<String, WordFault> {
     let body = text_of(alloc, field(fields, 0)?)?;
     let found = levels(alloc, body.as_str(), tables, field(fields, 1)?.parse()?)?;
     let paragraph = found.paragraph;
@@ -64,9 +60,7 @@ pub fn levels_line(
     for level in &found.each {
         add_level(&mut line, level.get())?;
     }
-    if body.is_empty() {
-        line.push('-')?;
-    }
+    add_none(&mut line)?;
     Ok(line)
 }
 
@@ -116,11 +110,7 @@ fn is_removed(levels: &Levels, number: usize) -> bool {
 }
 
 /// Answers an `order` line.
-pub fn order_line(
-    alloc: Global,
-    tables: &Tables,
-    fields: &[&str],
-) -> Result<String, WordFault> {
+pub fn order_line(alloc: Global, tables: &Tables, fields: &[&str]) -> Result<String, WordFault> {
     let text = text_of(alloc, field(fields, 0)?)?;
     let body = body_of(text.as_str(), tables);
     let found = levels(alloc, body, tables, field(fields, 1)?.parse()?)?;
@@ -142,6 +132,7 @@ pub fn order_line(
             },
         )?;
     }
+    add_none(&mut line)?;
     line.push('\t')?;
     for number in &visual(alloc, &each)? {
         if !is_removed(&found, *number) {
@@ -149,15 +140,12 @@ pub fn order_line(
             write!(line, "{number}")?;
         }
     }
+    add_none(&mut line)?;
     Ok(line)
 }
 
 /// Answers a `clusters` line.
-pub fn clusters_line(
-    alloc: Global,
-    tables: &Tables,
-    fields: &[&str],
-) -> Result<String, WordFault> {
+pub fn clusters_line(alloc: Global, tables: &Tables, fields: &[&str]) -> Result<String, WordFault> {
     let body = text_of(alloc, field(fields, 0)?)?;
     let mut line = String::from_str(alloc, "÷")?;
     for unit in &units(alloc, body.as_str(), tables, COLUMNS)? {

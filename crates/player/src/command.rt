@@ -20,7 +20,11 @@ fn add_paths(line: &mut String, paths: UnicodePaths<'_>) -> Result<(), AllocErro
     add_option(line, "brackets", Some(paths.brackets))?;
     add_option(line, "mirroring", Some(paths.mirroring))?;
     add_option(line, "joining", paths.joining.map(|paths| paths.joining))?;
-    add_option(line, "characters", paths.joining.map(|paths| paths.characters))
+    add_option(
+        line,
+        "characters",
+        paths.joining.map(|paths| paths.characters),
+    )
 }
 
 /// Appends the options that are given, after the window's size and the direction.

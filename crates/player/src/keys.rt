@@ -1,6 +1,6 @@
 //! The keys of input bytes.
 
-use crate::answers::{add_blank, add_bytes};
+use crate::answers::{add_blank, add_bytes, add_none};
 use crate::words::{WordFault, bytes_of, field};
 use bx_keys::{Decoder, Key, Notice};
 use std::alloc::Global;
@@ -123,8 +123,13 @@ pub fn keys_line(alloc: Global, fields: &[&str]) -> Result<String, WordFault> {
             _ => {}
         }
     }
+    add_none(&mut line)?;
     line.push('\t')?;
-    let rest = if waits(decoder) { last_item(&bytes) } else { &[] };
+    let rest = if waits(decoder) {
+        last_item(&bytes)
+    } else {
+        &[]
+    };
     add_bytes(&mut line, rest)?;
     Ok(line)
 }

@@ -246,7 +246,10 @@ fn play_line<R: Print + AllocGlobal>(
     if let Some(tables) = sources.kept(field) {
         return play_with(rt, tables, line, &fields, player);
     }
-    match sources.files.with_lines(rt.alloc(), field.unwrap_or("plain"))? {
+    match sources
+        .files
+        .with_lines(rt.alloc(), field.unwrap_or("plain"))?
+    {
         Ok(tables) => play_with(rt, &tables, line, &fields, player),
         Err(error) => {
             println!(rt; "refused: {error}")?;

@@ -3,7 +3,7 @@ ghost use Rattle.std.specs.Prelude.{All};
 ghost use Rattle.bx_cells.specs.Units.{StandsIn};
 ghost use Rattle.bx_paragraph.specs.Layout.{IsLayoutBy};
 
-use crate::answers::{add_blank, add_bytes};
+use crate::answers::{add_blank, add_bytes, add_none};
 use crate::words::{WordFault, bytes_of, count_of, field, side_of};
 use bx_cells::{Unit, units};
 use bx_index::Index;
@@ -32,11 +32,13 @@ fn add_levels(
         add_blank(line)?;
         write!(line, "{level}")?;
     }
+    add_none(line)?;
     line.push('\t')?;
     for number in &visual(alloc, &each)? {
         add_blank(line)?;
         write!(line, "{number}")?;
     }
+    add_none(line)?;
     Ok(())
 }
 
@@ -56,7 +58,14 @@ fn add_units(
     let mut left = number;
     for row in &rows {
         if left == 0 {
-            return add_levels(line, alloc, body, &found[row.start..row.stop], &levels, tables);
+            return add_levels(
+                line,
+                alloc,
+                body,
+                &found[row.start..row.stop],
+                &levels,
+                tables,
+            );
         }
         left = left.saturating_sub(1);
     }
@@ -64,10 +73,7 @@ fn add_units(
 }
 
 /// Appends the glyphs of a row, from left to right.
-fn add_glyphs<D: BidiData>(
-    line: &mut String,
-    row: &LentRow<'_, '_, D>,
-) -> Result<(), WordFault> {
+fn add_glyphs<D: BidiData>(line: &mut String, row: &LentRow<'_, '_, D>) -> Result<(), WordFault> {
     for glyph in &row.picture()?.glyphs {
         add_blank(line)?;
         add_bytes(line, glyph.text.as_str().as_bytes())?;

@@ -122,9 +122,7 @@ impl TableFiles {
             Some("new") => (TableFiles::empty(alloc), false),
             Some("new-joined") => (TableFiles::empty(alloc), true),
             _ => {
-                return Err(WordFault::Bad(
-                    "TABLES begins with plain, joined, new or new-joined",
-                ));
+                return Err(WordFault::Bad("TABLES begins with plain, joined, new or new-joined"));
             }
         };
         for part in parts {

@@ -34,7 +34,9 @@ impl From<OutOfMemory> for WordFault {
 impl From<TextError> for WordFault {
     fn from(error: TextError) -> Self {
         match error {
-            TextError::NotABoundary | TextError::TooLong => WordFault::Bad("a shorter text is wanted"),
+            TextError::NotABoundary | TextError::TooLong => WordFault::Bad(
+                "a shorter text is wanted",
+            ),
             TextError::OutOfMemory => WordFault::OutOfMemory,
         }
     }
