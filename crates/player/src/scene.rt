@@ -7,7 +7,7 @@ use bx_world::Step;
 use std::alloc::{AllocError, Global};
 
 /// The MODE in which the steps of a scene are taken.
-#[derive(Clone, Copy, PartialEq, Eq, Debug)]
+#[derive(Clone, Copy)]
 pub enum Mode {
     /// By `step` and, in another world, by `play`; the two are compared.
     Both,
