@@ -6,7 +6,7 @@ use bx_text::TextError;
 use std::alloc::{AllocError, AllocFailed, Global};
 
 /// Why a line is refused.
-#[derive(Clone, Copy, Debug)]
+#[derive(Clone, Copy)]
 pub enum WordFault {
     /// The text says what was expected.
     Bad(&'static str),
