@@ -4,7 +4,7 @@ ghost use Rattle.bx_cells.specs.Units.{StandsIn};
 
 use crate::answers::{add_blank, add_none};
 use crate::words::{WordFault, count_of, field};
-use bx_cells::{Face, Unit, units};
+use bx_cells::{Face, Unit};
 use bx_resolve::{Levels, levels};
 use bx_rows::visual;
 use bx_rows_laws::row_levels;
@@ -148,7 +148,7 @@ pub fn order_line(alloc: Global, tables: &Tables, fields: &[&str]) -> Result<Str
 pub fn clusters_line(alloc: Global, tables: &Tables, fields: &[&str]) -> Result<String, WordFault> {
     let body = text_of(alloc, field(fields, 0)?)?;
     let mut line = String::from_str(alloc, "÷")?;
-    for unit in &units(alloc, body.as_str(), tables, COLUMNS)? {
+    for unit in &bx_cells::units(alloc, body.as_str(), tables, COLUMNS)? {
         let cluster = body.as_str().get(unit.start..unit.stop).unwrap_or("");
         for (number, c) in cluster.chars().enumerate() {
             let (sign, code) = (if number > 0 { " ×" } else { "" }, c as u32);

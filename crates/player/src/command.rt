@@ -19,12 +19,13 @@ fn add_paths(line: &mut String, paths: UnicodePaths<'_>) -> Result<(), AllocErro
     add_option(line, "classes", Some(paths.classes))?;
     add_option(line, "brackets", Some(paths.brackets))?;
     add_option(line, "mirroring", Some(paths.mirroring))?;
-    add_option(line, "joining", paths.joining.map(|paths| paths.joining))?;
-    add_option(
-        line,
-        "characters",
-        paths.joining.map(|paths| paths.characters),
-    )
+    match paths.joining {
+        Some(paths) => {
+            add_option(line, "joining", Some(paths.joining))?;
+            add_option(line, "characters", Some(paths.characters))
+        }
+        None => Ok(()),
+    }
 }
 
 /// Appends the options that are given, after the window's size and the direction.
@@ -54,7 +55,9 @@ fn add_options(line: &mut String, options: &Options<'_>) -> Result<(), AllocErro
         ("itself", options.itself),
         ("words", options.words),
     ] {
-        add_option(line, name, if is_given { Some("") } else { None })?;
+        if is_given {
+            write!(line, " {name}")?;
+        }
     }
     if let Some(number) = options.line {
         write!(line, " line={number}")?;

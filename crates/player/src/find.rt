@@ -10,12 +10,6 @@ use bx_terms::Base;
 use bx_ucd::Tables;
 use std::alloc::Global;
 
-/// The columns of the window, which do not affect what is found.
-const COLUMNS: u16 = 80;
-
-/// The most characters of a query.
-const LONGEST: usize = 64;
-
 /// Parses a text from its bytes.
 fn text_of(alloc: Global, field: &str) -> Result<String, WordFault> {
     match String::from_utf8(bytes_of(alloc, field)?) {
@@ -34,9 +28,16 @@ fn found(
 ) -> Result<Option<usize>, WordFault> {
     let from = document.place_from(if word == "first" { 0 } else { x })?;
     match word {
-        "next" | "first" => Ok(document.first_from(reading, query, from)),
+        "next" => Ok(document.first_from(reading, query, from)),
         "last" => Ok(document.last_before(reading, query, from)),
-        "final" => Ok(document.last_before(reading, query, usize::MAX)),
+        "first" => match document.first_from(reading, query, from) {
+            Some(at) if at < x => Ok(Some(at)),
+            _ => Ok(None),
+        },
+        "final" => match document.last_before(reading, query, usize::MAX) {
+            Some(at) if at >= x => Ok(Some(at)),
+            _ => Ok(None),
+        },
         "end" => match document.first_from(reading, query, from) {
             Some(start) => Ok(Some(document.match_end(reading, query, start))),
             None => Ok(None),
@@ -55,10 +56,12 @@ pub fn find_line(alloc: Global, tables: &Tables, fields: &[&str]) -> Result<Stri
     let text = text_of(alloc, field(fields, 1)?)?;
     let sought = text_of(alloc, field(fields, 2)?)?;
     let x = count_of(field(fields, 3)?)?;
-    if char_count(sought.as_str()) > LONGEST {
+    // the most characters of a query
+    if char_count(sought.as_str()) > 64 {
         return Err(WordFault::Bad("the query is too long"));
     }
-    let mut document = Document::open(alloc, text, Lent { tables }, COLUMNS, Base::Auto)?;
+    // the number of columns does not affect what is found
+    let mut document = Document::open(alloc, text, Lent { tables }, 80, Base::Auto)?;
     let mut line = String::new(alloc);
     let Some(query) = document.query(reading, sought.as_str()) else {
         line.push_str("no letters")?;

@@ -96,10 +96,15 @@ fn waits(decoder: Decoder) -> bool {
 
 /// The bytes from the last one that begins an item of several bytes: ESC, or the first of a character.
 fn last_item(bytes: &[u8]) -> &[u8] {
-    let begins = |byte: &u8| matches!(*byte, 0x1B | 0xC2..=0xF4);
-    match bytes.iter().rposition(begins) {
-        Some(start) => &bytes[start..],
-        None => &[],
+    let mut start = bytes.len();
+    for (index, byte) in bytes.iter().enumerate() {
+        if matches!(*byte, 0x1B | 0xC2..=0xF4) {
+            start = index;
+        }
+    }
+    match bytes.get(start..) {
+        Some(rest) => rest,
+        None => bytes,
     }
 }
 
@@ -125,11 +130,9 @@ pub fn keys_line(alloc: Global, fields: &[&str]) -> Result<String, WordFault> {
     }
     add_none(&mut line)?;
     line.push('\t')?;
-    let rest = if waits(decoder) {
-        last_item(&bytes)
-    } else {
-        &[]
-    };
-    add_bytes(&mut line, rest)?;
+    if waits(decoder) {
+        add_bytes(&mut line, last_item(&bytes))?;
+    }
+    add_none(&mut line)?;
     Ok(line)
 }

@@ -40,8 +40,8 @@
 //! - `class` answers the code, the class, the bracket, the mirror, the joining type unless it is U, and the forms; for the CODE `-` only
 //!   `accepted`.
 //! - `find` answers a word for each of LOOKS: the query's `next` offset from the first place at or after OFFSET, its `end`, the
-//!   `last` offset before that place, the `first` and the `final` one of the text; `-` for none, and one answer `no letters` for a
-//!   query without any. READING is `close` or `wide`.
+//!   `last` offset before that place, and where a search goes round, the `first` one before OFFSET and the `final` one at or after
+//!   it; `-` for none. For a query without letters the answer is `no letters`. READING is `close` or `wide`.
 //!
 //! # Keys, pictures and command lines
 //!
@@ -56,9 +56,8 @@
 //!
 //! # Scenes
 //!
-//! NAME describes the scene and is ignored. CALL is the number of the store's call that
-//! fails, counting all of its calls from 1, or `-` if none fails. FILE is the text that is opened.
-//! STEPS are words separated by blanks, `-` for none:
+//! NAME describes the scene and is ignored. CALL is the number of the store's call that fails, counting all of its calls from 1,
+//! or `-` if none fails. FILE is the text that is opened. STEPS are words separated by blanks, `-` for none:
 //!
 //!     B78           a byte of input; `B1b5b46` is three steps
 //!     W2,5          the window gets 2 rows and 5 columns
@@ -106,15 +105,15 @@
 //!     N    out of memory for the answers of `play`: no step was taken
 //!
 //! `play` gives `o` for `e` and `f`. If the scene looks at something, a tab follows, then the findings, separated by blanks.
-//! Otherwise these fields follow, with a tab before each: for each step 1 if the terminal shows the picture last painted after it,
-//! else 0 (with `play` for the last step alone, with `alone` a hyphen); the text; the store's content; the cursor's place; 1 if
-//! there are unsaved changes, else 0; and all bytes ever queued for the terminal (with `play` those not yet read). If the file is
-//! not opened, the whole line is `refused: ` and the cause.
+//! Otherwise these fields follow, with a tab before each: for each step 1 if the terminal shows the picture last painted after
+//! it, else 0 (with `play` for the last step alone, with `alone` a hyphen); the text; the store's content; the cursor's place; 1
+//! if there are unsaved changes, else 0; and all bytes ever queued for the terminal (with `play` those not yet read). If the file
+//! is not opened, the whole line is `refused: ` and the cause.
 //!
-//! A text of more than 4096 bytes that equals the file is `=`. A look finds the
-//! text by a copy to a separate store, and so does `alone` at the end. A world finds the text at the end by a Save to one; if the
-//! session has ended, another world takes the steps before the end and saves there. The text is `?` if that store runs out of
-//! memory, and if MODE is `play` and the session has ended.
+//! A text of more than 4096 bytes that equals the file is `=`. A look finds the text by a copy to a separate store, and so does
+//! `alone` at the end. A world finds the text at the end by a Save to one; if the session has ended, another world takes the
+//! steps before the end and saves there. The text is `?` if that store runs out of memory, and if MODE is `play` and the session
+//! has ended.
 //!
 //! The buffers for answers are allocated before the first world is opened, so that the world is the first to run out of memory.
 //! If the program itself runs out, it writes `out of memory` to standard error and ends with status 1. It also ends with status 1

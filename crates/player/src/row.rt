@@ -98,14 +98,14 @@ fn add_slots<D: BidiData>(
 }
 
 /// Appends the glyphs and the slots of a paragraph's row.
-fn add_pictured(
+fn add_pictured<D: BidiData>(
     line: &mut String,
     layout: &ParagraphLayout,
-    tables: &Tables,
+    tables: &D,
     start: usize,
     number: usize,
 ) -> Result<(), WordFault>
-    requires { IsLayoutBy (⟦<Tables as BidiData>⟧.data tables.now) layout.now }
+    requires { IsLayoutBy (D.data tables.now) layout.now }
 {
     if number >= layout.row_count() {
         return Ok(());

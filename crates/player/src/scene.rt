@@ -236,7 +236,7 @@ impl<'a> Scene<'a> {
         if !acts.iter().all(|act| act.is_of(mode)) {
             return Err(WordFault::Bad("a word is none of this mode"));
         }
-        if mode == Mode::Play && !is_text_last(&acts) {
+        if matches!(mode, Mode::Play) && !is_text_last(&acts) {
             return Err(WordFault::Bad("the text is looked at before the end"));
         }
         Ok(Scene {

@@ -23,17 +23,22 @@ fn thousand(alloc: Global, part: &str) -> Result<String, AllocError> {
     Ok(text)
 }
 
-/// Inserts a letter into a document with 1,000 paragraphs of three bytes each. Returns the end of its row, and the number of
-/// questions for a class.
+/// Inserts a letter at the first place from an offset on, and returns the end of its row.
+fn insert<D: BidiData + Drop>(document: &mut Document<D>, offset: usize) -> Result<usize, Fail> {
+    let place = document.place_from(offset)?;
+    match document.insert(place, "x")? {
+        Some(after) => Ok(document.moved(Move::RowEnd, after)?),
+        None => Err(Fail::new("no room")),
+    }
+}
+
+/// Inserts a letter into a text of 1,000 paragraphs of three bytes each. Returns the end of its row, and the number of questions
+/// for a class.
 fn end_and_questions(alloc: Global, offset: usize) -> Result<(usize, u32), Fail> {
     let text = thousand(alloc, "ab\n")?;
     let mut document = Document::open(alloc, text, Counting::new(alloc)?, 80, Base::Auto)?;
     document.tables().questions();
-    let place = document.place_from(offset)?;
-    let Some(after) = document.insert(place, "x")? else {
-        return Err(Fail::new("no room"));
-    };
-    let end = document.moved(Move::RowEnd, after)?;
+    let end = insert(&mut document, offset)?;
     Ok((end, document.tables().questions()))
 }
 
