@@ -48,7 +48,7 @@ top=$(cd "$(dirname "$0")/.." && pwd)
 player=$top/crates/play_scenes/out/play_scenes
 lookup=$top/crates/ucd_lookup/out/ucd_lookup
 editor=$top/crates/bidi_edit/out/bidi_edit
-given=$(readlink -f "${1:-/nowhere}" || :)
+given=$(readlink -f "${1:-$top/tests/data/sessions.tar.gz}" || :)
 scratch=$(mktemp -d)
 trap 'rm -rf "$scratch"' EXIT
 trap 'exit 1' HUP INT TERM
