@@ -47,7 +47,7 @@ top=$(cd "$(dirname "$0")/.." && pwd)
 
 player=$top/crates/player/out/player
 editor=$top/crates/bidi_edit/out/bidi_edit
-given=$(readlink -f "${1:-/nowhere}" || :)
+given=$(readlink -f "${1:-$top/tests/data/sessions.tar.gz}" || :)
 scratch=$(mktemp -d)
 trap 'rm -rf "$scratch"' EXIT
 trap 'exit 1' HUP INT TERM
