@@ -11,7 +11,7 @@
 . "$top/launcher/unpack.sh"
 
 # the only list of them; the last plays schedules for the tests
-dist_player=play_scenes
+dist_player=player
 dist_programs="bidi_edit bidi_input bidi_keep bidi_print $dist_player"
 dist_archive=bidi-edit-x86_64-linux.tar.gz
 

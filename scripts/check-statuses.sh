@@ -1,16 +1,17 @@
 #!/bin/sh
-# check-statuses.sh: runs the built program to each of its ends, and bidi_input if it is built, and compares the exit status, the
-# line on standard error and the saved file with the manual. It is not part of `rt ci`, whose tests call the functions that `main`
-# calls and not the program. The last line has the totals. Exit status 1: one differs; 77: the program is not built.
+# check-statuses.sh: runs the built programs bidi_edit and bidi_input to each of their ends, and compares the exit status, the line
+# on standard error and the saved file with the manual. The last line has the totals. Exit status 1: one differs, or a program is
+# not built.
 set -u
 
 cd "$(dirname "$0")/.." || exit 1
 top=$(pwd)
-editor=$top/crates/bidi_edit/out/bidi_edit
-if ! [ -x "$editor" ]; then
-    echo "skipped: the program is not built (rt run in crates/bidi_edit builds it)"
-    exit 77
-fi
+# shellcheck source=scripts/built.sh
+. "$top/scripts/built.sh"
+find_built bidi_input
+filter=$program
+find_built bidi_edit
+editor=$program
 
 folder=$(mktemp -d)
 trap 'rm -rf "$folder"' EXIT
@@ -149,21 +150,18 @@ ended check_with_a_text 2 'error: '
 run "$(printf 'a\377')"
 ended word_not_utf8 2 'bidi_edit: a word is not UTF-8'
 
-# Checks the input filter, if it is built. Sequences cut off by the input's end are passed on.
-filter=$top/crates/bidi_input/out/bidi_input
-if [ -x "$filter" ]; then
-    printf '\033[7~a\033[1;' | "$filter" >written 2>told
+# The input filter. Sequences cut off by the input's end are passed on.
+printf '\033[7~a\033[1;' | "$filter" >written 2>told
+status=$?
+ended filter_input_ends 0 ''
+[ "$(cat -v written)" = '^[[Ha^[[1;' ] || { failed=$((failed + 1)); echo "FAILS filter_input_ends: $(cat -v written)"; }
+"$filter" <"$folder" >written 2>told
+status=$?
+ended filter_input_failed 1 'bidi_input: input failed'
+if [ -w /dev/full ]; then
+    echo a | "$filter" >/dev/full 2>told
     status=$?
-    ended filter_input_ends 0 ''
-    [ "$(cat -v written)" = '^[[Ha^[[1;' ] || { failed=$((failed + 1)); echo "FAILS filter_input_ends: $(cat -v written)"; }
-    "$filter" <"$folder" >written 2>told
-    status=$?
-    ended filter_input_failed 1 'bidi_input: input failed'
-    if [ -w /dev/full ]; then
-        echo a | "$filter" >/dev/full 2>told
-        status=$?
-        ended filter_output_failed 1 'bidi_input: output failed'
-    fi
+    ended filter_output_failed 1 'bidi_input: output failed'
 fi
 
 echo "$passed passed, $failed failed"
