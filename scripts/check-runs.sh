@@ -1,8 +1,8 @@
 #!/bin/sh
 # check-runs.sh [CRATE..]: runs programs as `rt ci` does: with the words of the crate's file `args` and the input of `stdin`, in a
 # copy of its folder `data`, as nobody where root runs this. The output must be that of `stdout`, empty without that file, and the
-# status that of `status`, else 0. By default it runs the five programs that scripts/test.sh tests. Each program counts once, but
-# play_scenes once for each scene, whose answers are a line. The last line has the totals. Exit status 1: a run differs, or a
+# status that of `status`, else 0. By default it runs the programs that dist/ has. Each program counts once, but the player once for
+# each scene, whose answers are a line. The last line has the totals. Exit status 1: a run differs, or a
 # program is not built.
 set -u
 
@@ -66,7 +66,7 @@ check() { # NAME
     if [ "$status" != "$wanted" ]; then
         failed=$((failed + 1))
         echo "FAILS $1: status $status, and not $wanted: $(tail -n 1 "$room/stderr")"
-    elif [ "$1" = play_scenes ]; then
+    elif [ "$1" = "$dist_player" ]; then
         count_lines "$expected"
     elif cmp "$room/stdout" "$expected"; then
         passed=$((passed + 1))
@@ -77,7 +77,8 @@ check() { # NAME
     fi
 }
 
-[ $# -gt 0 ] || set -- bidi_edit bidi_input bidi_print bidi_keep play_scenes
+# shellcheck disable=SC2086 # split into words
+[ $# -gt 0 ] || set -- $dist_programs
 for name; do check "$name"; done
 echo "$passed passed, $failed failed"
 [ "$failed" = 0 ]
