@@ -11,7 +11,7 @@
 . "$top/launcher/unpack.sh"
 
 # the only list of them; the last plays schedules for the tests
-dist_player=play_scenes
+dist_player=player
 dist_programs="bidi_edit bidi_input bidi_keep bidi_print $dist_player"
 dist_archive=bidi-edit-x86_64-linux.tar.gz
 
@@ -67,7 +67,7 @@ in_dist() { # CRATE
 
 # Whether a file of dist/ has the sum that SHA256SUMS notes.
 has_sum() { # NAME
-    [ "$(cd "$top/dist" && sha256sum -- "$1" 2>/dev/null)" = "$(grep -F -e "  $1" "$top/dist/SHA256SUMS" 2>/dev/null)" ]
+    sum=$(cd "$top/dist" && sha256sum -- "$1" 2>/dev/null) && grep -q -x -F -e "$sum" "$top/dist/SHA256SUMS" 2>/dev/null
 }
 
 # Whether the programs are for this machine, and belong to the sources. Else sets `cause`.
@@ -96,12 +96,12 @@ is_unpacked() { # FOLDER
     [ -f "$1/lib/bidi_edit/SOURCES" ] && [ "$(cat "$1/lib/bidi_edit/SOURCES")" = "$(cat "$top/dist/SOURCES")" ]
 }
 
-# Whether a start need not look further: no file of the host was exchanged since, as git does it, nor has a source of a program been
-# written. The folders proofs stay out, since looking at all of them takes longer than all else.
+# Whether a start need not look further: no file of the host was exchanged since, as git does it, and no table or source of a program
+# was written. The folders proofs stay out, since looking at all of them takes longer than all else.
 is_ready() { # FOLDER
     # shellcheck disable=SC3013 # dash, bash and busybox have it
     [ "$1/bin/bidi-edit" -nt "$top/host" ] && is_unpacked "$1" &&
-        [ -z "$(cd "$top" && find crates.txt crates/*/src crates/*/specs -newer "$1/lib/bidi_edit/SOURCES" 2>/dev/null)" ]
+        [ -z "$(cd "$top" && find crates.txt data crates/*/src crates/*/specs -newer "$1/lib/bidi_edit/SOURCES" 2>/dev/null)" ]
 }
 
 # Sets `place` to the folder: out/start, or one in the user's cache where the checkout cannot be written.
@@ -121,14 +121,11 @@ is_own_place() {
 }
 
 # Sets `start` to the folder that the programs of dist/ run from, after unpacking them if need be. With the word `thoroughly` it looks
-# at each source. Status 1: they are not for this tree or machine, as `cause` says; 2: they cannot be unpacked, as a line on standard
-# error says.
+# at each source. Status 1: they are not for this tree or machine, as `cause` says, which is empty where there is no dist/; 2: they
+# cannot be unpacked, as a line on standard error says.
 find_start() { # [thoroughly]
     cause='' start=$top/out/start
-    [ -f "$top/dist/SOURCES" ] || {
-        cause='there is no dist/SOURCES'
-        return 1
-    }
+    [ -f "$top/dist/SOURCES" ] || return 1
     if [ $# = 0 ] && is_ready "$start"; then return 0; fi
     find_place
     if [ $# = 0 ] && is_own_place && is_ready "$place"; then

@@ -55,10 +55,18 @@ make_host() { # FOLDER
     return 2
 }
 
+# Copies the tables, each by a rename, since an editor may read the old ones.
+copy_tables() { # FOLDER
+    for table in "$top"/data/*.txt; do
+        copy=$1/share/bidi_edit/${table##*/}
+        cp -- "$table" "$copy.new" && mv -f -- "$copy.new" "$copy" || return
+    done
+}
+
 # Unpacks all but the host into a new folder.
 fill() { # FOLDER
     mkdir -p -- "$1/bin" "$1/lib/bidi_edit" "$1/share/bidi_edit" && tar -xzof "$top/dist/$dist_archive" -C "$1/lib/bidi_edit" &&
-        cp -- "$top"/data/*.txt "$1/share/bidi_edit/" && cp -- "$top/dist/SOURCES" "$1/lib/bidi_edit/SOURCES"
+        copy_tables "$1" && cp -- "$top/dist/SOURCES" "$1/lib/bidi_edit/SOURCES"
 }
 
 # Whether the programs can be executed here, by a call that changes nothing: the host starts the keeper, which tells the version.
@@ -98,8 +106,11 @@ prepare_alone() {
         unpack
         return
     }
-    mark "$place"
-    make_host "$place"
+    told=$(in_english copy_tables "$place") || {
+        refuse_place "$told"
+        return
+    }
+    make_host "$place" && mark "$place"
 }
 
 # Makes the folder that the place is in, and a file for the lock.

@@ -2,8 +2,8 @@
 # check-runs.sh [CRATE..]: runs programs as `rt ci` does: with the words of the crate's file `args` and the input of `stdin`, in a
 # copy of its folder `data`, as nobody where root runs this. The output must be that of `stdout`, empty without that file, and the
 # status that of `status`, else 0. By default it runs the programs that dist/ has. Each program counts once, but the player once for
-# each scene, whose answers are a line. The last line has the totals. Exit status 1: a run differs, or a
-# program is not built.
+# each line that it prints, the answer to one of its input. The last line has the totals. Exit status 1: a run differs, or a program
+# is not built.
 set -u
 
 top=$(CDPATH='' cd -- "$(dirname "$0")/.." && pwd)
@@ -42,7 +42,7 @@ count_lines() { # WANTED
         { lines++; if ((getline line <found) > 0 && line == $0) alike++; else if (!first) { first = NR; wanted = $0; other = line } }
         END {
             while ((getline line <found) > 0) more++
-            if (first) printf "FAILS scenes, line %d of stdout is not\n    %s\nbut\n    %s\n", first, wanted, other
+            if (first) printf "FAILS the player, line %d of stdout is not\n    %s\nbut\n    %s\n", first, wanted, other
             print alike + 0, lines - alike + more
         }' "$1" >"$room/told"
     sed '$d' "$room/told"

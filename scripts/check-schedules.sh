@@ -1,9 +1,9 @@
 #!/bin/sh
-# check-schedules.sh [FOLDER [PROGRAM]]: plays random schedules from an independent model of the editor by play_scenes, or by
+# check-schedules.sh [FOLDER [PROGRAM]]: plays random schedules from an independent model of the editor by crates/player, or by
 # PROGRAM, step by step and by one call, and counts those whose answers all agree with the model. FOLDER, by default tests/data, has
 # schedules.tsv, settled.tsv, each maybe packed by gzip, and the small tables test-classes.txt, test-brackets.txt and
 # test-mirroring.txt. A line of a schedule has the fields of a scene, 1 to 7, the first of which names the tables, the small ones
-# (test) or those of data/ (real), and then the fields of its answers, 8 to 14. crates/play_scenes/src/main.rt tells what they are;
+# (test) or those of data/ (real), and then the fields of its answers, 8 to 14. crates/player/src/main.rt tells what they are;
 # field 5 is the call of the store that fails, and field 9 has a digit for each step, 1 where the terminal then shows the picture
 # last painted. The last line has the totals. Exit status 1: a schedule differs, or something is missing.
 set -eu
@@ -41,7 +41,8 @@ build() {
 
 # Plays scenes over the tables of this kind. A quarter of an hour is enough for all of them.
 play() { # KIND
-    timeout 900 "$program" "$scratch/$1-classes.txt" "$scratch/$1-brackets.txt" "$scratch/$1-mirroring.txt"
+    sed 's/^/scene\t/' |
+        timeout 900 "$program" "$scratch/$1-classes.txt" "$scratch/$1-brackets.txt" "$scratch/$1-mirroring.txt"
 }
 
 # Whether the schedule on this line agrees with the model if another call of the store fails. The number of calls in a save is

@@ -58,7 +58,7 @@ take_built() {
 
 # The same, to those of dist/, and `start` to their folder.
 take_ready() {
-    find_start thoroughly || refuse "${cause:-dist/ cannot be unpacked}; launcher/proving/prove.sh . bidi_keep bidi_edit bidi_input builds the programs"
+    find_start thoroughly || refuse "${cause:-there is no dist/ to take them from}; launcher/proving/prove.sh . bidi_keep bidi_edit bidi_input builds the programs"
     programs='bidi_keep bidi_edit bidi_input bidi_print' host=$start/bin/bidi-edit
 }
 

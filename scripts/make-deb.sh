@@ -41,7 +41,7 @@ need_proved() {
     for name in bidi_keep bidi_edit bidi_input bidi_print; do
         built=$top/crates/$name/out/$name
         if [ "$name" != bidi_print ] && ! [ -x "$built" ]; then
-            find_start thoroughly || refuse "${cause:-dist/ cannot be unpacked}; launcher/proving/prove.sh . $name builds $name"
+            find_start thoroughly || refuse "${cause:-there is no dist/ to take it from}; launcher/proving/prove.sh . $name builds $name"
             return
         fi
         if ! [ -x "$built" ] || ! [ -f "$built.stamp" ]; then refuse "$built is not built and proved: launcher/proving/prove.sh . $name does it"; fi

@@ -24,7 +24,7 @@ trap 'exit 1' HUP INT TERM
 passed=0 failed=0
 
 sum_of() { # FILE
-    sha256sum 2>/dev/null <"$1" | cut -c 1-64
+    sha256sum -- "$1" 2>/dev/null | cut -c 1-64
 }
 
 # Runs rt ci, whose last line has its numbers, and adds them. That line is shown after a name, so that one line alone has the totals.

@@ -26,6 +26,7 @@ recovery 480 check-recovery.sh 30
 rows 480 check-print.sh
 sessions 480 check-sessions.sh
 schedules 300 check-schedules.sh
+cases 300 check-cases.sh
 orders 300 check-orders.sh
 edits 300 check-edits.sh 200
 joined-rows 300 check-joined-rows.sh

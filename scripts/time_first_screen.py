@@ -3,7 +3,8 @@
 import fcntl, os, pty, select, struct, subprocess, sys, termios, time
 
 repository, commit, folder = sys.argv[1:]
-TEXT = 'the first screen'
+# without blanks, over which the editor moves the cursor
+TEXT = 'the-first-screen'
 LIMIT = 60
 environment = {'PATH': '/usr/bin:/bin', 'HOME': f'{folder}/home', 'TERM': 'xterm-256color', 'LANG': 'C.UTF-8'}
 
@@ -43,8 +44,11 @@ def open_and_quit():
     said = read_until(terminal, lambda said: TEXT.encode() in said)
     seconds = time.monotonic() - begun
     is_shown = TEXT.encode() in said
-    os.write(terminal, b'\x11' if is_shown else b'\x03')
-    read_until(terminal, lambda said: False)
+    if is_shown:
+        os.write(terminal, b'\x11')
+        read_until(terminal, lambda said: False)
+    # which hangs it up, if it still runs
+    os.close(terminal)
     status = os.waitstatus_to_exitcode(os.waitpid(child, 0)[1])
     return seconds, status, None if is_shown else said.decode(errors='replace')
 

@@ -53,6 +53,10 @@ share/bidi_edit/BidiMirroring.txt share/bidi_edit/DerivedBidiClass.txt share/bid
     mv "$tree/host/new.c" "$tree/host/main.c"
     start
     same "$1, another host" "$status $(head -n 1 "$folder/said")" '0 other note'
+    echo '# more' >>"$tree/data/BidiBrackets.txt"
+    touch -d '1 hour' "$tree/data/BidiBrackets.txt"
+    start
+    same "$1, another table" "$status $(tail -n 1 "$tree/out/start/share/bidi_edit/BidiBrackets.txt")" '0 # more'
     build_all
     echo 'echo built' >"$tree/crates/bidi_edit/out/bidi_edit"
     start
@@ -102,9 +106,12 @@ check_sums() { # NAME
     sed -i 's/^\(.*  bidi-edit\)/0\1/; s/^0\(.*\).  bidi-edit/0\1  bidi-edit/' "$tree/dist/SHA256SUMS"
     start
     refuses "$1, a sum" 'dist/bidi-edit-x86_64-linux.tar.gz does not have its sum in dist/SHA256SUMS'
+    rm "$tree/dist/bidi-edit-x86_64-linux.tar.gz" "$tree/dist/SHA256SUMS"
+    start
+    refuses "$1, no archive" 'dist/bidi-edit-x86_64-linux.tar.gz does not have its sum in dist/SHA256SUMS'
     rm -r "$tree/dist"
     start
-    refuses "$1, no dist/" 'there is no dist/SOURCES'
+    same "$1, no dist/: proofs begin" "$(head -n 1 "$folder/said" | sed 's/, this once:.*//')" 'bidi-edit: proving and building the editor'
 }
 
 # Another machine, by a stand-in for uname, and one on which the programs cannot be executed.

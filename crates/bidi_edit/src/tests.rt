@@ -1,5 +1,4 @@
-//! Tests of behaviour that no contract covers: the fault lines, the exit statuses, and whole runs. `text_tests` tests the
-//! command line.
+//! Tests of behaviour that no contract covers: the fault lines, the exit statuses, and whole runs. `player` plays command lines.
 
 mod editing;
 mod ending;
