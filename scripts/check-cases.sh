@@ -9,7 +9,7 @@ top=$(CDPATH='' cd -- "$(dirname "$0")/.." && pwd)
 data=$top/tests/data
 # shellcheck source=scripts/built.sh
 . "$top/scripts/built.sh"
-find_built player
+find_built "$dist_player"
 room=$(mktemp -d) || exit 1
 trap 'rm -rf "$room"' EXIT
 trap 'exit 1' HUP INT TERM

@@ -1,9 +1,9 @@
 #!/bin/sh
 # check-runs.sh [CRATE..]: runs programs as `rt ci` does: with the words of the crate's file `args` and the input of `stdin`, in a
 # copy of its folder `data`, as nobody where root runs this. The output must be that of `stdout`, empty without that file, and the
-# status that of `status`, else 0. By default it runs the five programs that scripts/test.sh tests. Each program counts once, but
-# player once for each scene, whose answers are a line. The last line has the totals. Exit status 1: a run differs, or a
-# program is not built.
+# status that of `status`, else 0. By default it runs the programs that dist/ has. Each program counts once, but the player once for
+# each line that it prints, the answer to one of its input. The last line has the totals. Exit status 1: a run differs, or a program
+# is not built.
 set -u
 
 top=$(CDPATH='' cd -- "$(dirname "$0")/.." && pwd)
@@ -42,7 +42,7 @@ count_lines() { # WANTED
         { lines++; if ((getline line <found) > 0 && line == $0) alike++; else if (!first) { first = NR; wanted = $0; other = line } }
         END {
             while ((getline line <found) > 0) more++
-            if (first) printf "FAILS scenes, line %d of stdout is not\n    %s\nbut\n    %s\n", first, wanted, other
+            if (first) printf "FAILS the player, line %d of stdout is not\n    %s\nbut\n    %s\n", first, wanted, other
             print alike + 0, lines - alike + more
         }' "$1" >"$room/told"
     sed '$d' "$room/told"
@@ -66,7 +66,7 @@ check() { # NAME
     if [ "$status" != "$wanted" ]; then
         failed=$((failed + 1))
         echo "FAILS $1: status $status, and not $wanted: $(tail -n 1 "$room/stderr")"
-    elif [ "$1" = player ]; then
+    elif [ "$1" = "$dist_player" ]; then
         count_lines "$expected"
     elif cmp "$room/stdout" "$expected"; then
         passed=$((passed + 1))
@@ -77,7 +77,8 @@ check() { # NAME
     fi
 }
 
-[ $# -gt 0 ] || set -- bidi_edit bidi_input bidi_print bidi_keep player
+# shellcheck disable=SC2086 # split into words
+[ $# -gt 0 ] || set -- $dist_programs
 for name; do check "$name"; done
 echo "$passed passed, $failed failed"
 [ "$failed" = 0 ]

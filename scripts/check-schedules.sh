@@ -36,7 +36,7 @@ gather() {
 # Builds the program, unless one is given.
 build() {
     [ -z "$program" ] || return 0
-    find_built player
+    find_built "$dist_player"
 }
 
 # Plays scenes over the tables of this kind. A quarter of an hour is enough for all of them.

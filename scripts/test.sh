@@ -18,30 +18,29 @@ cd "$top" || exit 1
 # Lists the parts, the longest first: a name, the seconds after which it counts as hanging, and the script with its words.
 parts() {
     cat <<'TEXT'
-terminal 420 check-launcher.sh words tables modes title outer printing ends
-saves 420 check-saves.sh --quick
-host 420 check-host.sh
-recovery 420 check-recovery.sh 30
-editing 420 check-launcher.sh edit breaks quit file line stop keys input joining
-rows 300 check-print.sh
-sessions 300 check-sessions.sh
+terminal 480 check-launcher.sh words tables size access refused opening checks printing kill leftovers modes nonblock controlling title outer
+editing 480 check-launcher.sh edit breaks quit long end file line stop install caller paste input keys joining
+saves 480 check-saves.sh --quick
+host 480 check-host.sh
+recovery 480 check-recovery.sh 30
+rows 480 check-print.sh
+sessions 480 check-sessions.sh
 schedules 300 check-schedules.sh
+cases 300 check-cases.sh
 orders 300 check-orders.sh
 edits 300 check-edits.sh 200
-joined-rows 120 check-joined-rows.sh
-statuses 120 check-statuses.sh
+joined-rows 300 check-joined-rows.sh
+statuses 300 check-statuses.sh
 runs 300 check-runs.sh
-keeper 120 check-keeper.sh
-built 60 check-built.sh
-words 60 check-words.sh
-dist 120 check-dist.sh
+keeper 300 check-keeper.sh
+dist 300 check-dist.sh
+built 300 check-built.sh
+words 300 check-words.sh
 TEXT
 }
 
 # How many parts run at once.
 lanes=2
-# The programs that are tested.
-programs='bidi_keep bidi_edit bidi_input bidi_print player'
 room=$(mktemp -d) || exit 1
 passed=0 failed=0 skipped=0 done=0 running=''
 
@@ -65,7 +64,7 @@ hide_toolchain() {
 
 # Names the programs that are tested; without one of them there is nothing to test.
 find_programs() {
-    for name in $programs; do
+    for name in $dist_programs; do
         (find_built "$name" 2>/dev/null && echo "tests ${program#"$top/"}") && continue
         echo "$name is not built of these sources, nor is it in dist/: scripts/prove.sh proves and builds it"
         echo '0 passed, 1 failed'
