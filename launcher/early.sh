@@ -5,12 +5,12 @@
 # shellcheck source=launcher/names.sh
 . "$top/launcher/names.sh"
 
-# That of crates/bx_calls/src/help.rt, with the line about printing.
+# The usage of host/words.c, with the line about printing.
 usage='usage: bidi-edit [--direction auto|ltr|rtl] [--line N | +N] [--force] FILE
        bidi-edit --recover [[--to OTHER] FILE] | --forget [FILE]
        bidi-edit --print FILE [--cols N] [--marks]: its rows to standard output'
 
-# Tells the cause and the usage without its last line, as the keeper does.
+# Tells the cause and the usage without its last line, as the host does.
 refuse_words() { # CAUSE
     printf 'bidi-edit: %s\n%s\n' "$1" "${usage%
 *}" >&2
@@ -23,7 +23,7 @@ tell_usage() {
     exit 0
 }
 
-# Refuses words without a FILE or with several, and a FILE that is a folder. The keeper judges all else.
+# Refuses words without a FILE or with several, and a FILE that is a folder. The host judges all else.
 check_words() { # WORD..
     while [ $# -gt 0 ]; do
         case $1 in

@@ -69,9 +69,13 @@ fill() { # FOLDER
         copy_tables "$1" && cp -- "$top/dist/SOURCES" "$1/lib/bidi_edit/SOURCES"
 }
 
-# Whether the programs can be executed here, by a call that changes nothing: the host starts the keeper, which tells the version.
+# Whether the programs can be executed here, by calls that change nothing: the host tells its version, and the editor refuses a call
+# without a FILE.
 run_here() { # FOLDER
-    "$1/bin/bidi-edit" --version </dev/null >/dev/null 2>&1
+    "$1/bin/bidi-edit" --version </dev/null >/dev/null 2>&1 || return
+    "$1/lib/bidi_edit/bidi_edit" </dev/null >/dev/null 2>&1
+    # a shell's statuses of a program that cannot be executed, and of signals
+    [ $? -lt 126 ]
 }
 
 # Makes the folder beside its place and then renames it, so that it is never there in part. `beside` is removed at the end.

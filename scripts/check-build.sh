@@ -255,11 +255,11 @@ mkdir -p "$here/out"
 printf '#!/bin/sh\nprintf "%%s|" host "$@"\necho\n' >"$here/out/bidi-edit"
 chmod +x "$here/out/bidi-edit"
 END
-    for name in bidi_edit bidi_input bidi_keep bidi_print; do
+    for name in bidi_edit bidi_print; do
         mkdir -p "$folder/tree/crates/$name/src"
         echo '// a line' >"$folder/tree/crates/$name/src/main.rt"
     done
-    printf 'bidi_edit: c b\nbidi_input: b\nbidi_keep: b\nbidi_print: b\n' >>"$folder/tree/crates.txt"
+    printf 'bidi_edit: c b\nbidi_print: b\n' >>"$folder/tree/crates.txt"
 }
 
 # The script bidi-edit builds, is stopped, goes on and becomes the host; where a program cannot be built it ends.
@@ -322,10 +322,10 @@ check_needed() {
     run_script --print note
     same 'needed, printing' "$status $(tail -n 1 "$folder/said")" '0 host|--print|note|'
     same 'needed, what is told' "$(grep -c 'proving and building the printing program, this once' "$folder/said")" 1
-    same 'needed, what is built' "$(sed -n 's/^begin \(bidi_[a-z]*\) .*/\1/p' "$folder/told/log" | sort | paste -s -d ' ')" 'bidi_keep bidi_print'
+    same 'needed, what is built' "$(sed -n 's/^begin \(bidi_[a-z]*\) .*/\1/p' "$folder/told/log" | sort | paste -s -d ' ')" bidi_print
     run_script note
     same 'needed, the others' "$(sed -n 's/^begin \(bidi_[a-z]*\) .*/\1/p' "$folder/told/log" | sort | paste -s -d ' ')" \
-        'bidi_edit bidi_input bidi_keep bidi_print'
+        'bidi_edit bidi_print'
     rm "$folder/tree/host/out/bidi-edit"
     ln -s tree/bidi-edit "$folder/linked"
     "$shell" "$folder/linked" "it's" >"$folder/said" 2>&1 </dev/null

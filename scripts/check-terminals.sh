@@ -26,9 +26,7 @@ lacks() { # CAUSE
 for program in Xvfb xdotool import compare convert; do
     command -v "$program" >/dev/null || lacks "there is no $program"
 done
-for program in bidi_edit bidi_input bidi_keep; do
-    [ -x "$top/crates/$program/out/$program" ] || lacks "$program is not built (./bidi-edit FILE builds it)"
-done
+[ -x "$top/crates/bidi_edit/out/bidi_edit" ] || lacks 'bidi_edit is not built (./bidi-edit FILE builds it)'
 
 pictures=''
 if [ "${1:-}" = --pictures ]; then

@@ -9,9 +9,7 @@ out=${1:-docs/screens.svg}
 for program in tmux emacs vim python3; do
     command -v "$program" >/dev/null || { echo "skipped: there is no $program"; exit 77; }
 done
-for program in bidi_edit bidi_input bidi_keep; do
-    [ -x "crates/$program/out/$program" ] || { echo "skipped: $program is not built (./bidi-edit FILE builds it)"; exit 77; }
-done
+[ -x crates/bidi_edit/out/bidi_edit ] || { echo 'skipped: bidi_edit is not built (./bidi-edit FILE builds it)'; exit 77; }
 
 folder=$(mktemp -d)
 trap 'rm -rf "$folder"' EXIT

@@ -1,8 +1,8 @@
 #!/bin/sh
 # install.sh [--uninstall] [PREFIX]: installs the host, the programs, the tables and the manual page under PREFIX, by default
-# $HOME/.local, or removes them. It takes the programs that are built in crates/, or, where the keeper, the editor or its filter is
-# not, all of dist/, if they belong to the sources. It compiles the host where a source is newer, and proves nothing. Exit status 1:
-# neither is there, or there is no C compiler for the host. The installation is independent of this repository.
+# $HOME/.local, or removes them. It takes the programs that are built in crates/, or, where the editor is not, all of dist/, if they
+# belong to the sources. It compiles the host where a source is newer, and proves nothing. Exit status 1: neither is there, or there
+# is no C compiler for the host. The installation is independent of this repository.
 #
 # All files are first copied beside their places, so that a failed copy changes nothing; then each is renamed into place. A
 # record, lib/bidi_edit/installed, has the checksum of each file and the folders that were created: only these are removed.
@@ -50,7 +50,7 @@ take_built() {
     host=$top/host/out/bidi-edit
     sh "$top/host/build.sh" || refuse "$(shown "$host") is not built"
     programs=''
-    for name in bidi_keep bidi_edit bidi_input bidi_print; do
+    for name in bidi_edit bidi_print; do
         ! is_built "$name" || programs="$programs $name"
     done
     start=''
@@ -58,12 +58,12 @@ take_built() {
 
 # The same, to those of dist/, and `start` to their folder.
 take_ready() {
-    find_start thoroughly || refuse "${cause:-there is no dist/ to take them from}; launcher/proving/prove.sh . bidi_keep bidi_edit bidi_input builds the programs"
-    programs='bidi_keep bidi_edit bidi_input bidi_print' host=$start/bin/bidi-edit
+    find_start thoroughly || refuse "${cause:-there is no dist/ to take them from}; launcher/proving/prove.sh . bidi_edit builds the editor"
+    programs='bidi_edit bidi_print' host=$start/bin/bidi-edit
 }
 
 find_programs() {
-    if is_built bidi_keep && is_built bidi_edit && is_built bidi_input; then take_built; else take_ready; fi
+    if is_built bidi_edit; then take_built; else take_ready; fi
 }
 
 # Copies a file into the new tree, in the folder `beside` of `put_there`, with these permissions, whatever its source's and the

@@ -12,7 +12,7 @@ top=$(cd "$(dirname "$0")/.." && pwd)
 . "$top/scripts/report.sh"
 # shellcheck source=scripts/built.sh
 . "$top/scripts/built.sh"
-version=$(sed -n 's/^pub const VERSION: &str = "\(.*\)";$/\1/p' "$top/crates/bx_calls/src/help.rt")
+version=$(sed -n 's/^#define EDITOR_VERSION "\(.*\)"$/\1/p' "$top/host/words.h")
 name=bidi-edit_${version}_amd64
 folder=$(mktemp -d)
 socket="bd$$"
@@ -35,10 +35,10 @@ has_tool() { # NAME TOOL
     return 1
 }
 
-# Refuses programs that are built in crates/ without a proof, and else the lack of ready ones. install.sh takes the latter where one
-# of the first three is not built.
+# Refuses programs that are built in crates/ without a proof, and else the lack of ready ones. install.sh takes the latter where the
+# editor is not built.
 need_proved() {
-    for name in bidi_keep bidi_edit bidi_input bidi_print; do
+    for name in bidi_edit bidi_print; do
         built=$top/crates/$name/out/$name
         if [ "$name" != bidi_print ] && ! [ -x "$built" ]; then
             find_start thoroughly || refuse "${cause:-there is no dist/ to take it from}; launcher/proving/prove.sh . $name builds $name"

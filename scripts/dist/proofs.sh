@@ -42,19 +42,19 @@ check_prove() { # NAME
     prove
     same "$1, all is the same" "$status $(cat "$folder/said")" '0 26 passed, 0 failed'
     same "$1, the programs are noted" "$(sed 's/ [0-9a-f]*$//' "$tree/out/proved" | paste -s -d ,)" \
-        'sources,program bidi_edit,program bidi_input,program bidi_keep,program bidi_print,program '"$player"
+        'sources,program bidi_edit,program bidi_print,program '"$player"
     make_dist
     same "$1, dist/ is made of these" "$status $(diff -r "$tree/dist" "$folder/first/dist")" '0 '
     fresh_tree
-    cp "$TOLD/built/bidi_keep" "$folder/kept"
-    echo x >>"$TOLD/built/bidi_keep"
+    cp "$TOLD/built/bidi_print" "$folder/kept"
+    echo x >>"$TOLD/built/bidi_print"
     prove
     same "$1, another program" "$status $(sed 's/: [^:]*differ.*//; s/: cmp:.*//' "$folder/said" | paste -s -d '|')" \
-        '1 FAILS bidi_keep in dist/, the same as built here|25 passed, 1 failed'
-    rm "$TOLD/built/bidi_keep" "$tree/crates/bidi_keep/out/bidi_keep"
+        '1 FAILS bidi_print in dist/, the same as built here|25 passed, 1 failed'
+    rm "$TOLD/built/bidi_print" "$tree/crates/bidi_print/out/bidi_print"
     prove
-    same "$1, a program that is not left" "$status $(sed 's/, since.*//' "$folder/said" | head -n 1)" '1 FAILS bidi_keep in dist/: skipped'
-    mv "$folder/kept" "$TOLD/built/bidi_keep"
+    same "$1, a program that is not left" "$status $(sed 's/, since.*//' "$folder/said" | head -n 1)" '1 FAILS bidi_print in dist/: skipped'
+    mv "$folder/kept" "$TOLD/built/bidi_print"
     echo '// more' >>"$tree/crates/low/src/main.rt"
     prove
     same "$1, a source" "$status $(paste -s -d '|' "$folder/said")" \

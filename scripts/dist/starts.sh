@@ -33,9 +33,9 @@ check_start() { # NAME
     runs "$1, the first"
     nothing_beside "$1" "$tree/out" start
     same "$1, its files" "$(cd "$tree/out/start" && find . -type f | sort | sed 's|^\./||' | paste -s -d ' ')" \
-        "bin/bidi-edit lib/bidi_edit/SOURCES lib/bidi_edit/bidi_edit lib/bidi_edit/bidi_input lib/bidi_edit/bidi_keep lib/bidi_edit/bidi_print \
-lib/bidi_edit/host lib/bidi_edit/kit lib/bidi_edit/$player share/bidi_edit/ArabicShaping.txt share/bidi_edit/BidiBrackets.txt \
-share/bidi_edit/BidiMirroring.txt share/bidi_edit/DerivedBidiClass.txt share/bidi_edit/UnicodeData.txt"
+        "bin/bidi-edit lib/bidi_edit/SOURCES lib/bidi_edit/bidi_edit lib/bidi_edit/bidi_print lib/bidi_edit/host lib/bidi_edit/kit \
+lib/bidi_edit/$player share/bidi_edit/ArabicShaping.txt share/bidi_edit/BidiBrackets.txt share/bidi_edit/BidiMirroring.txt \
+ share/bidi_edit/DerivedBidiClass.txt share/bidi_edit/UnicodeData.txt"
     same "$1, the toolchain" "$(cat "$tree/out/start/lib/bidi_edit/kit")" 'a toolchain'
     same "$1, compiled here" "$(cmp -s "$tree/out/start/bin/bidi-edit" "$tree/out/start/lib/bidi_edit/host" || echo compiled)" compiled
     # a source of the same second as the start counts as newer
@@ -67,13 +67,13 @@ share/bidi_edit/BidiMirroring.txt share/bidi_edit/DerivedBidiClass.txt share/bid
 
 # A changed source is told before the first start and after it, and one that is changed back is no fault.
 check_sources() { # NAME
-    for file in low/src/main.rt bidi_keep/specs/Lib.antt $player/proofs/deep/Proof.antt; do
+    for file in low/src/main.rt bidi_print/specs/Lib.antt $player/proofs/deep/Proof.antt; do
         echo '// more' >>"$tree/crates/$file"
         start
         refuses "$1, $file" 'the sources are not those that dist/ was made from'
         cp "$folder/first/crates/$file" "$tree/crates/$file"
     done
-    sed -i 's/^bidi_keep: low/bidi_keep opt_level=0: low/' "$tree/crates.txt"
+    sed -i 's/^bidi_print: low/bidi_print opt_level=0: low/' "$tree/crates.txt"
     start
     refuses "$1, crates.txt" 'the sources are not those that dist/ was made from'
     cp "$folder/first/crates.txt" "$tree/crates.txt"
@@ -121,12 +121,12 @@ check_machine() { # NAME
     chmod +x "$folder/other/uname"
     start PATH="$folder/other:$folder/bin:$PATH"
     refuses "$1, another" 'the programs in dist/ are for Linux on x86_64, and this is Linux on aarch64'
-    printf '#!/no/such/loader\n' >"$TOLD/built/bidi_keep"
+    printf '#!/no/such/loader\n' >"$TOLD/built/bidi_edit"
     build_all
     make_dist
     for name in $names; do rm -r "$tree/crates/$name/out"; done
     rm -rf "$tree/out"
     start
     refuses "$1, without a loader" 'the programs in dist/ do not run on this machine'
-    tar -xzf "$folder/first/dist/bidi-edit-x86_64-linux.tar.gz" -C "$TOLD/built" bidi_keep
+    tar -xzf "$folder/first/dist/bidi-edit-x86_64-linux.tar.gz" -C "$TOLD/built" bidi_edit
 }

@@ -63,10 +63,8 @@ int main(int count, char **words) {
     path[length] = 0;
     char *end = strrchr(path, '/');
     if (!end) return 1;
-    const char *word = count > 1 ? words[1] : "";
-    int is_call = strcmp(word, "--version") == 0;
-    strcpy(end, is_call ? "/../lib/bidi_edit/bidi_keep" : "/../lib/bidi_edit/bidi_edit");
-    printf("$2 %s\n", word);
+    strcpy(end, "/../lib/bidi_edit/bidi_edit");
+    printf("$2 %s\n", count > 1 ? words[1] : "");
     fflush(stdout);
     execl(path, "program", "runs", (char *)0);
     return 1;

@@ -8,13 +8,14 @@
 # `is_proved`.
 make_source() {
     source=$folder/source prefix=$folder/prefix
-    mkdir -p "$source/host/out" "$source/crates/bx_calls/src"
+    mkdir -p "$source/host/out"
     cp -R "$top/bidi-edit" "$top/launcher" "$top/data" "$top/scripts" "$top/docs" "$source/"
-    cp "$top/crates/bx_calls/src/help.rt" "$source/crates/bx_calls/src/"
-    cp "$top/host/build.sh" "$source/host/"
+    cp "$top/host/build.sh" "$top/host/words.h" "$source/host/"
+    # the built host is newer
+    touch -d '1 minute ago' "$source/host/words.h"
     printf '#!/bin/sh\n# GLIBC_2.34\necho bidi-edit %s\n' "$version" >"$source/host/out/bidi-edit"
     chmod 755 "$source/host/out/bidi-edit"
-    for name in bidi_keep bidi_edit bidi_input bidi_print; do
+    for name in bidi_edit bidi_print; do
         mkdir -p "$source/crates/$name/src" "$source/crates/$name/out"
         : >"$source/crates/$name/src/main.rt"
         built=$source/crates/$name/out/$name
@@ -46,7 +47,7 @@ check_modes_there() {
         same "packages, umask $mask: folders" "$(find "$prefix" -type d ! -perm 755)" ''
         same "packages, umask $mask: files" "$(find "$prefix" -type f ! -perm 644 ! -perm 755)" ''
         same "packages, umask $mask: programs" "$(cd "$prefix" && find . -type f -perm 755 | sort | paste -s -d ' ')" \
-            './bin/bidi-edit ./lib/bidi_edit/bidi_edit ./lib/bidi_edit/bidi_input ./lib/bidi_edit/bidi_keep ./lib/bidi_edit/bidi_print'
+            './bin/bidi-edit ./lib/bidi_edit/bidi_edit ./lib/bidi_edit/bidi_print'
         rm -rf "$prefix"
     done
 }
@@ -167,7 +168,7 @@ check_deb() {
 
 check_packages() {
     asked packages || return 0
-    version=$(sed -n 's/^pub const VERSION: &str = "\(.*\)";$/\1/p' "$top/crates/bx_calls/src/help.rt")
+    version=$(sed -n 's/^#define EDITOR_VERSION "\(.*\)"$/\1/p' "$top/host/words.h")
     make_source
     check_modes_there
     check_failed_copy

@@ -83,7 +83,7 @@ check_state_home() {
 
 # ---- the first start
 
-# Makes a repository `clone` of three programs of a few lines, with a host that does nothing, and in a folder `kit` a command in
+# Makes a repository `clone` of a program of a few lines, with a host that does nothing, and in a folder `kit` a command in
 # place of rt: it runs until there is no file `slow` beside it, fails if there is a file `bad`, and writes its TMPDIR to
 # `temporary`.
 make_clone() {
@@ -93,11 +93,9 @@ make_clone() {
     cp "$top/host/build.sh" "$clone/host/"
     printf '#!/bin/sh\nexit 0\n' >"$clone/host/out/bidi-edit"
     chmod 755 "$clone/host/out/bidi-edit"
-    for name in bidi_edit bidi_input bidi_keep; do
-        mkdir -p "$clone/crates/$name/src"
-        echo '// a line' >"$clone/crates/$name/src/main.rt"
-        echo "$name:" >>"$clone/crates.txt"
-    done
+    mkdir -p "$clone/crates/bidi_edit/src"
+    echo '// a line' >"$clone/crates/bidi_edit/src/main.rt"
+    echo bidi_edit: >>"$clone/crates.txt"
     cat >"$kit/rt" <<'END'
 #!/bin/sh
 [ "${1:-}" != version ] || exit 0
@@ -249,10 +247,8 @@ check_closed_clone() {
     else
         skip 'places, a read-only repository' 'nothing can be mounted'
     fi
-    for name in bidi_edit bidi_input bidi_keep; do
-        mkdir -p "$clone/crates/$name/out"
-        printf '#!/bin/sh\nexit 0\n' >"$clone/crates/$name/out/$name"
-    done
+    mkdir -p "$clone/crates/bidi_edit/out"
+    printf '#!/bin/sh\nexit 0\n' >"$clone/crates/bidi_edit/out/bidi_edit"
     chmod -R go-w,a+rX "$clone"
     chmod 755 "$clone"/crates/*/out/*
     start_there 'a repository that is built and not to be written' 0
