@@ -1,5 +1,5 @@
 #!/bin/sh
-# check-launcher.sh [NAME..]: runs the host and the keeper in tmux: the input of a program that only records it, refusals and
+# check-launcher.sh [NAME..]: runs the host in tmux: the input of a program that only records it, refusals and
 # messages, ends, the terminal's state afterwards, and then the editor itself, also as an editor that other programs call. A NAME
 # selects the checks whose names begin with it. The checks are in scripts/launcher. The last line has the totals. Exit status 1: a
 # check failed, or a program is not built; 77: there is no tmux and none can be installed from Debian's packages.
@@ -29,9 +29,6 @@ passed=0 failed=0 skipped=0
 # Settings of a check for its own sessions; see scripts/launcher/person.sh, and for `lines_told` refusals.sh.
 # shellcheck disable=SC2034
 tables='' setup='' cleanup='' redirection='' is_flooded='' lines_told=1
-# The words of the process that reads keys, the filter; see ends.sh.
-# shellcheck disable=SC2034
-key_reader='.*bidi_input'
 trap 'tmux -L "$socket" kill-server 2>/dev/null; rm -rf "$folder"' EXIT
 trap 'exit 1' HUP INT TERM
 chmod 755 "$folder"

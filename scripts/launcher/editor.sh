@@ -4,7 +4,7 @@
 # the file `paste` of recorder.sh, the shell of ends.sh, and `editor` of programs.sh. `folder/opened` is a copy of
 # the file as it was opened; `folder/files`, the working folder, is empty between two checks.
 
-# Prints the screen that the program alone, without host and filter, makes of a file and keys, in a window of this size, in the
+# Prints the screen that the program alone, without the host, makes of a file and keys, in a window of this size, in the
 # form of `settled_screen`. KEYS has the editor's own bytes, in the notation of printf; a FILE that is not there is opened as a
 # new one.
 alone() { # ROWS COLS FILE KEYS

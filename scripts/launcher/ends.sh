@@ -1,7 +1,6 @@
 # shellcheck shell=sh
 # shellcheck disable=SC2034,SC2154 # variables shared with other parts
-# Ends and stops of a session: signals to the host, to its program and to the input filter. Uses person.sh and recorder.sh, and
-# `key_reader`, a pattern for the words of the filter, which the callers set.
+# Ends and stops of a session: signals to the host and to its program. Uses person.sh and recorder.sh.
 
 # After a signal to the host, or the terminal's end, the program ends by its input's end, so typed text is kept: the record then
 # has `end` at its end.
@@ -33,7 +32,7 @@ has_no_recorder() {
 }
 
 # A program that hangs is killed three seconds after its input's end, so those checks wait six. The recorder of `still` is a
-# sleep; that of another FILE ends with status 9 by its input's end.
+# sleep.
 check_hard_ends() {
     for signal in TERM HUP; do
         start 24 80 "$recorder" still
@@ -44,10 +43,6 @@ check_hard_ends() {
     wait_for 50 test -s "$folder/words"
     send_signal KILL 'sleep 1000'
     finish 'kill, the program' 137 50
-    start 24 80 "$recorder" f
-    wait_for 50 test -e "$folder/record"
-    send_signal KILL "$key_reader"
-    finish 'kill, the reader of keys' 9 50
     start 24 80 "$recorder" still
     terminal load-buffer -b text "$folder/paste"
     terminal paste-buffer -r -b text -t person

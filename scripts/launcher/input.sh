@@ -1,13 +1,41 @@
 # shellcheck shell=sh
 # shellcheck disable=SC2034,SC2154 # variables shared with other parts
-# Input from various terminals, and pastes, as the recorder and the editor get them from the filter. Uses person.sh, recorder.sh
-# and editor.sh. The editor's own sequences, as CSI 96~, are those of crates/bx_input/specs/Table.antt and
+# Input from various terminals, and pastes, as the editor obeys them: its journal has what its filter made of them. Uses person.sh,
+# recorder.sh and editor.sh. The editor's own sequences, as CSI 96~, are those of crates/bx_input/specs/Table.antt and
 # crates/bx_keys/specs/Keys.antt.
 
 # Writes a file's bytes to the session unchanged (-r) and without the marks of a paste (no -p), as if keys sent them.
 type_bytes() { # FILE
     terminal load-buffer -b bytes "$1"
     terminal paste-buffer -d -r -b bytes -t person
+}
+
+# Prints the journal of the session that runs.
+journal() {
+    cat "$folder"/state/bidi_edit/*/journal 2>/dev/null
+}
+
+# Starts the editor with a new FILE, and waits until its keys are kept.
+start_kept() {
+    rm -f note
+    start 8 50 "$top/bidi-edit" note
+    wait_for 50 is_kept
+}
+
+is_kept() {
+    ls "$folder"/state/bidi_edit/*/journal >/dev/null 2>&1
+}
+
+# Whether the journal of the session is this long at least.
+has_kept() { # BYTES
+    [ "$(journal | wc -c)" -ge "$1" ]
+}
+
+# Ends the editor, whose text is not saved, and which may ask something.
+drop() { # NAME
+    send_signal TERM '.*bidi-edit note'
+    finish "$1" 143 50
+    rm -f note
 }
 
 # Lists keys of terminals: a name, the bytes that the terminal sends, and the bytes that the editor gets, in the notation of
@@ -54,19 +82,17 @@ Escape, and then a digit of the keypad:\033\033Oq:\033\0301
 TEXT
 }
 
-# Sends all keys, each line of the list as a line, and compares each with its line of the record.
+# Sends all keys, each line of the list as a line, and compares each with its line of the journal.
 check_terminal_keys() {
     terminal_keys | while IFS=: read -r _ sent _; do
         # shellcheck disable=SC2059
         printf "$sent\n"
     done >"$folder/keys"
-    start 8 50 "$recorder" f
-    wait_for 50 test -e "$folder/record"
+    start_kept
     type_bytes "$folder/keys"
-    # all is recorded before the key that ends it
     sleep 0.5
-    type_keys C-q
-    finish 'input, keys' 7 50
+    journal >"$folder/record"
+    drop 'input, keys'
     terminal_keys >"$folder/table"
     line=0
     while IFS=: read -r name _ taken; do
@@ -76,20 +102,18 @@ check_terminal_keys() {
     done <"$folder/table"
 }
 
-# Sequences cut in the middle, each part in its own read, and an Escape that nothing follows, which becomes CSI 93~ after 50 ms
-# (host/typing.c); an unfinished sequence waits.
+# Sequences cut in the middle, each part in its own read, and an Escape that nothing follows, which becomes CSI 93~ after the 50 ms
+# of IDLE_MS in the host; an unfinished sequence waits.
 check_cut_keys() {
-    start 8 50 "$recorder" f
-    wait_for 50 test -e "$folder/record"
+    start_kept
     for part in 'a\033O' 'A\033[1' ';2' 'Db\033' 'c'; do
         # shellcheck disable=SC2059
         printf "$part" >"$folder/keys"
         type_bytes "$folder/keys"
         sleep 0.2
     done
-    type_keys C-q
-    finish 'input, cut' 7 50
-    same 'input, keys that come byte by byte' "$(cat -v "$folder/record")" 'a^[[96~^[[81~^[[Db^[[93~c'
+    same 'input, keys that come byte by byte' "$(journal | cat -v)" 'a^[[96~^[[81~^[[Db^[[93~c'
+    drop 'input, cut'
 }
 
 # The byte 08 is Backspace with Ctrl where the terminal's own erase character is 7F, as in tmux, and else Backspace (CSI 94~;
@@ -97,14 +121,12 @@ check_cut_keys() {
 check_erase_character() {
     for erase in '^?' '^H'; do
         setup="stty erase '$erase'" cleanup="stty erase '^?'"
-        start 8 50 "$recorder" f
-        wait_for 50 test -e "$folder/record"
+        start_kept
         printf '\177\010\033\177\033\010' >"$folder/keys"
         type_bytes "$folder/keys"
-        # all is recorded before the key that ends it
         sleep 0.5
-        type_keys C-q
-        finish "input, erase $erase" 7 50
+        journal >"$folder/record"
+        drop "input, erase $erase"
         if [ "$erase" = '^?' ]; then wanted_keys='^[[94~^[[88~^[[88~^[[88~'; else wanted_keys='^[[94~^[[94~^[[88~^[[88~'; fi
         same "input, erase $erase: Backspace" "$(cat -v "$folder/record")" "$wanted_keys"
     done
@@ -153,33 +175,24 @@ make_big_paste() {
 check_big_paste() {
     make_big_paste
     same 'input, the paste has 1 MB' "$(($(wc -c <"$folder/cycle")))" 1048576
-    start 8 50 "$recorder" f
-    wait_for 50 test -e "$folder/record"
+    start_kept
     type_bytes "$folder/big"
-    wait_for 300 has_all_of "$folder/big_pasted"
-    type_keys C-q
-    finish 'input, a paste' 7 50
+    wait_for 300 has_kept "$(wc -c <"$folder/big_pasted")"
+    journal >"$folder/record"
     cmp "$folder/record" "$folder/big_pasted" >"$folder/differs" 2>&1
     report 'input, a paste of 1 MB with every byte' $? "$(cat "$folder/differs")"
-}
-
-# Whether the record is as long as a file.
-has_all_of() { # FILE
-    [ "$(wc -c <"$folder/record")" -ge "$(wc -c <"$1")" ]
+    drop 'input, a paste'
 }
 
 # tmux marks a paste (-p) only if the host asked for that (2004).
 check_marks() {
-    start 8 50 "$recorder" f
-    wait_for 50 test -e "$folder/record"
+    start_kept
     printf 'one\ntwo\023\021\021' >"$folder/keys"
     terminal load-buffer -b bytes "$folder/keys"
     terminal paste-buffer -d -p -b bytes -t person
-    # it is recorded before the key that ends all
     sleep 0.3
-    type_keys C-q
-    finish 'input, marks' 7 50
-    same 'input, a paste of tmux' "$(cat -v "$folder/record")" "$(printf '^[[90~one\ntwo^[[91~')"
+    same 'input, a paste of tmux' "$(journal | cat -v)" "$(printf '^[[90~one\ntwo^[[91~')"
+    drop 'input, marks'
     has 'input, pastes asked for' "$(written)" '^[[?2004h'
     has 'input, and given back' "$(written)" '^[[?2004l^[[0m'
 }

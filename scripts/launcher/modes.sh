@@ -7,7 +7,7 @@
 # drawing characters, a hidden cursor.
 bad_modes='\033[4h\033[?6h\033[2;4r\033[?7l\033(0\033[?25l'
 
-# The sequences are those of host/sequences.c.
+# The sequences are those of host/terminal.c and host/kinds.c.
 check_modes() {
     start 8 50 "$recorder" f
     wait_for 50 test -e "$folder/record"

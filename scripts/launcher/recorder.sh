@@ -3,27 +3,29 @@
 # The words and the input that the host passes to its program, which here is the recorder: a script in the editor's place, which
 # only records them. Uses person.sh and programs.sh. Sets `recorder`, the path of a host that runs it, for the other parts.
 
-# Installs host, keeper, filter, tables and recorder as install.sh would, in `folder`, and makes the file `paste`.
+# Installs host, tables and recorder as install.sh would, in `folder`, and makes the file `paste`.
 make_recorder() {
     recorder=$folder/recorder/bin/bidi-edit
     mkdir -p "$folder/recorder/bin" "$folder/recorder/lib/bidi_edit" "$folder/recorder/share"
     cp "$top/host/out/bidi-edit" "$recorder"
-    cp "$keeper" "$folder/recorder/lib/bidi_edit/bidi_keep"
     cp -r "$top/data" "$folder/recorder/share/bidi_edit"
-    cp "$filter" "$folder/recorder/lib/bidi_edit/bidi_input"
+    cp "$top/scripts/launcher/recorder.py" "$folder/recorder/lib/bidi_edit/recorder.py"
     echo 'a kit' >"$folder/recorder/lib/bidi_edit/kit"
     cat >"$folder/recorder/lib/bidi_edit/bidi_edit" <<'TEXT'
 #!/bin/sh
-# The recorder. Writes its words to the file BX_WORDS, each on a line, shows the text of --before as the editor does, and appends
-# its input to BX_RECORD. It ends with status 7 when a read ends with the byte 11 (octal 21, Ctrl-Q). When its input ends, it
-# appends a blank and `end`, and ends with status 9. Three names of FILE do more: `still` has no record and no end, `at-once` ends
-# at once, `kept` leaves a journal, so that its session is kept. To the host it says (docs/ARCHITECTURE.md) that FILE is not there
-# (o -), and that it ends since its output failed (f output).
-words=''
+# The recorder. Writes its words to the file BX_WORDS, each on a line, shows the text of --before as the editor does, and leaves
+# its input to recorder.py. Three names of FILE do more: `still` has no record and no end, `at-once` ends at once, `kept` leaves a
+# journal, so that its session is kept. To the host it says (docs/ARCHITECTURE.md) that FILE was read (o), and that it ends since
+# its output failed (e). With --to it only answers a replay of one key (r).
+words='' to=''
 while [ $# -gt 0 ]; do
     case $1 in
     --before)
         printf '%s' "$2"
+        shift
+        ;;
+    --to)
+        to=$2
         shift
         ;;
     *) words="$words$1
@@ -32,19 +34,20 @@ while [ $# -gt 0 ]; do
     file=$1
     shift
 done
+if [ -n "$to" ]; then
+    printf x >"$to"
+    printf 'r\000\007known 1' >&2
+    exit 0
+fi
 printf '%s' "$words" >"$BX_WORDS"
-printf 'o -\000' >&2
-[ "$file" != kept ] || printf x >"$(grep -A 1 -x -e --journal "$BX_WORDS" | tail -n 1)"
-printf 'f output\000' >&2
+printf 'o\000\000' >&2
+[ "$file" != kept ] || printf x >>"$(grep -A 1 -x -e --journal "$BX_WORDS" | tail -n 1)"
 [ "$file" != still ] || exec sleep 1000
-[ "$file" != at-once ] || exit 0
-: >"$BX_RECORD"
-while dd bs=65536 count=1 2>/dev/null >"$BX_RECORD.part" && [ -s "$BX_RECORD.part" ]; do
-    tr -d '\021' <"$BX_RECORD.part" >>"$BX_RECORD"
-    [ "$(tail -c 1 "$BX_RECORD.part")" != "$(printf '\021')" ] || exit 7
-done
-echo ' end' >>"$BX_RECORD"
-exit 9
+if [ "$file" = at-once ]; then
+    printf 'e\000\006output' >&2
+    exit 0
+fi
+exec python3 -S -B "${0%/*}/recorder.py"
 TEXT
     cat >"$folder/recorder/lib/bidi_edit/bidi_print" <<'TEXT'
 #!/bin/sh
@@ -121,7 +124,8 @@ check_tables() {
     tables=''
 }
 
-# Sizes reach the program as CSI 8;ROWS;COLUMNSt, at most 500 each. Two that come at once are told as one, hence the sleeps.
+# Sizes reach the program as frames, which the record has as CSI 8;ROWS;COLUMNSt; each side is 500 at most. Two that come at once
+# are told as one, hence the sleeps.
 check_sizes() {
     start 24 80 "$recorder" f
     resize 30 100
@@ -182,7 +186,7 @@ check_whole_keys() {
         'א[Cא[Cא[Cא[Cא[Cא[Cא[Cא[Cא[Cא[Cא[Cא[Cא[Cא[Cא[C'
 }
 
-# Measures the cost of host, keeper and filter: the least of ten runs, since other load only adds time. On a machine with more
+# Measures the cost of the host: the least of ten runs, since other load only adds time. On a machine with more
 # work than processors each run takes up to twice as long, so the figure is reported there but not judged. The limit is above the
 # 15 ms that docs/PERFORMANCE.md allows with the editor itself.
 check_time() {

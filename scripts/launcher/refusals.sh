@@ -49,7 +49,7 @@ check_refused_words() {
 
 # Prints the version that the sources name.
 version_of_sources() {
-    grep -rhoE '"[0-9]+\.[0-9]+\.[0-9]+"' "$top/crates/bx_calls/src" | head -n 1 | tr -d '"'
+    sed -n 's/^#define EDITOR_VERSION "\(.*\)"$/\1/p' "$top/host/words.h"
 }
 
 # --help fits a screen of 24 rows with the shell's next line. --version tells the kit that make_recorder notes, and the tables'
@@ -182,16 +182,16 @@ refused_in_terminal() { # NAME WANTED FILE
     same "$1: nothing else" "$(grep -a -c '1049h' "$folder/output") $(grep -c . "$folder/errors")" '0 2'
 }
 
-# Drafts of FILE that a killed save left are told: FILE.bx and FILE.bx with digits.
+# What a killed save left is told: a mark, FILE.bx or FILE.bx with a digit, and a draft, which has eight letters before its end.
 check_leftovers() {
     printf '\377' >f
-    for name in f.bx f.bx9 f.bxx 'g h.bx2'; do : >"$name"; done
+    for name in f.bx f.bx9 f.bxx f.ab3defgh.bx f.other.bx 'g h.bx2'; do : >"$name"; done
     told='bidi-edit: perhaps left by a save that was killed; look at it, and remove what is not wanted:'
-    refused_in_terminal 'leftovers' "1 $told f.bx f.bx9" f
+    refused_in_terminal 'leftovers' "1 $told f.bx f.bx9 f.ab3defgh.bx" f
     ln -s 'g h' link
     printf '\377' >'g h'
     refused_in_terminal 'leftovers, beside what a link leads to' "1 $told '$folder/files/g h.bx2'" link
-    rm -f f f.bx f.bx9 f.bxx 'g h' 'g h.bx2' link
+    rm -f f f.bx f.bx9 f.bxx f.ab3defgh.bx f.other.bx 'g h' 'g h.bx2' link
 }
 
 check_refusals() {
