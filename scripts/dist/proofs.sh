@@ -40,7 +40,7 @@ prove() {
 
 check_prove() { # NAME
     prove
-    same "$1, all is the same" "$status $(cat "$folder/said")" '0 26 passed, 0 failed'
+    same "$1, all is the same" "$status $(cat "$folder/said")" '0 22 passed, 0 failed'
     same "$1, the programs are noted" "$(sed 's/ [0-9a-f]*$//' "$tree/out/proved" | paste -s -d ,)" \
         'sources,program bidi_edit,program bidi_print,program '"$player"
     make_dist
@@ -50,7 +50,7 @@ check_prove() { # NAME
     echo x >>"$TOLD/built/bidi_print"
     prove
     same "$1, another program" "$status $(sed 's/: [^:]*differ.*//; s/: cmp:.*//' "$folder/said" | paste -s -d '|')" \
-        '1 FAILS bidi_print in dist/, the same as built here|25 passed, 1 failed'
+        '1 FAILS bidi_print in dist/, the same as built here|21 passed, 1 failed'
     rm "$TOLD/built/bidi_print" "$tree/crates/bidi_print/out/bidi_print"
     prove
     same "$1, a program that is not left" "$status $(sed 's/, since.*//' "$folder/said" | head -n 1)" '1 FAILS bidi_print in dist/: skipped'
@@ -58,7 +58,7 @@ check_prove() { # NAME
     echo '// more' >>"$tree/crates/low/src/main.rt"
     prove
     same "$1, a source" "$status $(paste -s -d '|' "$folder/said")" \
-        '1 FAILS dist/SOURCES, the digest of the sources: SUM, and not SUM|25 passed, 1 failed'
+        '1 FAILS dist/SOURCES, the digest of the sources: SUM, and not SUM|21 passed, 1 failed'
     cp "$folder/first/crates/low/src/main.rt" "$tree/crates/low/src/main.rt"
     change_byte bidi-edit-x86_64-linux.tar.gz
     prove
@@ -67,7 +67,7 @@ check_prove() { # NAME
     sed -i "s/^\(program $player\) ./\1 g/" "$tree/dist/SOURCES"
     prove
     same "$1, a sum" "$status $(sed 's/:.*//' "$folder/said" | paste -s -d '|')" \
-        '1 FAILS dist/SOURCES, its sum in dist/SHA256SUMS|FAILS '"$player"', its sum in dist/SOURCES|24 passed, 2 failed'
+        '1 FAILS dist/SOURCES, its sum in dist/SHA256SUMS|FAILS '"$player"', its sum in dist/SOURCES|20 passed, 2 failed'
     fresh_tree
     : >"$TOLD/bad"
     rm -r "$tree/dist"

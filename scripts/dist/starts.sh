@@ -35,7 +35,7 @@ check_start() { # NAME
     same "$1, its files" "$(cd "$tree/out/start" && find . -type f | sort | sed 's|^\./||' | paste -s -d ' ')" \
         "bin/bidi-edit lib/bidi_edit/SOURCES lib/bidi_edit/bidi_edit lib/bidi_edit/bidi_print lib/bidi_edit/host lib/bidi_edit/kit \
 lib/bidi_edit/$player share/bidi_edit/ArabicShaping.txt share/bidi_edit/BidiBrackets.txt share/bidi_edit/BidiMirroring.txt \
- share/bidi_edit/DerivedBidiClass.txt share/bidi_edit/UnicodeData.txt"
+share/bidi_edit/DerivedBidiClass.txt share/bidi_edit/UnicodeData.txt"
     same "$1, the toolchain" "$(cat "$tree/out/start/lib/bidi_edit/kit")" 'a toolchain'
     same "$1, compiled here" "$(cmp -s "$tree/out/start/bin/bidi-edit" "$tree/out/start/lib/bidi_edit/host" || echo compiled)" compiled
     # a source of the same second as the start counts as newer
