@@ -3,15 +3,14 @@
 #include <fcntl.h>
 #include <poll.h>
 #include <signal.h>
+#include <stdio.h>
 #include <stdlib.h>
 #include <string.h>
 #include <sys/file.h>
-#include <sys/mman.h>
 #include <sys/wait.h>
 #include <time.h>
 #include <unistd.h>
 
-#include "facts.h"
 #include "file.h"
 #include "parts.h"
 
@@ -36,39 +35,10 @@ static bool is_being_written(const struct stat *look) {
     return clock_gettime(CLOCK_REALTIME, &now) == 0 && now.tv_sec - look->st_mtim.tv_sec <= CALM;
 }
 
-static bool take_source(struct session *session, int file) {
-    session->source = copy_descriptor(file);
-    if (session->source < 0) session->error = errno;
-    return session->source >= 0;
-}
-
 /* Copies an open file over the session's text. */
 static int copy_over(struct session *session, int file) {
     int error = ftruncate(session->text, 0) == 0 && lseek(session->text, 0, SEEK_SET) == 0 ? 0 : errno;
     return error ? error : copy_file(file, 0, session->text);
-}
-
-/* Copies FILE before the program reads it: then that reads the copy. */
-static bool copy_at_once(struct session *session, int file) {
-    session->error = copy_over(session, file);
-    session->has_text = session->error == 0 && take_source(session, session->text);
-    return session->has_text;
-}
-
-/* Copies FILE into memory, until there is room for it. */
-static bool copy_to_memory(struct session *session, int file) {
-    int memory = memfd_create("text", MFD_CLOEXEC);
-    if (memory >= 0 && copy_file(file, 0, memory) == 0) {
-        session->source = memory;
-    } else if (memory >= 0) {
-        close(memory);
-    }
-    return session->source >= 0;
-}
-
-/* Shares FILE's blocks with the session's text, where the disk can do that. */
-static void share_at_once(struct session *session, int file) {
-    session->has_text = share_file(file, session->text) && take_source(session, session->text);
 }
 
 static bool open_text(struct session *session) {
@@ -80,17 +50,20 @@ static bool open_text(struct session *session) {
 int choose_source(struct session *session, int file) {
     if (file >= 0 && fstat(file, &session->look) != 0) return errno;
     uint64_t size = file >= 0 ? (uint64_t)session->look.st_size : 0;
-    bool is_small = size <= COPIED_AT_ONCE || (is_being_written(&session->look) && size <= LARGEST_TEXT);
+    bool is_early = size <= COPIED_AT_ONCE || (is_being_written(&session->look) && size <= LARGEST_TEXT);
     session->is_waiting = !open_text(session) || free_room(session->folder) < size + BESIDE_TEXT;
     if (file < 0) {
         session->has_text = session->text >= 0;
         return 0;
     }
-    if (!session->is_waiting && is_small) session->is_waiting = !copy_at_once(session, file);
-    if (!session->is_waiting && !session->has_text) share_at_once(session, file);
-    if (session->has_text || (session->is_waiting && size <= LARGEST_TEXT && copy_to_memory(session, file))) return 0;
-    session->is_source_file = true;
-    return take_source(session, file) ? 0 : session->error;
+    if (!session->is_waiting && is_early) {
+        session->error = copy_over(session, file);
+        session->has_text = session->error == 0;
+        session->is_waiting = !session->has_text;
+    }
+    session->is_source_file = !session->has_text;
+    session->source = copy_descriptor(session->has_text ? session->text : file);
+    return session->source >= 0 ? 0 : errno;
 }
 
 /* ---- what the child writes */
@@ -98,9 +71,7 @@ int choose_source(struct session *session, int file) {
 /* Whether FILE is still as it was before the program read it. A save that replaces FILE leaves the old bytes and their time. */
 static bool is_as_read(const struct session *session) {
     struct stat now;
-    const struct stat *then = &session->look;
-    return fstat(session->source, &now) == 0 && now.st_size == then->st_size && now.st_mtim.tv_sec == then->st_mtim.tv_sec &&
-           now.st_mtim.tv_nsec == then->st_mtim.tv_nsec;
+    return fstat(session->source, &now) == 0 && has_same_text(&now, &session->look);
 }
 
 /* Copies the text from its source, and puts it on the disk. */
@@ -122,13 +93,13 @@ static int write_text(struct session *session, struct report *said) {
     return error;
 }
 
-static bool is_lacking(const struct session *session, enum part part) {
+static bool lacks_part(const struct session *session, enum part part) {
     return session->parts[part].is_kept && !session->parts[part].is_written;
 }
 
 static int write_part(const struct session *session, enum part part) {
     const struct kept_part *kept = &session->parts[part];
-    return is_lacking(session, part) ? put_part(session, part, kept->bytes, kept->size) : 0;
+    return lacks_part(session, part) ? put_part(session, part, kept->bytes, kept->size) : 0;
 }
 
 /* Writes what is to be there and is not, the path last. */
@@ -148,23 +119,9 @@ static struct report write_missing(struct session *session) {
 
 /* ---- the child */
 
-/* Closes all but what the child uses, so that no pipe or terminal waits for its end. */
-static void close_others(const struct session *session, int report) {
-    const int kept[] = {session->parent, session->folder, session->lock, session->text, session->source, session->mirror, report};
-    unsigned from = 0;
-    for (;;) {
-        unsigned next = ~0U;
-        for (size_t at = 0; at < sizeof kept / sizeof *kept; at++) {
-            if (kept[at] >= 0 && (unsigned)kept[at] >= from && (unsigned)kept[at] < next) next = (unsigned)kept[at];
-        }
-        if (next > from) close_range(from, next == ~0U ? next : next - 1, 0);
-        if (next == ~0U) return;
-        from = next + 1;
-    }
-}
-
 _Noreturn static void work(struct session *session, int report) {
-    close_others(session, report);
+    const int kept[] = {session->parent, session->folder, session->lock, session->text, session->source, session->mirror, report};
+    close_others(kept, sizeof kept / sizeof *kept);
     struct report said = write_missing(session);
     /* whoever hears of the end may unlock the session */
     close(session->lock);
@@ -203,7 +160,7 @@ static bool start_child(struct session *session) {
  * path. */
 static void renew_text(struct session *session) {
     if (session->has_text) {
-        if (session->source >= 0) close(session->source);
+        close_one(&session->source);
         session->source = session->text;
         session->is_source_file = false;
     } else {
@@ -224,8 +181,7 @@ static void take_report(struct session *session, const struct report *said) {
     if (said->is_refused) renew_text(session);
     if (said->error) return;
     /* the program has opened it: memory is free again, and a FILE that a save replaced */
-    if (session->source >= 0) close(session->source);
-    session->source = -1;
+    close_one(&session->source);
     session->is_source_file = false;
     session->is_filled = session->has_text = true;
     session->is_mirror_new = false;
@@ -253,8 +209,7 @@ static void hear_child(struct session *session, int milliseconds) {
     if (session->report >= 0 && poll(&file, 1, milliseconds) > 0) {
         /* a child that was killed says nothing */
         if (read(session->report, &said, sizeof said) != (ssize_t)sizeof said) said = (struct report){.error = EIO};
-        close(session->report);
-        session->report = -1;
+        close_one(&session->report);
         take_report(session, &said);
     }
     reap(session);
@@ -266,14 +221,14 @@ void end_child(struct session *session) {
     kill(session->child, SIGKILL);
     /* a child whose disk is stalled ends when it can */
     for (int waited = 0; waited < LIMIT_MS && waitpid(session->child, NULL, WNOHANG) == 0; waited++) poll(NULL, 0, 1);
-    if (session->report >= 0) close(session->report);
-    session->child = session->report = -1;
+    close_one(&session->report);
+    session->child = -1;
 }
 
 /* Whether it has all of its parts, so that it can be recovered. */
 static bool is_whole(const struct session *session) {
     for (enum part part = 0; part < PARTS; part++) {
-        if (is_lacking(session, part)) return false;
+        if (lacks_part(session, part)) return false;
     }
     return session->is_filled;
 }
@@ -282,7 +237,7 @@ static bool is_whole(const struct session *session) {
 static bool write_behind(struct session *session) {
     bool has_work = !is_whole(session) || session->is_mirror_new;
     if (session->child > 0 || session->is_changed || !has_work || !open_text(session)) return true;
-    for (enum part part = 0; part < PARTS; part++) session->parts[part].is_sent = is_lacking(session, part);
+    for (enum part part = 0; part < PARTS; part++) session->parts[part].is_sent = lacks_part(session, part);
     return start_child(session);
 }
 
@@ -324,37 +279,28 @@ static void renew_lock(struct session *session) {
     session->lock = lock;
 }
 
-/* Makes the file `journal` again, where the one that the program appends to has lost its name. */
-static void renew_journal(struct session *session) {
-    if (leads_to(session, PART_JOURNAL, session->mirror >= 0 ? session->mirror : session->journal)) return;
-    unlinkat(session->folder, part_name(PART_JOURNAL), 0);
-    int journal = part_open(session->folder, part_name(PART_JOURNAL), O_RDWR | O_CREAT | O_EXCL);
-    session->is_mirror_behind = journal < 0;
-    if (journal < 0) {
-        session->error = errno;
-        return;
-    }
-    if (session->mirror >= 0) close(session->mirror);
-    session->mirror = journal;
-    session->mirrored = 0;
-    session->is_mirror_new = true;
-}
-
-/* Writes what the program appended since. */
+/* Writes the journal anew, where the file that the program appends to has lost its name, whenever that one has changed. */
 static void mirror_journal(struct session *session) {
+    static const char draft[] = "journal.new";
     struct stat found;
-    renew_journal(session);
-    if (session->mirror < 0 || fstat(session->journal, &found) != 0 || found.st_size == session->mirrored) return;
-    /* the program empties the journal where all is saved */
-    if (found.st_size < session->mirrored) session->mirrored = 0;
-    int error = ftruncate(session->mirror, session->mirrored) == 0 && lseek(session->mirror, session->mirrored, SEEK_SET) >= 0 ? 0 : errno;
-    if (!error) error = copy_file(session->journal, session->mirrored, session->mirror);
+    const struct stat *then = &session->mirrored;
+    bool is_named = leads_to(session, PART_JOURNAL, session->mirror >= 0 ? session->mirror : session->journal);
+    if ((is_named && session->mirror < 0) || fstat(session->journal, &found) != 0) return;
+    if (is_named && has_same_text(&found, then)) return;
+    unlinkat(session->folder, draft, 0);
+    int mirror = part_open(session->folder, draft, O_RDWR | O_CREAT | O_EXCL);
+    int error = mirror < 0 ? errno : copy_file(session->journal, 0, mirror);
+    if (!error && renameat(session->folder, draft, session->folder, part_name(PART_JOURNAL)) != 0) error = errno;
     session->is_mirror_behind = error != 0;
     if (error) {
         session->error = error;
+        unlinkat(session->folder, draft, 0);
+        close_one(&mirror);
         return;
     }
-    session->mirrored = fstat(session->mirror, &found) == 0 ? found.st_size : 0;
+    close_one(&session->mirror);
+    session->mirror = mirror;
+    session->mirrored = found;
     session->is_mirror_new = true;
 }
 

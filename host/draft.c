@@ -5,12 +5,12 @@
 #include <linux/fs.h>
 #include <stdio.h>
 #include <string.h>
-#include <sys/random.h>
 #include <sys/syscall.h>
 #include <sys/xattr.h>
 #include <unistd.h>
 
 #include "save_judge.h"
+#include "util.h"
 
 /* BUFFER: bytes of a write, so that many small pieces take few. TRIES: random names, and exchanges that undo one another. */
 enum { BUFFER = 262144, TRIES = 20 };
@@ -19,18 +19,11 @@ static unsigned char buffer[BUFFER];
 
 /* ---- names */
 
-/* Whether a call failed since the system or the file system lacks it. */
-static bool is_lacking(int error) {
-    return error == ENOSYS || error == EINVAL || error == EOPNOTSUPP;
-}
-
 /* Makes a random name for a draft of FILE. */
 static bool make_name(const struct file *file, char name[NAME_MAX + 1]) {
     static const char letters[] = "abcdefghijklmnopqrstuvwxyz0123456789";
-    unsigned char bytes[DRAFT_LETTERS];
-    char random[DRAFT_LETTERS + 1] = {0};
-    if (getrandom(bytes, sizeof bytes, 0) != (ssize_t)sizeof bytes) return false;
-    for (size_t i = 0; i < sizeof bytes; i++) random[i] = letters[bytes[i] % (sizeof letters - 1)];
+    char random[DRAFT_LETTERS + 1];
+    if (!make_letters(random, DRAFT_LETTERS, letters)) return false;
     snprintf(name, NAME_MAX + 1, "%.*s.%s%s", (int)draft_stem(file), file->name, random, DRAFT_END);
     return true;
 }
@@ -41,9 +34,7 @@ static int rename_by(int folder, const char *from, const char *to, unsigned flag
 
 /* Gives a file without a name this one. */
 static int link_nameless(const struct draft *draft, const char *name) {
-    char path[40];
-    snprintf(path, sizeof path, "/proc/self/fd/%d", draft->file);
-    return linkat(AT_FDCWD, path, draft->folder, name, AT_SYMLINK_FOLLOW) == 0 ? 0 : errno;
+    return linkat(AT_FDCWD, link_of(draft->file).path, draft->folder, name, AT_SYMLINK_FOLLOW) == 0 ? 0 : errno;
 }
 
 /* Moves a file from a name to another that is free. */
@@ -88,8 +79,7 @@ int draft_open(struct draft *draft, const struct file *file, int folder, mode_t 
     char name[NAME_MAX + 1];
     int error = EEXIST;
     *draft = (struct draft){.folder = folder, .file = -1};
-    /* a name is given by /proc */
-    if (may_be_nameless && access("/proc/self/fd", X_OK) == 0) draft->file = openat(folder, ".", O_TMPFILE | O_RDWR | O_CLOEXEC, mode);
+    if (may_be_nameless) draft->file = openat(folder, ".", O_TMPFILE | O_RDWR | O_CLOEXEC, mode);
     if (draft->file >= 0) return 0;
     for (int tries = 0; error == EEXIST && tries < TRIES; tries++) error = make_name(file, name) ? open_at(draft, folder, name, mode) : EIO;
     return error;
@@ -103,18 +93,6 @@ int draft_open_own(struct draft *draft, int folder, const char *name, mode_t mod
 
 /* ---- the text */
 
-static void write_all(struct draft *draft, const unsigned char *bytes, size_t length) {
-    while (length > 0 && draft->error == 0) {
-        ssize_t count = write(draft->file, bytes, length);
-        if (count > 0) {
-            bytes += count;
-            length -= (size_t)count;
-        } else if (count == 0 || errno != EINTR) {
-            draft->error = count == 0 ? EIO : errno;
-        }
-    }
-}
-
 void draft_put(struct draft *draft, const unsigned char *bytes, size_t length) {
     while (length > 0 && draft->error == 0) {
         size_t count = length < BUFFER - draft->held ? length : BUFFER - draft->held;
@@ -123,19 +101,14 @@ void draft_put(struct draft *draft, const unsigned char *bytes, size_t length) {
         bytes += count;
         length -= count;
         if (draft->held < BUFFER) return;
-        write_all(draft, buffer, draft->held);
-        draft->held = 0;
+        draft_flush(draft);
     }
 }
 
 int draft_flush(struct draft *draft) {
-    write_all(draft, buffer, draft->held);
+    if (draft->error == 0) draft->error = write_bytes(draft->file, buffer, draft->held);
     draft->held = 0;
     return draft->error;
-}
-
-int sync_file(int file) {
-    return fsync(file) == 0 || is_lacking(errno) || errno == EROFS ? 0 : errno;
 }
 
 /* ---- rights */
@@ -163,7 +136,7 @@ int draft_take_over(const struct draft *draft, const struct stat *old, bool is_p
 
 /* Whether what has the draft's name has an access list. */
 static bool has_list(const struct draft *draft) {
-    int at = open_for_facts(draft->folder, draft->name);
+    int at = open_itself(draft->folder, draft->name);
     if (at < 0) return false;
     enum answer list = has_access_list(at);
     close(at);
@@ -185,7 +158,7 @@ static bool put_back(const struct draft *draft, const char *name, struct stat la
 }
 
 /* Puts the draft in FILE's place where the file system exchanges nothing. */
-static enum placed replace(struct draft *draft, const char *name) {
+static enum placed replace_by_rename(struct draft *draft, const char *name) {
     if (renameat(draft->folder, draft->name, draft->folder, name) != 0) return errno == EBUSY ? PLACE_MOUNTED : PLACE_FAILED;
     draft->name[0] = 0;
     return PLACED;
@@ -196,13 +169,12 @@ enum placed draft_exchange(struct draft *draft, const char *name, const struct l
     struct look out;
     if (fstat(draft->file, &own) != 0) return PLACE_FAILED;
     int error = rename_by(draft->folder, draft->name, name, RENAME_EXCHANGE);
-    if (is_lacking(error)) return replace(draft, name);
+    if (is_lacking(error)) return replace_by_rename(draft, name);
     errno = error;
     if (error == ENOENT) return PLACE_OTHER;
     if (error != 0) return error == EBUSY ? PLACE_MOUNTED : PLACE_FAILED;
     if (look_at(draft->folder, draft->name, &out) && is_taken_out(seen, &out) && (!is_listless || !has_list(draft))) return PLACED;
-    if (!put_back(draft, name, own)) draft->name[0] = 0;
-    else unlinkat(draft->folder, draft->name, 0);
+    if (put_back(draft, name, own)) unlinkat(draft->folder, draft->name, 0);
     draft->name[0] = 0;
     return PLACE_CHANGED;
 }

@@ -1,4 +1,4 @@
-#include "facts.h"
+#include "file.h"
 
 #include <endian.h>
 #include <errno.h>
@@ -11,6 +11,8 @@
 #include <sys/vfs.h>
 #include <sys/xattr.h>
 #include <unistd.h>
+
+#include "util.h"
 
 /* Older headers lack this. */
 #ifndef STATX_ATTR_MOUNT_ROOT
@@ -27,27 +29,8 @@ enum { FILE_INHERIT = 1 };
 /* An attribute of a file, the same one of its folder, and the names of the file's attributes with a NUL after each. */
 static char value[MOST], other[MOST], names[MOST];
 
-/* The name of an open file for calls that take no O_PATH. */
-struct link {
-    char path[40];
-};
-
-static struct link link_of(int at) {
-    struct link link;
-    snprintf(link.path, sizeof link.path, "/proc/self/fd/%d", at);
-    return link;
-}
-
 static ssize_t get_attribute(int at, const char *name, char *room) {
-    ssize_t length = fgetxattr(at, name, room, MOST);
-    if (length >= 0 || errno != EBADF) return length;
     return getxattr(link_of(at).path, name, room, MOST);
-}
-
-static ssize_t list_attributes(int at) {
-    ssize_t length = flistxattr(at, names, sizeof names);
-    if (length >= 0 || errno != EBADF) return length;
-    return listxattr(link_of(at).path, names, sizeof names);
 }
 
 /* Whether the file system has no such attribute, or the file none. */
@@ -115,19 +98,9 @@ enum answer has_access_list(int at) {
     return own == YES ? YES : either(own, find_network_list(at).is_more);
 }
 
-static enum answer gives_lists(int folder) {
+static enum answer gives_access_lists(int folder) {
     enum answer given = has_attribute(folder, "system.posix_acl_default", POSIX_HEADER);
     return given == YES ? YES : either(given, find_network_list(folder).is_given);
-}
-
-enum answer gives_access_lists(int folder) {
-    enum answer given = gives_lists(folder);
-    /* without /proc only a folder that is open to be read tells */
-    int again = given == UNKNOWN ? openat(folder, ".", O_RDONLY | O_DIRECTORY | O_CLOEXEC) : -1;
-    if (again < 0) return given;
-    given = gives_lists(again);
-    close(again);
-    return given;
 }
 
 static bool is_one_of(const char *name, const char *const *words, size_t count) {
@@ -149,8 +122,8 @@ static enum answer is_own(int at, int folder, const char *name) {
     return length == folder_length && memcmp(value, other, (size_t)length) == 0 ? NO : YES;
 }
 
-enum answer has_label(int at, int folder) {
-    ssize_t length = list_attributes(at);
+static enum answer has_label(int at, int folder) {
+    ssize_t length = listxattr(link_of(at).path, names, sizeof names);
     if (length < 0) return is_none(length) ? NO : UNKNOWN;
     enum answer found = NO;
     for (const char *name = names; name < names + length && found != YES; name += strlen(name) + 1) {
@@ -160,32 +133,16 @@ enum answer has_label(int at, int folder) {
     return found;
 }
 
-/* The number of the mount that an open file is reached by; 0 where the system does not tell. */
-static unsigned long mount_of(int at) {
-    char path[40], line[128];
-    unsigned long number = 0;
-    snprintf(path, sizeof path, "/proc/self/fdinfo/%d", at);
-    FILE *told = fopen(path, "re");
-    while (told && number == 0 && fgets(line, sizeof line, told))
-        if (sscanf(line, "mnt_id: %lu", &number) != 1) number = 0;
-    if (told) fclose(told);
-    return number;
-}
-
-enum answer is_mount(int at, int folder) {
+/* Older systems do not tell; then a rename is refused there. */
+static enum answer is_mount(int at) {
     struct statx look;
-    if (statx(at, "", AT_EMPTY_PATH | AT_STATX_DONT_SYNC, 0, &look) == 0 && (look.stx_attributes_mask & STATX_ATTR_MOUNT_ROOT))
-        return (look.stx_attributes & STATX_ATTR_MOUNT_ROOT) ? YES : NO;
-    unsigned long own = mount_of(at), above = mount_of(folder);
-    if (own == 0 || above == 0) return UNKNOWN;
-    return own == above ? NO : YES;
+    if (statx(at, "", AT_EMPTY_PATH | AT_STATX_DONT_SYNC, 0, &look) != 0 || !(look.stx_attributes_mask & STATX_ATTR_MOUNT_ROOT)) return UNKNOWN;
+    return (look.stx_attributes & STATX_ATTR_MOUNT_ROOT) ? YES : NO;
 }
 
 /* Where the system does not tell, the call itself will. */
-bool may_access(int at, int access) {
-    if (faccessat(at, "", access, AT_EMPTY_PATH | AT_EACCESS) == 0) return true;
-    bool is_lacking = errno == EINVAL || errno == ENOSYS || errno == ENOENT;
-    if (is_lacking && faccessat(AT_FDCWD, link_of(at).path, access, AT_EACCESS) == 0) return true;
+static bool may_access(int at, int access) {
+    if (faccessat(AT_FDCWD, link_of(at).path, access, AT_EACCESS) == 0) return true;
     return errno != EACCES && errno != EPERM && errno != EROFS;
 }
 
@@ -227,12 +184,12 @@ static void find_common_facts(int at, struct facts *facts) {
 
 void find_facts(int at, int folder, struct facts *facts) {
     find_common_facts(at, facts);
-    enum answer list = has_access_list(at), label = has_label(at, folder), mount = is_mount(at, folder);
+    enum answer list = has_access_list(at), label = has_label(at, folder), mount = is_mount(at);
     facts->has_access_list = list == YES;
     facts->has_label = label == YES;
     facts->is_mount = mount == YES;
     facts->is_held_by_folder = is_held_by_folder(at, folder);
-    facts->is_unsure = list == UNKNOWN || label == UNKNOWN || mount == UNKNOWN;
+    facts->is_unsure = list == UNKNOWN || label == UNKNOWN;
 }
 
 void find_folder_facts(int folder, struct facts *facts) {

@@ -4,11 +4,11 @@
 #include <errno.h>
 #include <fcntl.h>
 #include <stdio.h>
-#include <stdlib.h>
 #include <string.h>
 #include <unistd.h>
 
 #include "say.h"
+#include "util.h"
 
 /* MOST_LINKS: as in Linux. TRIES: openings of a FILE that other programs replace meanwhile. FRONT: more bytes than marks and headers
  * of files take. MOST_NAMES: so many names of a folder are looked at for drafts; MOST_DRAFTS of them are told. MARK_BYTES: those of
@@ -43,10 +43,8 @@ bool find_id(int at, struct file_id *id) {
 
 bool path_of(int at, char path[PATH_MAX]) {
     static const char gone[] = " (deleted)";
-    char link[40];
     struct stat found, there;
-    snprintf(link, sizeof link, "/proc/self/fd/%d", at);
-    ssize_t length = readlink(link, path, PATH_MAX - 1);
+    ssize_t length = readlink(link_of(at).path, path, PATH_MAX - 1);
     if (length <= 0 || path[0] != '/') return false;
     path[length] = 0;
     size_t end = (size_t)length, rest = sizeof gone - 1;
@@ -57,19 +55,13 @@ bool path_of(int at, char path[PATH_MAX]) {
 
 /* ---- the walk to FILE */
 
-/* Copies a path, of which at most PATH_MAX bytes are taken. */
-static void set_path(char to[PATH_MAX], const char *from) {
-    memccpy(to, from, 0, PATH_MAX);
-    to[PATH_MAX - 1] = 0;
-}
-
 /* Cuts a path into its folder, `.` for a name alone, and its last name. Returns false where it is too long. */
 static bool split(const char *path, char folder[PATH_MAX], char name[PATH_MAX]) {
     const char *slash = strrchr(path, '/');
     size_t length = slash ? (size_t)(slash - path) : 0;
     if (strlen(path) >= PATH_MAX) return false;
-    set_path(name, slash ? slash + 1 : path);
-    set_path(folder, slash ? "/" : ".");
+    put_path(name, "%s", slash ? slash + 1 : path);
+    put_path(folder, "%s", slash ? "/" : ".");
     if (length == 0) return true;
     memcpy(folder, path, length);
     folder[length] = 0;
@@ -80,10 +72,6 @@ static bool split(const char *path, char folder[PATH_MAX], char name[PATH_MAX]) 
 static bool is_handed_over(const char *path) {
     if (strncmp(path, "/dev/std", 8) == 0 || strncmp(path, "/dev/fd/", 8) == 0) return true;
     return strncmp(path, "/proc/", 6) == 0 && strstr(path + 6, "/fd/");
-}
-
-static int open_folder(int base, const char *path) {
-    return openat(base, path, O_PATH | O_DIRECTORY | O_CLOEXEC);
 }
 
 static bool is_folder(const char *path) {
@@ -101,11 +89,6 @@ static const char *refuse_folder(struct file *file, const char *folder) {
 
 static const char *refuse(const struct file *file, const char *cause) {
     return text_of("%s %s", shown(file->typed), cause);
-}
-
-static void close_one(int *descriptor) {
-    if (*descriptor >= 0) close(*descriptor);
-    *descriptor = -1;
 }
 
 /* Goes on at the path that a link holds. Returns NULL, or the message. */
@@ -129,10 +112,10 @@ static const char *take_step(struct file *file, const char *path) {
     int folder = open_folder(base, folder_part);
     if (folder < 0 && file->is_linked) return refuse(file, "is a link that leads nowhere: ls -l shows where to");
     if (folder < 0) return refuse_folder(file, folder_part);
-    if (!file->is_linked) set_path(file->folder_name, folder_part);
+    if (!file->is_linked) put_path(file->folder_name, "%s", folder_part);
     close_one(&file->folder);
     file->folder = folder;
-    file->itself = openat(folder, file->name, O_PATH | O_NOFOLLOW | O_CLOEXEC);
+    file->itself = open_itself(folder, file->name);
     memset(&file->look, 0, sizeof file->look);
     file->look.is_there = file->itself >= 0 && fstat(file->itself, &file->look.found) == 0;
     return NULL;
@@ -162,11 +145,7 @@ static const char *walk(struct file *file) {
 static bool open_text(struct file *file) {
     struct stat opened;
     file->text = openat(file->folder, file->name, O_RDONLY | O_NONBLOCK | O_NOFOLLOW | O_CLOEXEC | O_NOCTTY);
-    if (file->text < 0 && errno == EAGAIN) {
-        char link[40];
-        snprintf(link, sizeof link, "/proc/self/fd/%d", file->itself);
-        file->text = open(link, O_RDONLY | O_CLOEXEC | O_NOCTTY);
-    }
+    if (file->text < 0 && errno == EAGAIN) file->text = open(link_of(file->itself).path, O_RDONLY | O_CLOEXEC | O_NOCTTY);
     if (file->text < 0) return errno != ENOENT && errno != ELOOP && errno != ENXIO;
     if (fstat(file->text, &opened) == 0 && is_same_file(&opened, &file->look.found)) return true;
     close_one(&file->text);
@@ -176,9 +155,8 @@ static bool open_text(struct file *file) {
 /* Finds the path of the folder without links, and FILE's. */
 static void name_paths(struct file *file) {
     struct stat folder, there;
-    if (!path_of(file->folder, file->folder_path) && (file->is_linked || !realpath(file->folder_name, file->folder_path)))
-        set_path(file->folder_path, file->folder_name);
-    if (file->is_linked) set_path(file->folder_name, file->folder_path);
+    if (!path_of(file->folder, file->folder_path)) put_path(file->folder_path, "%s", file->folder_name);
+    if (file->is_linked) put_path(file->folder_name, "%s", file->folder_path);
     const char *between = strcmp(file->folder_path, "/") == 0 ? "" : "/";
     snprintf(file->path, sizeof file->path, "%s%s%s", file->folder_path, between, file->name);
     file->is_at_path = fstat(file->folder, &folder) == 0 && stat(file->folder_path, &there) == 0 && is_same_file(&folder, &there);
@@ -193,7 +171,7 @@ static bool open_found(struct file *file) {
     if (!file->look.is_there) return true;
     if (!open_text(file)) return false;
     find_id(file->itself, &file->id);
-    find_facts(file->text >= 0 ? file->text : file->itself, file->folder, &file->facts);
+    find_facts(file->itself, file->folder, &file->facts);
     file->facts.readable = file->text >= 0;
     return true;
 }
@@ -237,19 +215,19 @@ const char *open_lost_file(struct file *file, const char *typed) {
     char above[PATH_MAX], folder[PATH_MAX], last[PATH_MAX], rest[2 * PATH_MAX] = "";
     const char *message = open_file(file, typed);
     if (!message || !file->is_lost || strlen(typed) >= PATH_MAX) return message;
-    set_path(above, typed);
+    put_path(above, "%s", typed);
     while (file->folder < 0 && split(above, folder, last)) {
         char more[PATH_MAX];
         int length = snprintf(more, sizeof more, "%s%s%s", last, rest[0] ? "/" : "", rest);
         if (length < 0 || length >= (int)sizeof more) return message;
-        set_path(rest, more);
+        put_path(rest, "%s", more);
         file->folder = open_folder(AT_FDCWD, folder);
         if (strcmp(folder, ".") == 0 || strcmp(folder, "/") == 0) break;
-        set_path(above, folder);
+        put_path(above, "%s", folder);
     }
     if (file->folder < 0) return message;
-    set_path(file->folder_name, folder);
-    set_path(file->name, rest);
+    put_path(file->folder_name, "%s", folder);
+    put_path(file->name, "%s", rest);
     name_paths(file);
     find_id(file->folder, &file->folder_id);
     find_folder_facts(file->folder, &file->folder_facts);
@@ -266,23 +244,6 @@ void release_file(struct file *file) {
 void close_file(struct file *file) {
     close_one(&file->folder);
     release_file(file);
-}
-
-int open_for_facts(int folder, const char *name) {
-    int at = openat(folder, name, O_RDONLY | O_NOFOLLOW | O_NONBLOCK | O_CLOEXEC | O_NOCTTY);
-    return at >= 0 ? at : openat(folder, name, O_PATH | O_NOFOLLOW | O_CLOEXEC);
-}
-
-int reopen_file(const struct file *file, int flags) {
-    struct stat opened;
-    errno = ENOENT;
-    if (!file->look.is_there || file->is_lost) return -1;
-    int again = openat(file->folder, file->name, flags | O_NOFOLLOW | O_NONBLOCK | O_CLOEXEC | O_NOCTTY);
-    if (again < 0) return -1;
-    if (fstat(again, &opened) == 0 && is_same_file(&opened, &file->look.found)) return again;
-    close(again);
-    errno = ESTALE;
-    return -1;
 }
 
 /* ---- refusals, and what is told */

@@ -7,11 +7,42 @@
 #include <stdint.h>
 #include <sys/stat.h>
 
-#include "facts.h"
 #include "session_judge.h"
 
 /* The largest text, in bytes. */
 enum { LARGEST_TEXT = 16777216 };
+
+/* ---- what only the system tells of a file or folder that is open (facts.c) */
+
+enum answer { NO, YES, UNKNOWN };
+
+struct facts {
+    /* The user may read it; write it; run or enter it. */
+    bool readable, writable, searchable;
+    /* It has an access list that says more than its mode; it is a folder that gives access lists to new files. */
+    bool has_access_list, gives_access_lists;
+    /* It has a security label other than its folder's, capabilities, or another attribute that only root sets. */
+    bool has_label;
+    /* It is the root of a mount; its file system is in memory. */
+    bool is_mount, in_memory;
+    /* The sticky bit of its folder lets only another user replace it, as in /tmp. */
+    bool is_held_by_folder;
+    /* The system did not tell of lists or labels. */
+    bool is_unsure;
+    /* The bytes of the longest name, and those that the user may still write there. */
+    uint64_t longest_name, free_room;
+};
+
+/* The facts about a file that is open (O_PATH is enough), and about its folder. */
+void find_facts(int at, int folder, struct facts *facts);
+void find_folder_facts(int folder, struct facts *facts);
+
+/* Some of them alone. */
+bool is_in_memory(int at);
+uint64_t free_room(int at);
+enum answer has_access_list(int at);
+
+/* ---- FILE (file.c) */
 
 /* What was at a name, the link itself if it was one. */
 struct look {
@@ -84,16 +115,11 @@ bool look_again(const struct file *file, struct look *look);
 /* Whether both looks are of one file; also with the same bytes, as far as size and times tell, owner, permissions and names. */
 bool is_same_file(const struct stat *one, const struct stat *other);
 bool is_unchanged(const struct stat *one, const struct stat *other);
+/* Whether a file has the same text, as far as size and time tell. */
+bool has_same_text(const struct stat *one, const struct stat *other);
 
 /* The file that is open. Returns false where the system does not tell. */
 bool find_id(int at, struct file_id *id);
-
-/* Opens the plain file that was found at a name in a folder, to be asked for its facts: without /proc, O_PATH alone tells few. */
-int open_for_facts(int folder, const char *name);
-
-/* Opens the FILE that was there at the opening again, with these flags, if its name still leads to it. Returns -1 if not; errno is
- * ESTALE where another file is there. */
-int reopen_file(const struct file *file, int flags);
 
 /* The path of an open file or folder by the system's word; false where it does not tell. Of one that is gone it is the last one. */
 bool path_of(int at, char path[PATH_MAX]);

@@ -4,6 +4,8 @@
 #include <string.h>
 #include <unistd.h>
 
+#include "util.h"
+
 static void put_head(unsigned char *head, enum frame_letter letter, size_t length) {
     head[0] = (unsigned char)letter;
     head[1] = (unsigned char)(length >> 8);
@@ -43,22 +45,11 @@ bool read_frame(int file, unsigned char *room, struct frame *frame) {
     return read_all(file, room, frame->length);
 }
 
-static bool write_all(int file, const unsigned char *bytes, size_t length) {
-    while (length > 0) {
-        ssize_t count = write(file, bytes, length);
-        if (count < 0 && errno != EINTR) return false;
-        if (count < 0) continue;
-        bytes += count;
-        length -= (size_t)count;
-    }
-    return true;
-}
-
 bool write_frame(int file, enum frame_letter letter, const void *bytes, size_t length) {
     unsigned char head[FRAME_HEAD];
     if (length > FRAME_MOST) return false;
     put_head(head, letter, length);
-    return write_all(file, head, sizeof head) && write_all(file, bytes, length);
+    return write_bytes(file, head, sizeof head) == 0 && write_bytes(file, bytes, length) == 0;
 }
 
 size_t queue_length(const struct frame_queue *queue) {

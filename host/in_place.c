@@ -7,9 +7,7 @@
 #include "frames.h"
 #include "save_judge.h"
 #include "saving.h"
-
-/* Bytes that are copied at once. */
-enum { COPY = 262144 };
+#include "util.h"
 
 void save_drop_mark(struct save *save) {
     int mark_folder = save->saver->mark_folder;
@@ -73,19 +71,8 @@ static void note_torn(struct save *save) {
 
 /* Copies the draft's text to the emptied FILE. The draft is read by the file that was written: its name may lead elsewhere. */
 static int fill(const struct save *save, int file) {
-    static unsigned char bytes[COPY];
-    if (lseek(save->draft.file, 0, SEEK_SET) != 0) return errno;
-    for (;;) {
-        ssize_t count = read(save->draft.file, bytes, sizeof bytes);
-        if (count < 0 && errno == EINTR) continue;
-        if (count < 0) return errno;
-        if (count == 0) return sync_file(file);
-        for (ssize_t done = 0; done < count;) {
-            ssize_t written = write(file, bytes + done, (size_t)(count - done));
-            if (written < 0 && errno != EINTR) return errno;
-            if (written > 0) done += written;
-        }
-    }
+    int error = copy_pieces(save->draft.file, 0, file);
+    return error == 0 ? sync_file(file) : error;
 }
 
 int save_in_place(struct save *save) {

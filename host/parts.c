@@ -6,16 +6,14 @@
 #include <stdio.h>
 #include <stdlib.h>
 #include <string.h>
-#include <sys/ioctl.h>
 #include <sys/stat.h>
 #include <unistd.h>
 
 #include "file.h"
-#include "folders.h"
 
-/* COPIED: bytes that are copied or read at a time. LONGEST_WITHOUT_KEYS: the longest journal that is read to see whether it has
+/* The longest journal that is read to see whether it has
  * sizes and notices alone; a longer one counts as having keys, which at worst keeps a session without any. */
-enum { COPIED = 65536, LARGEST_COPY = 1 << 30, LONGEST_WITHOUT_KEYS = 4096 };
+enum { LONGEST_WITHOUT_KEYS = 4096 };
 
 const char *part_name(enum part part) {
     static const char *const names[PARTS] = {
@@ -44,57 +42,8 @@ int part_open(int folder, const char *name, int flags) {
     return openat(folder, name, flags | O_NOFOLLOW | O_NONBLOCK | O_CLOEXEC, FILE_MODE);
 }
 
-int write_bytes(int file, const void *bytes, size_t size) {
-    const char *rest = bytes;
-    while (size > 0) {
-        ssize_t count = write(file, rest, size);
-        if (count < 0 && errno == EINTR) continue;
-        if (count <= 0) return count < 0 ? errno : EIO;
-        rest += count;
-        size -= (size_t)count;
-    }
-    return 0;
-}
-
-int read_pieces(int file, off_t place, void (*read)(void *, const char *, size_t), void *context) {
-    static char piece[COPIED];
-    for (;;) {
-        ssize_t count = pread(file, piece, sizeof piece, place);
-        if (count < 0 && errno == EINTR) continue;
-        if (count <= 0) return count < 0 ? errno : 0;
-        read(context, piece, (size_t)count);
-        place += count;
-    }
-}
-
-struct copying {
-    int to, error;
-};
-
-static void copy_piece(void *context, const char *bytes, size_t size) {
-    struct copying *copying = context;
-    if (!copying->error) copying->error = write_bytes(copying->to, bytes, size);
-}
-
-bool share_file(int from, int to) {
-    enum { CLONE = 0x40049409 }; /* FICLONE */
-    return ioctl(to, CLONE, from) == 0;
-}
-
-int copy_file(int from, off_t place, int to) {
-    struct copying copying = {.to = to};
-    ssize_t count;
-    if (place == 0 && share_file(from, to)) return 0;
-    do {
-        count = copy_file_range(from, &place, to, NULL, LARGEST_COPY, 0);
-    } while (count > 0);
-    /* a system that copies no further may still read */
-    int error = read_pieces(from, place, copy_piece, &copying);
-    return error ? error : copying.error;
-}
-
 /* Puts a file on the disk. One that a recovery can do without has its bytes there, and its name once the next file is there. */
-static int sync_file(int file, bool is_needed) {
+static int sync_part(int file, bool is_needed) {
     if (is_needed) return fsync(file) == 0 ? 0 : errno;
     /* some disks cannot do that, and write it later */
     sync_file_range(file, 0, 0, SYNC_FILE_RANGE_WAIT_BEFORE | SYNC_FILE_RANGE_WRITE | SYNC_FILE_RANGE_WAIT_AFTER);
@@ -106,7 +55,7 @@ static int write_new(int folder, const char *name, const void *bytes, size_t siz
     int file = part_open(folder, name, O_WRONLY | O_CREAT | O_EXCL);
     if (file < 0) return errno;
     int error = write_bytes(file, bytes, size);
-    if (!error) error = sync_file(file, is_needed);
+    if (!error) error = sync_part(file, is_needed);
     close(file);
     if (error) unlinkat(folder, name, 0);
     return error;

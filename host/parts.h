@@ -3,21 +3,12 @@
 #define PARTS_H
 
 #include "session.h"
+#include "util.h"
 
 enum { FILE_MODE = 0600 };
 
 /* Opens a part for reading; no link is followed, and no pipe waits. */
 int part_open(int folder, const char *name, int flags);
-
-/* Writes all bytes at the file's place; all of a file from a place on to the place of another one. */
-int write_bytes(int file, const void *bytes, size_t size);
-int copy_file(int from, off_t place, int to);
-
-/* Has an empty file share the blocks of another one, where the disk can do that. */
-bool share_file(int from, int to);
-
-/* Calls `read` with the bytes of an open file, piece by piece, from a place on. */
-int read_pieces(int file, off_t place, void (*read)(void *, const char *, size_t), void *context);
 
 /* Calls `visit` with an open folder and each name in it, until it returns false. */
 int each_entry(int folder, bool (*visit)(void *, int, const char *), void *context);

@@ -8,6 +8,7 @@
 #include "frames.h"
 #include "save_judge.h"
 #include "saving.h"
+#include "util.h"
 
 /* LOCK_TRIES: waits of LOCK_MS for another save into the folder; some file systems and other programs keep the lock for ever. */
 enum { LOCK_TRIES = 50, LOCK_MS = 10 };
@@ -20,7 +21,7 @@ static void note(struct save *save, const struct look *now) {
     save->state.seen = *now;
     save->state.is_distrusted = false;
     if (!now->is_there || !S_ISREG(now->found.st_mode)) return;
-    int itself = open_for_facts(save->folder, save->file->name);
+    int itself = open_itself(save->folder, save->file->name);
     bool is_same = itself >= 0 && fstat(itself, &opened) == 0 && is_unchanged(&opened, &now->found);
     save->state.old = *now;
     save->state.is_old_plain = is_same && has_access_list(itself) == NO;
@@ -46,7 +47,7 @@ static bool is_folder_at(int folder, dev_t device, ino_t inode) {
 }
 
 static int open_folder_path(const struct save *save) {
-    return open(save->file->folder_path, O_PATH | O_DIRECTORY | O_CLOEXEC);
+    return open_folder(AT_FDCWD, save->file->folder_path);
 }
 
 /* Takes a folder at the old one's path for FILE's: it was made again, on the same disk, and no link leads there. */
@@ -115,7 +116,7 @@ static int check_place(struct save *save) {
 /* Finds why saves must not replace the FILE that is there. */
 static int find_reason(struct save *save, enum reason *reason) {
     struct facts facts, of_folder;
-    int itself = open_for_facts(save->folder, save->file->name);
+    int itself = open_itself(save->folder, save->file->name);
     if (itself < 0) return errno == ENOENT ? SAVE_CHANGED : cause_of(errno);
     find_facts(itself, save->folder, &facts);
     find_folder_facts(save->folder, &of_folder);
@@ -187,9 +188,7 @@ static void note_replaced(struct save *save, const struct stat *before) {
     struct state *state = &save->state;
     int file = save->draft.file;
     state->seen.is_there = fstat(file, &state->seen.found) == 0;
-    const struct stat *after = &state->seen.found;
-    state->is_distrusted = !state->seen.is_there || after->st_size != before->st_size || after->st_mtim.tv_sec != before->st_mtim.tv_sec ||
-                           after->st_mtim.tv_nsec != before->st_mtim.tv_nsec;
+    state->is_distrusted = !state->seen.is_there || !has_same_text(&state->seen.found, before);
     state->old = state->seen;
     state->is_old_plain = has_access_list(file) == NO;
     state->is_held = false;

@@ -70,10 +70,13 @@ static bool is_same_time(struct timespec one, struct timespec other) {
     return one.tv_sec == other.tv_sec && one.tv_nsec == other.tv_nsec;
 }
 
+bool has_same_text(const struct stat *one, const struct stat *other) {
+    return one->st_size == other->st_size && is_same_time(one->st_mtim, other->st_mtim);
+}
+
 /* Whether all but the time of change is the same. */
 static bool is_alike(const struct stat *one, const struct stat *other) {
-    return is_same_file(one, other) && one->st_size == other->st_size && is_same_time(one->st_mtim, other->st_mtim) &&
-           one->st_mode == other->st_mode && one->st_uid == other->st_uid && one->st_gid == other->st_gid &&
+    return is_same_file(one, other) && has_same_text(one, other) && one->st_mode == other->st_mode && one->st_uid == other->st_uid && one->st_gid == other->st_gid &&
            one->st_nlink == other->st_nlink;
 }
 

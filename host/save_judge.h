@@ -5,7 +5,6 @@
 #include <stdbool.h>
 #include <sys/stat.h>
 
-#include "facts.h"
 #include "file.h"
 #include "frames.h"
 

@@ -1,21 +1,19 @@
 #include <errno.h>
 #include <fcntl.h>
-#include <limits.h>
 #include <signal.h>
 #include <stdatomic.h>
 #include <stdlib.h>
 #include <string.h>
 #include <sys/mman.h>
 #include <sys/prctl.h>
-#include <sys/syscall.h>
 #include <unistd.h>
 
 #include "frames.h"
 #include "saving.h"
+#include "util.h"
 
-/* MOST_FILES: numbers of files that are closed one by one where the system cannot close all of them at once. ROOM: bytes of two of
- * the longest frames. */
-enum { MOST_FILES = 1024, ROOM = 2 * (FRAME_HEAD + FRAME_MOST) };
+/* Bytes of two of the longest frames. */
+enum { ROOM = 2 * (FRAME_HEAD + FRAME_MOST) };
 
 /* The child writes a state to the slot that is not read, and then says that this one is. */
 struct saved {
@@ -100,40 +98,13 @@ static _Noreturn void serve(struct save *save, int request, int answer) {
 
 /* ---- the child is made, and taken in */
 
-static int by_number(const void *one, const void *other) {
-    return *(const int *)one - *(const int *)other;
-}
-
-static void close_range_of(int first, int last) {
-    if (first > last) return;
-#ifdef SYS_close_range
-    if (syscall(SYS_close_range, (unsigned)first, (unsigned)last, 0) == 0) return;
-#endif
-    for (int file = first; file <= last && file < MOST_FILES; file++) close(file);
-}
-
-/* Closes all files but the standard ones and these: others wait for the ends of pipes. */
-static void close_others(int *kept, size_t count) {
-    int next = STDERR_FILENO + 1;
-    qsort(kept, count, sizeof *kept, by_number);
-    for (size_t i = 0; i < count; i++) {
-        if (kept[i] < next) continue;
-        close_range_of(next, kept[i] - 1);
-        next = kept[i] + 1;
-    }
-    close_range_of(next, INT_MAX);
-}
-
 /* Has the child finish a save whatever asks the host to end, and whatever is killed by the host's name. */
 static void become_child(const struct saver *saver, int request, int answer) {
     static const int ignored[] = {SIGHUP, SIGINT, SIGQUIT, SIGTERM, SIGTSTP, SIGTTIN, SIGTTOU, SIGPIPE, SIGXFSZ};
     const struct file *file = saver->file;
-    int kept[] = {request, answer, file->folder, saver->mark_folder, saver->lock};
-    int nothing = open("/dev/null", O_RDWR | O_CLOEXEC);
+    const int kept[] = {request, answer, file->folder, saver->mark_folder, saver->lock};
     prctl(PR_SET_NAME, "bidi-saver");
     for (size_t i = 0; i < sizeof ignored / sizeof *ignored; i++) signal(ignored[i], SIG_IGN);
-    /* what the C library says of a fault must not get into a file of these numbers */
-    for (int number = STDIN_FILENO; nothing >= 0 && number <= STDERR_FILENO; number++) dup2(nothing, number);
     close_others(kept, sizeof kept / sizeof *kept);
 }
 

@@ -7,11 +7,9 @@
 #include <stdlib.h>
 #include <string.h>
 #include <sys/file.h>
-#include <sys/random.h>
 #include <sys/utsname.h>
 #include <unistd.h>
 
-#include "folders.h"
 #include "parts.h"
 
 /* NAME_TRIES: names that are tried for a session. LOCK_TRIES: for a lock, a second in all. */
@@ -23,11 +21,6 @@ void session_clear(struct session *session) {
 
 bool session_is_none(const struct session *session) {
     return session->folder < 0;
-}
-
-static void close_one(int *file) {
-    if (*file >= 0) close(*file);
-    *file = -1;
 }
 
 void session_close(struct session *session) {
@@ -98,15 +91,11 @@ bool versions_look(const char *version, const char *const *files, size_t count, 
 /* A name of the time and of letters that nobody can foresee. */
 static bool make_name(char name[64]) {
     static const char alphabet[] = "abcdefghijklmnopqrstuvwxyz234567";
-    unsigned char bytes[NAME_LETTERS];
     struct timespec now;
     struct tm parts;
-    if (getrandom(bytes, sizeof bytes, 0) != (ssize_t)sizeof bytes) return false;
     if (clock_gettime(CLOCK_REALTIME, &now) != 0 || !localtime_r(&now.tv_sec, &parts)) return false;
     size_t length = strftime(name, 32, "%Y%m%d%H%M%S.", &parts);
-    for (size_t at = 0; at < sizeof bytes; at++) name[length + at] = alphabet[bytes[at] % 32];
-    name[length + sizeof bytes] = '\0';
-    return kind_of_name(name) == NAME_SESSION;
+    return make_letters(name + length, NAME_LETTERS, alphabet) && kind_of_name(name) == NAME_SESSION;
 }
 
 bool session_at(struct session *session, const struct sessions *sessions, const char *name) {
@@ -300,7 +289,7 @@ int session_resume(struct session *session, unsigned rows, unsigned cols) {
     if (session->journal < 0 || fstat(session->journal, &found) != 0) return ENOENT;
     int error = write_bytes(session->journal, words, strlen(words));
     /* the first fault is the one to report */
-    if (error && ftruncate(session->journal, found.st_size) != 0) return error;
+    if (error && ftruncate(session->journal, found.st_size) != 0) errno = 0;
     return error;
 }
 

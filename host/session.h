@@ -134,8 +134,8 @@ struct session {
     /* Open for the session's life: the lock, the copy, the journal that the program appends to (O_APPEND, hand it on as
      * /proc/self/fd/N); `mirror` is the file `journal` where that one was removed; -1 each. */
     int lock, text, journal, mirror;
-    /* What the program is to open at a fresh start (`--text /proc/self/fd/N`): the copy, FILE itself or a copy in memory; -1 for
-     * an empty text, and once the session is filled. */
+    /* What the program is to open at a fresh start (`--text /proc/self/fd/N`): the copy or FILE itself; -1 for an empty text, and
+     * once the session is filled. */
     int source;
     /* The session's folder, for messages; it ends with its name in the folder of sessions. */
     char path[PATH_MAX];
@@ -152,8 +152,8 @@ struct session {
     pid_t child;
     int report;
     time_t since;
-    /* How much of the journal the mirror has; it has less than the journal; it is not on the disk yet. */
-    off_t mirrored;
+    /* The journal, as the mirror has it; the mirror has less than the journal; it is not on the disk yet. */
+    struct stat mirrored;
     bool is_mirror_behind, is_mirror_new;
     struct kept_part parts[PARTS];
 };
@@ -177,9 +177,9 @@ struct opening {
     const char *versions;
 };
 
-/* Makes a session, locks it, tells other starts of it and makes its journal. A small text, or one that the disk can share, is
- * copied at once; where there is no room, `is_waiting` is set and the text is copied into memory, and `source` is what the
- * program has to open in each case. Nobody recovers the session before it is filled. */
+/* Makes a session, locks it, tells other starts of it and makes its journal. A small text, or one that
+ * is being written, is copied at once; where there is no room, `is_waiting` is set. `source` is what the program has to open in
+ * each case. Nobody recovers the session before it is filled. */
 int session_begin(struct session *session, const struct sessions *sessions, const struct opening *opening);
 
 /* Writes the session's files in a child, the path last; called once the first picture is there. */

@@ -39,7 +39,7 @@ compile() { # NAME SOURCE..
 }
 
 compile judge tests/judge_save.c save_judge.c || exit 1
-compile driver tests/save_driver.c file.c facts.c draft.c save.c in_place.c saver.c save_judge.c frames.c say.c signals.c || exit 1
+compile driver tests/save_driver.c util.c file.c facts.c draft.c save.c in_place.c saver.c save_judge.c frames.c say.c signals.c || exit 1
 failed=0
 "$folder/judge" || failed=1
 python3 -B "$host/tests/save_faults.py" "$folder/driver" || failed=1

@@ -23,7 +23,7 @@ check_frames() {
     folder=$(mktemp -d) || return
     # shellcheck disable=SC2086 # the compiler's own options
     ${CC:-cc} -std=c11 -D_GNU_SOURCE -Wall -Wextra -Wpedantic -Wconversion -Werror ${kind:+-fsanitize=address,undefined} \
-        -o "$folder/judge_frames" "$top/host/tests/judge_frames.c" "$top/host/frames.c" && "$folder/judge_frames"
+        -o "$folder/judge_frames" "$top/host/tests/judge_frames.c" "$top/host/frames.c" "$top/host/util.c" && "$folder/judge_frames"
     status=$?
     rm -rf -- "$folder"
     return $status

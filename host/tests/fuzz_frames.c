@@ -1,6 +1,6 @@
 /* A harness of libFuzzer for what the host reads of the program. The first byte is the size of the pieces in which the rest comes.
  * What is heard and what is no word must be the same in one piece, and no byte may be lost. To build: clang -g -fsanitize=fuzzer,address,undefined
- * -D_GNU_SOURCE host/tests/fuzz_frames.c host/frames.c */
+ * -D_GNU_SOURCE host/tests/fuzz_frames.c host/frames.c host/util.c */
 #include <stdlib.h>
 #include <string.h>
 

@@ -719,7 +719,7 @@ static void fill_small(void) {
     run("cat /dev/zero >small/other 2>/dev/null; true");
 }
 
-/* A disk without room: the text waits in memory, whatever becomes of FILE, and is kept once there is room. */
+/* A disk without room: the text waits, and is kept once there is room. */
 static void wait_for_room(void) {
     struct sessions sessions;
     struct session session;
@@ -731,14 +731,13 @@ static void wait_for_room(void) {
     fill_small();
     look_at(&target, "note");
     check(begin(&session, &sessions, &target) == 0 && session.is_waiting, "room: the text waits");
-    put_text(path_in("note"), "other");
     check(pread(session.source, text, sizeof text, 0) == 4 && strcmp(text, "text") == 0, "room: what is opened");
     check(session_mind(&session) == KEEPS_NOT_YET, "room: it is told");
     check(!session_has(&session, PART_PATH), "room: nobody finds a part");
     check(!session_settle(&session, 1000), "room: nor at the end");
     unlink(path_in("small/other"));
     check(mind(&session) == KEEPS, "room: kept again");
-    check(strcmp(part_text(&session, PART_TEXT), "text") == 0 && session.source == -1, "room: its text, and none in memory");
+    check(strcmp(part_text(&session, PART_TEXT), "text") == 0 && session.source == -1, "room: its text, and FILE is not held");
     write_bytes(session.journal, "abc", 3);
     fill_small();
     unlinkat(session.folder, "journal", 0);

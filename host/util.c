@@ -1,0 +1,137 @@
+#include "util.h"
+
+#include <errno.h>
+#include <fcntl.h>
+#include <stdarg.h>
+#include <stdio.h>
+#include <stdlib.h>
+#include <string.h>
+#include <sys/ioctl.h>
+#include <sys/random.h>
+#include <sys/syscall.h>
+#include <unistd.h>
+
+/* PIECE: bytes that are read or copied at a time. MOST_FILES: numbers of files that are closed one by one where the system cannot
+ * close all of them at once. MOST_LETTERS: of a random name. */
+enum { PIECE = 65536, LARGEST_COPY = 1 << 30, MOST_FILES = 1024, MOST_LETTERS = 16 };
+
+void close_one(int *file) {
+    if (*file >= 0) close(*file);
+    *file = -1;
+}
+
+static void close_range_of(unsigned first, unsigned last) {
+    if (first > last) return;
+#ifdef SYS_close_range
+    if (syscall(SYS_close_range, first, last, 0) == 0) return;
+#endif
+    for (unsigned file = first; file <= last && file < MOST_FILES; file++) close((int)file);
+}
+
+void close_others(const int *kept, size_t count) {
+    unsigned from = STDERR_FILENO + 1;
+    int nothing = open("/dev/null", O_RDWR | O_CLOEXEC);
+    for (int number = STDIN_FILENO; nothing >= 0 && number <= STDERR_FILENO; number++) dup2(nothing, number);
+    for (;;) {
+        unsigned next = INT_MAX;
+        for (size_t at = 0; at < count; at++)
+            if (kept[at] >= 0 && (unsigned)kept[at] >= from && (unsigned)kept[at] < next) next = (unsigned)kept[at];
+        close_range_of(from, next - 1);
+        if (next == INT_MAX) return;
+        from = next + 1;
+    }
+}
+
+int open_folder(int above, const char *path) {
+    return openat(above, path, O_PATH | O_DIRECTORY | O_CLOEXEC);
+}
+
+int open_itself(int folder, const char *name) {
+    return openat(folder, name, O_PATH | O_NOFOLLOW | O_CLOEXEC);
+}
+
+struct link link_of(int file) {
+    struct link link;
+    snprintf(link.path, sizeof link.path, "/proc/self/fd/%d", file);
+    return link;
+}
+
+bool put_path(char path[PATH_MAX], const char *format, ...) {
+    va_list words;
+    va_start(words, format);
+    int length = vsnprintf(path, PATH_MAX, format, words);
+    va_end(words);
+    if (length >= 0 && length < PATH_MAX) return true;
+    path[0] = '\0';
+    return false;
+}
+
+const char *variable(const char *name) {
+    const char *value = getenv(name);
+    return value && *value ? value : NULL;
+}
+
+int write_bytes(int file, const void *bytes, size_t size) {
+    const char *rest = bytes;
+    while (size > 0) {
+        ssize_t count = write(file, rest, size);
+        if (count < 0 && errno == EINTR) continue;
+        if (count <= 0) return count < 0 ? errno : EIO;
+        rest += count;
+        size -= (size_t)count;
+    }
+    return 0;
+}
+
+int read_pieces(int file, off_t place, void (*read)(void *, const char *, size_t), void *context) {
+    static char piece[PIECE];
+    for (;;) {
+        ssize_t count = pread(file, piece, sizeof piece, place);
+        if (count < 0 && errno == EINTR) continue;
+        if (count <= 0) return count < 0 ? errno : 0;
+        read(context, piece, (size_t)count);
+        place += count;
+    }
+}
+
+struct copying {
+    int to, error;
+};
+
+static void copy_piece(void *context, const char *bytes, size_t size) {
+    struct copying *copying = context;
+    if (!copying->error) copying->error = write_bytes(copying->to, bytes, size);
+}
+
+int copy_pieces(int from, off_t place, int to) {
+    struct copying copying = {.to = to};
+    int error = read_pieces(from, place, copy_piece, &copying);
+    return error ? error : copying.error;
+}
+
+int copy_file(int from, off_t place, int to) {
+    enum { CLONE = 0x40049409 }; /* FICLONE: the blocks are shared where the disk can do that */
+    ssize_t count;
+    if (place == 0 && ioctl(to, CLONE, from) == 0) return 0;
+    do {
+        count = copy_file_range(from, &place, to, NULL, LARGEST_COPY, 0);
+    } while (count > 0);
+    /* a system that copies no further may still read */
+    return copy_pieces(from, place, to);
+}
+
+bool is_lacking(int error) {
+    return error == ENOSYS || error == EINVAL || error == EOPNOTSUPP;
+}
+
+int sync_file(int file) {
+    return fsync(file) == 0 || is_lacking(errno) || errno == EROFS ? 0 : errno;
+}
+
+bool make_letters(char *letters, size_t count, const char *alphabet) {
+    unsigned char bytes[MOST_LETTERS];
+    if (count > sizeof bytes || getrandom(bytes, count, 0) != (ssize_t)count) return false;
+    for (size_t at = 0; at < count; at++) letters[at] = alphabet[bytes[at] % strlen(alphabet)];
+    letters[count] = '\0';
+    return true;
+}
