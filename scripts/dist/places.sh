@@ -122,7 +122,7 @@ check_full() { # NAME
     whole=$(du -s -k "$tree/out" | cut -f 1)
     rm -r "$tree/out/start"
     # the last has room for all but the host
-    for size in 4 64 500 $((whole - 48)); do
+    for size in 4 64 300 $((whole - 48)); do
         # shellcheck disable=SC2016 # of the inner shell
         unshare -m sh -c 'mount -t tmpfs -o size='"$size"'k none "$1/out" && PATH=$2:$PATH "$1/bidi-edit" note >"$3" 2>&1 </dev/null
             echo $? >>"$3"

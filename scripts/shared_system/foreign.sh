@@ -30,7 +30,7 @@ save_twice() { # NAME WANTED
     rm -rf "$folder/trace" "$folder/state" note*
 }
 
-# Between the program's reading and the copy for recovery, which is made beside the painting: the copy would be another text's.
+# Right after the first picture. A small FILE is copied before the program reads it, so all keys are kept.
 check_changed_before_copy() {
     rm -rf "$folder/state"
     printf 'ab\n' | as_user tee note >/dev/null
@@ -39,8 +39,10 @@ check_changed_before_copy() {
     change_note
     terminal send-keys -t first y
     wait_for 60 shows_in first '* 1:2'
-    wait_for 200 has_title_with first 'not kept'
-    report 'foreign, before the copy: the title tells that nothing is kept' $? "$(title_of first)"
+    wait_for 60 grep -q y "$(session_of_check)/journal"
+    same 'foreign, before the copy: the text as it was opened is kept' "$(cat "$(session_of_check)/text")" ab
+    has_title_without first 'not kept'
+    report 'foreign, before the copy: the title tells nothing else' $? "$(title_of first)"
     save_twice 'before the copy' yab
 }
 
@@ -100,13 +102,14 @@ check_exchanged_folder() {
     wait_for 60 shows_in first '- 1:1'
     terminal send-keys -t first x
     wait_for 60 shows_in first '* 1:2'
-    # two seconds for the exchange
-    strace -qq -f -p "$(program_of_check)" -e trace=fsync,fdatasync -P "$folder/files/inner/note.bx" -e inject=fsync,fdatasync:delay_enter=2000000 \
-        -o "$folder/trace" 2>/dev/null &
+    # two seconds for the exchange, by the host's child that saves
+    strace -qq -f -p "$(editor_process)" -e trace=fsync,fdatasync -e inject=fsync,fdatasync:delay_enter=2000000 -o "$folder/trace" 2>/dev/null &
     tracer=$!
     wait_for 30 is_traced
     terminal send-keys -t first C-s
-    wait_for 30 test -s inner/note.bx
+    wait_for 30 has_saver
+    # the draft is written by then
+    sleep 0.5
     mv inner moved
     as_user ln -s elsewhere inner
     expect_in first 'foreign, a folder that is exchanged: the save' 'save failed'

@@ -75,22 +75,36 @@ check_closed_folder() {
 
 # ---- interrupted saves
 
-# Prints the process of the program whose session is in the round's state folder.
+# Prints the process of the installed program.
 program_of_check() {
-    pgrep -f "bidi_edit/bidi_edit .*$folder/state/" | head -n 1
+    pgrep -f "^$installed/lib/bidi_edit/bidi_edit " | head -n 1
 }
 
-# Has strace inject WHAT (its words) into the program of the editor `first` at its next system calls on `note`, of these names.
-# Sets `tracer`, its process.
+# Prints the child of the host that saves, if there is one.
+saver_of_check() {
+    pgrep -x -P "$(editor_process)" bidi-saver | head -n 1
+}
+
+has_saver() {
+    [ -n "$(saver_of_check)" ]
+}
+
+# Has strace inject WHAT (its words) into the children of the host of the editor `first`, of which one serves each save, at their
+# calls on `note`, of these names. Sets `tracer`, its process.
 inject() { # CALLS WHAT
-    strace -qq -f -p "$(program_of_check)" -P "$folder/files/note" -e "trace=$1" -e "inject=$1:$2" -o "$folder/trace" 2>/dev/null &
+    strace -qq -f -p "$(editor_process)" -P "$folder/files/note" -e "trace=$1" -e "inject=$1:$2" -o "$folder/trace" 2>/dev/null &
     tracer=$!
     wait_for 30 is_traced
 }
 
-# Whether strace has attached itself to the program.
+# Lets the calls go on as ever.
+stop_injecting() {
+    { kill -s TERM "$tracer" && wait "$tracer"; } 2>/dev/null
+}
+
+# Whether strace has attached itself to the host.
 is_traced() {
-    [ "$(awk '/^TracerPid/ { print $2 }' "/proc/$(program_of_check)/status" 2>/dev/null)" != 0 ]
+    [ "$(awk '/^TracerPid/ { print $2 }' "/proc/$(editor_process)/status" 2>/dev/null)" != 0 ]
 }
 
 # Whether there is an strace that may attach itself to a process, here to a short sleep.
@@ -111,24 +125,16 @@ open_linked() {
     wait_for 60 shows_in first '* 1:2'
 }
 
-has_no_program() {
-    [ -z "$(program_of_check)" ]
-}
-
-# Prints the process of the keeper of an installed editor.
-keeper_of_check() {
-    pgrep -f "$installed/.*bidi_keep$" | head -n 1
-}
-
-# Stops the keeper, which would repair FILE, while the program is killed in a save, and then kills all.
+# Kills all processes while a save is at its first of these calls, which does nothing then.
 cut_off_save() { # CALLS
     open_linked
-    inject "$1" 'signal=KILL:when=1'
-    kill -s STOP "$(keeper_of_check)"
+    inject "$1" delay_enter=20000000:when=1
     terminal send-keys -t first C-s
-    wait_for 60 has_no_program || report "in place, killed at $1: the program is killed" 1 'it goes on'
-    wait "$tracer"
+    wait_for 30 has_saver || report "in place, killed at $1: a save begins" 1 'there is no child that saves'
+    # it is at the call by then
+    sleep 0.7
     kill_editor first
+    stop_injecting
 }
 
 # Checks the next start's message about an interrupted save, and that FILE is complete. COUNT is how often it says that the text
@@ -153,11 +159,30 @@ check_cut_off() { # CALLS COUNT TEXT
     close_editors first
 }
 
-# The keeper survives, and puts the text back at once.
+# The child that saves is killed: the save fails, and the next one makes FILE whole.
+check_killed_saver() {
+    open_linked
+    inject write,pwrite64,writev signal=KILL:when=1
+    terminal send-keys -t first C-s
+    expect_in first 'in place, the child killed: it is told' 'save failed'
+    stop_injecting
+    terminal send-keys -t first y C-s
+    expect_in first 'in place, the child killed: the next save' 'saved'
+    same 'in place, the child killed: FILE is whole' "$(cat note note.link | tr '\n' ' ')" 'xyab xyab '
+    terminal send-keys -t first C-q
+    expect_in first 'in place, the child killed: the end' 'status 0'
+    same 'in place, the child killed: no session stays, as nothing is unsaved' "$(ls -A "$folder/state/bidi_edit")" ''
+    close_editors first
+}
+
+# The program is killed after a save was cut off: the host puts the text back.
 check_killed_program() {
     open_linked
     inject write,pwrite64,writev signal=KILL:when=1
     terminal send-keys -t first C-s
+    wait_for 60 shows_in first 'save failed'
+    stop_injecting
+    kill -s KILL "$(program_of_check)"
     expect_in first 'in place, the program killed: it is said' 'a save of note was cut off; its whole text is put back'
     wait_for 60 shows_in first status
     same 'in place, the program killed: FILE is whole' "$(cat note note.link | tr '\n' ' ')" 'xab xab '
@@ -237,23 +262,23 @@ check_failed_save() {
     inject write,pwrite64,writev error=ENOSPC:when=1
     terminal send-keys -t first C-s
     expect_in first 'in place, no room in the middle' 'save failed'
-    # only the first call fails
+    stop_injecting
     terminal send-keys -t first y C-s
     expect_in first 'in place, the next save' 'saved'
     same 'in place, the next save: FILE' "$(cat note note.link | tr '\n' ' ')" 'xyab xyab '
-    kill -s TERM "$tracer" 2>/dev/null
     terminal send-keys -t first C-q
     expect_in first 'in place, the next save: the end' 'status 0'
     same 'in place, the next save: no session stays' "$(ls -A "$folder/state/bidi_edit")" ''
     close_editors first
 }
 
-# Saves fail until the end: the keeper puts the text back.
+# Saves fail until the end: the host puts the text back then.
 check_failed_end() {
     open_linked
     inject write,pwrite64,writev error=EIO
     terminal send-keys -t first C-s
     wait_for 60 shows_in first 'save failed'
+    stop_injecting
     terminal send-keys -t first C-q C-q
     expect_in first 'in place, no save to the end: it is said' 'a save of note was cut off; its whole text is put back'
     same 'in place, no save to the end: FILE' "$(cat note note.link | tr '\n' ' ')" 'xab xab '
@@ -270,6 +295,7 @@ check_in_place() {
         check_cut_off ftruncate,truncate 0 ab
         check_cut_off write,pwrite64,writev 1 xab
         check_cut_off fsync,fdatasync 0 xab
+        check_killed_saver
         check_killed_program
         check_written_since
         check_cut_off_elsewhere

@@ -72,7 +72,7 @@ check_unreaped() {
     terminal send-keys -t first x
     wait_for 60 shows_in first '* 1:2'
     kill -s KILL "$(editor_process)"
-    # its watcher and keeper end
+    # its watcher and program end
     sleep 1
     open_editor second '' note
     expect_in second 'liveness, a dead host that nobody reaped' 'an unfinished session of'

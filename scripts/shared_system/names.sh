@@ -103,7 +103,7 @@ check_messages() { # WORD TOLD
         ;;
     *)
         tells "$word, bytes" "$as_told is not UTF-8 in line 1" --print "$name"
-        tells_in_terminal "$word, a draft" "what is not wanted: \$'$2.bx'" "$name"
+        tells_in_terminal "$word, a mark" "what is not wanted: \$'$2.bx'" "$name"
         ;;
     esac
     as_user rm "$name" "$name.bx"
@@ -157,7 +157,7 @@ check_building_names() { # TOLD
     rm -rf "${folder:?}/$name"
 }
 
-# Checks the title, and the message about a fault that the program tells (f unreadable), which names FILE.
+# Checks the title, and the message about a fault that the program tells, a frame f with `unreadable`, which names FILE.
 check_title_and_fault() { # TOLD
     name_of_told "$1"
     program=$folder/recorder/lib/bidi_edit/bidi_edit
@@ -166,7 +166,7 @@ check_title_and_fault() { # TOLD
 #!/bin/sh
 while [ "$1" != --before ]; do shift; done
 printf '%s' "$2"
-printf 'f unreadable\000' >&2
+printf 'f\000\012unreadable' >&2
 sleep 0.3
 exit 1
 END

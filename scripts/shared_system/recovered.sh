@@ -103,17 +103,18 @@ check_mode() {
     rm -f other
 }
 
-# A later start removes the unfinished sessions of killed starts, and keeps recent ones, which may be of a start that goes on.
+# A later start removes the unfinished sessions of killed starts, and keeps recent ones, which may be of a start that goes on. Names
+# of sessions end in six letters.
 check_swept() {
     rm -rf "$folder/state"
     as_user mkdir -p -m 700 "$folder/state/bidi_edit"
-    as_user mkdir "$folder/state/bidi_edit/20200101000000.old" "$folder/state/bidi_edit/.replay.old" "$folder/state/bidi_edit/20200101000000.young"
-    as_user touch -d '3 hours ago' "$folder/state/bidi_edit/20200101000000.old" "$folder/state/bidi_edit/.replay.old"
+    as_user mkdir "$folder/state/bidi_edit/20200101000000.oldest" "$folder/state/bidi_edit/.replay.oldest" "$folder/state/bidi_edit/20200101000000.newest"
+    as_user touch -d '3 hours ago' "$folder/state/bidi_edit/20200101000000.oldest" "$folder/state/bidi_edit/.replay.oldest"
     open_editor first '' note
     wait_for 60 shows_in first '- 1:1'
     terminal send-keys -t first C-q
     wait_for 60 shows_in first status
-    same 'recovered, what was only begun is swept' "$(ls -A "$folder/state/bidi_edit")" 20200101000000.young
+    same 'recovered, what was only begun is swept' "$(ls -A "$folder/state/bidi_edit")" 20200101000000.newest
     close_editors first
 }
 

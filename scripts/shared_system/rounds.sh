@@ -93,12 +93,12 @@ close_editors() { # NAME..
     rm -rf "$folder"/private/*
 }
 
-# Prints the processes of the installed editor, hosts and watchers.
+# Prints the processes of the installed editor, its hosts and their children that save.
 editors() {
     pgrep -f "$host " | tr '\n' ' '
 }
 
-# Prints the process of an editor's host: of the processes with its words the one that is no child of another, as its watcher is.
+# Prints the process of an editor's host: of the processes with its words the one that is no child of another, as one that saves is.
 # shellcheck disable=SC2009 # by their parents
 editor_process() {
     ps -eo pid=,ppid=,args= | grep -F -e "$host " | grep -v -e grep -e unshare -e setpriv -e strace | first_parent

@@ -7,9 +7,15 @@ host_of_person() {
     process_of ".*bin/bidi-edit"
 }
 
-# Lists all processes of the host that a check started, none of which may remain.
+# Lists all processes of the host that a check started, none of which may remain. Its watcher has a name of its own, and the host's
+# working folder.
 processes_of_check() {
-    pgrep -f "$folder/recorder/" | tr '\n' ' '
+    {
+        pgrep -f "$folder/recorder/"
+        for process in $(pgrep -x bidi-watcher); do
+            [ "$(readlink "/proc/$process/cwd")" != "$folder/files" ] || echo "$process"
+        done
+    } | tr '\n' ' '
 }
 
 has_no_process() {
@@ -103,7 +109,7 @@ end_young_program() { # RUNS
 
 # Prints the process of the recorder's program.
 program_process() {
-    pgrep -f "$folder/recorder/.*/bidi_edit/bidi_edit " | head -n 1
+    pgrep -f "$folder/recorder/lib/bidi_edit/" | head -n 1
 }
 
 has_program() {

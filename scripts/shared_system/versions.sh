@@ -2,7 +2,7 @@
 # shellcheck disable=SC2034,SC2154 # variables shared with other parts
 # Sessions of another version of the editor or its tables: recovered from the snapshot, or with a warning.
 
-# Kills the program, so that the keeper leaves the session with its text, `snapshot`, and replaces its `versions` by those of
+# Kills the program, so that the host leaves the session with its text, `snapshot`, and replaces its `versions` by those of
 # another editor. Sets `session`, its folder.
 leave_other_version() {
     rm -rf "$folder/state" note*
