@@ -4,7 +4,7 @@
 Each call of a save is killed before and after it, and fails with ENOSPC, EIO and EPERM, in scenes of all kinds: FILE must have its old
 or its new text, whole, or a beginning of the new one while the mark has all of it; what is told must be so; nothing but the draft of a
 killed save may be left, closed to others; and a later save goes through. The same with file systems that lack calls. Prints a line for
-each fault, and the number of points. Exit status 1: one failed.
+each fault, and the totals. Exit status 1: one failed.
 """
 import errno
 import os
@@ -287,7 +287,7 @@ def main():
             check_all(name, "beside", lacks)
         check_all("plain", "itself", lacks)
     shutil.rmtree(top)
-    print(f"{points} points, {failures} failures")
+    print(f"{points - failures} passed, {failures} failed")
     return 1 if failures or (points < LEAST and not ONLY) else 0
 
 
