@@ -8,12 +8,10 @@
 
 #include "file.h"
 #include "keep_judge.h"
-#include "programs.h"
 #include "run.h"
 #include "save.h"
 #include "save_judge.h"
 #include "session.h"
-#include "tables.h"
 #include "words.h"
 
 /* What a step of a start returns where the start goes on; else it is the exit status, and the cause is told. */
@@ -90,12 +88,8 @@ int resume_session(struct edit *edit);
 
 /* ---- minding.c */
 
-/* Whether the program can open what the host has open; the path by which it opens that, `plain` where it cannot. */
-bool has_proc(void);
-const char *handed_path(struct run *run, int file, const char *plain);
-
-/* The path of a session's part. */
-const char *part_path(const struct session *session, enum part part);
+/* The path by which the program opens what the host has open. */
+const char *handed_path(struct run *run, int file);
 
 /* Runs the program, minds its session, and ends it. Returns the exit status. */
 int run_session(struct edit *edit);
@@ -149,5 +143,23 @@ int forget_sessions(const char *typed);
 /* The time of a session's last key, as users read it; the machine where it runs or ran, NULL for this one. */
 const char *time_text(const struct session *session);
 const char *machine_text(const struct session *session);
+
+/* ---- questions (ask.c) */
+
+/* Asks a question (yes, no). Returns false at no, and where the input ends. */
+bool ask_to_go_on(const char *question);
+
+/* Asks what to do with an unfinished session. CHOICE_NONE where the input ends; CHOICE_DELETE only where it is certain. */
+enum choice ask_choice(void);
+
+/* What to do with a session whose keys cannot be replayed: FILE is opened and the session left; its parts are kept beside FILE. */
+enum rest { REST_NONE, REST_OPEN, REST_KEEP };
+enum rest ask_rest(void);
+
+/* ---- other editors (ask.c) */
+
+/* Takes note, for all other starts on this machine, that this process has FILE open, until its end. Returns 0, or the process that
+ * has it open already; -1 where that one's number is not known. No file is made. */
+pid_t note_open_file(const struct file *file);
 
 #endif

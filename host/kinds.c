@@ -1,4 +1,4 @@
-#include "kinds.h"
+#include "terminal.h"
 
 #include <dirent.h>
 #include <fcntl.h>

@@ -1,17 +1,25 @@
 /* bidi-edit [WORD..]: runs the editor in this terminal, and restores the terminal however the program or it itself ends. */
+#include <errno.h>
 #include <fcntl.h>
 #include <limits.h>
+#include <stdbool.h>
+#include <stddef.h>
 #include <stdio.h>
 #include <stdlib.h>
 #include <string.h>
+#include <sys/ioctl.h>
 #include <sys/stat.h>
 #include <unistd.h>
 
-#include "keep.h"
-#include "programs.h"
+#include "edit.h"
+#include "file.h"
+#include "say.h"
 #include "signals.h"
 #include "terminal.h"
-#include "watcher.h"
+#include "words.h"
+
+/* bidi-edit [WORD..]: runs the editor in this terminal, and restores the terminal however the program or it itself ends. */
+
 
 /* Opens standard input, output and error where they are closed, so that no other file gets their numbers. */
 static void open_standard_files(void) {
@@ -21,32 +29,6 @@ static void open_standard_files(void) {
         file = open("/dev/null", O_RDWR | O_CLOEXEC);
     }
     if (file >= 0) close(file);
-}
-
-/* Finds a command in PATH, as a shell does. */
-static bool find_in_path(const char *name, char found[PATH_MAX]) {
-    const char *at = getenv("PATH");
-    while (at) {
-        const char *end = strchrnul(at, ':');
-        int length = (int)(end - at);
-        int count = snprintf(found, PATH_MAX, "%.*s/%s", length > 0 ? length : 1, length > 0 ? at : ".", name);
-        if (count > 0 && count < PATH_MAX && access(found, X_OK) == 0) return true;
-        at = *end ? end + 1 : NULL;
-    }
-    return false;
-}
-
-/* Finds the host's own file, through links: by the system, else by the word that it was started with. */
-static bool find_self(const char *own_word, char self[PATH_MAX]) {
-    char found[PATH_MAX];
-    ssize_t length = readlink("/proc/self/exe", self, PATH_MAX - 1);
-    if (length > 0) {
-        self[length] = 0;
-        if (access(self, F_OK) == 0) return true;
-    }
-    if (!own_word) return false;
-    if (strchr(own_word, '/')) return realpath(own_word, self) != NULL;
-    return find_in_path(own_word, found) && realpath(found, self);
 }
 
 /* Cuts off the last name. Returns false for a path without one. */
@@ -85,10 +67,13 @@ static bool find_installed(const char *top, struct programs *programs) {
 }
 
 /* Finds programs and tables by the host's own place. Returns false where that cannot be found. */
-static bool find_programs(const char *own_word, struct programs *programs) {
+static bool find_programs(struct programs *programs) {
     static const char built[] = "/host/out";
     char top[PATH_MAX];
-    if (!find_self(own_word, top) || !go_up(top)) return false;
+    ssize_t own = readlink("/proc/self/exe", top, sizeof top - 1);
+    if (own <= 0) return false;
+    top[own] = 0;
+    if (!go_up(top)) return false;
     /* host/out/bidi-edit in a repository, bin/bidi-edit elsewhere */
     size_t length = strlen(top), tail = sizeof built - 1;
     if (length > tail && strcmp(top + length - tail, built) == 0) {
@@ -102,17 +87,234 @@ static bool find_programs(const char *own_word, struct programs *programs) {
     return go_up(top) && find_installed(top, programs);
 }
 
+/* ---- print: FILE's rows, which bidi_print writes */
+
+/* The columns where neither the command line nor a terminal tells. */
+enum { USUAL_COLUMNS = 80 };
+
+/* Why FILE cannot be printed, by what is there and whether it can be read; NULL where it can be. A device or pipe is read
+ * unchecked. */
+static const char *refusal_of(const char *file) {
+    struct stat look;
+    if (stat(file, &look) != 0) return "is not there";
+    if (S_ISDIR(look.st_mode)) return "is a folder: name a file in it";
+    if (S_ISSOCK(look.st_mode)) return "is a socket, which has no text";
+    return faccessat(AT_FDCWD, file, R_OK, AT_EACCESS) == 0 ? NULL : "cannot be read by you: chmod u+r lets its owner read it";
+}
+
+/* Why an open file is no text; NULL where it is one, or cannot be read, which the printing program tells. */
+static const char *check_text(const struct file *file) {
+    static char bytes[LARGEST_TEXT + 1];
+    ssize_t count = 1;
+    size_t length = 0;
+    while (count > 0 && length <= LARGEST_TEXT) {
+        count = pread(file->text, bytes + length, LARGEST_TEXT + 1 - length, (off_t)length);
+        if (count > 0) length += (size_t)count;
+    }
+    size_t valid = utf8_length(bytes, length);
+    unsigned long long text_line = 1;
+    for (size_t i = 0; i < valid; i++) text_line += bytes[i] == '\n';
+    if (length > LARGEST_TEXT) return too_long_message(file);
+    return count == 0 && valid < length ? not_utf8_message(file, text_line) : NULL;
+}
+
+/* Why a plain file is no text, as above. */
+static const char *check_plain(const char *typed) {
+    static struct file file;
+    struct stat look;
+    const char *refusal = NULL;
+    file.typed = typed;
+    file.text = open(typed, O_RDONLY | O_NONBLOCK | O_CLOEXEC);
+    if (file.text < 0) return NULL;
+    if (fstat(file.text, &look) == 0 && S_ISREG(look.st_mode)) refusal = check_text(&file);
+    close(file.text);
+    return refusal;
+}
+
+/* The columns of the terminal on standard output. */
+static unsigned terminal_columns(void) {
+    struct winsize window = {0};
+    if (ioctl(STDOUT_FILENO, TIOCGWINSZ, &window) != 0 || window.ws_col == 0) return USUAL_COLUMNS;
+    return window.ws_col < LARGEST_SIDE ? window.ws_col : LARGEST_SIDE;
+}
+
+/* Becomes the printing program, or returns the exit status of a refusal. */
+static int print_file(const struct call *call, const struct programs *programs) {
+    struct tables tables;
+    struct words words = {.count = 0};
+    const char *cause = find_tables(&tables, programs->tables);
+    const char *why = cause ? NULL : refusal_of(call->file);
+    if (why) cause = text_of("%s %s", shown(call->file), why);
+    if (!cause) cause = check_plain(call->file);
+    if (cause) {
+        warn("%s", cause);
+        return 1;
+    }
+    add_word(&words, programs->printer);
+    add_option(&words, "--cols", text_of("%u", call->columns > 0 ? call->columns : terminal_columns()));
+    add_option(&words, "--direction", direction_word(call->direction));
+    if (call->has_marks) add_word(&words, "--marks");
+    add_tables(&words, &tables, !call->is_unjoined);
+    add_word(&words, call->file);
+    give_back_signals();
+    execv(programs->printer, words.words);
+    warn("%s cannot be started", programs->printer);
+    return 1;
+}
+
+/* ---- what a command line asks for */
+
+/* Refuses to go on without a terminal to edit in. */
+static int check_terminal(void) {
+    const char *name = getenv("TERM");
+    if (name && strcmp(name, "dumb") == 0) {
+        warn("the terminal is dumb (TERM=dumb) and moves no cursor: start the editor in another, or with TERM=xterm if it is none");
+        return STATUS_NO;
+    }
+    if (line >= 0) return GO_ON;
+    warn("there is no terminal: start the editor in one (ssh -t gives one to a command)");
+    return STATUS_NO;
+}
+
+/* Tells what is not as usual: an empty text in place of FILE's, and what killed saves left. */
+static void tell_unusual(const struct edit *edit) {
+    if (is_closed(&edit->file))
+        warn("%s cannot be read by you: an empty text is opened, and saves overwrite what is there", shown(edit->file.typed));
+    const char *leftovers = leftovers_line(&edit->file);
+    if (leftovers) warn("%s", leftovers);
+}
+
+static int edit_new(struct edit *edit) {
+    int status = begin_session(edit);
+    return status == GO_ON ? run_session(edit) : status;
+}
+
+static int go_on(struct edit *edit) {
+    int status = resume_session(edit);
+    return status == GO_ON ? run_session(edit) : status;
+}
+
+/* ---- what a command line asks for */
+
+static int edit_file(struct edit *edit) {
+    int status = check_file(edit, edit->call->file);
+    if (status == GO_ON) status = check_terminal();
+    if (status != GO_ON) return status;
+    tell_unusual(edit);
+    enum met met = meet_sessions(edit, &status);
+    if (met == MET_END) return status;
+    if (met == MET_TAKEN) return go_on(edit);
+    /* FILE may have changed meanwhile */
+    if (met == MET_ASKED) status = check_file(edit, edit->call->file);
+    return status == GO_ON ? edit_new(edit) : status;
+}
+
+static int edit_recovered(struct edit *edit) {
+    bool is_taken = false;
+    if (edit->call->other) return store_session(edit);
+    int status = check_terminal();
+    if (status == GO_ON) status = recover_session(edit, &is_taken);
+    if (status == GO_ON && !is_taken) status = check_file(edit, edit->call->file);
+    if (status != GO_ON) return status;
+    tell_unusual(edit);
+    return is_taken ? go_on(edit) : edit_new(edit);
+}
+
+/* Tells of variables that are passed over: an XDG_STATE_HOME that is not absolute, and a TMPDIR that no system takes. */
+static void tell_variables(void) {
+    const char *state = getenv("XDG_STATE_HOME"), *temporary = getenv("TMPDIR");
+    if (state && is_state_home_relative()) warn("XDG_STATE_HOME names %s, which is not absolute: ~/.local/state is taken", shown(state));
+    if (temporary && strlen(temporary) >= PATH_MAX) warn("TMPDIR has %zu bytes, too many for a path: it is passed over", strlen(temporary));
+}
+
+/* Edits, or recovers. */
+static int edit_by(const struct call *call, const struct programs *programs) {
+    static struct edit edit;
+    const char *cause = find_tables(&edit.tables, programs->tables);
+    if (cause) {
+        warn("%s", cause);
+        return STATUS_FAULT;
+    }
+    tell_variables();
+    const char *files[] = {programs->editor, edit.tables.classes, edit.tables.brackets, edit.tables.mirroring};
+    if (!versions_look(EDITOR_VERSION, files, sizeof files / sizeof *files, edit.versions)) {
+        warn("a program or table of the editor cannot be looked at: %s", strerror(errno));
+        return STATUS_FAULT;
+    }
+    edit.programs = programs;
+    edit.call = call;
+    edit.lost_mode = -1;
+    edit.is_joined = !call->is_unjoined && edit.tables.joining;
+    session_clear(&edit.session);
+    return call->kind == CALL_EDIT ? edit_file(&edit) : edit_recovered(&edit);
+}
+
+/* The toolchain that was noted at the build; NULL where none is. */
+static const char *noted_toolchain(const char *kit) {
+    char words[256];
+    FILE *stream = fopen(kit, "re");
+    if (!stream) return NULL;
+    bool is_noted = fgets(words, sizeof words, stream);
+    fclose(stream);
+    return is_noted ? text_of("%.*s", (int)strcspn(words, "\n"), words) : NULL;
+}
+
+static int tell_version(const struct programs *programs) {
+    struct tables tables;
+    const char *cause = find_tables(&tables, programs->tables);
+    if (cause) {
+        warn("%s", cause);
+        return STATUS_FAULT;
+    }
+    put_text(STDOUT_FILENO, version_text(noted_toolchain(programs->kit), tables.classes));
+    return 0;
+}
+
+static int obey(const struct call *call, const struct programs *programs) {
+    switch (call->kind) {
+    case CALL_HELP: put_text(STDOUT_FILENO, help_text); return 0;
+    case CALL_VERSION: return tell_version(programs);
+    case CALL_PRINT: return print_file(call, programs);
+    case CALL_LIST: tell_variables(); return list_sessions();
+    case CALL_FORGET: tell_variables(); return forget_sessions(call->file);
+    case CALL_EDIT:
+    case CALL_RECOVER: break;
+    }
+    return edit_by(call, programs);
+}
+
+static int obey_words(int count, char **words, const struct programs *programs) {
+    struct call call;
+    const char *cause;
+    int status = read_words(count, words, &call, &cause);
+    if (status != 0) {
+        warn("%s", cause);
+        return status;
+    }
+    status = obey(&call, programs);
+    if (status == 0 && output_fault != 0) {
+        warn("standard output cannot be written%s", fault_words(output_fault));
+        status = STATUS_FAULT;
+    }
+    return status;
+}
+
+/* ---- the start */
+
+static int refuse_start(const char *why) {
+    warn("%s", why);
+    return STATUS_FAULT;
+}
+
 int main(int count, char **words) {
     static struct programs programs;
     open_standard_files();
     set_first_signals();
     note_own_word(words[0]);
-    if (!find_programs(words[0], &programs)) {
-        fputs("bidi-edit: its own place cannot be found\n", stderr);
-        return 1;
-    }
+    if (access("/proc/self/fd", X_OK) != 0) return refuse_start("there is no /proc, which it needs: mount -t proc proc /proc gives one");
+    if (!find_programs(&programs)) return refuse_start("its own place cannot be found");
     open_terminal();
-    int status = keep(count, words, &programs);
+    int status = obey_words(count - 1, words + 1, &programs);
     listen_once();
     if (end_signal) die_from(end_signal);
     return status;

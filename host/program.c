@@ -1,4 +1,4 @@
-#include "program.h"
+#include "run.h"
 
 #include <errno.h>
 #include <fcntl.h>
@@ -12,7 +12,7 @@
 
 #include "signals.h"
 #include "terminal.h"
-#include "watcher.h"
+#include "util.h"
 
 /* Bytes that wait in the program's input at most: few, since it does all of them at its end. */
 enum { INPUT_ROOM = 16384 };
@@ -21,38 +21,18 @@ enum { FOREIGN_MS = 1000, FOREIGN_BY_SIGNAL_MS = 200 };
 /* The words that are put before those of a run, and the most of these. */
 enum { OWN_WORDS = 12, MOST_WORDS = 64 };
 
-/* The folder of the pipes of saves, where they have names; else empty. */
-static char named_folder[32];
-
-void close_file_of(int *file) {
-    if (*file >= 0) close(*file);
-    *file = -1;
-}
-
-/* The path of a pipe with a name, until the next call. */
-static const char *named_pipe(const char *name) {
-    static char path[sizeof named_folder + 16];
-    snprintf(path, sizeof path, "%s/%s", named_folder, name);
-    return path;
-}
-
 void close_pipes(struct pipes *pipes) {
-    close_file_of(&pipes->keys);
-    close_file_of(&pipes->words);
-    close_file_of(&pipes->requests);
-    close_file_of(&pipes->answers);
-    if (!named_folder[0]) return;
-    unlink(named_pipe("requests"));
-    unlink(named_pipe("answers"));
-    rmdir(named_folder);
-    named_folder[0] = 0;
+    close_one(&pipes->keys);
+    close_one(&pipes->words);
+    close_one(&pipes->requests);
+    close_one(&pipes->answers);
 }
 
 void close_program_ends(struct program_ends *ends) {
-    close_file_of(&ends->input);
-    close_file_of(&ends->words);
-    close_file_of(&ends->requests);
-    close_file_of(&ends->answers);
+    close_one(&ends->input);
+    close_one(&ends->words);
+    close_one(&ends->requests);
+    close_one(&ends->answers);
 }
 
 /* Makes a pipe; its ends are -1 where it cannot be made. */
@@ -70,26 +50,9 @@ bool open_words(struct pipes *pipes, struct program_ends *ends) {
     return open_pipe(&pipes->words, &ends->words) && fcntl(pipes->words, F_SETFL, O_NONBLOCK) == 0;
 }
 
-/* Makes the pipes of saves with names, since without /proc a program cannot open what it is handed. Neither opening waits for the
- * program. */
-static bool open_named_pipes(struct pipes *pipes) {
-    strcpy(named_folder, "/tmp/bidi_edit.XXXXXX");
-    if (!mkdtemp(named_folder)) {
-        named_folder[0] = 0;
-        return false;
-    }
-    if (mkfifo(named_pipe("requests"), 0600) == 0) pipes->requests = open(named_pipe("requests"), O_RDONLY | O_NONBLOCK | O_CLOEXEC);
-    if (mkfifo(named_pipe("answers"), 0600) == 0) pipes->answers = open(named_pipe("answers"), O_RDWR | O_CLOEXEC);
-    return pipes->requests >= 0 && pipes->answers >= 0 && fcntl(pipes->requests, F_SETFL, 0) == 0;
-}
-
-static bool open_save_pipes(struct pipes *pipes, struct program_ends *ends) {
-    if (access("/proc/self/fd", X_OK) != 0) return open_named_pipes(pipes);
-    return open_pipe(&pipes->requests, &ends->requests) && open_pipe(&ends->answers, &pipes->answers);
-}
-
 bool open_pipes(struct pipes *pipes, struct program_ends *ends) {
-    bool is_open = open_pipe(&ends->input, &pipes->keys) && open_save_pipes(pipes, ends) && fcntl(pipes->keys, F_SETFL, O_NONBLOCK) == 0;
+    bool is_open = open_pipe(&ends->input, &pipes->keys) && open_pipe(&pipes->requests, &ends->requests) &&
+                   open_pipe(&ends->answers, &pipes->answers) && fcntl(pipes->keys, F_SETFL, O_NONBLOCK) == 0;
     /* a larger pipe would serve as well */
     if (is_open) fcntl(pipes->keys, F_SETPIPE_SZ, INPUT_ROOM);
     return is_open;
@@ -133,9 +96,8 @@ static _Noreturn void become_program(const struct run *run, const struct program
 }
 
 pid_t start_program(const struct run *run, const struct program_ends *ends, unsigned rows, unsigned columns) {
-    char saves[128], side[2][16], erase[4], *words[OWN_WORDS + MOST_WORDS + 2];
+    char saves[32], side[2][16], erase[4], *words[OWN_WORDS + MOST_WORDS + 2];
     snprintf(saves, sizeof saves, "%d,%d", ends->requests, ends->answers);
-    if (named_folder[0]) snprintf(saves, sizeof saves, "%s/requests,%s/answers", named_folder, named_folder);
     snprintf(side[0], sizeof side[0], "%u", rows);
     snprintf(side[1], sizeof side[1], "%u", columns);
     snprintf(erase, sizeof erase, "%02x", (unsigned)erase_character());

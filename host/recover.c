@@ -5,8 +5,6 @@
 #include <sys/stat.h>
 #include <unistd.h>
 
-#include "ask.h"
-#include "beside.h"
 #include "edit.h"
 #include "say.h"
 

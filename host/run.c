@@ -7,11 +7,10 @@
 #include <sys/wait.h>
 #include <unistd.h>
 
-#include "program.h"
 #include "save.h"
 #include "signals.h"
 #include "terminal.h"
-#include "watcher.h"
+#include "util.h"
 
 /* Milliseconds. GRACE_MS: the program's for its end, of which the first HAND_ON_MS are for what was typed to be handed on;
  * DEATH_MS: a killed one's. RESTORE_MS: the terminal's to take what restores it, or RESTORE_BY_SIGNAL_MS after a signal. IDLE_MS:
@@ -64,7 +63,7 @@ bool was_typed(void) {
 
 static void hear_words(struct run *run) {
     if (now_running.pipes.words < 0 || read_words_of(run, &now_running.reader, now_running.pipes.words)) return;
-    close_file_of(&now_running.pipes.words);
+    close_one(&now_running.pipes.words);
 }
 
 /* Takes note of the children that have ended. */
@@ -100,7 +99,7 @@ static void mind_request(struct run *run) {
     int waiting = 0;
     /* the program's end is no request */
     if (ioctl(now_running.pipes.requests, FIONREAD, &waiting) != 0 || waiting == 0) {
-        close_file_of(&now_running.pipes.requests);
+        close_one(&now_running.pipes.requests);
         return;
     }
     if (now_running.dropped != 0) {
@@ -138,7 +137,7 @@ static void read_typing(struct run *run) {
 }
 
 static void close_input(void) {
-    close_file_of(&now_running.pipes.keys);
+    close_one(&now_running.pipes.keys);
     now_running.is_size_owed = false;
     now_running.idle = 0;
 }

@@ -5,8 +5,10 @@
 #include <stdbool.h>
 #include <stddef.h>
 #include <stdint.h>
+#include <sys/types.h>
 
 #include "frames.h"
+#include "run.h"
 
 struct saver;
 
@@ -71,5 +73,38 @@ void ring(void);
  * it; `run` gives what is handed on and the mask. It has `limit` milliseconds, for ever where that is 0; then it is killed.
  * Returns the status as in a shell, or -1 where it is not started or was killed for being late; what it said is in run->said. */
 int run_aside(struct run *run, char *const *words, int64_t limit);
+
+/* ---- the program as a child of the host, for run.c (program.c) */
+
+/* The host's ends: it writes the program's input, reads its words, and hands the other two on to the children of saves; -1 once
+ * closed. `keys` does not block, nor does `words`. */
+struct pipes {
+    int keys, words, requests, answers;
+};
+
+/* The program's ends. */
+struct program_ends {
+    int input, words, requests, answers;
+};
+
+/* Makes the pipe of the words, the only one that the watcher may have, and later the others. Each returns false where that cannot
+ * be done. */
+bool open_words(struct pipes *pipes, struct program_ends *ends);
+bool open_pipes(struct pipes *pipes, struct program_ends *ends);
+
+void close_pipes(struct pipes *pipes);
+void close_program_ends(struct program_ends *ends);
+
+/* Starts the program with this size of the window. Returns its process, or -1. */
+pid_t start_program(const struct run *run, const struct program_ends *ends, unsigned rows, unsigned columns);
+
+/* Takes in a word of the program. `whose` is its struct run. */
+void hear_word(const struct frame *frame, void *whose);
+
+/* Reads what is there of the program's words. Returns false at their end. */
+bool read_words_of(struct run *run, struct word_reader *reader, int words);
+
+/* Tells what the program said that is no word, with control characters shown as ?. */
+void tell_foreign(const struct word_reader *reader);
 
 #endif

@@ -2,9 +2,13 @@
 #ifndef TERMINAL_H
 #define TERMINAL_H
 
+#include <pthread.h>
 #include <stdbool.h>
 #include <stddef.h>
 #include <stdint.h>
+#include <sys/types.h>
+
+#include "terminal.h"
 
 /* The terminal has two open files, -1 without one: `line` does not block and is the host's, `screen` blocks and is the
  * program's. */
@@ -64,5 +68,52 @@ void follow_paste(struct paste *paste, const unsigned char *bytes, size_t length
 /* Drops what the terminal still sends of a paste, until its end or for so many milliseconds, so that no shell takes it for
  * commands. */
 void drain_paste(struct paste *paste, int64_t limit);
+
+/* ---- the watcher */
+
+/* What host, program and watcher share: a lock that the host holds as long as it lives, whether the terminal is changed, the
+ * program and the child of a save, 0 without one, and the terminal's paste. */
+struct watched {
+    pthread_mutex_t life;
+    volatile bool is_changed;
+    volatile pid_t program, saver;
+    struct paste paste;
+};
+
+extern struct watched *watched;
+
+/* Its process; 0 without one. */
+extern pid_t watcher;
+
+/* Takes note of the word that the host was started with, which the watcher overwrites in its own copy. */
+void note_own_word(char *word);
+
+/* Starts it. It sees the end of the program by that of the program's words, whose reading and writing ends are given. */
+bool start_watcher(int words, int words_end);
+
+/* Kills it: the host has restored the terminal itself. */
+void end_watcher(void);
+
+/* ---- kinds of terminals (kinds.c) */
+
+/* OTHER_KIND is another one, or one that is not known. */
+enum kind { OTHER_KIND, VTE, KONSOLE, KITTY, QTERMINAL, MLTERM, TERMINOLOGY };
+
+/* What is known of the terminal. `off` keeps it from reordering beside the modes, `on` has it reorder again where it did: both may
+ * be empty. `outer` is the device of the terminal around tmux; empty without one. */
+struct terminal_kind {
+    enum kind kind;
+    bool keeps_title, is_in_tmux;
+    const char *off, *on;
+    char outer[256];
+};
+
+/* Finds it: by the answer to tmux, by TERM, or by the variable that it sets. A terminal that another one starts inherits the
+ * variables, so two of them tell nothing, nor does any that GNU screen may hide. Tells the setting for one that mirrors words and
+ * takes no sequence against it, where it is not set. */
+void find_terminal_kind(struct terminal_kind *found);
+
+/* Tells the terminal around tmux to keep the order of what is sent, or to reorder again. */
+void tell_outer(const struct terminal_kind *kind, bool is_kept, bool is_last);
 
 #endif

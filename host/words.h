@@ -3,6 +3,7 @@
 #define WORDS_H
 
 #include <stdbool.h>
+#include <stddef.h>
 
 /* The editor's version, also told by CHANGELOG.md and docs/bidi_edit.1. Sessions note it. */
 #define EDITOR_VERSION "0.4.0"
@@ -42,5 +43,37 @@ extern const char help_text[];
 
 /* The text of --version, of the toolchain that was noted at the build, if any, and of the file DerivedBidiClass.txt. */
 const char *version_text(const char *toolchain, const char *classes);
+
+/* ---- where the programs are */
+
+/* Paths of the programs, of the folder of Unicode's tables, and of the file in which the build noted the toolchain. That they are
+ * there is not checked. */
+struct programs {
+    char *editor, *printer, *tables, *kit;
+};
+
+/* ---- the programs' words and Unicode's tables */
+
+/* The paths of Unicode's files, all from one folder, so that they are of one version. The last two, by which letters are joined,
+ * are NULL where letters are not joined. */
+struct tables {
+    const char *classes, *brackets, *mirroring, *joining, *characters;
+};
+
+/* Finds them: in the folder that BIDI_EDIT_DATA gives, if it is set and not empty; else in the system's, else in the editor's own.
+ * Returns NULL, or the cause where that folder lacks one of the first three. */
+const char *find_tables(struct tables *tables, const char *own);
+
+/* The words of a program's command line. A NULL is behind them. */
+enum { WORDS_MOST = 64 };
+struct words {
+    char *words[WORDS_MOST];
+    size_t count;
+};
+void add_word(struct words *words, const char *word);
+void add_option(struct words *words, const char *option, const char *value);
+
+/* Adds the words that name the tables; those of joined letters if `is_joined`. */
+void add_tables(struct words *words, const struct tables *tables, bool is_joined);
 
 #endif
