@@ -20,7 +20,6 @@
 /* A terminal takes no longer line than that. */
 enum { MOST_LINE = 4096 };
 
-/* Waits until the terminal gives or takes bytes. Signals end the host here, since none is caught yet. */
 static bool wait_for_line(short events) {
     struct pollfd wanted = {.fd = line, .events = events};
     return poll(&wanted, 1, -1) >= 0 || errno == EINTR;
@@ -54,7 +53,6 @@ static bool read_answer(char answer[MOST_LINE]) {
     return false;
 }
 
-/* Makes an answer small letters, without blanks around them. */
 static const char *small(char *answer) {
     size_t length = strlen(answer);
     while (length > 0 && isspace((unsigned char)answer[length - 1])) answer[--length] = 0;
@@ -154,9 +152,6 @@ pid_t note_open_file(const struct file *file) {
 
 /* ---- the list of all sessions, and their removal */
 
-/* The sessions of all files: their list, and their removal. */
-
-
 const char *time_text(const struct session *session) {
     struct timespec time;
     char words[32];
@@ -171,7 +166,6 @@ const char *machine_text(const struct session *session) {
     return strcmp(process.machine, this_process()->machine) == 0 ? NULL : shown(process.machine);
 }
 
-/* What the list says of a session after its path. */
 static const char *note_of(const struct session *session) {
     enum session_state state = session_state(session);
     if (state == SESSION_LIVE) return " (open now)";
@@ -229,7 +223,6 @@ static void tell_forgotten(void *context, const struct forgotten *forgotten) {
     }
 }
 
-/* Removes the ended sessions of all files. */
 static void forget_all_sessions(struct counts *counts) {
     struct sessions *all;
     size_t count = sessions_find_all(&all);

@@ -12,9 +12,6 @@
 #include "terminal.h"
 #include "util.h"
 
-/* FILE's checks, and the session that begins or goes on, before the program starts. */
-
-
 /* Seconds that a message stays before the screen hides it. */
 enum { PAUSE = 1 };
 
@@ -102,7 +99,7 @@ const char *unkept_by(const struct sessions *sessions, enum notice *notice) {
 }
 
 /* Makes the session; where that cannot be, `unkept` tells why. */
-static void make_session(struct edit *edit) {
+static void try_session(struct edit *edit) {
     const struct file *file = &edit->file;
     const struct stat *found = &file->look.found;
     struct opening opening = {.target = &edit->target, .file = file->text, .mode = -1, .begin = edit->begin,
@@ -163,7 +160,6 @@ static void tell_unkept(const struct edit *edit) {
     nanosleep(&pause, NULL);
 }
 
-/* Begins a session of FILE, unless none is wanted or none can be kept. */
 int begin_session(struct edit *edit) {
     struct size size;
     measure(&size);
@@ -173,7 +169,7 @@ int begin_session(struct edit *edit) {
         edit->unkept = "-n asks for that";
         edit->unkept_notice = NOTICE_UNKEPT;
     } else {
-        make_session(edit);
+        try_session(edit);
     }
     int status = settle_in_place(edit);
     if (status == GO_ON) tell_unkept(edit);
@@ -198,15 +194,11 @@ int resume_session(struct edit *edit) {
 
 /* ---- the program: its words, and what is done for the session while it runs */
 
-/* The program: its words, and what is done for the session while it runs. */
-
-
 const char *handed_path(struct run *run, int file) {
     run->handed[run->handed_count++] = file;
     return text_of("%s", link_of(file).path);
 }
 
-/* Adds what the program opens: the text, and the session's journal. */
 static void add_text(struct edit *edit, struct words *words) {
     const struct session *session = &edit->session;
     struct run *run = &edit->run;
@@ -305,7 +297,6 @@ static void on_second(void *whose) {
     edit->notice = (struct notice_facts){0};
 }
 
-/* What is known of the session as the program starts. */
 static void begin_facts(struct edit *edit) {
     struct session *session = &edit->session;
     bool has_session = !session_is_none(session), is_waiting = has_session && session->is_waiting;
@@ -317,7 +308,6 @@ static void begin_facts(struct edit *edit) {
     if (edit->unkept && !edit->facts.is_unwanted) edit->facts.told = edit->unkept_notice;
 }
 
-/* Gets saves ready. */
 static void begin_saves(struct edit *edit) {
     if (!saver_open(&edit->saver, &edit->file)) tell_no_memory();
     edit->saver.is_itself = edit->is_itself;
@@ -326,7 +316,6 @@ static void begin_saves(struct edit *edit) {
     if (edit->is_in_place) edit->saver.mark_folder = edit->session.folder;
 }
 
-/* Runs the program, minds its session, and ends it. */
 int run_session(struct edit *edit) {
     struct run *program = &edit->run;
     struct words words = {.count = 0};

@@ -35,13 +35,12 @@ static bool is_being_written(const struct stat *look) {
     return clock_gettime(CLOCK_REALTIME, &now) == 0 && now.tv_sec - look->st_mtim.tv_sec <= CALM;
 }
 
-/* Copies an open file over the session's text. */
 static int copy_over(struct session *session, int file) {
     int error = ftruncate(session->text, 0) == 0 && lseek(session->text, 0, SEEK_SET) == 0 ? 0 : errno;
     return error ? error : copy_file(file, 0, session->text);
 }
 
-static bool open_text(struct session *session) {
+static bool open_copy(struct session *session) {
     if (session->text < 0) session->text = part_open(session->folder, part_name(PART_TEXT), O_RDWR | O_CREAT | O_EXCL);
     if (session->text < 0) session->error = errno;
     return session->text >= 0;
@@ -51,7 +50,7 @@ int choose_source(struct session *session, int file) {
     if (file >= 0 && fstat(file, &session->look) != 0) return errno;
     uint64_t size = file >= 0 ? (uint64_t)session->look.st_size : 0;
     bool is_early = size <= COPIED_AT_ONCE || (is_being_written(&session->look) && size <= LARGEST_TEXT);
-    session->is_waiting = !open_text(session) || free_room(session->folder) < size + BESIDE_TEXT;
+    session->is_waiting = !open_copy(session) || free_room(session->folder) < size + BESIDE_TEXT;
     if (file < 0) {
         session->has_text = session->text >= 0;
         return 0;
@@ -173,7 +172,6 @@ static void renew_text(struct session *session) {
     session->parts[PART_PATH].is_written = false;
 }
 
-/* Takes over what was written, or what could not be. */
 static void take_report(struct session *session, const struct report *said) {
     session->error = said->error;
     if (said->is_changed) session->is_changed = true;
@@ -197,12 +195,10 @@ int write_session(struct session *session) {
     return said.error;
 }
 
-/* Reaps a child that has reported. */
-static void reap(struct session *session) {
+static void reap_writer(struct session *session) {
     if (session->child > 0 && session->report < 0 && waitpid(session->child, NULL, WNOHANG) != 0) session->child = -1;
 }
 
-/* Hears the child, for this long at most. */
 static void hear_child(struct session *session, int milliseconds) {
     struct report said;
     struct pollfd file = {.fd = session->report, .events = POLLIN};
@@ -212,7 +208,7 @@ static void hear_child(struct session *session, int milliseconds) {
         close_one(&session->report);
         take_report(session, &said);
     }
-    reap(session);
+    reap_writer(session);
 }
 
 void end_child(struct session *session) {
@@ -236,7 +232,7 @@ static bool is_whole(const struct session *session) {
 /* Has a child write, if something is to be written and no child runs. Returns false where none can be started. */
 static bool write_behind(struct session *session) {
     bool has_work = !is_whole(session) || session->is_mirror_new;
-    if (session->child > 0 || session->is_changed || !has_work || !open_text(session)) return true;
+    if (session->child > 0 || session->is_changed || !has_work || !open_copy(session)) return true;
     for (enum part part = 0; part < PARTS; part++) session->parts[part].is_sent = lacks_part(session, part);
     return start_child(session);
 }
@@ -249,12 +245,11 @@ void session_fill(struct session *session) {
 /* ---- parts that were removed */
 
 /* Whether a part is the file that is open. */
-static bool leads_to(const struct session *session, enum part part, int file) {
+static bool is_named(const struct session *session, enum part part, int file) {
     struct stat named, open;
     return fstatat(session->folder, part_name(part), &named, AT_SYMLINK_NOFOLLOW) == 0 && fstat(file, &open) == 0 && is_same_file(&named, &open);
 }
 
-/* Notes which parts of a session were removed. */
 static void look_for_lost(struct session *session) {
     struct stat found;
     for (enum part part = 0; part < PARTS; part++) {
@@ -263,12 +258,12 @@ static void look_for_lost(struct session *session) {
         bool is_there = fstatat(session->folder, part_name(part), &found, AT_SYMLINK_NOFOLLOW) == 0 && S_ISREG(found.st_mode);
         kept->is_written = is_there && (size_t)found.st_size == kept->size;
     }
-    if (session->text >= 0 && !leads_to(session, PART_TEXT, session->text)) renew_text(session);
+    if (session->text >= 0 && !is_named(session, PART_TEXT, session->text)) renew_text(session);
 }
 
 /* Makes the lock's file again, for editors of before; the folder is locked all the time. */
 static void renew_lock(struct session *session) {
-    if (session->lock < 0 || leads_to(session, PART_LOCK, session->lock)) return;
+    if (session->lock < 0 || is_named(session, PART_LOCK, session->lock)) return;
     int lock = part_open(session->folder, part_name(PART_LOCK), O_RDWR | O_CREAT);
     if (lock < 0) return;
     if (flock(lock, LOCK_EX | LOCK_NB) != 0) {
@@ -284,9 +279,9 @@ static void mirror_journal(struct session *session) {
     static const char draft[] = "journal.new";
     struct stat found;
     const struct stat *then = &session->mirrored;
-    bool is_named = leads_to(session, PART_JOURNAL, session->mirror >= 0 ? session->mirror : session->journal);
-    if ((is_named && session->mirror < 0) || fstat(session->journal, &found) != 0) return;
-    if (is_named && has_same_text(&found, then)) return;
+    bool has_name = is_named(session, PART_JOURNAL, session->mirror >= 0 ? session->mirror : session->journal);
+    if ((has_name && session->mirror < 0) || fstat(session->journal, &found) != 0) return;
+    if (has_name && has_same_text(&found, then)) return;
     unlinkat(session->folder, draft, 0);
     int mirror = part_open(session->folder, draft, O_RDWR | O_CREAT | O_EXCL);
     int error = mirror < 0 ? errno : copy_file(session->journal, 0, mirror);
@@ -304,7 +299,6 @@ static void mirror_journal(struct session *session) {
     session->is_mirror_new = true;
 }
 
-/* Looks after the parts. */
 static void look_after(struct session *session) {
     if (session->journal >= 0) mirror_journal(session);
     renew_lock(session);
@@ -325,7 +319,6 @@ enum keeping session_mind(struct session *session) {
     return judge_keeping(&facts);
 }
 
-/* Ends the child, which had its time. */
 static void await_child(struct session *session, int milliseconds) {
     hear_child(session, milliseconds);
     end_child(session);

@@ -20,8 +20,7 @@ static unsigned char buffer[BUFFER];
 
 /* ---- names */
 
-/* Makes a random name for a draft of FILE. */
-static bool make_name(const struct file *file, char name[NAME_MAX + 1]) {
+static bool make_draft_name(const struct file *file, char name[NAME_MAX + 1]) {
     static const char letters[] = "abcdefghijklmnopqrstuvwxyz0123456789";
     char random[DRAFT_LETTERS + 1];
     if (!make_letters(random, DRAFT_LETTERS, letters)) return false;
@@ -33,12 +32,10 @@ static int rename_by(int folder, const char *from, const char *to, unsigned flag
     return syscall(SYS_renameat2, folder, from, folder, to, flags) == 0 ? 0 : errno;
 }
 
-/* Gives a file without a name this one. */
 static int link_nameless(const struct draft *draft, const char *name) {
     return linkat(AT_FDCWD, link_of(draft->file).path, draft->folder, name, AT_SYMLINK_FOLLOW) == 0 ? 0 : errno;
 }
 
-/* Moves a file from a name to another that is free. */
 static int move_to_free(int folder, const char *from, const char *to) {
     struct look there;
     int error = rename_by(folder, from, to, RENAME_NOREPLACE);
@@ -63,7 +60,7 @@ int draft_name_as(struct draft *draft, const char *name) {
 int draft_name(struct draft *draft, const struct file *file) {
     char name[NAME_MAX + 1];
     int error = draft->name[0] ? 0 : EEXIST;
-    for (int tries = 0; error == EEXIST && tries < TRIES; tries++) error = make_name(file, name) ? draft_name_as(draft, name) : EIO;
+    for (int tries = 0; error == EEXIST && tries < TRIES; tries++) error = make_draft_name(file, name) ? draft_name_as(draft, name) : EIO;
     return error;
 }
 
@@ -82,7 +79,7 @@ int draft_open(struct draft *draft, const struct file *file, int folder, mode_t 
     *draft = (struct draft){.folder = folder, .file = -1};
     if (may_be_nameless) draft->file = openat(folder, ".", O_TMPFILE | O_RDWR | O_CLOEXEC, mode);
     if (draft->file >= 0) return 0;
-    for (int tries = 0; error == EEXIST && tries < TRIES; tries++) error = make_name(file, name) ? open_at(draft, folder, name, mode) : EIO;
+    for (int tries = 0; error == EEXIST && tries < TRIES; tries++) error = make_draft_name(file, name) ? open_at(draft, folder, name, mode) : EIO;
     return error;
 }
 
@@ -135,7 +132,6 @@ int draft_take_over(const struct draft *draft, const struct stat *old, bool is_p
 
 /* ---- FILE's place */
 
-/* Whether what has the draft's name has an access list. */
 static bool has_list(const struct draft *draft) {
     int at = open_itself(draft->folder, draft->name);
     if (at < 0) return false;
@@ -146,7 +142,7 @@ static bool has_list(const struct draft *draft) {
 
 /* Undoes an exchange: puts what came out of FILE's place back. What took the place of that meanwhile, and comes out now, is newer,
  * so it goes back in its turn. Returns false where what has the draft's name at the end must stay. */
-static bool put_back(const struct draft *draft, const char *name, struct stat last_in) {
+static bool exchange_back(const struct draft *draft, const char *name, struct stat last_in) {
     struct look goes_in, out;
     for (int tries = 0; tries < TRIES; tries++) {
         if (!look_at(draft->folder, draft->name, &goes_in) || !goes_in.is_there) return false;
@@ -175,7 +171,7 @@ enum placed draft_exchange(struct draft *draft, const char *name, const struct l
     if (error == ENOENT) return PLACE_OTHER;
     if (error != 0) return error == EBUSY ? PLACE_MOUNTED : PLACE_FAILED;
     if (look_at(draft->folder, draft->name, &out) && is_taken_out(seen, &out) && (!is_listless || !has_list(draft))) return PLACED;
-    if (put_back(draft, name, own)) unlinkat(draft->folder, draft->name, 0);
+    if (exchange_back(draft, name, own)) unlinkat(draft->folder, draft->name, 0);
     draft->name[0] = 0;
     return PLACE_CHANGED;
 }

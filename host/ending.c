@@ -17,13 +17,9 @@
 
 /* ---- replay: of a session's keys by the program; comparisons with FILE; new files beside it */
 
-/* Replays of a session's keys by the program, comparisons with FILE, and new files beside it. */
-
-
 /* Names of new files beside FILE are tried with numbers below this. */
 enum { MOST_NAMES = 10000 };
 
-/* What the program's answer says. */
 static enum replayed replayed_of(const struct said *said, int status) {
     static const char *const unreadable[] = {"not-utf8", "too-long", "unreadable"};
     static const struct {
@@ -66,7 +62,6 @@ enum replayed replay(struct edit *edit, const struct session *session, int *text
     return replayed;
 }
 
-/* Whether two open files have the same bytes. */
 static bool has_same_bytes(int one, int other) {
     static char pieces[2][65536];
     off_t place = 0;
@@ -79,7 +74,6 @@ static bool has_same_bytes(int one, int other) {
     }
 }
 
-/* Whether a part of a session has FILE's bytes. */
 static bool is_in_part(const struct edit *edit, const struct session *session, enum part part) {
     int file = session_open(session, part);
     bool is_same = file >= 0 && has_same_bytes(file, edit->file.text);
@@ -112,9 +106,6 @@ int copy_to_new(const char *path, int source, mode_t mode) {
 }
 
 /* ---- the end */
-
-/* The end of a session: what was kept of what was typed, what becomes of the session, and what the user is told. */
-
 
 /* Milliseconds. COPY_MS: for a text that is still being copied, until a signal. WRITE_MS: to write what the session lacks then;
  * REPLAY_MS: for a replay; each also after a signal. */
@@ -195,7 +186,6 @@ static bool is_there_now(const struct edit *edit) {
     return look_again(&edit->file, &look) && look.is_there;
 }
 
-/* Tells of a text that was recovered as a new file beside FILE. */
 static void tell_aside(const struct edit *edit) {
     if (edit->aside_of && is_there_now(edit))
         warn("%s was changed since, so the recovered text is in %s", shown(edit->aside_of), shown(edit->file.typed));
@@ -209,23 +199,12 @@ static bool had_all_crlf(const struct edit *edit) {
     return text >= 0 && has_all_crlf(text);
 }
 
-static void take_ends(void *ends, const char *bytes, size_t size) {
-    ends_more(ends, bytes, size);
-}
-
-/* Whether a file has lines, not all of which end with CR LF. */
-static bool has_other_ends(int file) {
-    struct line_ends ends;
-    ends_begin(&ends);
-    return read_pieces(file, 0, take_ends, &ends) == 0 && ends.has_lines && !ends_are_all_crlf(&ends);
-}
-
-/* Tells of other line ends than those that FILE had. */
 static void tell_line_ends(const struct edit *edit) {
     struct stat look;
+    struct line_ends ends;
     int file = edit->was_saved && had_all_crlf(edit) ? open_now(edit, &look) : -1;
     if (file < 0) return;
-    if (has_other_ends(file))
+    if (read_line_ends(file, &ends) && ends.has_lines && !ends_are_all_crlf(&ends))
         warn("%s has lines that end with LF among those with CR LF: perl -pi -e 's/\\r?\\n/\\r\\n/' makes them alike", shown(edit->file.typed));
     close(file);
 }
@@ -251,14 +230,12 @@ static void tell_lost(enum left_how how, const char *cause) {
     if (may_be_unsaved(how)) warn("what was typed is not kept, since %s", cause);
 }
 
-/* Tells that the session's folder is gone. */
 static void tell_gone(const struct edit *edit, enum left_how how) {
     const char *cause = text_of("its folder %s is gone", shown(edit->session.path));
     if (how == LEFT_DROPPED) warn("only what was saved is kept, since %s", cause);
     else tell_lost(how, cause);
 }
 
-/* Why a session without its text is not kept. */
 static const char *cause_of_lost(const struct edit *edit) {
     if (edit->unkept) return edit->unkept;
     if (edit->session.is_changed) return text_of("%s was changed before it could be copied", shown(edit->file.typed));
@@ -318,7 +295,6 @@ static void note_moved(struct edit *edit) {
     session_note_file(&edit->session, &edit->target);
 }
 
-/* Has the session get what it lacks. Returns whether it can be recovered. A signal ends the wait for a slow disk. */
 static bool settle(struct session *session) {
     int64_t end = now() + COPY_MS;
     struct pollfd copied = {.fd = session->report, .events = POLLIN};
@@ -343,8 +319,7 @@ static struct left left_of(struct edit *edit, enum left_how how) {
     return left;
 }
 
-/* Whether FILE's name leads to this path now. */
-static bool leads_to(const char *typed, const char *path) {
+static bool leads_to_path(const char *typed, const char *path) {
     static struct file again;
     if (open_lost_file(&again, typed)) return false;
     bool is_same = strcmp(again.path, path) == 0;
@@ -359,12 +334,11 @@ static void tell_kept(const struct edit *edit, const char *what, const char *beh
     /* what is not saved beside FILE is found under FILE's name */
     const char *typed = edit->aside_of && !is_there_now(edit) ? edit->aside_of : edit->file.typed;
     const char *path = edit->moved ? edit->moved : edit->file.path;
-    bool is_found = !is_folder_gone(&edit->file) && !edit->moved && (typed == edit->aside_of || leads_to(typed, path));
+    bool is_found = !is_folder_gone(&edit->file) && !edit->moved && (typed == edit->aside_of || leads_to_path(typed, path));
     const char *where = is_found ? "" : text_of(" in %s", shown(edit->session.path));
     warn("%s%s%s: bidi-edit --recover %s%s", what, cut, where, shown(is_found ? typed : path), behind);
 }
 
-/* Keeps the changes that the user dropped, until others are dropped. */
 static void drop_changes(struct edit *edit) {
     if (edit->facts.is_journal_lost) session_note_cut(&edit->session);
     sessions_forget_dropped(&edit->sessions, &edit->session);
@@ -373,20 +347,17 @@ static void drop_changes(struct edit *edit) {
     tell_kept(edit, "what was dropped can be had back", "");
 }
 
-/* Removes the changes that the user dropped of a FILE that root alone can read. */
 static void wipe_changes(struct edit *edit) {
     int error = session_remove(&edit->session);
     if (error == 0) warn("what was dropped is not kept, since only root can read %s", shown(edit->file.typed));
     else warn("what was dropped cannot be removed from %s%s", shown(edit->session.path), fault_words(error));
 }
 
-/* Leaves a session to be recovered. */
 static void leave_session(struct edit *edit) {
     if (edit->facts.is_journal_lost) session_note_cut(&edit->session);
     tell_kept(edit, "what was typed is kept", " gets it back");
 }
 
-/* Ends a session that was kept. */
 static void end_kept(struct edit *edit, enum left_how how) {
     struct session *session = &edit->session;
     struct left left = left_of(edit, how);

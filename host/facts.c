@@ -33,7 +33,6 @@ static ssize_t get_attribute(int at, const char *name, char *room) {
     return getxattr(link_of(at).path, name, room, MOST);
 }
 
-/* Whether the file system has no such attribute, or the file none. */
 static bool is_none(ssize_t length) {
     return length < 0 && (errno == ENODATA || errno == ENOTSUP || errno == ENOSYS);
 }

@@ -74,12 +74,6 @@ static bool is_handed_over(const char *path) {
     return strncmp(path, "/proc/", 6) == 0 && strstr(path + 6, "/fd/");
 }
 
-static bool is_folder(const char *path) {
-    struct stat found;
-    return stat(path, &found) == 0 && S_ISDIR(found.st_mode);
-}
-
-/* The message about a folder that cannot be opened. */
 static const char *refuse_folder(struct file *file, const char *folder) {
     struct stat found;
     if (stat(folder, &found) == 0) return text_of("%s is no folder, so it has no files: name another", shown(folder));
@@ -121,7 +115,6 @@ static const char *take_step(struct file *file, const char *path) {
     return NULL;
 }
 
-/* Follows links to FILE, and opens its folder and what is there. */
 static const char *walk(struct file *file) {
     char path[PATH_MAX];
     bool is_of_folder = false;
@@ -152,7 +145,6 @@ static bool open_text(struct file *file) {
     return false;
 }
 
-/* Finds the path of the folder without links, and FILE's. */
 static void name_paths(struct file *file) {
     struct stat folder, there;
     if (!path_of(file->folder, file->folder_path)) put_path(file->folder_path, "%s", file->folder_name);
@@ -252,7 +244,6 @@ bool is_closed(const struct file *file) {
     return file->look.is_there && !file->facts.readable;
 }
 
-/* The refusal of a name that is too long for a save; NULL for others. */
 static const char *refuse_long_name(const struct file *file) {
     uint64_t longest = file->folder_facts.longest_name, most = longest > MARK_BYTES ? longest - MARK_BYTES : 0;
     size_t length = strlen(file->name);
@@ -288,7 +279,6 @@ size_t draft_stem(const struct file *file) {
     return length;
 }
 
-/* Whether a name is one of a draft of FILE. */
 static bool is_draft(const struct file *file, size_t stem, const char *name) {
     static const char letters[] = "abcdefghijklmnopqrstuvwxyz0123456789";
     if (strncmp(name, file->name, stem) != 0 || name[stem] != '.') return false;
@@ -302,7 +292,6 @@ static char *add_name(const struct file *file, char *names, const char *name) {
     return text_of("%s %s", names, shown(text_of("%.*s%s", slash ? (int)(slash - file->typed) + 1 : 0, file->typed, name)));
 }
 
-/* Adds the names of drafts with random letters. */
 static char *add_drafts(const struct file *file, char *names) {
     int folder = openat(file->folder, ".", O_RDONLY | O_DIRECTORY | O_CLOEXEC), count = 0, drafts = 0;
     DIR *listed = folder >= 0 ? fdopendir(folder) : NULL;

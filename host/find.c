@@ -11,9 +11,6 @@
 
 #include "parts.h"
 
-/* The search for sessions: of a file, of all; those that are removed. */
-
-
 /* The age, in seconds, from which on a folder without a path is one that a killed start left. */
 enum { HOUR = 3600 };
 
@@ -66,7 +63,6 @@ void target_look(struct target *target, const char *path, int folder, const char
     target->is_there = folder >= 0 && file_id_at(folder, name, O_NOFOLLOW, &target->id);
 }
 
-/* Whether a path leads to FILE; and whether it leads anywhere. */
 static bool leads_there(const struct target *target, const char *path, bool *leads_anywhere) {
     struct file_id id;
     *leads_anywhere = file_id_at(AT_FDCWD, path, 0, &id);
@@ -115,7 +111,7 @@ struct search {
 };
 
 /* Takes a session in, in place of an older one of its kind; removes an empty one. */
-static void take(struct found *found, struct session *session, enum session_state state) {
+static void take_session(struct found *found, struct session *session, enum session_state state) {
     switch (state) {
     case SESSION_LIVE: session_move(&found->live, session); return;
     case SESSION_ELSEWHERE: session_move(&found->elsewhere, session); return;
@@ -132,11 +128,10 @@ static bool take_if_own(void *context, struct session *session, enum name_kind k
     enum belonging belonging = session_belonging(session, search->target);
     if (belonging == BELONGS_NOT || !session_is_own(session)) return true;
     enum session_state state = session_state(session);
-    if (counts_as_own(belonging, state)) take(search->found, session, state);
+    if (counts_as_own(belonging, state)) take_session(search->found, session, state);
     return true;
 }
 
-/* Takes over from another folder what the first one lacks. */
 static void take_missing(struct session *to, struct session *from) {
     if (session_is_none(to)) session_move(to, from);
 }
@@ -249,9 +244,6 @@ void sessions_forget(const struct sessions *sessions, const struct target *targe
 }
 
 /* ---- repairs after a save into a file was cut off, by the mark of the session that saved */
-
-/* The repair of a file after a save into it was cut off, by the mark of the session that saved. */
-
 
 /* ---- FILE beside a mark */
 

@@ -24,7 +24,6 @@ size_t find_frame(const unsigned char *held, size_t length, struct frame *frame)
     return FRAME_HEAD + frame->length;
 }
 
-/* Reads so many bytes. */
 static bool read_all(int file, unsigned char *bytes, size_t length) {
     while (length > 0) {
         ssize_t count = read(file, bytes, length);
@@ -116,7 +115,6 @@ static void keep_foreign(struct word_reader *reader, unsigned char byte) {
     if (reader->foreign_length < sizeof reader->foreign) reader->foreign[reader->foreign_length++] = (char)byte;
 }
 
-/* Hands on the whole words among what is held, and keeps the beginning of one. */
 static void hand_on(struct word_reader *reader, void (*hear)(const struct frame *, void *), void *whose) {
     size_t at = 0;
     while (at < reader->length) {

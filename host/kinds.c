@@ -1,4 +1,5 @@
 #include "terminal.h"
+#include "util.h"
 
 #include <dirent.h>
 #include <fcntl.h>
@@ -17,13 +18,13 @@ enum { TMUX_MS = 2000, OUTER_MS = 500, NOTE_MS = 1000 };
 /* The most rows of a terminal that are told, and the bytes for each at most. */
 enum { MOST_ROWS = 500, ROW_BYTES = 16 };
 
-static const char *variable(const char *name) {
-    const char *value = getenv(name);
+static const char *value_of(const char *name) {
+    const char *value = variable(name);
     return value ? value : "";
 }
 
 static bool is_set(const char *name) {
-    return *variable(name) != 0;
+    return variable(name);
 }
 
 static bool begins(const char *text, const char *beginning) {
@@ -98,7 +99,6 @@ static enum kind kind_by_answer(const char *answer) {
     return *answer == 0 && is_set("VTE_VERSION") ? VTE : OTHER_KIND;
 }
 
-/* The kind by TERM_PROGRAM. */
 static enum kind kind_by_name(const char *name) {
     static const struct {
         const char *name;
@@ -118,7 +118,7 @@ static enum kind kind_by_variables(void) {
     } variables[] = {{"XTERM_VERSION", OTHER_KIND}, {"VTE_VERSION", VTE},       {"KONSOLE_VERSION", KONSOLE},
                      {"MLTERM", MLTERM},            {"KITTY_WINDOW_ID", KITTY}, {"ALACRITTY_WINDOW_ID", OTHER_KIND},
                      {"INSIDE_EMACS", OTHER_KIND}};
-    const char *program = variable("TERM_PROGRAM");
+    const char *program = value_of("TERM_PROGRAM");
     enum kind found = kind_by_name(program);
     int count = *program != 0;
     for (size_t i = 0; i < sizeof variables / sizeof *variables; i++) {
@@ -128,11 +128,11 @@ static enum kind kind_by_variables(void) {
     }
     if (count == 1) return found;
     /* qterminal has no variable of its own, and no number for its window */
-    return count == 0 && strcmp(variable("WINDOWID"), "0") == 0 && is_started_with("qterminal") ? QTERMINAL : OTHER_KIND;
+    return count == 0 && strcmp(value_of("WINDOWID"), "0") == 0 && is_started_with("qterminal") ? QTERMINAL : OTHER_KIND;
 }
 
 static enum kind find_kind(const char *answer_to_tmux) {
-    const char *term = variable("TERM");
+    const char *term = value_of("TERM");
     if (is_set("TMUX")) return kind_by_answer(answer_to_tmux);
     if (is_set("STY")) return OTHER_KIND;
     if (begins(term, "tmux")) return kind_by_answer(answer_to_tmux);
@@ -143,7 +143,7 @@ static enum kind find_kind(const char *answer_to_tmux) {
 /* Whether the terminal can save and restore its title. GNU screen cannot, and hides the terminal around it. */
 static bool keeps_title(enum kind kind) {
     static const char *const terms[] = {"tmux", "alacritty", "foot", "mlterm", "vte"};
-    const char *term = variable("TERM");
+    const char *term = value_of("TERM");
     if (is_set("STY")) return false;
     if (is_set("TMUX") || strcmp(term, "xterm-kitty") == 0 || kind == TERMINOLOGY) return true;
     for (size_t i = 0; i < sizeof terms / sizeof *terms; i++)
@@ -153,8 +153,8 @@ static bool keeps_title(enum kind kind) {
 
 /* The path of a file or folder of the user's: below the folder that a variable names, else below one of the home. */
 static const char *own_path(char path[PATH_MAX], const char *name, const char *home_folder, const char *rest) {
-    int count = is_set(name) ? snprintf(path, PATH_MAX, "%s/%s", variable(name), rest)
-                             : snprintf(path, PATH_MAX, "%s/%s/%s", variable("HOME"), home_folder, rest);
+    int count = is_set(name) ? snprintf(path, PATH_MAX, "%s/%s", value_of(name), rest)
+                             : snprintf(path, PATH_MAX, "%s/%s/%s", value_of("HOME"), home_folder, rest);
     if (count < 0 || count >= PATH_MAX) path[0] = 0;
     return path;
 }
@@ -167,7 +167,6 @@ static bool reorders_in_konsole(void) {
            !files_have("/usr/share/konsole", ".profile", off);
 }
 
-/* Whether mlterm was set or started not to reorder. */
 static bool reorders_not_in_mlterm(void) {
     static const char off[] = "use_ctl=false";
     char own[PATH_MAX];
@@ -185,7 +184,6 @@ static void find_reordering(struct terminal_kind *found) {
     }
 }
 
-/* Tells the line `wanted` of the terminal's file. */
 static void tell_setting(const char *terminal, const char *file, const char *wanted) {
     char text[256];
     int length = snprintf(text, sizeof text, "bidi-edit: %s mirrors right-to-left words: the line '%s' in its %s ends that\n", terminal,
@@ -201,7 +199,7 @@ static void tell_mirroring(enum kind kind) {
         own_path(path, "XDG_CONFIG_HOME", ".config", "qterminal.org/qterminal.ini");
         if (!file_has(path, "enabledBidiSupport=false")) tell_setting("qterminal", "qterminal.ini", "enabledBidiSupport=false");
     } else if (kind == KITTY) {
-        const char *folder = variable("KITTY_CONFIG_DIRECTORY");
+        const char *folder = value_of("KITTY_CONFIG_DIRECTORY");
         if (!*folder) folder = own_path(path, "XDG_CONFIG_HOME", ".config", "kitty");
         if (!files_have(folder, ".conf", "force_ltryes")) tell_setting("kitty", "kitty.conf", "force_ltr yes");
     }
@@ -217,8 +215,7 @@ static _Noreturn void become_tmux(int out) {
     _exit(127);
 }
 
-/* Reads what tmux says until it ends, or the time is over, or the host is to end. */
-static size_t read_answer(int file, char *answer, size_t room) {
+static size_t read_tmux(int file, char *answer, size_t room) {
     int64_t end = now() + TMUX_MS;
     size_t length = 0;
     while (length < room && !end_signal && now() < end) {
@@ -239,7 +236,7 @@ static void ask_tmux(char *answer, size_t room) {
     pid_t child = fork();
     if (child == 0) become_tmux(ends[1]);
     close(ends[1]);
-    size_t length = child > 0 ? read_answer(ends[0], answer, room - 1) : 0;
+    size_t length = child > 0 ? read_tmux(ends[0], answer, room - 1) : 0;
     answer[length] = 0;
     close(ends[0]);
     /* it has said all, or says nothing any more */

@@ -16,10 +16,8 @@
 #include "say.h"
 #include "signals.h"
 #include "terminal.h"
+#include "util.h"
 #include "words.h"
-
-/* bidi-edit [WORD..]: runs the editor in this terminal, and restores the terminal however the program or it itself ends. */
-
 
 /* Opens standard input, output and error where they are closed, so that no other file gets their numbers. */
 static void open_standard_files(void) {
@@ -31,7 +29,6 @@ static void open_standard_files(void) {
     if (file >= 0) close(file);
 }
 
-/* Cuts off the last name. Returns false for a path without one. */
 static bool go_up(char *path) {
     char *slash = strrchr(path, '/');
     if (!slash || strcmp(path, "/") == 0) return false;
@@ -39,34 +36,10 @@ static bool go_up(char *path) {
     return true;
 }
 
-/* The path of a file below a folder, which stays; NULL without memory. */
 static char *below(const char *folder, const char *name) {
-    char *path = NULL;
-    return asprintf(&path, "%s/%s", strcmp(folder, "/") == 0 ? "" : folder, name) < 0 ? NULL : path;
+    return text_of("%s/%s", strcmp(folder, "/") == 0 ? "" : folder, name);
 }
 
-static bool is_folder(const char *path) {
-    struct stat look;
-    return path && stat(path, &look) == 0 && S_ISDIR(look.st_mode);
-}
-
-static bool find_in_repository(const char *top, struct programs *programs) {
-    programs->editor = below(top, "crates/bidi_edit/out/bidi_edit");
-    programs->printer = below(top, "crates/bidi_print/out/bidi_print");
-    programs->kit = below(top, "crates/bidi_edit/out/kit");
-    programs->tables = below(top, "data");
-    return programs->editor && programs->printer && programs->kit && programs->tables;
-}
-
-static bool find_installed(const char *top, struct programs *programs) {
-    programs->editor = below(top, "lib/bidi_edit/bidi_edit");
-    programs->printer = below(top, "lib/bidi_edit/bidi_print");
-    programs->kit = below(top, "lib/bidi_edit/kit");
-    programs->tables = below(top, "share/bidi_edit");
-    return programs->editor && programs->printer && programs->kit && programs->tables;
-}
-
-/* Finds programs and tables by the host's own place. Returns false where that cannot be found. */
 static bool find_programs(struct programs *programs) {
     static const char built[] = "/host/out";
     char top[PATH_MAX];
@@ -76,15 +49,18 @@ static bool find_programs(struct programs *programs) {
     if (!go_up(top)) return false;
     /* host/out/bidi-edit in a repository, bin/bidi-edit elsewhere */
     size_t length = strlen(top), tail = sizeof built - 1;
-    if (length > tail && strcmp(top + length - tail, built) == 0) {
+    bool is_repository = length > tail && strcmp(top + length - tail, built) == 0;
+    if (is_repository) {
         top[length - tail] = 0;
-        char *crate = below(top, "crates/bidi_edit");
-        bool is_repository = is_folder(crate);
-        free(crate);
-        if (is_repository) return find_in_repository(top, programs);
-        top[length - tail] = '/';
+        is_repository = is_folder(below(top, "crates/bidi_edit"));
+        if (!is_repository) top[length - tail] = '/';
     }
-    return go_up(top) && find_installed(top, programs);
+    if (!is_repository && !go_up(top)) return false;
+    programs->editor = below(top, is_repository ? "crates/bidi_edit/out/bidi_edit" : "lib/bidi_edit/bidi_edit");
+    programs->printer = below(top, is_repository ? "crates/bidi_print/out/bidi_print" : "lib/bidi_edit/bidi_print");
+    programs->kit = below(top, is_repository ? "crates/bidi_edit/out/kit" : "lib/bidi_edit/kit");
+    programs->tables = below(top, is_repository ? "data" : "share/bidi_edit");
+    return true;
 }
 
 /* ---- print: FILE's rows, which bidi_print writes */
@@ -94,7 +70,7 @@ enum { USUAL_COLUMNS = 80 };
 
 /* Why FILE cannot be printed, by what is there and whether it can be read; NULL where it can be. A device or pipe is read
  * unchecked. */
-static const char *refusal_of(const char *file) {
+static const char *refuse_to_print(const char *file) {
     struct stat look;
     if (stat(file, &look) != 0) return "is not there";
     if (S_ISDIR(look.st_mode)) return "is a folder: name a file in it";
@@ -118,7 +94,6 @@ static const char *check_text(const struct file *file) {
     return count == 0 && valid < length ? not_utf8_message(file, text_line) : NULL;
 }
 
-/* Why a plain file is no text, as above. */
 static const char *check_plain(const char *typed) {
     static struct file file;
     struct stat look;
@@ -131,7 +106,6 @@ static const char *check_plain(const char *typed) {
     return refusal;
 }
 
-/* The columns of the terminal on standard output. */
 static unsigned terminal_columns(void) {
     struct winsize window = {0};
     if (ioctl(STDOUT_FILENO, TIOCGWINSZ, &window) != 0 || window.ws_col == 0) return USUAL_COLUMNS;
@@ -143,7 +117,7 @@ static int print_file(const struct call *call, const struct programs *programs) 
     struct tables tables;
     struct words words = {.count = 0};
     const char *cause = find_tables(&tables, programs->tables);
-    const char *why = cause ? NULL : refusal_of(call->file);
+    const char *why = cause ? NULL : refuse_to_print(call->file);
     if (why) cause = text_of("%s %s", shown(call->file), why);
     if (!cause) cause = check_plain(call->file);
     if (cause) {
@@ -164,7 +138,6 @@ static int print_file(const struct call *call, const struct programs *programs) 
 
 /* ---- what a command line asks for */
 
-/* Refuses to go on without a terminal to edit in. */
 static int check_terminal(void) {
     const char *name = getenv("TERM");
     if (name && strcmp(name, "dumb") == 0) {
@@ -189,7 +162,7 @@ static int edit_new(struct edit *edit) {
     return status == GO_ON ? run_session(edit) : status;
 }
 
-static int go_on(struct edit *edit) {
+static int go_on_with_session(struct edit *edit) {
     int status = resume_session(edit);
     return status == GO_ON ? run_session(edit) : status;
 }
@@ -203,7 +176,7 @@ static int edit_file(struct edit *edit) {
     tell_unusual(edit);
     enum met met = meet_sessions(edit, &status);
     if (met == MET_END) return status;
-    if (met == MET_TAKEN) return go_on(edit);
+    if (met == MET_TAKEN) return go_on_with_session(edit);
     /* FILE may have changed meanwhile */
     if (met == MET_ASKED) status = check_file(edit, edit->call->file);
     return status == GO_ON ? edit_new(edit) : status;
@@ -217,7 +190,7 @@ static int edit_recovered(struct edit *edit) {
     if (status == GO_ON && !is_taken) status = check_file(edit, edit->call->file);
     if (status != GO_ON) return status;
     tell_unusual(edit);
-    return is_taken ? go_on(edit) : edit_new(edit);
+    return is_taken ? go_on_with_session(edit) : edit_new(edit);
 }
 
 /* Tells of variables that are passed over: an XDG_STATE_HOME that is not absolute, and a TMPDIR that no system takes. */
@@ -227,7 +200,6 @@ static void tell_variables(void) {
     if (temporary && strlen(temporary) >= PATH_MAX) warn("TMPDIR has %zu bytes, too many for a path: it is passed over", strlen(temporary));
 }
 
-/* Edits, or recovers. */
 static int edit_by(const struct call *call, const struct programs *programs) {
     static struct edit edit;
     const char *cause = find_tables(&edit.tables, programs->tables);
@@ -249,7 +221,6 @@ static int edit_by(const struct call *call, const struct programs *programs) {
     return call->kind == CALL_EDIT ? edit_file(&edit) : edit_recovered(&edit);
 }
 
-/* The toolchain that was noted at the build; NULL where none is. */
 static const char *noted_toolchain(const char *kit) {
     char words[256];
     FILE *stream = fopen(kit, "re");

@@ -50,7 +50,6 @@ static int sync_part(int file, bool is_needed) {
     return 0;
 }
 
-/* Makes a new part with these bytes; one that cannot be written whole is removed. */
 static int write_new(int folder, const char *name, const void *bytes, size_t size, bool is_needed) {
     int file = part_open(folder, name, O_WRONLY | O_CREAT | O_EXCL);
     if (file < 0) return errno;
@@ -330,8 +329,12 @@ static void take_ends(void *ends, const char *bytes, size_t size) {
     ends_more(ends, bytes, size);
 }
 
+bool read_line_ends(int file, struct line_ends *ends) {
+    ends_begin(ends);
+    return read_pieces(file, 0, take_ends, ends) == 0;
+}
+
 bool has_all_crlf(int file) {
     struct line_ends ends;
-    ends_begin(&ends);
-    return read_pieces(file, 0, take_ends, &ends) == 0 && ends_are_all_crlf(&ends);
+    return read_line_ends(file, &ends) && ends_are_all_crlf(&ends);
 }

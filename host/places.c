@@ -81,7 +81,6 @@ static void judge_above(struct sessions *sessions, int folder) {
     if (above == UNSEEN && sessions->state == FOLDER_READY) fail_with(sessions, EACCES);
 }
 
-/* Judges the folder of a name in an open one, and opens it for reading. */
 static void judge_at(struct sessions *sessions, int above, const char *name) {
     struct stat found;
     char real[PATH_MAX];
@@ -105,7 +104,6 @@ static void judge_at(struct sessions *sessions, int above, const char *name) {
     close(folder);
 }
 
-/* Opens and judges the folder of sessions at its path. */
 static void sessions_judge(struct sessions *sessions) {
     char above[PATH_MAX];
     put_path(above, "%s", sessions->path);
@@ -217,7 +215,6 @@ static bool own_folder_in(const char *folder, char path[PATH_MAX]) {
     return put_path(path, "%.*s/%s.%u", (int)length, folder, OWN_NAME, (unsigned)geteuid());
 }
 
-/* The same, in an open folder that the environment calls `name`. */
 static bool own_folder_at(int folder, const char *name, char path[PATH_MAX]) {
     char real[PATH_MAX];
     return own_folder_in(path_of(folder, real) ? real : name, path);
@@ -244,7 +241,6 @@ static bool below_home(const char *home, char path[PATH_MAX]) {
     return put_path(path, "%s/.local/state/%s", home, OWN_NAME);
 }
 
-/* Whether the nearest folder of a path belongs to another user. */
 static bool is_of_another(const char *path) {
     struct stat found;
     int folder = open_nearest(path);
@@ -314,7 +310,6 @@ static bool memory_folder(int folder_of_file, char path[PATH_MAX]) {
 
 /* ---- which folder is a file's */
 
-/* The place of the sessions of a file in an open folder. */
 static bool find_place(int folder_of_file, char path[PATH_MAX]) {
     int temporary_of_state = -1, temporary = -1;
     bool has_state = state_folder(path);
@@ -358,7 +353,6 @@ static bool is_listed(const struct list *list, const struct sessions *sessions) 
     return false;
 }
 
-/* Adds a folder at a path, if it is there and not listed yet. */
 static void add_folder(struct list *list, const char *path) {
     struct sessions sessions;
     sessions_clear(&sessions);

@@ -35,7 +35,6 @@ void close_program_ends(struct program_ends *ends) {
     close_one(&ends->answers);
 }
 
-/* Makes a pipe; its ends are -1 where it cannot be made. */
 static bool open_pipe(int *reading, int *writing) {
     int ends[2];
     if (pipe2(ends, O_CLOEXEC) != 0) return false;
@@ -68,7 +67,6 @@ static bool add_words(char *all[OWN_WORDS + MOST_WORDS + 2], size_t count, char 
     return true;
 }
 
-/* Has files stay open in the program. */
 static void hand_on_files(const struct run *run) {
     for (size_t i = 0; i < run->handed_count; i++)
         if (run->handed[i] >= 0) fcntl(run->handed[i], F_SETFD, 0);
@@ -162,7 +160,6 @@ static _Noreturn void become_aside(const struct run *run, char *const *words, in
     become(words, (mode_t)run->mask);
 }
 
-/* Hears the program until its words end, or the time is over. */
 static void hear_aside(struct run *run, int words, int64_t end) {
     struct word_reader reader = {.length = 0};
     struct pollfd wanted = {.fd = words, .events = POLLIN};

@@ -48,14 +48,12 @@ static int keep_parts(struct session *session, const char *typed) {
     return GO_ON;
 }
 
-/* Tells that nothing can be written in the folder of sessions. */
 static int tell_unwritable(const struct edit *edit, int error) {
     warn("nothing can be written in %s%s. bidi-edit --recover --to OTHER %s stores the text elsewhere", shown(edit->sessions.path),
          fault_words(error), shown(edit->call->file));
     return STATUS_FAULT;
 }
 
-/* Tells of a session whose journal lacks its end. */
 static void tell_cut(const struct session *session) {
     if (!session_has(session, PART_CUT)) return;
     tell("the session is cut behind its key %zu, where its journal could not be written", session_count_keys(session));
@@ -78,7 +76,6 @@ static int settle_file(struct edit *edit, enum replayed found) {
     return status;
 }
 
-/* Whether a session notes FILE's path as its own. */
 static bool is_of_path(const struct edit *edit, const struct session *session) {
     char *path = session_note(session, PART_PATH);
     bool is_same = path && strcmp(path, edit->file.path) == 0;
@@ -101,7 +98,6 @@ static enum outcome go_on_with(struct edit *edit, struct session *session, enum 
     return OUTCOME_TAKEN;
 }
 
-/* Ends a session whose text FILE has. */
 static enum outcome end_where_same(const struct edit *edit, struct session *session) {
     tell("%s holds all that was typed in its last session", shown(edit->file.typed));
     session_remove(session);
@@ -121,7 +117,6 @@ static int tell_failed_replay(const struct edit *edit, const struct session *ses
     return STATUS_FAULT;
 }
 
-/* Goes on with a session by its keys. */
 static enum outcome take_by_keys(struct edit *edit, struct session *session, int *status) {
     int text;
     enum replayed found = replay(edit, session, &text, 0);
@@ -154,7 +149,6 @@ static enum outcome take_by_text(struct edit *edit, struct session *session, int
     return outcome;
 }
 
-/* Goes on with a locked session. */
 static enum outcome take_locked(struct edit *edit, struct session *session, int *status) {
     struct mending mending;
     bool is_mended = session_mend(session, &edit->sessions, &edit->target, &mending) == 0;
@@ -173,13 +167,11 @@ static enum outcome take_locked(struct edit *edit, struct session *session, int 
     return OUTCOME_END;
 }
 
-/* Tells that another start of the editor took the session first. */
 static void tell_missed(void) {
     tell("another start of the editor has that session by now");
 }
 
-/* Takes over a session, unless another start of the editor holds it by now. */
-static enum outcome take(struct edit *edit, struct session *session, int *status) {
+static enum outcome take_over(struct edit *edit, struct session *session, int *status) {
     switch (session_lock(session, PART_PATH)) {
     case LOCK_TAKEN: return take_locked(edit, session, status);
     case LOCK_FAILED: *status = tell_unwritable(edit, session->error); return OUTCOME_END;
@@ -230,11 +222,10 @@ static enum outcome delete_session(const struct edit *edit, struct session *sess
     return OUTCOME_MISSED;
 }
 
-/* Does what the user chooses for an unfinished session. */
 static enum outcome ask_what_to_do(struct edit *edit, struct session *session, int *status) {
     tell("%s has an unfinished session of %s (keys typed: %zu)", shown(edit->file.typed), time_text(session), session_count_keys(session));
     switch (ask_choice()) {
-    case CHOICE_RECOVER: return take(edit, session, status);
+    case CHOICE_RECOVER: return take_over(edit, session, status);
     case CHOICE_LATER: return OUTCOME_OPENED;
     case CHOICE_DELETE: return delete_session(edit, session);
     default: *status = STATUS_NO; return OUTCOME_END;
@@ -278,7 +269,6 @@ static struct session *pick(struct found *found, bool *is_elsewhere) {
     return session_is_none(&found->elsewhere) ? NULL : &found->elsewhere;
 }
 
-/* Asks whether a session on another machine has ended. */
 static bool ask_of_elsewhere(const struct edit *edit, const struct session *session) {
     const char *machine = machine_text(session);
     tell("the session of %s began on %s, as process %s, and cannot be seen from here. It can be recovered where that has ended.",
@@ -286,14 +276,12 @@ static bool ask_of_elsewhere(const struct edit *edit, const struct session *sess
     return ask_to_go_on("Has it ended");
 }
 
-/* Finds FILE's sessions. */
 static int find_sessions(struct edit *edit, struct found *found) {
     int error = sessions_of(found, &edit->sessions, &edit->target);
     if (error != 0) warn("nothing can be written in %s", shown(edit->sessions.path));
     return error != 0 ? STATUS_FAULT : GO_ON;
 }
 
-/* Tries to recover one of the sessions that were found. */
 static enum outcome recover_found(struct edit *edit, struct found *found, int *status) {
     bool is_elsewhere;
     struct session *session = pick(found, &is_elsewhere);
@@ -304,7 +292,7 @@ static enum outcome recover_found(struct edit *edit, struct found *found, int *s
         return OUTCOME_END;
     }
     if (is_elsewhere && !ask_of_elsewhere(edit, session)) return OUTCOME_END;
-    return take(edit, session, status);
+    return take_over(edit, session, status);
 }
 
 int recover_session(struct edit *edit, bool *is_taken) {
@@ -340,7 +328,6 @@ static int text_to_store(struct edit *edit, const struct session *session) {
     return text;
 }
 
-/* Stores the text of a session that no other start has. */
 static int store(struct edit *edit, const struct session *session) {
     const char *other = edit->call->other;
     int text = text_to_store(edit, session);

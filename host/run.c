@@ -66,7 +66,6 @@ static void hear_words(struct run *run) {
     close_one(&now_running.pipes.words);
 }
 
-/* Takes note of the children that have ended. */
 static void reap(struct run *run) {
     int status = 0;
     if (now_running.program > 0 && waitpid(now_running.program, &now_running.program_status, WNOHANG) == now_running.program) {
@@ -94,7 +93,6 @@ static void mind_dropped(struct run *run) {
     if (run->on_saved) run->on_saved(run->whose);
 }
 
-/* Has a child serve the save that the program asks for. */
 static void mind_request(struct run *run) {
     int waiting = 0;
     /* the program's end is no request */
@@ -174,7 +172,6 @@ static void mind_size(void) {
     now_running.is_size_owed = !put_frame(&now_running.queue, FRAME_SIZE, bytes, sizeof bytes);
 }
 
-/* Takes note of signals for the window and of stops. */
 static void mind_terminal(void) {
     bool is_input = now_running.pipes.keys >= 0;
     if (is_input && is_continued) take_up_screen();
@@ -200,7 +197,6 @@ static void mind_second(struct run *run) {
     if (is_read && queue_length(&now_running.queue) == 0) put_frame(&now_running.queue, FRAME_SECOND, NULL, 0);
 }
 
-/* Hands on what waits. */
 static void mind_queue(void) {
     if (now_running.pipes.keys >= 0 && !write_queue(&now_running.queue, now_running.pipes.keys)) close_input();
 }

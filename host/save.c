@@ -21,7 +21,6 @@ enum { LOCK_TRIES = 50, LOCK_MS = 10 };
 
 /* ---- FILE and its folder, as they are now */
 
-/* Notes what is at FILE's name now. */
 static void note(struct save *save, const struct look *now) {
     struct stat opened;
     save->state.seen = *now;
@@ -70,7 +69,6 @@ static bool adopt(struct save *save, int folder) {
     return true;
 }
 
-/* Looks for the folder again that is gone. */
 static bool find_folder_again(struct save *save) {
     int folder = open_folder_path(save);
     if (folder < 0) return false;
@@ -119,7 +117,6 @@ static int check_place(struct save *save) {
 
 /* ---- the beginning */
 
-/* Finds why saves must not replace the FILE that is there. */
 static int find_reason(struct save *save, enum reason *reason) {
     struct facts facts, of_folder;
     int itself = open_itself(save->folder, save->file->name);
@@ -132,7 +129,6 @@ static int find_reason(struct save *save, enum reason *reason) {
     return 0;
 }
 
-/* Settles whether the save goes into FILE itself. */
 static int settle_way(struct save *save) {
     const struct saver *saver = save->saver;
     enum reason reason = NO_REASON;
@@ -202,7 +198,6 @@ static void note_replaced(struct save *save, const struct stat *before) {
     state->has_id = find_id(file, &state->id);
 }
 
-/* Puts the draft in FILE's place. */
 static enum placed place(struct save *save) {
     struct draft *draft = &save->draft;
     if (!save->is_there) return draft_create(draft, save->file->name);
@@ -234,7 +229,6 @@ static int replace(struct save *save) {
 
 /* ---- the end */
 
-/* Writes what waits, and gives the complete draft its rights. */
 static int complete(struct save *save) {
     const struct state *state = &save->state;
     int error = draft_flush(&save->draft);
@@ -305,8 +299,7 @@ static _Noreturn void give_up(struct save *save) {
     _exit(1);
 }
 
-/* Does what a frame asks for. */
-static void obey(struct save *save, const struct frame *frame, int answer) {
+static void obey_frame(struct save *save, const struct frame *frame, int answer) {
     int cause = 0;
     switch (frame->letter) {
     case FRAME_BEGIN:
@@ -334,7 +327,7 @@ static _Noreturn void serve(struct save *save, int request, int answer) {
         if (count > 0) length += (size_t)count;
         struct frame frame;
         size_t done = 0;
-        for (size_t size; (size = find_frame(room + done, length - done, &frame)) > 0; done += size) obey(save, &frame, answer);
+        for (size_t size; (size = find_frame(room + done, length - done, &frame)) > 0; done += size) obey_frame(save, &frame, answer);
         length -= done;
         memmove(room, room + done, length);
     }

@@ -4,7 +4,6 @@
 
 enum { SET_IDS = 06000, ALL_BITS = 07777, GROUP_BITS = 070, OTHERS_BITS = 07 };
 
-/* Why a file that the user can write must not be replaced. */
 static enum reason reason_for(const struct facts *file, nlink_t names, const struct facts *folder) {
     if (!folder->writable || file->is_held_by_folder) return REASON_PROTECTED;
     if (file->is_mount) return REASON_MOUNTED;
@@ -74,7 +73,6 @@ bool has_same_text(const struct stat *one, const struct stat *other) {
     return one->st_size == other->st_size && is_same_time(one->st_mtim, other->st_mtim);
 }
 
-/* Whether all but the time of change is the same. */
 static bool is_alike(const struct stat *one, const struct stat *other) {
     return is_same_file(one, other) && has_same_text(one, other) && one->st_mode == other->st_mode && one->st_uid == other->st_uid && one->st_gid == other->st_gid &&
            one->st_nlink == other->st_nlink;

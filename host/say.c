@@ -24,7 +24,6 @@ static struct text *texts;
 bool is_telling_limited;
 int output_fault;
 
-/* Writes a text as long as the file takes it. */
 static bool put_whole(int file, const char *text, size_t length) {
     while (length > 0) {
         struct pollfd room = {.fd = file, .events = POLLOUT};
@@ -158,7 +157,6 @@ static enum style style_of(const char *name, size_t length) {
     return style;
 }
 
-/* Writes the numbers of these bytes, in octal. */
 static char *put_numbers(char *at, const char *bytes, size_t count) {
     for (size_t i = 0; i < count; i++) {
         unsigned byte = (unsigned char)bytes[i];

@@ -88,8 +88,7 @@ bool versions_look(const char *version, const char *const *files, size_t count, 
 
 /* ---- the folder, and its locks */
 
-/* A name of the time and of letters that nobody can foresee. */
-static bool make_name(char name[64]) {
+static bool make_session_name(char name[64]) {
     static const char alphabet[] = "abcdefghijklmnopqrstuvwxyz234567";
     struct timespec now;
     struct tm parts;
@@ -112,7 +111,7 @@ bool session_at(struct session *session, const struct sessions *sessions, const 
 static int make_folder(struct session *session, const struct sessions *sessions) {
     char name[64];
     for (int tries = 0; tries < NAME_TRIES; tries++) {
-        if (!make_name(name)) return EIO;
+        if (!make_session_name(name)) return EIO;
         if (mkdirat(sessions->folder, name, FOLDER_MODE) == 0) {
             if (session_at(session, sessions, name)) return 0;
             unlinkat(sessions->folder, name, AT_REMOVEDIR);
@@ -210,7 +209,6 @@ enum lock_result session_lock(struct session *session, enum part part) {
 
 /* ---- a new session */
 
-/* Remembers what a new session notes. */
 static int keep_notes(struct session *session, const struct opening *opening) {
     char words[MOST_WORDS];
     const struct target *target = opening->target;

@@ -127,7 +127,6 @@ mode_t mode_of(const char *words) {
 
 /* ---- names and owners */
 
-/* Whether a text begins with so many characters of a set. */
 static bool begins_with(const char *text, size_t count, const char *set) {
     return strspn(text, set) >= count;
 }
@@ -237,7 +236,6 @@ static void begin_key(struct key_count *count, unsigned char byte) {
     count->after = behind_first(byte);
 }
 
-/* Takes keys back that turn out to be none. */
 static void take_back(struct key_count *count, size_t keys) {
     count->keys = count->keys > keys ? count->keys - keys : 0;
 }

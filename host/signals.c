@@ -44,20 +44,20 @@ static void note_waking(int number) {
 }
 
 /* Whether a write of the host's own is the cause, or its timer. */
-static bool is_own(int number, const siginfo_t *info) {
+static bool is_own_signal(int number, const siginfo_t *info) {
     if (number == SIGALRM) return info->si_code == SI_KERNEL;
     return (number == SIGPIPE || number == SIGXFSZ) && info->si_pid == getpid();
 }
 
 static void note_ending(int number, siginfo_t *info, void *context) {
     (void)context;
-    if (!is_own(number, info)) note_end(number);
+    if (!is_own_signal(number, info)) note_end(number);
 }
 
 /* Before signals are caught they end the host, but for those of its own writes. */
 static void die_unless_own(int number, siginfo_t *info, void *context) {
     (void)context;
-    if (!is_own(number, info)) die_from(number);
+    if (!is_own_signal(number, info)) die_from(number);
 }
 
 /* Has a signal of the end handled, but not one that the caller has ignored. */
@@ -78,7 +78,6 @@ static void handle_waking(int number) {
     sigaction(number, &action, NULL);
 }
 
-/* Blocks signals but in waits. */
 static void block(const int *numbers, size_t count) {
     sigset_t mask;
     sigemptyset(&mask);
@@ -172,7 +171,6 @@ void write_ready(int file, const char *text, size_t length, int64_t limit, bool 
     }
 }
 
-/* Unblocks SIGALRM, by which the host's own timer rings, or blocks it again. */
 static void let_timer_in(bool is_let) {
     sigset_t mask;
     sigemptyset(&mask);

@@ -230,7 +230,6 @@ void note_own_word(char *word) {
     own_word = word;
 }
 
-/* Exchanges the bytes of the own word for these, as many as it has. */
 static void set_own_word(const char *bytes, size_t length) {
     for (size_t i = 0; i < length; i++) own_word[i] = bytes[i];
 }
@@ -251,7 +250,6 @@ static pid_t fork_under_name(void) {
     return child;
 }
 
-/* Waits until a pipe's last writer is gone, or the time is over. */
 static bool ends_before(int file, int64_t end) {
     char bytes[512];
     while (now() < end) {

@@ -8,6 +8,7 @@
 #include <string.h>
 #include <sys/ioctl.h>
 #include <sys/random.h>
+#include <sys/stat.h>
 #include <sys/syscall.h>
 #include <unistd.h>
 
@@ -48,6 +49,11 @@ int open_folder(int above, const char *path) {
 
 int open_itself(int folder, const char *name) {
     return openat(folder, name, O_PATH | O_NOFOLLOW | O_CLOEXEC);
+}
+
+bool is_folder(const char *path) {
+    struct stat look;
+    return stat(path, &look) == 0 && S_ISDIR(look.st_mode);
 }
 
 struct link link_of(int file) {

@@ -19,6 +19,8 @@ void close_others(const int *kept, size_t count);
 int open_folder(int above, const char *path);
 int open_itself(int folder, const char *name);
 
+bool is_folder(const char *path);
+
 /* The path of an open file, for calls that take no O_PATH and for other programs. */
 struct link {
     char path[32];

@@ -61,7 +61,6 @@ int direction_of(const char *word) {
     return -1;
 }
 
-/* The line that `count` digits name. Returns false where they are not digits. */
 static bool line_of_digits(const char *digits, size_t count, unsigned long *line) {
     unsigned long number = 0;
     for (size_t i = 0; i < count; i++) {
@@ -153,7 +152,6 @@ static void take_plus(struct reading *reading, const char *words) {
     else if (line_of_digits(words, strcspn(words, ",:"), &line)) reading->call->line = line_option(line);
 }
 
-/* Takes an option of one word. Returns false where it is none. */
 static bool take_option(struct reading *reading, const char *word) {
     /* no new window, wait for the end: of other editors */
     static const char *const ignored[] = {"-f", "-w", "-nw", "--nofork", "--wait", NULL};
@@ -209,7 +207,6 @@ static void take_files(struct reading *reading, int count, char *const *words) {
     else reading->file = words[0];
 }
 
-/* Takes all words. */
 static void take_words(struct reading *reading, int count, char *const *words) {
     for (int taken; count > 0 && !reading->cause; count -= taken, words += taken) {
         const char *word = words[0];
@@ -288,7 +285,6 @@ static bool is_readable(const char *path) {
     return is_file;
 }
 
-/* Finds the files in a folder. Returns false where one of the first three cannot be read. */
 static bool find_tables_in(struct tables *tables, const char *folder) {
     /* one folder deeper in Unicode's own tree */
     tables->classes = text_of("%s/extracted/DerivedBidiClass.txt", folder);
