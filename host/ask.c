@@ -20,30 +20,18 @@
 /* A terminal takes no longer line than that. */
 enum { MOST_LINE = 4096 };
 
-static bool wait_for_line(short events) {
-    struct pollfd wanted = {.fd = line, .events = events};
-    return poll(&wanted, 1, -1) >= 0 || errno == EINTR;
-}
-
-static void put(const char *text) {
-    for (size_t left = strlen(text); left > 0;) {
-        ssize_t count = write(line, text, left);
-        if (count < 0 && errno != EAGAIN && errno != EINTR) return;
-        if (count < 0 && !wait_for_line(POLLOUT)) return;
-        if (count <= 0) continue;
-        text += count;
-        left -= (size_t)count;
-    }
-}
-
 /* Reads one line, without its end and NUL. Returns false where the input ends before: then there is no answer. */
 static bool read_answer(char answer[MOST_LINE]) {
     size_t length = 0;
     while (length < MOST_LINE) {
         ssize_t count = read(line, answer + length, 1);
         if (count == 0 || (count < 0 && errno != EAGAIN && errno != EINTR)) return false;
-        if (count < 0 && !wait_for_line(POLLIN)) return false;
-        if (count <= 0) continue;
+        if (count < 0) {
+            /* signals end the host here, since none is caught yet */
+            struct pollfd wanted = {.fd = line, .events = POLLIN};
+            poll(&wanted, 1, -1);
+            continue;
+        }
         if (answer[length] == '\n') {
             answer[length] = 0;
             return true;
@@ -66,10 +54,9 @@ static const char *small(char *answer) {
 static const char *ask(const char *question) {
     static char answer[MOST_LINE];
     tcflush(line, TCIFLUSH);
-    put(question);
-    put(" ");
+    put_text(line, text_of("%s ", question));
     if (read_answer(answer)) return small(answer);
-    put("\n");
+    put_text(line, "\n");
     return NULL;
 }
 

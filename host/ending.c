@@ -62,21 +62,9 @@ enum replayed replay(struct edit *edit, const struct session *session, int *text
     return replayed;
 }
 
-static bool has_same_bytes(int one, int other) {
-    static char pieces[2][65536];
-    off_t place = 0;
-    for (;;) {
-        ssize_t count = pread(one, pieces[0], sizeof pieces[0], place);
-        if (count < 0 || pread(other, pieces[1], sizeof pieces[1], place) != count) return false;
-        if (count == 0) return true;
-        if (memcmp(pieces[0], pieces[1], (size_t)count) != 0) return false;
-        place += count;
-    }
-}
-
 static bool is_in_part(const struct edit *edit, const struct session *session, enum part part) {
     int file = session_open(session, part);
-    bool is_same = file >= 0 && has_same_bytes(file, edit->file.text);
+    bool is_same = file >= 0 && judge_file(file, edit->file.text) == FILE_WHOLE;
     if (file >= 0) close(file);
     return is_same;
 }

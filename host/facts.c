@@ -152,14 +152,12 @@ bool is_in_memory(int at) {
 }
 
 /* Root may take the reserve too. */
-static uint64_t room_in(const struct statvfs *look) {
-    uint64_t blocks = geteuid() == 0 ? look->f_bfree : look->f_bavail, room = 0;
-    return __builtin_mul_overflow(blocks, (uint64_t)look->f_frsize, &room) ? UINT64_MAX : room;
-}
-
 uint64_t free_room(int at) {
     struct statvfs look;
-    return fstatvfs(at, &look) == 0 ? room_in(&look) : 0;
+    uint64_t room = 0;
+    if (fstatvfs(at, &look) != 0) return 0;
+    uint64_t blocks = geteuid() == 0 ? look.f_bfree : look.f_bavail;
+    return __builtin_mul_overflow(blocks, (uint64_t)look.f_frsize, &room) ? UINT64_MAX : room;
 }
 
 static bool is_held_by_folder(int at, int folder) {
@@ -175,10 +173,7 @@ static void find_common_facts(int at, struct facts *facts) {
     facts->readable = may_access(at, R_OK);
     facts->writable = may_access(at, W_OK);
     facts->searchable = may_access(at, X_OK);
-    facts->in_memory = is_in_memory(at);
-    if (fstatvfs(at, &look) != 0) return;
-    facts->free_room = room_in(&look);
-    if (look.f_namemax > 0) facts->longest_name = look.f_namemax;
+    if (fstatvfs(at, &look) == 0 && look.f_namemax > 0) facts->longest_name = look.f_namemax;
 }
 
 void find_facts(int at, int folder, struct facts *facts) {

@@ -23,14 +23,14 @@ struct facts {
     bool has_access_list, gives_access_lists;
     /* It has a security label other than its folder's, capabilities, or another attribute that only root sets. */
     bool has_label;
-    /* It is the root of a mount; its file system is in memory. */
-    bool is_mount, in_memory;
+    /* It is the root of a mount. */
+    bool is_mount;
     /* The sticky bit of its folder lets only another user replace it, as in /tmp. */
     bool is_held_by_folder;
     /* The system did not tell of lists or labels. */
     bool is_unsure;
-    /* The bytes of the longest name, and those that the user may still write there. */
-    uint64_t longest_name, free_room;
+    /* The bytes of the longest name. */
+    uint64_t longest_name;
 };
 
 /* The facts about a file that is open (O_PATH is enough), and about its folder. */

@@ -270,8 +270,7 @@ static void compare_piece(void *context, const char *bytes, size_t size) {
     }
 }
 
-/* What an open file has beside an open mark; FILE_OTHER where it cannot be read or is no plain file. One that is longer is not read. */
-static enum verdict judge_file(int file, int mark) {
+enum verdict judge_file(int file, int mark) {
     struct stat of_file, of_mark;
     struct comparing comparing = {.mark = mark, .is_read = true};
     if (fstat(file, &of_file) != 0 || fstat(mark, &of_mark) != 0 || !S_ISREG(of_file.st_mode)) return FILE_OTHER;

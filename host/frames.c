@@ -24,26 +24,6 @@ size_t find_frame(const unsigned char *held, size_t length, struct frame *frame)
     return FRAME_HEAD + frame->length;
 }
 
-static bool read_all(int file, unsigned char *bytes, size_t length) {
-    while (length > 0) {
-        ssize_t count = read(file, bytes, length);
-        if (count == 0 || (count < 0 && errno != EINTR)) return false;
-        if (count < 0) continue;
-        bytes += count;
-        length -= (size_t)count;
-    }
-    return true;
-}
-
-bool read_frame(int file, unsigned char *room, struct frame *frame) {
-    unsigned char head[FRAME_HEAD];
-    if (!read_all(file, head, sizeof head)) return false;
-    frame->letter = (char)head[0];
-    frame->bytes = room;
-    frame->length = length_in(head);
-    return read_all(file, room, frame->length);
-}
-
 bool write_frame(int file, enum frame_letter letter, const void *bytes, size_t length) {
     unsigned char head[FRAME_HEAD];
     if (length > FRAME_MOST) return false;

@@ -76,10 +76,6 @@ struct frame {
 /* Gives the frame at the start of the held bytes. Returns its length with its head, or 0 where it is not whole. */
 size_t find_frame(const unsigned char *held, size_t length, struct frame *frame);
 
-/* Reads one frame from a file that blocks, with its bytes into `room`, which has FRAME_MOST. Returns false at the file's end, at a
- * fault, or within a frame. */
-bool read_frame(int file, unsigned char *room, struct frame *frame);
-
 /* Writes one frame to a file that blocks. Returns false at a fault. */
 bool write_frame(int file, enum frame_letter letter, const void *bytes, size_t length);
 

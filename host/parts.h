@@ -59,6 +59,10 @@ void remove_folder(const struct session *session, const char *name);
 /* Ends the child that writes, at once. */
 void end_child(struct session *session);
 
+/* What an open file has beside an open mark; FILE_OTHER where one cannot be read or is no plain file. One that is longer than the
+ * mark is not read. */
+enum verdict judge_file(int file, int mark);
+
 /* Calls `visit` for each folder in the folder of sessions, the oldest first, until it returns false. The session is closed after
  * the visit, unless it was moved. */
 int each_folder(const struct sessions *sessions, bool (*visit)(void *, struct session *, enum name_kind), void *context);

@@ -1,5 +1,6 @@
 #include <errno.h>
 #include <fcntl.h>
+#include <mntent.h>
 #include <pwd.h>
 #include <stdarg.h>
 #include <stdio.h>
@@ -382,37 +383,13 @@ static void add_state_and_temporary(struct list *list) {
     for (size_t at = 0; at < TEMPORARY; at++) add_own_folder_in(list, folders[at]);
 }
 
-/* Turns octal numbers behind backslashes into bytes, as the kernel's table of mounts has them for blanks and the like. */
-static void decode(char *path) {
-    char *to = path;
-    for (const char *from = path; *from; to++) {
-        unsigned byte;
-        int length = 0;
-        if (from[0] == '\\' && sscanf(from + 1, "%3o%n", &byte, &length) == 1 && length == 3 && byte < 256) {
-            *to = (char)byte;
-            from += 4;
-        } else {
-            *to = *from++;
-        }
-    }
-    *to = '\0';
-}
-
 /* Adds the folders at which file systems in memory are mounted. */
 static void add_memory(struct list *list) {
-    FILE *table = fopen("/proc/mounts", "re");
-    char *line = NULL;
-    size_t room = 0;
-    while (table && getline(&line, &room, table) > 0) {
-        char *rest = NULL;
-        strtok_r(line, " ", &rest);
-        char *folder = strtok_r(NULL, " ", &rest), *type = strtok_r(NULL, " ", &rest);
-        if (!folder || !type || (strcmp(type, "tmpfs") != 0 && strcmp(type, "ramfs") != 0)) continue;
-        decode(folder);
-        add_own_folder_in(list, folder);
-    }
-    free(line);
-    if (table) fclose(table);
+    FILE *table = setmntent("/proc/mounts", "re");
+    const struct mntent *entry;
+    while (table && (entry = getmntent(table)))
+        if (strcmp(entry->mnt_type, "tmpfs") == 0 || strcmp(entry->mnt_type, "ramfs") == 0) add_own_folder_in(list, entry->mnt_dir);
+    if (table) endmntent(table);
 }
 
 size_t sessions_find_all(struct sessions **all) {

@@ -106,6 +106,7 @@ static void mind_request(struct run *run) {
     }
     pid_t child = saver_start(run->saver, now_running.pipes.requests, now_running.pipes.answers);
     if (child > 0) now_running.saver = watched->saver = child;
+    else now_running.dropped = now() + SILENCE_MS;
 }
 
 static bool takes_typing(void) {

@@ -363,19 +363,10 @@ void saver_distrust(struct saver *saver) {
     current(saver)->is_distrusted = true;
 }
 
-/* Fails a save for which there is no child. */
-static void refuse_save(int request, int answer) {
-    static unsigned char room[FRAME_MOST];
-    unsigned char cause = SAVE_OTHER;
-    struct frame frame;
-    if (read_frame(request, room, &frame)) write_frame(answer, FRAME_FAILED, &cause, 1);
-}
-
 pid_t saver_start(struct saver *saver, int request, int answer) {
     current(saver)->is_over = false;
     saver->answer = answer;
     pid_t child = fork();
-    if (child < 0) refuse_save(request, answer);
     if (child != 0) return child;
     become_child(saver, request, answer);
     static struct save save;

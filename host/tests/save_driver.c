@@ -6,6 +6,7 @@
  *   torn           the name of the mark, `-` without one, `=` for the one in the folder
  *   facts          reason for saves in place
  * Exit status 1: FILE was refused; 2: usage. */
+#include <errno.h>
 #include <fcntl.h>
 #include <poll.h>
 #include <stdio.h>
@@ -17,6 +18,27 @@
 #include "../frames.h"
 #include "../save.h"
 #include "../save_judge.h"
+
+/* Reads one frame from a pipe. Returns false at its end. */
+static bool read_all(int file, unsigned char *bytes, size_t length) {
+    while (length > 0) {
+        ssize_t count = read(file, bytes, length);
+        if (count == 0 || (count < 0 && errno != EINTR)) return false;
+        if (count < 0) continue;
+        bytes += count;
+        length -= (size_t)count;
+    }
+    return true;
+}
+
+static bool read_frame(int file, unsigned char *room, struct frame *frame) {
+    unsigned char head[FRAME_HEAD];
+    if (!read_all(file, head, sizeof head)) return false;
+    frame->letter = (char)head[0];
+    frame->bytes = room;
+    frame->length = ((size_t)head[1] << 8 | head[2]);
+    return read_all(file, room, frame->length);
+}
 
 /* The words of causes, by number. */
 static const char *const causes[] = {
