@@ -268,7 +268,7 @@ break_off() { # ROW WORDS KEY..
         kill -s KILL "$(program_under "$process")"
         expect "$scene" "$words"
     else
-        # the host first, which else may tell the keeper how the program ended
+        # the host first, which else sees how the program ended, and tells it
         kill -s KILL "$(ps -o pid= --ppid "$process" | tr -d ' ')" "$(program_under "$process")"
         # the watcher gives the terminal back
         wait_for 150 shows_shell
@@ -292,7 +292,7 @@ is_asked_again() {
     [ "$(terminal capture-pane -p -J -t shell | grep -oF '[l]ater?' | wc -l)" = 2 ]
 }
 
-# A surviving keeper sees that all is saved.
+# A surviving host sees that all is saved.
 scene_all_is_saved() {
     break_off '- 1:2 saved' 'the editor was ended by the signal' x C-s && say bidi-edit text && wait_for 150 has_row shell '- 1:1' &&
         end_by_keys C-q && say 'ls state/bidi_edit | wc -l' && expect "$scene" 0

@@ -1,15 +1,13 @@
 #!/bin/sh
-# check-statuses.sh: runs the built programs bidi_edit and bidi_input to each of their ends, and compares the exit status, the line
-# on standard error and the saved file with the manual. The last line has the totals. Exit status 1: one differs, or a program is
-# not built.
+# check-statuses.sh: runs the built program bidi_edit to each of its ends, with keys and with the host's frames, and compares the exit
+# status, the line on standard error and the saved file with the manual. The last line has the totals. Exit status 1: one differs, or
+# the program is not built.
 set -u
 
 cd "$(dirname "$0")/.." || exit 1
 top=$(pwd)
 # shellcheck source=scripts/built.sh
 . "$top/scripts/built.sh"
-find_built bidi_input
-filter=$program
 find_built bidi_edit
 editor=$program
 
@@ -113,10 +111,14 @@ status=$?
 ended input_failed 1 'bidi_edit: input failed'
 run
 ended no_file 2 'error: '
-run --in-place mark text
-ended in_place_without_journal 2 'error: '
-run --itself --replay keys --to text.out text
-ended itself_elsewhere 2 'error: '
+run --saves 3,4 text
+ended saves_without_frames 2 'error: '
+run --erase 7f text
+ended erase_without_frames 2 'error: '
+run --replay keys --against text text
+ended against_without_to 2 'error: '
+run --text keys --new text
+ended text_and_new 2 'error: '
 run --rows 501 text
 ended rows_past_500 2 'error: '
 run --direction up text
@@ -223,19 +225,31 @@ cp opened resumed
 run --text opened --replay journal resumed
 ended typing_goes_on 0 ''
 
-# The input filter. Sequences cut off by the input's end are passed on.
-printf '\033[7~a\033[1;' | "$filter" >written 2>told
-status=$?
-ended filter_input_ends 0 ''
-[ "$(cat -v written)" = '^[[Ha^[[1;' ] || { failed=$((failed + 1)); echo "FAILS filter_input_ends: $(cat -v written)"; }
-"$filter" <"$folder" >written 2>told
-status=$?
-ended filter_input_failed 1 'bidi_input: input failed'
-if [ -w /dev/full ]; then
-    echo a | "$filter" >/dev/full 2>told
-    status=$?
-    ended filter_output_failed 1 'bidi_input: output failed'
-fi
+# Runs the program with frames as input, and checks the status, its own frames, and the journal, with escapes as ^[.
+framed() { # NAME FRAMES STATUS TOLD JOURNAL WORD..
+    name=$1 wanted=$3 wanted_frames=$4 wanted_journal=$5
+    # shellcheck disable=SC2059 # frames are written as escapes
+    printf "$2" >keys
+    shift 5
+    rm -f kept_keys
+    run --frames --journal kept_keys "$@" framed
+    if [ "$status $(tr -d '\000-\037' <told) $(cat -v kept_keys)" = "$wanted $wanted_frames $wanted_journal" ]; then
+        passed=$((passed + 1))
+        echo "ok $name"
+    else
+        failed=$((failed + 1))
+        echo "FAILS $name: status $status, '$(cat -v told)', '$(cat -v kept_keys)'"
+    fi
+}
+
+# a sequence that the input's end cuts off is passed on
+framed keys_of_terminals 'b\000\010a\033[7~z\033[' 1 oeunsaved 'a^[[Hz^[['
+framed second_quit 'b\000\002x\021b\000\001\021' 0 oedropped 'x'
+framed lone_escape 'b\000\001\033i\000\000b\000\001a' 1 oeunsaved '^[[93~a'
+framed a_size_within_a_letter 'b\000\001\327z\000\004\000\003\000\024b\000\001\220' 1 oeunsaved "^[[8;3;20t$(printf '\327\220' | cat -v)"
+framed a_notice 'b\000\001an\000\001\003s\000\000' 1 oeunsaved 'a^[[>3~'
+framed erase_is_delete 'b\000\003\010xy' 1 oeunsaved '^[[88~xy' --erase 7f
+framed erase_is_backspace 'b\000\003\010xy' 1 oeunsaved '^[[94~xy' --erase 08
 
 echo "$passed passed, $failed failed"
 [ "$failed" = 0 ]
