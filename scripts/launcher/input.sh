@@ -15,15 +15,21 @@ journal() {
     cat "$folder"/state/bidi_edit/*/journal 2>/dev/null
 }
 
-# Starts the editor with a new FILE, and waits until its keys are kept.
+# Prints the same once it has bytes and gets no more for half a second, or after ten seconds.
+settled_journal() {
+    for _ in 1 2 3 4 5 6 7 8 9 10 11 12 13 14 15 16 17 18 19 20; do
+        kept=$(journal | wc -c)
+        sleep 0.5
+        [ "$kept" = 0 ] || [ "$(journal | wc -c)" != "$kept" ] || break
+    done
+    journal
+}
+
+# Starts the editor with a new FILE, and waits until it is there.
 start_kept() {
     rm -f note
     start 8 50 "$top/bidi-edit" note
-    wait_for 50 is_kept
-}
-
-is_kept() {
-    ls "$folder"/state/bidi_edit/*/journal >/dev/null 2>&1
+    wait_for 100 shows '- 1:1'
 }
 
 # Whether the journal of the session is this long at least.
@@ -34,7 +40,7 @@ has_kept() { # BYTES
 # Ends the editor, whose text is not saved, and which may ask something.
 drop() { # NAME
     send_signal TERM '.*bidi-edit note'
-    finish "$1" 143 50
+    finish "$1" 143 100
     rm -f note
 }
 
@@ -90,8 +96,7 @@ check_terminal_keys() {
     done >"$folder/keys"
     start_kept
     type_bytes "$folder/keys"
-    sleep 0.5
-    journal >"$folder/record"
+    settled_journal >"$folder/record"
     drop 'input, keys'
     terminal_keys >"$folder/table"
     line=0
@@ -112,7 +117,7 @@ check_cut_keys() {
         type_bytes "$folder/keys"
         sleep 0.2
     done
-    same 'input, keys that come byte by byte' "$(journal | cat -v)" 'a^[[96~^[[81~^[[Db^[[93~c'
+    same 'input, keys that come byte by byte' "$(settled_journal | cat -v)" 'a^[[96~^[[81~^[[Db^[[93~c'
     drop 'input, cut'
 }
 
@@ -124,8 +129,7 @@ check_erase_character() {
         start_kept
         printf '\177\010\033\177\033\010' >"$folder/keys"
         type_bytes "$folder/keys"
-        sleep 0.5
-        journal >"$folder/record"
+        settled_journal >"$folder/record"
         drop "input, erase $erase"
         if [ "$erase" = '^?' ]; then wanted_keys='^[[94~^[[88~^[[88~^[[88~'; else wanted_keys='^[[94~^[[94~^[[88~^[[88~'; fi
         same "input, erase $erase: Backspace" "$(cat -v "$folder/record")" "$wanted_keys"
@@ -190,8 +194,7 @@ check_marks() {
     printf 'one\ntwo\023\021\021' >"$folder/keys"
     terminal load-buffer -b bytes "$folder/keys"
     terminal paste-buffer -d -p -b bytes -t person
-    sleep 0.3
-    same 'input, a paste of tmux' "$(journal | cat -v)" "$(printf '^[[90~one\ntwo^[[91~')"
+    same 'input, a paste of tmux' "$(settled_journal | cat -v)" "$(printf '^[[90~one\ntwo^[[91~')"
     drop 'input, marks'
     has 'input, pastes asked for' "$(written)" '^[[?2004h'
     has 'input, and given back' "$(written)" '^[[?2004l^[[0m'
