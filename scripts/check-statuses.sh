@@ -155,7 +155,7 @@ ended word_not_utf8 2 'bidi_edit: a word is not UTF-8'
 # Lines of Unicode's files that are refused: the first refused line of the first file is told, even where FILE is refused too.
 : >none
 refuse_line() { # NAME LINE CLASSES BRACKETS MIRRORING [JOINING CHARACTERS]
-    name=$1 line=$2
+    name=$1 refusal=$2
     shift 2
     number=0
     for content; do
@@ -167,7 +167,7 @@ refuse_line() { # NAME LINE CLASSES BRACKETS MIRRORING [JOINING CHARACTERS]
     for file in not-there bad; do
         "$editor" --rows 1 --cols 5 "$@" "$file" <none >screen 2>told
         status=$?
-        ended "$name $file" 1 "bidi_edit: $line"
+        ended "$name $file" 1 "bidi_edit: $refusal"
     done
 }
 refuse_line a_field_is_missing 'classes line 1: bad line' 0041 '' ''
