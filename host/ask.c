@@ -164,15 +164,13 @@ static const char *note_of(const struct session *session) {
     return state == SESSION_DROPPED ? " (dropped)" : "";
 }
 
-static bool list_session(void *context, struct session *session) {
-    (void)context;
-    if (!session_has_something(session)) return true;
+static void list_session(const struct session *session) {
+    if (!session_has_something(session)) return;
     char *path = session_note(session, PART_PATH);
     const char *line = text_of("%s  keys: %zu  KB: %llu  %s%s\n", time_text(session), session_count_keys(session),
                                (unsigned long long)session_kilobytes(session), shown(path ? path : ""), note_of(session));
     free(path);
     put_text(STDOUT_FILENO, line);
-    return true;
 }
 
 /* Whether a folder of sessions can be used. Tells of one that others could change. */
@@ -185,8 +183,13 @@ static bool is_usable(const struct sessions *sessions) {
 int list_sessions(void) {
     struct sessions *all;
     size_t count = sessions_find_all(&all);
-    for (size_t i = 0; i < count; i++)
-        if (is_usable(&all[i])) sessions_each(&all[i], list_session, NULL);
+    for (size_t i = 0; i < count; i++) {
+        struct walk walk;
+        if (!is_usable(&all[i])) continue;
+        walk_begin(&walk, &all[i]);
+        while (walk_next_own(&walk)) list_session(&walk.session);
+        walk_end(&walk);
+    }
     sessions_close_all(all, count);
     return 0;
 }

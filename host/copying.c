@@ -312,7 +312,8 @@ enum keeping session_mind(struct session *session) {
         look_after(session);
         session_fill(session);
     }
-    facts.is_copying = session->report >= 0 && seconds_now() - session->since < LATE;
+    /* a child that tries again after a fault is not known to succeed */
+    facts.is_copying = session->report >= 0 && session->error == 0 && seconds_now() - session->since < LATE;
     facts.is_filled = is_whole(session);
     facts.is_changed = session->is_changed;
     facts.is_behind = session->is_mirror_behind;

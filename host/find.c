@@ -24,36 +24,33 @@ static int order(const struct dirent **one, const struct dirent **other) {
     return strcmp((*one)->d_name, (*other)->d_name);
 }
 
-int each_folder(const struct sessions *sessions, bool (*visit)(void *, struct session *, enum name_kind), void *context) {
-    struct dirent **names = NULL;
-    struct session session;
-    bool goes_on = true;
-    int count = sessions->folder < 0 ? 0 : scandirat(sessions->folder, ".", &names, is_of_editor, order);
-    if (count < 0) return errno;
-    for (int at = 0; at < count; at++) {
-        if (goes_on && session_at(&session, sessions, names[at]->d_name)) {
-            goes_on = visit(context, &session, kind_of_name(names[at]->d_name));
-            session_close(&session);
-        }
-        free(names[at]);
+int walk_begin(struct walk *walk, const struct sessions *sessions) {
+    *walk = (struct walk){.sessions = sessions};
+    session_clear(&walk->session);
+    if (sessions->folder >= 0) walk->count = scandirat(sessions->folder, ".", &walk->names, is_of_editor, order);
+    return walk->count < 0 ? errno : 0;
+}
+
+bool walk_next(struct walk *walk) {
+    session_close(&walk->session);
+    while (walk->next < walk->count) {
+        const char *name = walk->names[walk->next++]->d_name;
+        walk->kind = kind_of_name(name);
+        if (session_at(&walk->session, walk->sessions, name)) return true;
     }
-    free(names);
-    return 0;
+    return false;
 }
 
-struct visit {
-    bool (*visit)(void *, struct session *);
-    void *context;
-};
-
-static bool visit_own(void *context, struct session *session, enum name_kind kind) {
-    const struct visit *visit = context;
-    return kind != NAME_SESSION || !session_is_own(session) || visit->visit(visit->context, session);
+bool walk_next_own(struct walk *walk) {
+    while (walk_next(walk))
+        if (walk->kind == NAME_SESSION && session_is_own(&walk->session)) return true;
+    return false;
 }
 
-int sessions_each(const struct sessions *sessions, bool (*visit)(void *, struct session *), void *context) {
-    struct visit own = {.visit = visit, .context = context};
-    return each_folder(sessions, visit_own, &own);
+void walk_end(struct walk *walk) {
+    session_close(&walk->session);
+    for (int at = 0; at < walk->count; at++) free(walk->names[at]);
+    free(walk->names);
 }
 
 /* ---- whose a session is */
@@ -105,11 +102,6 @@ enum session_state session_state(const struct session *session) {
 
 /* ---- the sessions of a file */
 
-struct search {
-    struct found *found;
-    const struct target *target;
-};
-
 /* Takes a session in, in place of an older one of its kind; removes an empty one. */
 static void take_session(struct found *found, struct session *session, enum session_state state) {
     switch (state) {
@@ -122,14 +114,19 @@ static void take_session(struct found *found, struct session *session, enum sess
     }
 }
 
-static bool take_if_own(void *context, struct session *session, enum name_kind kind) {
-    const struct search *search = context;
-    if (kind != NAME_SESSION) return true;
-    enum belonging belonging = session_belonging(session, search->target);
-    if (belonging == BELONGS_NOT || !session_is_own(session)) return true;
-    enum session_state state = session_state(session);
-    if (counts_as_own(belonging, state)) take_session(search->found, session, state);
-    return true;
+/* Takes in what a folder has of FILE's. Returns the fault of one that cannot be read. */
+static int search(struct found *found, const struct sessions *sessions, const struct target *target) {
+    struct walk walk;
+    int error = walk_begin(&walk, sessions);
+    while (walk_next(&walk)) {
+        if (walk.kind != NAME_SESSION) continue;
+        enum belonging belonging = session_belonging(&walk.session, target);
+        if (belonging == BELONGS_NOT || !session_is_own(&walk.session)) continue;
+        enum session_state state = session_state(&walk.session);
+        if (counts_as_own(belonging, state)) take_session(found, &walk.session, state);
+    }
+    walk_end(&walk);
+    return error;
 }
 
 static void take_missing(struct session *to, struct session *from) {
@@ -152,15 +149,13 @@ void found_close(struct found *found) {
 
 int sessions_of(struct found *found, const struct sessions *sessions, const struct target *target) {
     struct found more;
-    struct search search = {.found = found, .target = target};
     struct sessions *others;
     found_clear(found);
-    int error = each_folder(sessions, take_if_own, &search);
+    int error = search(found, sessions, target);
     size_t count = sessions_find_near(sessions, &others);
     for (size_t at = 0; at < count; at++) {
         found_clear(&more);
-        search.found = &more;
-        each_folder(&others[at], take_if_own, &search);
+        search(&more, &others[at], target);
         take_missing(&found->live, &more.live);
         take_missing(&found->elsewhere, &more.elsewhere);
         take_missing(&found->unfinished, &more.unfinished);
@@ -179,40 +174,29 @@ static bool is_old(const struct session *session) {
     return fstat(session->folder, &found) == 0 && clock_gettime(CLOCK_REALTIME, &now) == 0 && now.tv_sec - found.st_mtim.tv_sec >= HOUR;
 }
 
-static bool sweep_one(void *context, struct session *session, enum name_kind kind) {
-    (void)context;
-    bool is_left = kind == NAME_DEAD || (!session_has(session, PART_PATH) && is_old(session));
-    /* one that is locked waits for room; a folder that cannot be removed now is tried again at the next start */
-    if (!is_left || session_is_live(session)) return true;
-    if (kind == NAME_SESSION) {
-        session_remove(session);
-    } else {
-        remove_folder(session, session_name(session));
-    }
-    return true;
-}
-
 void sessions_sweep(const struct sessions *sessions) {
-    each_folder(sessions, sweep_one, NULL);
-}
-
-static bool forget_dropped(void *context, struct session *session, enum name_kind kind) {
-    const struct session *except = context;
-    bool is_other = strcmp(session->path, except->path) != 0;
-    if (kind == NAME_SESSION && is_other && session_has(session, PART_DROPPED)) session_remove_unless_locked(session);
-    return true;
+    struct walk walk;
+    walk_begin(&walk, sessions);
+    while (walk_next(&walk)) {
+        struct session *session = &walk.session;
+        bool is_left = walk.kind == NAME_DEAD || (!session_has(session, PART_PATH) && is_old(session));
+        /* one that is locked waits for room; a folder that cannot be removed now is tried again at the next start */
+        if (!is_left || session_is_live(session)) continue;
+        if (walk.kind == NAME_SESSION) session_remove(session);
+        else remove_folder(session, session_name(session));
+    }
+    walk_end(&walk);
 }
 
 void sessions_forget_dropped(const struct sessions *sessions, const struct session *except) {
-    struct session named = *except;
-    each_folder(sessions, forget_dropped, &named);
+    struct walk walk;
+    walk_begin(&walk, sessions);
+    while (walk_next(&walk)) {
+        bool is_other = strcmp(walk.session.path, except->path) != 0;
+        if (walk.kind == NAME_SESSION && is_other && session_has(&walk.session, PART_DROPPED)) session_remove_unless_locked(&walk.session);
+    }
+    walk_end(&walk);
 }
-
-struct forgetting {
-    const struct target *target;
-    void (*tell)(void *, const struct forgotten *);
-    void *context;
-};
 
 static bool is_meant(const struct session *session, const struct target *target) {
     if (!target) return true;
@@ -220,27 +204,26 @@ static bool is_meant(const struct session *session, const struct target *target)
     return belonging == BELONGS_BY_PATH || belonging == BELONGS_BY_NAME || belonging == BELONGS_BY_LOST_FILE;
 }
 
-static bool forget_one(void *context, struct session *session) {
-    const struct forgetting *forgetting = context;
-    if (!is_meant(session, forgetting->target)) return true;
-    enum session_state state = session_state(session);
-    if (state == SESSION_LIVE || state == SESSION_ELSEWHERE) return true;
-    char *path = session_file_path(session);
-    struct forgotten forgotten = {.path = path ? path : "", .was_dropped = state == SESSION_DROPPED};
-    forgotten.has_time = session_changed(session, &forgotten.changed);
-    /* another start may have it by now */
-    enum lock_result lock = session_lock(session, PART_PATH);
-    if (lock == LOCK_TAKEN) forgotten.error = session_remove(session);
-    if (lock == LOCK_FAILED) forgotten.error = session->error;
-    if ((lock == LOCK_TAKEN || lock == LOCK_FAILED) && state != SESSION_EMPTY) forgetting->tell(forgetting->context, &forgotten);
-    free(path);
-    return true;
-}
-
 void sessions_forget(const struct sessions *sessions, const struct target *target, void (*tell)(void *, const struct forgotten *),
                      void *context) {
-    struct forgetting forgetting = {.target = target, .tell = tell, .context = context};
-    sessions_each(sessions, forget_one, &forgetting);
+    struct walk walk;
+    walk_begin(&walk, sessions);
+    while (walk_next_own(&walk)) {
+        struct session *session = &walk.session;
+        if (!is_meant(session, target)) continue;
+        enum session_state state = session_state(session);
+        if (state == SESSION_LIVE || state == SESSION_ELSEWHERE) continue;
+        char *path = session_file_path(session);
+        struct forgotten forgotten = {.path = path ? path : "", .was_dropped = state == SESSION_DROPPED};
+        forgotten.has_time = session_changed(session, &forgotten.changed);
+        /* another start may have it by now */
+        enum lock_result lock = session_lock(session, PART_PATH);
+        if (lock == LOCK_TAKEN) forgotten.error = session_remove(session);
+        if (lock == LOCK_FAILED) forgotten.error = session->error;
+        if ((lock == LOCK_TAKEN || lock == LOCK_FAILED) && state != SESSION_EMPTY) tell(context, &forgotten);
+        free(path);
+    }
+    walk_end(&walk);
 }
 
 /* ---- repairs after a save into a file was cut off, by the mark of the session that saved */
@@ -323,24 +306,17 @@ static bool saves_into(const struct session *session, const struct target *targe
     return is_into;
 }
 
-struct saver_search {
-    const struct session *but;
-    const struct target *target;
-    bool is_found;
-};
-
-static bool find_saver(void *context, struct session *session, enum name_kind kind) {
-    struct saver_search *search = context;
-    if (kind != NAME_SESSION || strcmp(session->path, search->but->path) == 0 || !saves_into(session, search->target)) return true;
-    enum session_state state = session_state(session);
-    search->is_found = state == SESSION_LIVE || state == SESSION_ELSEWHERE;
-    return !search->is_found;
-}
-
 /* Whether a session that may be running, other than `but`, saves into FILE: then FILE is that one's to complete. */
 static bool is_being_saved(const struct sessions *sessions, const struct session *but, const struct target *target) {
-    struct saver_search search = {.but = but, .target = target};
-    return each_folder(sessions, find_saver, &search) != 0 || search.is_found;
+    struct walk walk;
+    bool is_saved = walk_begin(&walk, sessions) != 0;
+    while (!is_saved && walk_next(&walk)) {
+        if (walk.kind != NAME_SESSION || strcmp(walk.session.path, but->path) == 0 || !saves_into(&walk.session, target)) continue;
+        enum session_state state = session_state(&walk.session);
+        is_saved = state == SESSION_LIVE || state == SESSION_ELSEWHERE;
+    }
+    walk_end(&walk);
+    return is_saved;
 }
 
 /* ---- the repair */
@@ -364,28 +340,20 @@ int session_mend(struct session *session, const struct sessions *sessions, const
     return renameat(session->folder, part_name(PART_MARK), session->folder, part_name(PART_SAVE)) == 0 ? 0 : errno;
 }
 
-struct repair {
-    const struct sessions *sessions;
-    const struct target *target;
-    void (*tell)(void *, const struct mending *);
-    void *context;
-    bool is_torn;
-};
-
-static bool repair_by(void *context, struct session *session) {
-    struct repair *repair = context;
-    struct mending mending;
-    if (!session_has(session, PART_MARK) || !saves_into(session, repair->target)) return true;
-    enum session_state state = session_state(session);
-    if (state == SESSION_LIVE || state == SESSION_ELSEWHERE || session_lock(session, PART_MARK) != LOCK_TAKEN) return true;
-    if (session_mend(session, repair->sessions, repair->target, &mending) != 0) return true;
-    repair->tell(repair->context, &mending);
-    repair->is_torn = mending.mended == MENDED_STILL_TORN;
-    return !repair->is_torn;
-}
-
 bool sessions_mend(const struct sessions *sessions, const struct target *target, void (*tell)(void *, const struct mending *), void *context) {
-    struct repair repair = {.sessions = sessions, .target = target, .tell = tell, .context = context};
-    sessions_each(sessions, repair_by, &repair);
-    return !repair.is_torn;
+    struct walk walk;
+    bool is_torn = false;
+    walk_begin(&walk, sessions);
+    while (!is_torn && walk_next_own(&walk)) {
+        struct session *session = &walk.session;
+        struct mending mending;
+        if (!session_has(session, PART_MARK) || !saves_into(session, target)) continue;
+        enum session_state state = session_state(session);
+        if (state == SESSION_LIVE || state == SESSION_ELSEWHERE || session_lock(session, PART_MARK) != LOCK_TAKEN) continue;
+        if (session_mend(session, sessions, target, &mending) != 0) continue;
+        tell(context, &mending);
+        is_torn = mending.mended == MENDED_STILL_TORN;
+    }
+    walk_end(&walk);
+    return !is_torn;
 }

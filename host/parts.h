@@ -63,8 +63,4 @@ void end_child(struct session *session);
  * mark is not read. */
 enum verdict judge_file(int file, int mark);
 
-/* Calls `visit` for each folder in the folder of sessions, the oldest first, until it returns false. The session is closed after
- * the visit, unless it was moved. */
-int each_folder(const struct sessions *sessions, bool (*visit)(void *, struct session *, enum name_kind), void *context);
-
 #endif

@@ -274,9 +274,21 @@ struct found {
 int sessions_of(struct found *found, const struct sessions *sessions, const struct target *target);
 void found_close(struct found *found);
 
-/* Calls `visit` for each session in a folder that is the user's own, the oldest first, until it returns false. Returns the fault of
- * a folder that cannot be read. */
-int sessions_each(const struct sessions *sessions, bool (*visit)(void *, struct session *), void *context);
+/* A walk over the sessions in a folder, the oldest first, and over what starts left there. A session is closed at the next step,
+ * unless it was moved. */
+struct walk {
+    const struct sessions *sessions;
+    struct dirent **names;
+    int count, next;
+    struct session session;
+    enum name_kind kind;
+};
+/* Returns the fault of a folder that cannot be read, which has no session then. */
+int walk_begin(struct walk *walk, const struct sessions *sessions);
+/* Returns false after the last one. `..own`: the next session that is the user's own. */
+bool walk_next(struct walk *walk);
+bool walk_next_own(struct walk *walk);
+void walk_end(struct walk *walk);
 
 enum session_state session_state(const struct session *session);
 enum belonging session_belonging(const struct session *session, const struct target *target);

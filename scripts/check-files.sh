@@ -17,7 +17,8 @@ check_points() {
 check_all() { # [--points]
     result=0
     try judge_save save_judge.c || result=1
-    compile driver tests/save_driver.c util.c file.c facts.c draft.c save.c save_judge.c frames.c say.c signals.c || return
+    # shellcheck disable=SC2046 # names without blanks
+    compile driver tests/save_driver.c $(sources) || return
     python3 -B "$top/host/tests/save_faults.py" "$folder/driver" || result=1
     [ -z "${1:-}" ] || [ -n "$kind" ] || check_points || result=1
     return "$result"

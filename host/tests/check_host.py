@@ -24,7 +24,7 @@ def check_ends(tree, kind, runs):
 def worker(host, runs, names):
     """Does these checks in an installation of its own, and prints each result as a line of JSON."""
     become_reaper()
-    for number in (signal.SIGPIPE, signal.SIGXFSZ, signal.SIGINT):  # python ignores or handles them until exec, which would lose them
+    for number in (signal.SIGPIPE, signal.SIGXFSZ, signal.SIGINT, signal.SIGQUIT):  # python ignores or handles them until exec, which would lose them
         signal.signal(number, signal.SIG_DFL)
     random.seed(os.getpid())
     folder = tempfile.mkdtemp(prefix='check-host.')

@@ -120,18 +120,16 @@ static void hear_forgotten(void *context, const struct forgotten *forgotten) {
     require(forgotten->error == 0);
 }
 
-static bool look_at_session(void *context, struct session *session) {
+static void look_at_session(const struct session *session) {
     struct process process;
     struct begin begin;
     struct timespec time;
-    (void)context;
     session_process(session, &process);
     session_begin_words(session, &begin);
     session_changed(session, &time);
     session_mode(session);
     session_count_keys(session);
     session_kilobytes(session);
-    return true;
 }
 
 static void try_folder(const uint8_t *bytes, size_t size) {
@@ -156,7 +154,10 @@ static void try_folder(const uint8_t *bytes, size_t size) {
     put_bytes(folder, "note", "hel", 3);
     snprintf(path, sizeof path, "%s/note", top);
     target_look(&target, path, folder, "note");
-    sessions_each(&sessions, look_at_session, NULL);
+    struct walk walk;
+    walk_begin(&walk, &sessions);
+    while (walk_next_own(&walk)) look_at_session(&walk.session);
+    walk_end(&walk);
     sessions_mend(&sessions, &target, hear_mending, NULL);
     sessions_of(&found, &sessions, &target);
     if (!session_is_none(&found.unfinished) && session_lock(&found.unfinished, PART_PATH) == LOCK_TAKEN) {
