@@ -15,11 +15,6 @@ wrapped_calls() {
     { sed -n 's/^WRAP([^,]*, \([a-z0-9_]*\),.*/\1/p' "$top/host/tests/sessions_points.c" && printf 'openat\nfcntl\n'; } | sed 's/^/-Wl,--wrap=/'
 }
 
-# Prints the host's sources without its main function.
-sources() {
-    (cd "$top/host" && for file in *.c; do [ "$file" = main.c ] || echo "$file"; done)
-}
-
 check_all() { # NAME..
     result=0
     if [ $# = 0 ]; then

@@ -15,6 +15,11 @@ compile() { # NAME SOURCE..
     )
 }
 
+# Prints the host's sources without its main function.
+sources() {
+    (cd "$top/host" && for file in *.c; do [ "$file" = main.c ] || echo "$file"; done)
+}
+
 # Compiles a program of host/tests with sources of the host, and runs it.
 try() { # NAME SOURCE..
     tried=$1

@@ -3,9 +3,9 @@
 # Sessions in which another program changes FILE before or during a save. Uses scenes.sh and kinds.sh. A first save then fails,
 # and the second goes through.
 
-# ---- sessions with events during a save
+# ---- drivers that go on while something happens
 
-# Starts the program, with a pipe for its keys at descriptor 3, and waits for its first picture. Sets `program`, its process.
+# Starts the driver, with a pipe for its orders at descriptor 3, and waits until FILE is open. Sets `program`, its process.
 open_session() { # COMMAND..
     rm -f "$folder/pipe"
     mkfifo "$folder/pipe"
@@ -16,37 +16,27 @@ open_session() { # COMMAND..
     wait_for_more 0
 }
 
-# Waits for more output than SIZE bytes, five seconds at most.
+# Waits for more output than SIZE bytes, ten seconds at most.
 wait_for_more() { # SIZE
-    for _ in $(seq 100); do
+    for _ in $(seq 200); do
         [ "$(stat -c %s "$folder/out")" -le "$1" ] || return 0
         sleep 0.05
     done
-    fails 'the program writes nothing more'
+    fails 'the driver answers nothing more'
 }
 
-# Writes keys at once, so that the picture after them answers all of them. \023 is Save, \177 erases the letter before the cursor,
-# \014 repaints.
-press() { # KEYS
-    before=$(stat -c %s "$folder/out")
-    # shellcheck disable=SC2059 # keys are written as escapes
-    printf "$1" >&3
-    wait_for_more "$before"
-}
-
-# Ends the program's input, and checks its status: 1 where something is not saved.
-close_session() { # STATUS
-    exec 3>&-
-    wait "$program"
-    same "the status" $? "$1"
-    program=''
-}
-
-# Types the scene's keys, which end in Save.
+# Has the driver save the new text, and waits for its answer.
 save_all() {
     before=$(stat -c %s "$folder/out")
-    cat "$folder/keys" >&3
+    cat "$folder/orders" >&3
     wait_for_more "$before"
+}
+
+close_session() {
+    exec 3>&-
+    wait "$program"
+    same "the status" $? 0
+    program=''
 }
 
 # ---- a change by another program
@@ -75,11 +65,11 @@ check_foreign() { # NAME SCENE CHANGE
     save_all
     says 'changed by another'
     same "FILE after the first save" "$(state)" theirs
-    press '\023'
+    save_all
     same "FILE after the second save" "$(state)" new
     check_place
     check_nothing_left
-    close_session 0
+    close_session
 }
 
 # FILE is changed after a first save. The second fails, and the third replaces it.
@@ -90,26 +80,21 @@ check_between_saves() {
     save_all
     same "FILE after the first save" "$(state)" new
     change_in_place
-    press 'x\023'
+    save_all
     same "FILE after the second save" "$(state)" theirs
-    press '\177\023'
+    save_all
     same "FILE after the third save" "$(state)" new
-    close_session 0
+    close_session
 }
 
-# Runs a command while the program waits half a second before it syncs the draft: once this is there, for which two seconds are
-# the limit.
+# Runs a command while a save waits a second and a half before it syncs the draft.
 save_and_meanwhile() { # COMMAND..
-    open_session strace -o "$folder/log" -e trace=fsync -e inject=fsync:delay_enter=500000:when=1
-    draft=$kept.bx
-    [ "$way" != in_place ] || draft=$mark.bx
-    cat "$folder/keys" >&3
-    for _ in $(seq 100); do
-        [ ! -e "$draft" ] || break
-        sleep 0.02
-    done
+    open_session strace -f -o "$folder/log" -e trace=fsync,fdatasync -e inject=fsync,fdatasync:delay_enter=1500000:when=1
+    before=$(stat -c %s "$folder/out")
+    cat "$folder/orders" >&3
+    sleep 0.7
     "$@"
-    wait_for_more "$(stat -c %s "$folder/out")"
+    wait_for_more "$before"
 }
 
 # FILE is changed while its new text is in the draft.
@@ -118,10 +103,10 @@ check_amid_save() {
     prepare plain
     save_and_meanwhile change_in_place
     same "FILE after the first save" "$(state)" theirs
-    press '\023'
+    save_all
     same "FILE after the second save" "$(state)" new
     check_nothing_left
-    close_session 0
+    close_session
 }
 
 exchange_folder() {
@@ -129,7 +114,8 @@ exchange_folder() {
     ln -s elsewhere "$place/inner"
 }
 
-# Replaces the folder by a link to one where FILE has another name, and a file of the user has the draft's.
+# Replaces the folder by a link to one where FILE has another name. No save goes there, nor to the folder that was opened and has
+# another name now; once that has its name again, saves go on.
 check_exchanged() {
     begin_point "a folder of the path that is a link by now, $way"
     prepare plain
@@ -137,20 +123,26 @@ check_exchanged() {
     mv "$kept" "$place/inner/text"
     file=$place/inner/text kept=$place/inner/text
     ln "$kept" "$place/elsewhere/text"
-    echo 'of the user' >"$place/elsewhere/text.bx"
     save_and_meanwhile exchange_folder
     kept=$place/gone/text
-    same "FILE after the first save" "$(state)" old
-    same "what has FILE's path after the first save" "$(cat "$file")" "$(cat "$folder/old")"
-    same "the user's own file" "$(cat "$place/elsewhere/text.bx")" 'of the user'
+    for number in first second; do
+        same "FILE after the $number save" "$(state)" old
+        same "what has FILE's path after the $number save" "$(cat "$file")" "$(cat "$folder/old")"
+        [ "$number" = second ] || save_all
+    done
+    says 'folder gone'
     check_no_mark
-    press '\023'
-    same "what has FILE's path after the second save" "$(cat "$file")" "$(cat "$folder/new")"
-    same "the user's own file" "$(cat "$place/elsewhere/text.bx")" 'of the user'
-    close_session 0
+    rm "$place/inner"
+    mv "$place/gone" "$place/inner"
+    kept=$place/inner/text
+    # it has other names, which counts as a change
+    save_all
+    save_all
+    same "FILE after the last save" "$(state)" new
+    close_session
 }
 
-# The link that was opened leads to another file: a second save goes there.
+# The link that was opened leads to another file. One save says so, and the next ones go into the file that was opened.
 check_retargeted() {
     begin_point 'a link that leads elsewhere by now'
     prepare linked
@@ -158,11 +150,12 @@ check_retargeted() {
     cp -p "$kept" "$place/links/other"
     ln -sf other "$file"
     save_all
+    says 'changed by another'
     same "the new target after the first save" "$(cat "$place/links/other")" "$(cat "$folder/old")"
-    press '\023'
-    same "the new target after the second save" "$(cat "$place/links/other")" "$(cat "$folder/new")"
-    same "FILE" "$(state)" old
-    close_session 0
+    save_all
+    same "the new target after the second save" "$(cat "$place/links/other")" "$(cat "$folder/old")"
+    same "FILE" "$(state)" new
+    close_session
 }
 
 # A removed file is made again with its old attributes.
@@ -175,7 +168,7 @@ check_vanished() {
     same "FILE" "$(state)" new
     check_place
     check_nothing_left
-    close_session 0
+    close_session
 }
 
 # Checks saves into FILE itself: most of what check_changes checks, and two cases of the mark.
@@ -202,19 +195,17 @@ check_gone_when_torn() {
     begin_point 'a file that was torn and is gone'
     prepare plain
     # the first two syncs are of the mark's draft and its folder, the third is of FILE
-    open_session strace -o "$folder/log" -e trace=fsync -e inject=fsync:error=EIO:when=3
+    open_session strace -f -o "$folder/log" -e trace=fsync -e inject=fsync:error=EIO:when=3
     save_all
     grep -q INJECTED "$folder/log" || fails "the call was not met"
     [ -e "$mark" ] || fails "the mark is not there"
     rm "$kept"
-    press '\023'
+    save_all
     same "FILE after the second save" "$(state)" new
     check_no_mark
-    # the mode's group bits may have been the mask of an access list
-    mode=600
     check_place
     check_nothing_left
-    close_session 0
+    close_session
 }
 
 # A mark from an earlier session stays until a save of this session succeeds.
@@ -222,8 +213,8 @@ check_mark_of_before() {
     begin_point 'a mark that is there at the start'
     prepare plain
     echo 'of before' >"$mark"
-    edit strace -o "$folder/log" -e trace=ftruncate -e inject=ftruncate:error=EIO <"$folder/keys" >/dev/null 2>&1
-    same "the status" $? 1
+    edit strace -f -o "$folder/log" -e trace=ftruncate -e inject=ftruncate:error=EIO <"$folder/orders" >"$folder/out" 2>/dev/null
+    says 'disk error'
     same "FILE" "$(state)" old
     cmp -s "$mark" "$folder/new" || fails "the mark has not all of the new text"
     check_save 'the same, and a save that goes through' new env
@@ -242,58 +233,27 @@ check_no_file() { # NAME COMMAND..
     kind_before=$(stat -c %F "$kept")
     save_all
     says 'not a plain file'
-    # the message does not change, so the screen is repainted
-    press '\023\014'
+    save_all
     same "what FILE is" "$(stat -c %F "$kept")" "$kind_before"
     check_nothing_left
-    close_session 1
+    close_session
 }
 
-# Checks a text copied from FILE before or after another program changed it, with or without replayed KEYS. WANTED is `told` where
-# the first save fails, as FILE has other bytes than the session knows, else `stored`.
-check_before_start() { # NAME CHANGE KEYS WANTED
-    begin_point "$1"
+# FILE has other bytes than the session knows: the first save says so.
+check_distrusted() {
+    begin_point 'a FILE that has other bytes than the session knows'
     prepare plain
-    copy=$own/text replay=''
-    cp "$folder/old" "$copy"
-    if [ -n "$3" ]; then
-        # shellcheck disable=SC2059 # keys are written as escapes
-        printf "$3" >"$own/keys"
-        replay=$own/keys
-        printf 'xxab\nycd\nzef\n' >"$folder/new"
-    fi
-    "$2"
-    had=$(cat "$kept" 2>/dev/null)
     open_session env
-    # back to the place where all scenes' keys begin
-    [ -z "$3" ] || press '\033[H'
+    before=$(stat -c %s "$folder/out")
+    echo distrust >&3
+    wait_for_more "$before"
     save_all
-    copy='' replay=''
-    if [ "$4" = told ]; then
-        same "FILE after the first save" "$(cat "$kept")" "$had"
-        press '\023'
-    fi
-    same "FILE" "$(state)" new
+    says 'changed by another'
+    same "FILE after the first save" "$(state)" old
+    save_all
+    same "FILE after the second save" "$(state)" new
     check_nothing_left
-    close_session 0
-}
-
-remove_file() { rm "$kept"; }
-# Both change FILE as the Save of a letter at its beginning does.
-save_first_letter() { sed -i '1s/^/x/' "$kept"; }
-save_other_letter() { sed -i '1s/^/w/' "$kept"; }
-
-# In keys, as in those of `press`, \023 is Save, and \177 erases the letter before the cursor.
-check_before_starts() {
-    begin_kind 'changed before the start'
-    check_before_start 'nothing' true '' stored
-    check_before_start 'other bytes' change_in_place '' told
-    check_before_start 'no file any more' remove_file '' stored
-    check_before_start 'nothing, and a key' true 'x' stored
-    check_before_start 'the bytes that a key makes' save_first_letter 'x' stored
-    check_before_start 'other bytes, and a key' change_in_place 'x' told
-    check_before_start 'the bytes that a Save stored' save_other_letter 'w\023\177x' stored
-    check_before_start 'bytes between two Saves' save_other_letter '\023w\177\023x' told
+    close_session
 }
 
 check_changes() {
@@ -309,6 +269,7 @@ check_changes() {
     check_exchanged
     check_retargeted
     check_vanished
+    check_distrusted
     check_no_file 'a folder by now' mkdir
     check_no_file 'a pipe by now' mkfifo
 }

@@ -4,9 +4,9 @@
 
 # ---- files beside FILE, and kinds of places
 
-# Checks the cause in the last row. Where blanks were there already, the painter moves the cursor over them.
+# Checks the last answer.
 says() { # CAUSE
-    sed "s/$(printf '\033')\[[0-9]*;[0-9]*H/ /g" "$folder/out" | grep -q "save failed: $1" || fails "the cause is not told: $1"
+    tail -n 1 "$folder/out" | grep -q -e "^$1" || fails "the answer is '$(tail -n 1 "$folder/out")', and not '$1'"
 }
 
 # Saves once, and checks the state of FILE.
@@ -14,28 +14,26 @@ check_save() { # NAME STATE COMMAND..
     begin_point "$1"
     wanted_state=$2
     shift 2
-    edit "$@" <"$folder/keys" >"$folder/out" 2>/dev/null
-    status=$?
-    if [ "$wanted_state" = new ]; then same "the status" "$status" 0; else same "the status" "$status" 1; fi
+    edit "$@" <"$folder/orders" >"$folder/out" 2>/dev/null
+    if [ "$wanted_state" = new ]; then says saved; elif tail -n 1 "$folder/out" | grep -q -x saved; then fails 'it is said to be saved'; fi
     same "FILE" "$(state)" "$wanted_state"
 }
 
-# Drafts are FILE.bx, and FILE.bx1 to FILE.bx9 where that is taken.
+# Other files of the names that marks have do not stop saves.
 check_drafts() {
     begin_kind 'what is beside FILE'
-    prepare plain
-    for number in '' 1 2 3 4 5 6 7 8; do
-        echo "$number" >"$kept.bx$number"
+    for way in beside itself; do
+        prepare plain
+        for number in '' 1 2 3 4 5 6 7 8; do
+            echo "$number" >"$kept.bx$number"
+        done
+        ln -s nowhere "$kept.bx9"
+        before=$(names)
+        check_save "ten files of others, $way" new env
+        same "what is there" "$(names)" "$before"
+        same "a file's bytes" "$(cat "$kept.bx7")" 7
     done
-    before=$(names)
-    check_save 'nine drafts of others' new env
-    same "what is there" "$(names)" "$before"
-    put_old "$kept" 640
-    ln -s nowhere "$kept.bx9"
-    before=$(names)
-    check_save 'ten drafts of others' old env
-    same "what is there" "$(names)" "$before"
-    same "a draft's bytes" "$(cat "$kept.bx7")" 7
+    way=beside
 
     prepare plain
     ln "$kept" "$place/links/second"
@@ -44,7 +42,7 @@ check_drafts() {
     same "what is there" "$(names)" 'links text'
 }
 
-# A name has 255 bytes at most, of which a draft needs three.
+# A name has 255 bytes at most, of which a mark needs three. Longer ones are refused at the opening.
 check_names() {
     begin_kind 'long names'
     long=$(printf '%0252d' 7)
@@ -69,15 +67,15 @@ check_second_name() {
     ln "$kept" "$place/links/second"
     save_all
     same "FILE after the first save" "$(state)" old
-    press '\023'
+    save_all
     same "FILE after the second save" "$(state)" new
     same "the other name's file" "$(stat -c %i "$place/links/second")" "$(stat -c %i "$kept")"
     check_place
     check_nothing_left
     rm "$place/links/second"
-    press 'x\023\177\023'
+    save_all
     same "FILE with one name again" "$(state)" new
-    close_session 0
+    close_session
 }
 
 # Prints FILE's access list.
@@ -104,16 +102,16 @@ check_access_list() {
     list=$(list_of)
     save_all
     same "FILE after the first save" "$(state)" old
-    press '\023'
+    save_all
     same "FILE after the second save" "$(state)" new
     same "the access list" "$(list_of)" "$list"
     # without the list, its permissions are nobody's
     rm "$kept"
-    press 'x\023\177\023'
+    save_all
     same "FILE that was made again" "$(state)" new
     same "the mode of FILE that was made again" "$(stat -c %a "$kept")" 600
     check_nothing_left
-    close_session 0
+    close_session
 
     way=itself
     begin_point 'an access list at the start'
@@ -125,32 +123,24 @@ check_access_list() {
     same "FILE" "$(state)" new
     same "the access list" "$(list_of)" "$list"
     check_nothing_left
-    close_session 0
+    close_session
     way=beside
 }
 
-# A file that is gone is made again with its mode, also where the text was copied from other bytes.
+# A file that is gone is made again with its mode.
 check_modes_made_again() {
     for mode_of_before in 755 600; do
-        for copied in '' other; do
-            begin_point "a file of mode $mode_of_before that is gone${copied:+, and was changed before the start}"
-            prepare plain
-            mode=$mode_of_before
-            chmod "$mode" "$kept"
-            if [ -n "$copied" ]; then
-                copy=$own/text
-                cp "$folder/old" "$copy"
-                cat "$folder/theirs" >"$kept"
-            fi
-            open_session env
-            rm "$kept"
-            save_all
-            same "FILE" "$(state)" new
-            check_place
-            check_nothing_left
-            close_session 0
-            copy=''
-        done
+        begin_point "a file of mode $mode_of_before that is gone"
+        prepare plain
+        mode=$mode_of_before
+        chmod "$mode" "$kept"
+        open_session env
+        rm "$kept"
+        save_all
+        same "FILE" "$(state)" new
+        check_place
+        check_nothing_left
+        close_session
     done
 }
 
@@ -164,12 +154,12 @@ check_made_elsewhere() {
     ln -s links/closed/new "$kept"
     save_all
     same "FILE after the first save" "$(state)" none
-    press '\023'
+    save_all
     same "FILE after the second save" "$(state)" new
     same "whether FILE is a link" "$(stat -c %F "$kept")" 'regular file'
     same "what is in the folder of the link" "$(ls -A "$place/links/closed")" ''
     check_place
-    close_session 0
+    close_session
 
     begin_point 'a link in place of the folder of FILE'
     prepare plain
@@ -180,16 +170,15 @@ check_made_elsewhere() {
     mv "$place/inner" "$place/gone"
     ln -s links/closed "$place/inner"
     save_all
-    press '\023'
-    press '\023\014'
+    save_all
+    save_all
     same "what is in the folder of the link" "$(ls -A "$place/links/closed")" ''
     kept=$place/gone/text
     same "FILE" "$(state)" old
-    close_session 1
+    close_session
 }
 
-# The limit of a file's size, in blocks of 512 bytes or of 1,024, below the 80,000 bytes of the text; the host has the program
-# ignore the signal.
+# The limit of a file's size, in blocks of 512 bytes or of 1,024, below the bytes of the text.
 check_limit() {
     prepare long
     check_save 'a limit of the size of files' old sh -c 'trap "" XFSZ; ulimit -f 60; exec "$@"' sh

@@ -317,18 +317,17 @@ check_hostile_name_of_recovery() {
     leave_files
 }
 
-# Without /proc a file with two names is still saved into itself.
+# Without /proc the host cannot hand on what it has open, and says so.
 check_without_proc() {
     if [ "$(id -u)" != 0 ] || ! unshare -m true 2>/dev/null; then
         skip 'faults, without /proc' 'nothing can be mounted'
         return
     fi
     put_note note
-    as_user ln note note.too
-    open_typed "unshare -m sh -c 'mount -t tmpfs none /proc && exec \"\$@\"' sh" note
-    save_in first
-    expect_in first 'faults, without /proc: the save' saved
-    same 'faults, without /proc: both names' "$(cat note note.too | tr '\n' ' ')$(stat -c %h note)" 'xab xab 2'
+    open_editor first "unshare -m sh -c 'mount -t tmpfs none /proc && exec \"\$@\"' sh" note
+    expect_in first 'faults, without /proc: it is refused' 'there is no /proc, which it needs'
+    expect_in first 'faults, without /proc: the status' 'status 1'
+    same 'faults, without /proc: FILE' "$(cat note)" ab
     leave_files
 }
 

@@ -135,6 +135,12 @@ cut_off_save() { # CALLS
     sleep 0.7
     kill_editor first
     stop_injecting
+    # its watcher, too, has ended then
+    wait_for 60 is_unlocked
+}
+
+is_unlocked() {
+    flock -n "$(session_of_check)/lock" true
 }
 
 # Checks the next start's message about an interrupted save, and that FILE is complete. COUNT is how often it says that the text
