@@ -15,8 +15,8 @@
 /* Seconds that a message stays before the screen hides it. */
 enum { PAUSE = 1 };
 
-/* Bits of a mode: all permissions, and those by which others than the owner read. */
-enum { PERMISSIONS = 0777, READ_BY_OTHERS = 044 };
+/* Bits of a mode by which others than the owner read. */
+enum { READ_BY_OTHERS = 044 };
 
 /* ---- FILE */
 
@@ -262,7 +262,6 @@ static void on_saved(void *whose) {
 
 /* Why the journal cannot be written, as far as it can be seen. */
 static enum notice cause_of_loss(const struct session *session) {
-    enum { ROOM_FOR_KEYS = 8192 };
     if (free_room(session->folder) < ROOM_FOR_KEYS) return NOTICE_NO_SPACE;
     int file = openat(session->folder, part_name(PART_JOURNAL), O_WRONLY | O_APPEND | O_NOFOLLOW | O_CLOEXEC);
     enum notice notice = file < 0 ? notice_of(errno) : NOTICE_UNKEPT;

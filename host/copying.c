@@ -15,10 +15,10 @@
 #include "parts.h"
 
 /* COPIED_AT_ONCE: the largest text that is copied before the program reads it, in bytes; LARGEST_TEXT: the largest that it edits.
- * CALM: a FILE that was not written for this long, in seconds, is copied behind the first picture. BESIDE_TEXT, ROOM_FOR_KEYS: the
- * room that a session takes beside its text: for its short files and the first keys; later for keys. LATE: seconds from which on a
+ * CALM: a FILE that was not written for this long, in seconds, is copied behind the first picture. BESIDE_TEXT: the
+ * room that a session takes beside its text, for its short files and the first keys. LATE: seconds from which on a
  * child that says nothing keeps nothing. */
-enum { COPIED_AT_ONCE = 1 << 20, CALM = 2, BESIDE_TEXT = 65536, ROOM_FOR_KEYS = 8192, LATE = 5 };
+enum { COPIED_AT_ONCE = 1 << 20, CALM = 2, BESIDE_TEXT = 65536, LATE = 5 };
 
 /* What a child that writes reports. */
 struct report {

@@ -13,8 +13,8 @@
 #include "save_judge.h"
 #include "util.h"
 
-/* BUFFER: bytes of a write, so that many small pieces take few. TRIES: random names, and exchanges that undo one another. */
-enum { BUFFER = 262144, TRIES = 20 };
+/* BUFFER: bytes of a write, so that many small pieces take few. DRAFT_TRIES: random names, and exchanges that undo one another. */
+enum { BUFFER = 262144, DRAFT_TRIES = 20 };
 
 static unsigned char buffer[BUFFER];
 
@@ -60,7 +60,7 @@ int draft_name_as(struct draft *draft, const char *name) {
 int draft_name(struct draft *draft, const struct file *file) {
     char name[NAME_MAX + 1];
     int error = draft->name[0] ? 0 : EEXIST;
-    for (int tries = 0; error == EEXIST && tries < TRIES; tries++) error = make_draft_name(file, name) ? draft_name_as(draft, name) : EIO;
+    for (int tries = 0; error == EEXIST && tries < DRAFT_TRIES; tries++) error = make_draft_name(file, name) ? draft_name_as(draft, name) : EIO;
     return error;
 }
 
@@ -79,7 +79,7 @@ int draft_open(struct draft *draft, const struct file *file, int folder, mode_t 
     *draft = (struct draft){.folder = folder, .file = -1};
     if (may_be_nameless) draft->file = openat(folder, ".", O_TMPFILE | O_RDWR | O_CLOEXEC, mode);
     if (draft->file >= 0) return 0;
-    for (int tries = 0; error == EEXIST && tries < TRIES; tries++) error = make_draft_name(file, name) ? open_at(draft, folder, name, mode) : EIO;
+    for (int tries = 0; error == EEXIST && tries < DRAFT_TRIES; tries++) error = make_draft_name(file, name) ? open_at(draft, folder, name, mode) : EIO;
     return error;
 }
 
@@ -144,7 +144,7 @@ static bool has_list(const struct draft *draft) {
  * so it goes back in its turn. Returns false where what has the draft's name at the end must stay. */
 static bool exchange_back(const struct draft *draft, const char *name, struct stat last_in) {
     struct look goes_in, out;
-    for (int tries = 0; tries < TRIES; tries++) {
+    for (int tries = 0; tries < DRAFT_TRIES; tries++) {
         if (!look_at(draft->folder, draft->name, &goes_in) || !goes_in.is_there) return false;
         if (rename_by(draft->folder, draft->name, name, RENAME_EXCHANGE) != 0) return false;
         if (!look_at(draft->folder, draft->name, &out) || !out.is_there) return false;

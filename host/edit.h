@@ -86,8 +86,6 @@ const char *unkept_by(const struct sessions *sessions, enum notice *notice);
 int begin_session(struct edit *edit);
 int resume_session(struct edit *edit);
 
-/* ---- minding.c */
-
 /* The path by which the program opens what the host has open. */
 const char *handed_path(struct run *run, int file);
 
@@ -108,7 +106,7 @@ int recover_session(struct edit *edit, bool *is_taken);
 /* Stores the text of FILE's session as the new file `edit->call->other`. Returns the exit status. */
 int store_session(struct edit *edit);
 
-/* ---- replay.c */
+/* ---- ending.c */
 
 /* A replay of a session's keys over its text. REPLAY_UNREADABLE: its parts are not a session's. REPLAY_FAILED: it was not
  * answered. */
@@ -120,19 +118,10 @@ enum replayed replay(struct edit *edit, const struct session *session, int *text
 /* What FILE has beside a session that left its text: that, the opened or a saved one, or another. */
 enum replayed compare_text(const struct edit *edit, const struct session *session);
 
-/* The first free name of FILE.ENDING, FILE.ENDING1 and so on. */
-const char *free_name(const char *typed, const char *ending);
-
-/* Makes a new file for the user alone with the bytes of an open one, and gives it these permissions. Returns the system's fault;
- * then there is no file. */
-int copy_to_new(const char *path, int source, mode_t mode);
-
-/* ---- ending.c */
-
 /* Ends the session after the program's end, and tells what is kept and what is not. Returns the exit status. */
 int end_session(struct edit *edit);
 
-/* ---- list.c */
+/* ---- ask.c */
 
 int list_sessions(void);
 int forget_sessions(const char *typed);
@@ -144,8 +133,6 @@ int forget_sessions(const char *typed);
 const char *time_text(const struct session *session);
 const char *machine_text(const struct session *session);
 
-/* ---- questions (ask.c) */
-
 /* Asks a question (yes, no). Returns false at no, and where the input ends. */
 bool ask_to_go_on(const char *question);
 
@@ -155,8 +142,6 @@ enum choice ask_choice(void);
 /* What to do with a session whose keys cannot be replayed: FILE is opened and the session left; its parts are kept beside FILE. */
 enum rest { REST_NONE, REST_OPEN, REST_KEEP };
 enum rest ask_rest(void);
-
-/* ---- other editors (ask.c) */
 
 /* Takes note, for all other starts on this machine, that this process has FILE open, until its end. Returns 0, or the process that
  * has it open already; -1 where that one's number is not known. No file is made. */

@@ -15,10 +15,7 @@
 #include "say.h"
 #include "signals.h"
 
-/* ---- replay: of a session's keys by the program; comparisons with FILE; new files beside it */
-
-/* Names of new files beside FILE are tried with numbers below this. */
-enum { MOST_NAMES = 10000 };
+/* ---- replays of a session's keys by the program, and comparisons with FILE */
 
 static enum replayed replayed_of(const struct said *said, int status) {
     static const char *const unreadable[] = {"not-utf8", "too-long", "unreadable"};
@@ -76,31 +73,11 @@ enum replayed compare_text(const struct edit *edit, const struct session *sessio
     return is_known ? REPLAY_KNOWN : REPLAY_FOREIGN;
 }
 
-const char *free_name(const char *typed, const char *ending) {
-    struct stat look;
-    const char *name = text_of("%s.%s", typed, ending);
-    for (int number = 1; number < MOST_NAMES && lstat(name, &look) == 0; number++) name = text_of("%s.%s%d", typed, ending, number);
-    return name;
-}
-
-int copy_to_new(const char *path, int source, mode_t mode) {
-    int file = open(path, O_WRONLY | O_CREAT | O_EXCL | O_NOFOLLOW | O_CLOEXEC, 0600);
-    if (file < 0) return errno;
-    int error = copy_file(source, 0, file);
-    if (error == 0 && (fchmod(file, mode) != 0 || fsync(file) != 0)) error = errno;
-    if (close(file) != 0 && error == 0) error = errno;
-    if (error != 0) unlink(path);
-    return error;
-}
-
-/* ---- the end */
+/* ---- what is told of FILE */
 
 /* Milliseconds. COPY_MS: for a text that is still being copied, until a signal. WRITE_MS: to write what the session lacks then;
  * REPLAY_MS: for a replay; each also after a signal. */
 enum { COPY_MS = 30000, WRITE_MS = 5000, WRITE_BY_SIGNAL_MS = 700, REPLAY_MS = 2000, REPLAY_BY_SIGNAL_MS = 1000 };
-
-/* Permissions that a recovered file gets. */
-enum { PERMISSIONS = 0777 };
 
 /* Whether the last fault that the program told is of this kind; gives its value. */
 static bool is_fault(const struct edit *edit, const char *kind, const char **value) {

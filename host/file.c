@@ -10,10 +10,10 @@
 #include "say.h"
 #include "util.h"
 
-/* MOST_LINKS: as in Linux. TRIES: openings of a FILE that other programs replace meanwhile. FRONT: more bytes than marks and headers
+/* MOST_LINKS: as in Linux. OPEN_TRIES: openings of a FILE that other programs replace meanwhile. FRONT: more bytes than marks and headers
  * of files take. MOST_NAMES: so many names of a folder are looked at for drafts; MOST_DRAFTS of them are told. MARK_BYTES: those of
  * the end .bx. */
-enum { MOST_LINKS = 40, TRIES = 10, FRONT = 512, MOST_NAMES = 20000, MOST_DRAFTS = 10, MARK_BYTES = 3 };
+enum { MOST_LINKS = 40, OPEN_TRIES = 10, FRONT = 512, MOST_NAMES = 20000, MOST_DRAFTS = 10, MARK_BYTES = 3 };
 
 /* ---- looks */
 
@@ -53,6 +53,9 @@ bool path_of(int at, char path[PATH_MAX]) {
     return true;
 }
 
+static const char handed_over[] = "is what the caller handed over and no file: put it into a file, and edit that";
+static const char leads_nowhere[] = "is a link that leads nowhere: ls -l shows where to";
+
 /* ---- the walk to FILE */
 
 /* Cuts a path into its folder, `.` for a name alone, and its last name. Returns false where it is too long. */
@@ -88,10 +91,10 @@ static const char *refuse(const struct file *file, const char *cause) {
 /* Goes on at the path that a link holds. Returns NULL, or the message. */
 static const char *follow_link(struct file *file, char words[PATH_MAX], bool *is_of_folder) {
     ssize_t length = readlinkat(file->itself, "", words, PATH_MAX - 1);
-    if (length <= 0) return refuse(file, "is a link that leads nowhere: ls -l shows where to");
+    if (length <= 0) return refuse(file, leads_nowhere);
     words[length] = 0;
     if (!is_utf8(words)) return refuse(file, "is a link to a name that is not UTF-8: mv gives it another");
-    if (is_handed_over(words)) return refuse(file, "is what the caller handed over and no file: put it into a file, and edit that");
+    if (is_handed_over(words)) return refuse(file, handed_over);
     *is_of_folder = words[length - 1] == '/';
     for (; length > 1 && words[length - 1] == '/'; length--) words[length - 1] = 0;
     close_one(&file->itself);
@@ -104,7 +107,7 @@ static const char *take_step(struct file *file, const char *path) {
     int base = file->is_linked ? file->folder : AT_FDCWD;
     if (!split(path, folder_part, file->name)) return refuse_folder(file, path);
     int folder = open_folder(base, folder_part);
-    if (folder < 0 && file->is_linked) return refuse(file, "is a link that leads nowhere: ls -l shows where to");
+    if (folder < 0 && file->is_linked) return refuse(file, leads_nowhere);
     if (folder < 0) return refuse_folder(file, folder_part);
     if (!file->is_linked) put_path(file->folder_name, "%s", folder_part);
     close_one(&file->folder);
@@ -128,7 +131,7 @@ static const char *walk(struct file *file) {
     }
     if (message) return message;
     if (file->look.is_there && S_ISDIR(file->look.found.st_mode)) return refuse(file, "is a folder: name a file in it");
-    return is_of_folder ? refuse(file, "is a link that leads nowhere: ls -l shows where to") : NULL;
+    return is_of_folder ? refuse(file, leads_nowhere) : NULL;
 }
 
 /* ---- the opening */
@@ -170,7 +173,6 @@ static bool open_found(struct file *file) {
 
 /* Opens FILE once. `is_again`: another one took its place meanwhile. */
 static const char *try_to_open(struct file *file, bool *is_again) {
-    static const char handed_over[] = "is what the caller handed over and no file: put it into a file, and edit that";
     static const char no_plain[] = "is no plain file but a device, pipe or socket: put what it gives into a file, and edit that";
     size_t length = strlen(file->typed);
     bool is_name_of_folder = length == 0 || file->typed[length - 1] == '/', is_handed = is_handed_over(file->typed);
@@ -194,7 +196,7 @@ static const char *try_to_open(struct file *file, bool *is_again) {
 const char *open_file(struct file *file, const char *typed) {
     const char *message = NULL;
     bool is_again = true;
-    for (int tries = 0; is_again && tries < TRIES; tries++) {
+    for (int tries = 0; is_again && tries < OPEN_TRIES; tries++) {
         is_again = false;
         forget_file(file, typed);
         message = try_to_open(file, &is_again);

@@ -74,7 +74,7 @@ static bool is_of_file(const struct session *session, const struct target *targe
     return is_file;
 }
 
-enum belonging session_belonging(const struct session *session, const struct target *target) {
+static enum belonging session_belonging(const struct session *session, const struct target *target) {
     struct belonging_facts facts = {.has_path = false};
     char *path = session_file_path(session);
     facts.has_path = path != NULL;

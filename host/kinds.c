@@ -1,5 +1,6 @@
 #include "terminal.h"
 #include "util.h"
+#include "words.h"
 
 #include <dirent.h>
 #include <fcntl.h>
@@ -15,8 +16,8 @@
 
 /* How many milliseconds tmux may take to answer, the terminal around it to take what it is sent, and standard error a note. */
 enum { TMUX_MS = 2000, OUTER_MS = 500, NOTE_MS = 1000 };
-/* The most rows of a terminal that are told, and the bytes for each at most. */
-enum { MOST_ROWS = 500, ROW_BYTES = 16 };
+/* The bytes for a row at most. */
+enum { ROW_BYTES = 16 };
 
 static const char *value_of(const char *name) {
     const char *value = variable(name);
@@ -268,15 +269,15 @@ void find_terminal_kind(struct terminal_kind *found) {
 
 /* Writes the sequence for each row of the terminal, and gives its cursor back: VTE keeps the mode by row. */
 static void tell_rows(int file, char letter, bool is_last) {
-    static char text[(MOST_ROWS + 2) * ROW_BYTES];
+    static char text[(LARGEST_SIDE + 2) * ROW_BYTES];
     struct winsize window = {0};
     if (ioctl(file, TIOCGWINSZ, &window) != 0) return;
-    unsigned rows = window.ws_row > MOST_ROWS ? MOST_ROWS : window.ws_row;
+    unsigned rows = window.ws_row > LARGEST_SIDE ? LARGEST_SIDE : window.ws_row;
     int length = snprintf(text, sizeof text, "\033[8%c\0337", letter);
     for (unsigned row = 1; row <= rows; row++)
         length += snprintf(text + length, sizeof text - (size_t)length, "\033[%u;1H\033[8%c", row, letter);
     length += snprintf(text + length, sizeof text - (size_t)length, "\0338");
-    write_ready(file, text, (size_t)length, OUTER_MS, is_last);
+    write_within(file, text, (size_t)length, OUTER_MS, is_last);
 }
 
 void tell_outer(const struct terminal_kind *kind, bool is_kept, bool is_last) {
@@ -289,7 +290,7 @@ void tell_outer(const struct terminal_kind *kind, bool is_kept, bool is_last) {
     } else {
         char text[128];
         int length = snprintf(text, sizeof text, "\033[8%c%s", letter, is_kept ? kind->off : kind->on);
-        write_ready(file, text, (size_t)length, OUTER_MS, is_last);
+        write_within(file, text, (size_t)length, OUTER_MS, is_last);
     }
     close(file);
 }

@@ -44,9 +44,6 @@ int put_part(const struct session *session, enum part part, const void *bytes, s
 /* Whether a short part is made again where it is removed. */
 bool is_guarded(enum part part);
 
-/* Makes a session's folder with its lock and an empty journal. */
-int make_session(struct session *session, const struct sessions *sessions);
-
 /* Picks what the program opens, and copies FILE at once where that is quick or FILE is being written. */
 int choose_source(struct session *session, int file);
 

@@ -23,8 +23,6 @@ enum { TEMPORARY = 3 };
 /* How long what is in a folder stays. */
 enum stay { PERMANENT, IN_MEMORY, IN_TEMPORARY };
 
-enum { FOLDER_MODE = 0700 };
-
 /* Opens the nearest folder that is there, at or above a path. */
 static int open_nearest(const char *path) {
     char above[PATH_MAX];

@@ -13,13 +13,14 @@
 #include "signals.h"
 #include "terminal.h"
 #include "util.h"
+#include "words.h"
 
 /* Bytes that wait in the program's input at most: few, since it does all of them at its end. */
 enum { INPUT_ROOM = 16384 };
 /* Milliseconds for standard error to take what is no word, without and with a signal. */
 enum { FOREIGN_MS = 1000, FOREIGN_BY_SIGNAL_MS = 200 };
-/* The words that are put before those of a run, and the most of these. */
-enum { OWN_WORDS = 12, MOST_WORDS = 64 };
+/* The words that are put before those of a run. */
+enum { OWN_WORDS = 12 };
 
 void close_pipes(struct pipes *pipes) {
     close_one(&pipes->keys);
@@ -58,9 +59,9 @@ bool open_pipes(struct pipes *pipes, struct program_ends *ends) {
 }
 
 /* Puts the words of a run behind those of the host. Returns false where there are too many. */
-static bool add_words(char *all[OWN_WORDS + MOST_WORDS + 2], size_t count, char *const *words) {
+static bool add_words(char *all[OWN_WORDS + WORDS_MOST + 2], size_t count, char *const *words) {
     for (size_t i = 0; words[i]; i++) {
-        if (i == MOST_WORDS) return false;
+        if (i == WORDS_MOST) return false;
         all[count++] = words[i];
     }
     all[count] = NULL;
@@ -94,7 +95,7 @@ static _Noreturn void become_program(const struct run *run, const struct program
 }
 
 pid_t start_program(const struct run *run, const struct program_ends *ends, unsigned rows, unsigned columns) {
-    char saves[32], side[2][16], erase[4], *words[OWN_WORDS + MOST_WORDS + 2];
+    char saves[32], side[2][16], erase[4], *words[OWN_WORDS + WORDS_MOST + 2];
     snprintf(saves, sizeof saves, "%d,%d", ends->requests, ends->answers);
     snprintf(side[0], sizeof side[0], "%u", rows);
     snprintf(side[1], sizeof side[1], "%u", columns);
@@ -109,7 +110,8 @@ pid_t start_program(const struct run *run, const struct program_ends *ends, unsi
     return program;
 }
 
-void hear_word(const struct frame *frame, void *whose) {
+/* Takes in a word of the program. `whose` is its struct run. */
+static void hear_word(const struct frame *frame, void *whose) {
     struct run *run = whose;
     struct said *said = &run->said;
     const char *text = (const char *)frame->bytes;

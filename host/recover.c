@@ -1,5 +1,6 @@
 /* Sessions of FILE that were left: questions about them, their replay, and how one goes on or is stored as another file. */
 #include <errno.h>
+#include <fcntl.h>
 #include <stdlib.h>
 #include <string.h>
 #include <sys/stat.h>
@@ -7,12 +8,36 @@
 
 #include "edit.h"
 #include "say.h"
+#include "util.h"
 
 static const char unsure[] =
     "an editor of another version, or with other tables, kept that session, and not its text: the keys may make another one now";
 
 /* What becomes of a session that is to go on. OUTCOME_MISSED: another start has it by now. */
 enum outcome { OUTCOME_TAKEN, OUTCOME_OPENED, OUTCOME_MISSED, OUTCOME_END };
+
+/* Names of new files beside FILE are tried with numbers below this. */
+enum { MOST_NEW_NAMES = 10000 };
+
+/* The first free name of FILE.ENDING, FILE.ENDING1 and so on. */
+static const char *free_name(const char *typed, const char *ending) {
+    struct stat look;
+    const char *name = text_of("%s.%s", typed, ending);
+    for (int number = 1; number < MOST_NEW_NAMES && lstat(name, &look) == 0; number++) name = text_of("%s.%s%d", typed, ending, number);
+    return name;
+}
+
+/* Makes a new file for the user alone with the bytes of an open one, and gives it these permissions. Returns the system's fault;
+ * then there is no file. */
+static int copy_to_new(const char *path, int source, mode_t mode) {
+    int file = open(path, O_WRONLY | O_CREAT | O_EXCL | O_NOFOLLOW | O_CLOEXEC, 0600);
+    if (file < 0) return errno;
+    int error = copy_file(source, 0, file);
+    if (error == 0 && (fchmod(file, mode) != 0 || fsync(file) != 0)) error = errno;
+    if (close(file) != 0 && error == 0) error = errno;
+    if (error != 0) unlink(path);
+    return error;
+}
 
 /* ---- a session that is to go on */
 

@@ -14,8 +14,7 @@
 
 /* Milliseconds. GRACE_MS: the program's for its end, of which the first HAND_ON_MS are for what was typed to be handed on;
  * DEATH_MS: a killed one's. RESTORE_MS: the terminal's to take what restores it, or RESTORE_BY_SIGNAL_MS after a signal. IDLE_MS:
- * typed bytes that nothing follows for so long are all. PASTE_MS: for a paste to
- * end. SILENCE_MS: a program that asks for nothing so long waits for an answer. */
+ * typed bytes that nothing follows for so long are all. SILENCE_MS: a program that asks for nothing so long waits for an answer. */
 enum {
     GRACE_MS = 3000,
     HAND_ON_MS = 500,
@@ -24,8 +23,7 @@ enum {
     RESTORE_BY_SIGNAL_MS = 1000,
     IDLE_MS = 50,
     SECOND_MS = 1000,
-    SILENCE_MS = 1000,
-    PASTE_MS = 2000
+    SILENCE_MS = 1000
 };
 
 /* The bytes of one read of the terminal, and the most that wait here: few, since a kill of the host loses them. */

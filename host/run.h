@@ -98,9 +98,6 @@ void close_program_ends(struct program_ends *ends);
 /* Starts the program with this size of the window. Returns its process, or -1. */
 pid_t start_program(const struct run *run, const struct program_ends *ends, unsigned rows, unsigned columns);
 
-/* Takes in a word of the program. `whose` is its struct run. */
-void hear_word(const struct frame *frame, void *whose);
-
 /* Reads what is there of the program's words. Returns false at their end. */
 bool read_words_of(struct run *run, struct word_reader *reader, int words);
 

@@ -16,8 +16,8 @@
 #include "save_judge.h"
 #include "util.h"
 
-/* LOCK_TRIES: waits of LOCK_MS for another save into the folder; some file systems and other programs keep the lock for ever. */
-enum { LOCK_TRIES = 50, LOCK_MS = 10 };
+/* FOLDER_LOCK_TRIES: waits of LOCK_MS for another save into the folder; some file systems and other programs keep the lock for ever. */
+enum { FOLDER_LOCK_TRIES = 50, LOCK_MS = 10 };
 
 /* ---- FILE and its folder, as they are now */
 
@@ -161,7 +161,8 @@ static int begin_here(struct save *save) {
     return cause_of(open_draft(save));
 }
 
-int save_begin(struct save *save) {
+/* Settles where a save goes, and opens its draft. */
+static int save_begin(struct save *save) {
     draft_remove(&save->draft);
     int cause = settle_folder(save);
     if (cause == 0) cause = begin_here(save);
@@ -175,7 +176,7 @@ int save_begin(struct save *save) {
 static void lock_folder(struct save *save) {
     const struct timespec pause = {.tv_nsec = LOCK_MS * 1000000L};
     save->folder_to_sync = openat(save->folder, ".", O_RDONLY | O_DIRECTORY | O_CLOEXEC);
-    for (int tries = 0; save->folder_to_sync >= 0 && tries < LOCK_TRIES; tries++) {
+    for (int tries = 0; save->folder_to_sync >= 0 && tries < FOLDER_LOCK_TRIES; tries++) {
         if (flock(save->folder_to_sync, LOCK_EX | LOCK_NB) == 0 || errno != EWOULDBLOCK) return;
         nanosleep(&pause, NULL);
     }
@@ -236,7 +237,8 @@ static int complete(struct save *save) {
     return error == 0 ? sync_file(save->draft.file) : error;
 }
 
-int save_commit(struct save *save) {
+/* FILE has the draft's text, and the text is on the disk. */
+static int save_commit(struct save *save) {
     bool was_there = save->is_there;
     int error = complete(save);
     if (error != 0) return cause_of(error);

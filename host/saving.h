@@ -108,10 +108,6 @@ struct save {
     bool is_there, is_in_place, is_listless;
 };
 
-/* Begins a save: settles where it goes, and opens its draft. Ends it: FILE has the draft's text, and the text is on the disk. */
-int save_begin(struct save *save);
-int save_commit(struct save *save);
-
 /* Makes the draft the mark, and writes its text into FILE itself. */
 int save_in_place(struct save *save);
 

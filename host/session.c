@@ -13,7 +13,7 @@
 #include "parts.h"
 
 /* NAME_TRIES: names that are tried for a session. LOCK_TRIES: for a lock, a second in all. */
-enum { FOLDER_MODE = 0700, NAME_TRIES = 16, NAME_LETTERS = 8, LOCK_TRIES = 20, LOCK_PAUSE_MS = 50 };
+enum { NAME_TRIES = 16, NAME_LETTERS = 8, LOCK_TRIES = 20, LOCK_PAUSE_MS = 50 };
 
 void session_clear(struct session *session) {
     *session = (struct session){.parent = -1, .folder = -1, .lock = -1, .text = -1, .journal = -1, .mirror = -1, .source = -1, .child = -1, .report = -1};
@@ -162,7 +162,8 @@ bool session_is_live(const struct session *session) {
     return is_live;
 }
 
-int make_session(struct session *session, const struct sessions *sessions) {
+/* Makes a session's folder with its lock and an empty journal. */
+static int make_session(struct session *session, const struct sessions *sessions) {
     session_clear(session);
     int error = make_folder(session, sessions);
     if (error) return error;

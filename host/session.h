@@ -13,6 +13,9 @@
 
 #include "session_judge.h"
 
+/* The mode of folders of sessions; the room that is left for keys, in bytes. */
+enum { FOLDER_MODE = 0700, ROOM_FOR_KEYS = 8192 };
+
 /* ---- folders of sessions (places.c) */
 
 enum folder_state {
@@ -291,7 +294,6 @@ bool walk_next_own(struct walk *walk);
 void walk_end(struct walk *walk);
 
 enum session_state session_state(const struct session *session);
-enum belonging session_belonging(const struct session *session, const struct target *target);
 
 /* Removes folders that killed starts left, after an hour. */
 void sessions_sweep(const struct sessions *sessions);

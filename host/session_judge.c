@@ -6,7 +6,7 @@
 #include <string.h>
 
 /* The modes' bits that let the group or others write, that let others write, and by which only owners rename or remove. */
-enum { SHARED = 022, OPEN_TO_ALL = 02, STICKY = 01000, PERMISSIONS = 0777, FOR_USER_ALONE = 0600 };
+enum { SHARED = 022, OPEN_TO_ALL = 02, STICKY = 01000, FOR_USER_ALONE = 0600 };
 
 enum { NANOS = 1000000000 };
 

@@ -52,6 +52,9 @@ bool may_go_on_elsewhere(const struct process *there, const struct process *here
 /* Permissions in octal: without the set-ID and sticky bits, for the user alone where the words have another form. */
 mode_t mode_of(const char *words);
 
+/* The permissions in a mode. */
+enum { PERMISSIONS = 0777 };
+
 /* ---- names and owners */
 
 /* What a folder in the folder of sessions is, by its name. */

@@ -10,8 +10,8 @@
 /* Milliseconds. A piece of a write has PIECE_MS, and the timer that ends it rings again after each RING_MS. A wait for a child
  * looks for its end after each LOOK_MS at least. */
 enum { PIECE_MS = 100, RING_MS = 20, LOOK_MS = 50 };
-/* A pipe that has room takes PIECE bytes at once. A write or wait that fails is tried TRIES times in all. */
-enum { PIECE = 4096, TRIES = 3 };
+/* A pipe that has room takes WRITE_PIECE bytes at once. A write or wait that fails is tried WRITE_TRIES times in all. */
+enum { WRITE_PIECE = 4096, WRITE_TRIES = 3 };
 
 volatile sig_atomic_t end_signal, is_resized, is_continued;
 volatile int64_t end_time;
@@ -143,7 +143,7 @@ void listen_once(void) {
 
 /* Whether the file takes bytes before the time `end`, or for ever where it is 0. The last writes let no signal in. */
 static bool is_ready(int file, int64_t end, bool is_last) {
-    int tries = TRIES;
+    int tries = WRITE_TRIES;
     while (is_last || !end_signal) {
         struct pollfd wanted = {.fd = file, .events = POLLOUT};
         int64_t left = end - now();
@@ -153,22 +153,6 @@ static bool is_ready(int file, int64_t end, bool is_last) {
         if (end != 0 && now() >= end) return false;
     }
     return false;
-}
-
-void write_ready(int file, const char *text, size_t length, int64_t limit, bool is_last) {
-    int64_t end = now() + limit;
-    int tries = TRIES;
-    while (length > 0 && tries > 0) {
-        ssize_t count = write(file, text, length);
-        if (count > 0) {
-            text += count;
-            length -= (size_t)count;
-        } else if (count < 0 && errno != EAGAIN && errno != EINTR) {
-            tries--;
-        } else if (!is_ready(file, end, is_last)) {
-            return;
-        }
-    }
 }
 
 static void let_timer_in(bool is_let) {
@@ -193,9 +177,9 @@ static ssize_t write_piece(int file, const char *text, size_t length) {
 
 void write_within(int file, const char *text, size_t length, int64_t limit, bool is_last) {
     int64_t end = limit == 0 ? 0 : now() + (is_last ? within(limit) : limit);
-    int tries = TRIES;
+    int tries = WRITE_TRIES;
     while (length > 0 && tries > 0 && is_ready(file, end, is_last)) {
-        ssize_t count = write_piece(file, text, length < PIECE ? length : PIECE);
+        ssize_t count = write_piece(file, text, length < WRITE_PIECE ? length : WRITE_PIECE);
         if (count > 0) {
             text += count;
             length -= (size_t)count;

@@ -49,9 +49,6 @@ int wait_for(struct pollfd *files, nfds_t count, int64_t end);
 /* Lets the signals in that have come. */
 void listen_once(void);
 
-/* Writes to a file that does not block, for at most `limit` milliseconds, or until an ending signal if it is not the last. */
-void write_ready(int file, const char *text, size_t length, int64_t limit, bool is_last);
-
 /* Writes to a file that may block, for at most `limit` milliseconds, for ever where it is 0, or until an ending signal if it is
  * not the last, which has to keep to `within`. Only once signals are caught. */
 void write_within(int file, const char *text, size_t length, int64_t limit, bool is_last);

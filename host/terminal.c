@@ -17,10 +17,11 @@
 
 #include "run.h"
 #include "signals.h"
+#include "words.h"
 
-/* The longest side of a window, as in the editor; bytes that wait for the terminal at most, of a title, and of other sequences;
+/* Bytes that wait for the terminal at most, of a title, and of other sequences;
  * how often settings are tried. */
-enum { LONGEST = 500, MOST_SHOWN = 16384, MOST_TITLE = 4096, MOST_SEQUENCES = 1024, TRIES = 3 };
+enum { MOST_SHOWN = 16384, MOST_TITLE = 4096, MOST_SEQUENCES = 1024, SETTINGS_TRIES = 3 };
 /* Milliseconds: for the first sequences; after which a paste that says nothing more is over. */
 enum { FIRST_MS = 3000, PASTE_SILENCE_MS = 1000 };
 
@@ -66,7 +67,7 @@ bool open_terminal(void) {
 }
 
 static unsigned side(unsigned side, unsigned without) {
-    return side == 0 ? without : side > LONGEST ? LONGEST : side;
+    return side == 0 ? without : side > LARGEST_SIDE ? LARGEST_SIDE : side;
 }
 
 bool measure(struct size *size) {
@@ -96,14 +97,15 @@ unsigned char erase_character(void) {
 
 /* A stop may interrupt this; what fails once is tried again, since a raw terminal is of no use to anyone. */
 static bool set(const struct termios *settings) {
-    for (int tries = 0; tries < TRIES;) {
+    for (int tries = 0; tries < SETTINGS_TRIES;) {
         if (tcsetattr(line, TCSANOW, settings) == 0) return true;
         if (errno != EINTR) tries++;
     }
     return false;
 }
 
-bool is_raw(void) {
+/* Whether no other program, as a shell, has set its own settings since the host's: all of them let signals through. */
+static bool is_raw(void) {
     struct termios settings;
     return tcgetattr(line, &settings) == 0 && !(settings.c_lflag & (tcflag_t)(ICANON | ISIG));
 }
@@ -142,7 +144,7 @@ const char *first_sequences(void) {
 bool begin_screen(void) {
     if (!set(&raw)) return false;
     tell_outer(&kind, true, false);
-    write_ready(line, saving, strlen(saving), FIRST_MS, false);
+    write_within(line, saving, strlen(saving), FIRST_MS, false);
     return true;
 }
 
@@ -184,7 +186,7 @@ void go_on_showing(void) {
 void restore_screen(int64_t limit) {
     /* a sequence that was begun is ended first */
     show(ending);
-    write_ready(line, waiting, waiting_length, limit, true);
+    write_within(line, waiting, waiting_length, limit, true);
     waiting_length = 0;
     tell_outer(&kind, false, true);
 }
@@ -216,9 +218,9 @@ void drain_paste(struct paste *paste, int64_t limit) {
 
 /* ---- the watcher */
 
-/* Milliseconds from the host's death on: how long the program has, and a save. PASTE_MS: for a paste to end; TTY_RESTORE_MS: the
- * terminal's to take what restores it; LOOK_MS: between looks at a process. */
-enum { GRACE_MS = 3000, SAVE_MS = 4500, PASTE_MS = 2000, TTY_RESTORE_MS = 1000, LOOK_MS = 50 };
+/* Milliseconds from the host's death on: how long the program has, and a save. TTY_RESTORE_MS: the
+ * terminal's to take what restores it; WATCH_MS: between looks at a process. */
+enum { PROGRAM_MS = 3000, SAVE_MS = 4500, TTY_RESTORE_MS = 1000, WATCH_MS = 50 };
 
 struct watched *watched;
 pid_t watcher;
@@ -265,7 +267,7 @@ static bool ends_before(int file, int64_t end) {
  * not, the host is looked for. */
 static void wait_for_host(pid_t host) {
     if (pthread_mutex_lock(&watched->life) == EOWNERDEAD) return;
-    while (getppid() == host) poll(NULL, 0, LOOK_MS);
+    while (getppid() == host) poll(NULL, 0, WATCH_MS);
 }
 
 /* Drops the rest of a paste. Output is held meanwhile, so that a shell stops at its prompt and takes nothing of it. */
@@ -283,10 +285,10 @@ static _Noreturn void watch(int words, pid_t host) {
     /* as soon as can be, since a shell sets its own now; where it has, they stay */
     if (is_changed && is_raw()) restore_settings();
     if (is_paste) tcflow(line, TCOON);
-    if (!ends_before(words, start + GRACE_MS) && watched->program > 0) kill(watched->program, SIGKILL);
+    if (!ends_before(words, start + PROGRAM_MS) && watched->program > 0) kill(watched->program, SIGKILL);
     if (is_changed) restore_screen(TTY_RESTORE_MS);
     /* its pipe has ended with the program */
-    while (watched->saver > 0 && now() < start + SAVE_MS && kill(watched->saver, 0) == 0) poll(NULL, 0, LOOK_MS);
+    while (watched->saver > 0 && now() < start + SAVE_MS && kill(watched->saver, 0) == 0) poll(NULL, 0, WATCH_MS);
     if (watched->saver > 0) kill(watched->saver, SIGKILL);
     _exit(0);
 }

@@ -30,9 +30,6 @@ bool note_settings(void);
 /* The character that erases in the terminal's own editing of lines, as noted. */
 unsigned char erase_character(void);
 
-/* Whether no other program, as a shell, has set its own settings since the host's: all of them let signals through. */
-bool is_raw(void);
-
 /* Restores the settings at once, not after the output, which may never go out. A job in the background may do this. */
 void restore_settings(void);
 
@@ -61,6 +58,9 @@ struct paste {
     uint64_t last_bytes;
     volatile bool is_under_way;
 };
+
+/* Milliseconds for a paste to end. */
+enum { PASTE_MS = 2000 };
 
 /* Takes note of what was read. */
 void follow_paste(struct paste *paste, const unsigned char *bytes, size_t length);

@@ -55,7 +55,8 @@ const char *direction_word(enum direction direction) {
     return directions[direction];
 }
 
-int direction_of(const char *word) {
+/* The direction that a word names, or -1. */
+static int direction_of(const char *word) {
     for (int i = 0; i < (int)(sizeof directions / sizeof *directions); i++)
         if (strcmp(word, directions[i]) == 0) return i;
     return -1;

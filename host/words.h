@@ -13,9 +13,8 @@ enum { LARGEST_SIDE = 500 };
 
 enum direction { DIRECTION_AUTO, DIRECTION_LTR, DIRECTION_RTL };
 
-/* The word for a direction; and the direction that a word names, or -1. */
+/* The word for a direction. */
 const char *direction_word(enum direction direction);
-int direction_of(const char *word);
 
 enum call_kind { CALL_HELP, CALL_VERSION, CALL_PRINT, CALL_LIST, CALL_FORGET, CALL_RECOVER, CALL_EDIT };
 
