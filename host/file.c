@@ -1,6 +1,5 @@
 #include "file.h"
 
-#include <dirent.h>
 #include <errno.h>
 #include <fcntl.h>
 #include <stdio.h>
@@ -295,19 +294,16 @@ static char *add_name(const struct file *file, char *names, const char *name) {
 }
 
 static char *add_drafts(const struct file *file, char *names) {
-    int folder = openat(file->folder, ".", O_RDONLY | O_DIRECTORY | O_CLOEXEC), count = 0, drafts = 0;
-    DIR *listed = folder >= 0 ? fdopendir(folder) : NULL;
+    const char *name;
+    int count = 0, drafts = 0;
+    DIR *entries = open_entries(file->folder);
     size_t stem = draft_stem(file);
-    if (!listed) {
-        close_one(&folder);
-        return names;
-    }
-    for (struct dirent *entry = readdir(listed); entry && count < MOST_NAMES && drafts < MOST_DRAFTS; entry = readdir(listed), count++) {
-        if (!is_draft(file, stem, entry->d_name)) continue;
-        names = add_name(file, names, entry->d_name);
+    while (entries && count++ < MOST_NAMES && drafts < MOST_DRAFTS && (name = next_entry(entries))) {
+        if (!is_draft(file, stem, name)) continue;
+        names = add_name(file, names, name);
         drafts++;
     }
-    closedir(listed);
+    if (entries) closedir(entries);
     return names;
 }
 

@@ -1,6 +1,5 @@
 #include "parts.h"
 
-#include <dirent.h>
 #include <errno.h>
 #include <fcntl.h>
 #include <stdio.h>
@@ -201,56 +200,27 @@ bool session_is_there(const struct session *session) {
     return put_path(above, "%.*s", (int)length, session->path) && lstat(above, &named) == 0 && is_same_file(&parent, &named);
 }
 
-int each_entry(int folder, bool (*visit)(void *, int, const char *), void *context) {
-    int again = openat(folder, ".", O_RDONLY | O_DIRECTORY | O_CLOEXEC);
-    DIR *entries = again < 0 ? NULL : fdopendir(again);
-    if (!entries) {
-        int error = errno;
-        if (again >= 0) close(again);
-        return error;
-    }
-    bool goes_on = true;
-    const struct dirent *entry;
-    while (goes_on && (errno = 0, entry = readdir(entries))) {
-        bool is_link = strcmp(entry->d_name, ".") == 0 || strcmp(entry->d_name, "..") == 0;
-        if (!is_link) goes_on = visit(context, again, entry->d_name);
-    }
-    int error = goes_on ? errno : 0;
-    closedir(entries);
-    return error;
-}
-
-struct ownership {
-    uid_t user;
-    bool is_own;
-};
-
-static bool judge_owner(void *context, int folder, const char *name) {
-    struct ownership *ownership = context;
-    struct stat found;
-    bool is_seen = fstatat(folder, name, &found, AT_SYMLINK_NOFOLLOW) == 0;
-    ownership->is_own = is_seen && S_ISREG(found.st_mode) && found.st_uid == ownership->user;
-    return ownership->is_own;
-}
-
 bool session_is_own(const struct session *session) {
     struct stat found;
-    struct ownership ownership = {.user = session->user, .is_own = true};
+    const char *name;
     if (fstat(session->folder, &found) != 0 || !is_private(found.st_uid, found.st_mode, session->user)) return false;
-    return each_entry(session->folder, judge_owner, &ownership) == 0 && ownership.is_own;
-}
-
-static bool add_blocks(void *context, int folder, const char *name) {
-    uint64_t *blocks = context;
-    struct stat found;
-    if (fstatat(folder, name, &found, AT_SYMLINK_NOFOLLOW) == 0) *blocks += (uint64_t)found.st_blocks;
-    return true;
+    DIR *entries = open_entries(session->folder);
+    bool is_own = entries;
+    while (is_own && (name = next_entry(entries)))
+        is_own = fstatat(session->folder, name, &found, AT_SYMLINK_NOFOLLOW) == 0 && S_ISREG(found.st_mode) && found.st_uid == session->user;
+    is_own = is_own && errno == 0;
+    if (entries) closedir(entries);
+    return is_own;
 }
 
 uint64_t session_kilobytes(const struct session *session) {
     struct stat found;
+    const char *name;
     uint64_t blocks = fstat(session->folder, &found) == 0 ? (uint64_t)found.st_blocks : 0;
-    if (each_entry(session->folder, add_blocks, &blocks) != 0) return 0;
+    DIR *entries = open_entries(session->folder);
+    while (entries && (name = next_entry(entries)))
+        if (fstatat(session->folder, name, &found, AT_SYMLINK_NOFOLLOW) == 0) blocks += (uint64_t)found.st_blocks;
+    if (entries) closedir(entries);
     /* the system counts blocks of 512 bytes */
     return (blocks + 1) / 2;
 }

@@ -10,9 +10,6 @@ enum { FILE_MODE = 0600 };
 /* Opens a part for reading; no link is followed, and no pipe waits. */
 int part_open(int folder, const char *name, int flags);
 
-/* Calls `visit` with an open folder and each name in it, until it returns false. */
-int each_entry(int folder, bool (*visit)(void *, int, const char *), void *context);
-
 /* Which file is at a name in a folder. `flags`: O_NOFOLLOW, or 0. */
 bool file_id_at(int folder, const char *name, int flags, struct file_id *id);
 

@@ -305,16 +305,13 @@ int session_go_on(struct session *session, const char *beside, bool is_of_path) 
 
 /* ---- the end */
 
-/* Removes a name in an open folder; the names of folders in it stay, and so does it then. */
-static bool remove_entry(void *context, int folder, const char *name) {
-    (void)context;
-    return unlinkat(folder, name, 0) == 0 || true;
-}
-
 void remove_folder(const struct session *session, const char *name) {
-    /* without the path nobody recovers it, whatever stays */
+    const char *part;
+    /* without the path nobody recovers it, whatever stays; the names of folders in it do */
     unlinkat(session->folder, part_name(PART_PATH), 0);
-    each_entry(session->folder, remove_entry, NULL);
+    DIR *entries = open_entries(session->folder);
+    while (entries && (part = next_entry(entries))) unlinkat(session->folder, part, 0);
+    if (entries) closedir(entries);
     unlinkat(session->parent, name, AT_REMOVEDIR);
 }
 

@@ -126,6 +126,22 @@ int copy_file(int from, off_t place, int to) {
     return copy_pieces(from, place, to);
 }
 
+DIR *open_entries(int folder) {
+    int again = openat(folder, ".", O_RDONLY | O_DIRECTORY | O_CLOEXEC);
+    DIR *entries = again < 0 ? NULL : fdopendir(again);
+    if (!entries) close_one(&again);
+    return entries;
+}
+
+const char *next_entry(DIR *entries) {
+    const struct dirent *entry;
+    errno = 0;
+    do {
+        entry = readdir(entries);
+    } while (entry && (strcmp(entry->d_name, ".") == 0 || strcmp(entry->d_name, "..") == 0));
+    return entry ? entry->d_name : NULL;
+}
+
 bool is_lacking(int error) {
     return error == ENOSYS || error == EINVAL || error == EOPNOTSUPP;
 }

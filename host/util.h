@@ -3,6 +3,7 @@
 #ifndef UTIL_H
 #define UTIL_H
 
+#include <dirent.h>
 #include <limits.h>
 #include <stdbool.h>
 #include <stddef.h>
@@ -41,6 +42,11 @@ int copy_file(int from, off_t place, int to);
 
 /* Calls `read` with the bytes of an open file, piece by piece, from a place on. */
 int read_pieces(int file, off_t place, void (*read)(void *, const char *, size_t), void *context);
+
+/* Opens an open folder to list its names; NULL at a fault. The next name, without `.` and `..`; NULL after the last one, and at a
+ * fault, which errno tells. */
+DIR *open_entries(int folder);
+const char *next_entry(DIR *entries);
 
 /* Whether a call failed since the system or the file system lacks it. */
 bool is_lacking(int error);

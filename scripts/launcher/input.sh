@@ -38,7 +38,7 @@ has_kept() { # BYTES
 }
 
 # Ends the editor, whose text is not saved, and which may ask something.
-drop() { # NAME
+end_kept() { # NAME
     send_signal TERM '.*bidi-edit note'
     finish "$1" 143 100
     rm -f note
@@ -97,7 +97,7 @@ check_terminal_keys() {
     start_kept
     type_bytes "$folder/keys"
     settled_journal >"$folder/record"
-    drop 'input, keys'
+    end_kept 'input, keys'
     terminal_keys >"$folder/table"
     line=0
     while IFS=: read -r name _ taken; do
@@ -118,7 +118,7 @@ check_cut_keys() {
         sleep 0.2
     done
     same 'input, keys that come byte by byte' "$(settled_journal | cat -v)" 'a^[[96~^[[81~^[[Db^[[93~c'
-    drop 'input, cut'
+    end_kept 'input, cut'
 }
 
 # The byte 08 is Backspace with Ctrl where the terminal's own erase character is 7F, as in tmux, and else Backspace (CSI 94~;
@@ -130,7 +130,7 @@ check_erase_character() {
         printf '\177\010\033\177\033\010' >"$folder/keys"
         type_bytes "$folder/keys"
         settled_journal >"$folder/record"
-        drop "input, erase $erase"
+        end_kept "input, erase $erase"
         if [ "$erase" = '^?' ]; then wanted_keys='^[[94~^[[88~^[[88~^[[88~'; else wanted_keys='^[[94~^[[94~^[[88~^[[88~'; fi
         same "input, erase $erase: Backspace" "$(cat -v "$folder/record")" "$wanted_keys"
     done
@@ -185,7 +185,7 @@ check_big_paste() {
     journal >"$folder/record"
     cmp "$folder/record" "$folder/big_pasted" >"$folder/differs" 2>&1
     report 'input, a paste of 1 MB with every byte' $? "$(cat "$folder/differs")"
-    drop 'input, a paste'
+    end_kept 'input, a paste'
 }
 
 # tmux marks a paste (-p) only if the host asked for that (2004).
@@ -195,7 +195,7 @@ check_marks() {
     terminal load-buffer -b bytes "$folder/keys"
     terminal paste-buffer -d -p -b bytes -t person
     same 'input, a paste of tmux' "$(settled_journal | cat -v)" "$(printf '^[[90~one\ntwo^[[91~')"
-    drop 'input, marks'
+    end_kept 'input, marks'
     has 'input, pastes asked for' "$(written)" '^[[?2004h'
     has 'input, and given back' "$(written)" '^[[?2004l^[[0m'
 }
