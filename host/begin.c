@@ -43,6 +43,11 @@ int find_file(struct edit *edit, const char *typed, bool is_lost) {
     return GO_ON;
 }
 
+bool find_versions(const struct edit *edit, char words[MOST_WORDS]) {
+    const char *files[] = {edit->programs->editor, edit->tables.classes, edit->tables.brackets, edit->tables.mirroring};
+    return versions_look(EDITOR_VERSION, files, sizeof files / sizeof *files, words);
+}
+
 bool tell_mended(const struct edit *edit, const struct mending *mending, void (*say)(const char *format, ...)) {
     const char *file = shown(edit->file.typed);
     if (mending->mended == MENDED_PUT_BACK) say("a save of %s was cut off; its whole text is put back", file);

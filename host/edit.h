@@ -62,6 +62,9 @@ struct edit {
 
 /* ---- begin.c */
 
+/* Tells what a replay depends on; false where a program or table cannot be looked at. */
+bool find_versions(const struct edit *edit, char words[MOST_WORDS]);
+
 /* Opens and judges FILE, puts its text back after saves that were cut off, and refuses what cannot be edited, unless it is forced.
  * `typed` is FILE's name. */
 int check_file(struct edit *edit, const char *typed);

@@ -210,8 +210,7 @@ static const char *cause_of_lost(const struct edit *edit) {
 /* Whether the tables and programs are those with which the session began. */
 static bool has_same_versions(const struct edit *edit) {
     char versions[MOST_WORDS];
-    const char *files[] = {edit->programs->editor, edit->tables.classes, edit->tables.brackets, edit->tables.mirroring};
-    return versions_look(EDITOR_VERSION, files, sizeof files / sizeof *files, versions) && strcmp(versions, edit->versions) == 0;
+    return find_versions(edit, versions) && strcmp(versions, edit->versions) == 0;
 }
 
 /* Puts an open text into the session. If this fails, another version of the editor recovers it by the keys. */

@@ -208,12 +208,11 @@ static int edit_by(const struct call *call, const struct programs *programs) {
         return STATUS_FAULT;
     }
     tell_variables();
-    const char *files[] = {programs->editor, edit.tables.classes, edit.tables.brackets, edit.tables.mirroring};
-    if (!versions_look(EDITOR_VERSION, files, sizeof files / sizeof *files, edit.versions)) {
+    edit.programs = programs;
+    if (!find_versions(&edit, edit.versions)) {
         warn("a program or table of the editor cannot be looked at: %s", strerror(errno));
         return STATUS_FAULT;
     }
-    edit.programs = programs;
     edit.call = call;
     edit.lost_mode = -1;
     edit.is_joined = !call->is_unjoined && edit.tables.joining;

@@ -83,7 +83,7 @@ static void drop_request(size_t length) {
     if (read(now_running.pipes.requests, bytes, length < sizeof bytes ? length : sizeof bytes) > 0) now_running.dropped = now() + SILENCE_MS;
 }
 
-/* Fails a save whose child was killed, after the rest of it. */
+/* Fails a save whose child was killed, or could not be made, after the rest of it. */
 static void mind_dropped(struct run *run) {
     if (now_running.dropped == 0 || now() < now_running.dropped) return;
     now_running.dropped = 0;

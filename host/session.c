@@ -61,7 +61,6 @@ const struct process *this_process(void) {
     struct utsname system;
     if (!process.machine[0]) {
         snprintf(process.machine, sizeof process.machine, "%s", uname(&system) == 0 && system.nodename[0] ? system.nodename : "localhost");
-        read_word("/proc/sys/kernel/hostname", process.machine, sizeof process.machine);
         read_word("/proc/sys/kernel/random/boot_id", process.boot, sizeof process.boot);
     }
     process.number = (unsigned)getpid();
