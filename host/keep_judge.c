@@ -1,7 +1,6 @@
 #include "keep_judge.h"
 
 #include <errno.h>
-#include <stddef.h>
 #include <string.h>
 
 /* Bytes of a journal: 20,000 keys take a second or two to replay, and a large paste in one line longer. */

@@ -2,7 +2,6 @@
 #include <fcntl.h>
 #include <mntent.h>
 #include <pwd.h>
-#include <stdarg.h>
 #include <stdio.h>
 #include <stdlib.h>
 #include <string.h>

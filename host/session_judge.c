@@ -2,7 +2,6 @@
 
 #include <inttypes.h>
 #include <stdio.h>
-#include <stdlib.h>
 #include <string.h>
 
 /* The modes' bits that let the group or others write, that let others write, and by which only owners rename or remove. */

@@ -1,7 +1,6 @@
 #include "signals.h"
 
 #include <errno.h>
-#include <stdlib.h>
 #include <sys/time.h>
 #include <sys/wait.h>
 #include <time.h>
