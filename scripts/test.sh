@@ -32,6 +32,8 @@ edits 300 check-edits.sh 200
 joined-rows 300 check-joined-rows.sh
 statuses 300 check-statuses.sh
 runs 300 check-runs.sh
+files 300 check-files.sh
+session-files 300 check-session-files.sh
 keeping 300 check-keeping.sh
 dist 300 check-dist.sh
 built 300 check-built.sh
