@@ -24,11 +24,11 @@ enum { MOST_LINE = 4096 };
 static bool read_answer(char answer[MOST_LINE]) {
     size_t length = 0;
     while (length < MOST_LINE) {
-        ssize_t count = read(line, answer + length, 1);
+        ssize_t count = read(terminal_line, answer + length, 1);
         if (count == 0 || (count < 0 && errno != EAGAIN && errno != EINTR)) return false;
         if (count < 0) {
             /* signals end the host here, since none is caught yet */
-            struct pollfd wanted = {.fd = line, .events = POLLIN};
+            struct pollfd wanted = {.fd = terminal_line, .events = POLLIN};
             poll(&wanted, 1, -1);
             continue;
         }
@@ -53,10 +53,10 @@ static const char *small(char *answer) {
 /* Asks once. What was typed before the question is no answer to it, and is dropped. Returns NULL where the input ends. */
 static const char *ask(const char *question) {
     static char answer[MOST_LINE];
-    tcflush(line, TCIFLUSH);
-    put_text(line, text_of("%s ", question));
+    tcflush(terminal_line, TCIFLUSH);
+    put_text(terminal_line, text_of("%s ", question));
     if (read_answer(answer)) return small(answer);
-    put_text(line, "\n");
+    put_text(terminal_line, "\n");
     return NULL;
 }
 

@@ -177,7 +177,7 @@ static void take_report(struct session *session, const struct report *said) {
     session->is_waiting = said->error == ENOSPC || said->error == EDQUOT;
     if (said->is_refused) renew_text(session);
     if (said->error) return;
-    /* the program has opened it: memory is free again, and a FILE that a save replaced */
+    /* the program has opened it, and a FILE that a save replaced need not stay */
     close_one(&session->source);
     session->is_source_file = false;
     session->is_filled = session->has_text = true;

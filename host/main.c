@@ -144,7 +144,7 @@ static int check_terminal(void) {
         warn("the terminal is dumb (TERM=dumb) and moves no cursor: start the editor in another, or with TERM=xterm if it is none");
         return STATUS_NO;
     }
-    if (line >= 0) return GO_ON;
+    if (terminal_line >= 0) return GO_ON;
     warn("there is no terminal: start the editor in one (ssh -t gives one to a command)");
     return STATUS_NO;
 }

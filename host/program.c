@@ -86,7 +86,7 @@ static _Noreturn void become_program(const struct run *run, const struct program
     signal(SIGHUP, SIG_IGN);
     signal(SIGXFSZ, SIG_IGN);
     watched->program = getpid();
-    if (dup2(ends->input, STDIN_FILENO) < 0 || dup2(screen, STDOUT_FILENO) < 0 || dup2(ends->words, STDERR_FILENO) < 0) _exit(126);
+    if (dup2(ends->input, STDIN_FILENO) < 0 || dup2(terminal_screen, STDOUT_FILENO) < 0 || dup2(ends->words, STDERR_FILENO) < 0) _exit(126);
     hand_on_files(run);
     fcntl(ends->requests, F_SETFD, 0);
     fcntl(ends->answers, F_SETFD, 0);

@@ -122,7 +122,7 @@ static void mind_ctrl_c(struct run *run, const unsigned char *bytes, size_t leng
 /* Reads the terminal. What is typed after the end is dropped. */
 static void read_typing(struct run *run) {
     unsigned char bytes[TYPED_PIECE];
-    ssize_t count = read(line, bytes, sizeof bytes);
+    ssize_t count = read(terminal_line, bytes, sizeof bytes);
     if (count == 0 || (count < 0 && errno != EAGAIN && errno != EINTR)) now_running.is_hung_up = true;
     if (count <= 0) return;
     follow_paste(&watched->paste, bytes, (size_t)count);
@@ -148,7 +148,7 @@ static void wait_once(struct run *run, int64_t end) {
         [WORDS] = {.fd = now_running.pipes.words, .events = POLLIN},
         [REQUESTS] = {.fd = is_saving ? -1 : now_running.pipes.requests, .events = POLLIN},
         [KEYS] = {.fd = is_written ? now_running.pipes.keys : -1, .events = POLLOUT},
-        [LINE] = {.fd = line, .events = 0},
+        [LINE] = {.fd = terminal_line, .events = 0},
     };
     if (takes_typing()) files[LINE].events |= POLLIN;
     if (is_showing()) files[LINE].events |= POLLOUT;
@@ -181,7 +181,7 @@ static void mind_terminal(void) {
 
 /* Bytes that came while the host was stopped follow what was typed before. */
 static void mind_idle(void) {
-    struct pollfd wanted = {.fd = line, .events = POLLIN};
+    struct pollfd wanted = {.fd = terminal_line, .events = POLLIN};
     if (now_running.idle == 0 || now() < now_running.idle || !takes_typing() || poll(&wanted, 1, 0) != 0) return;
     if (put_frame(&now_running.queue, FRAME_IDLE, NULL, 0)) now_running.idle = 0;
 }

@@ -8,7 +8,6 @@
 #include <sys/types.h>
 
 #include "frames.h"
-#include "run.h"
 
 struct saver;
 

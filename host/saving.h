@@ -1,5 +1,5 @@
-/* A save that is under way, in the child that serves it: the parts of save.c, in_place.c and saver.c share this. Functions that may
- * fail return 0 or an enum save_cause. */
+/* A save that is under way, in the child that serves it: what save.c and draft.c share. Functions of drafts that may fail return 0 or
+ * an errno, those of saves 0 or an enum save_cause. */
 #ifndef SAVING_H
 #define SAVING_H
 
@@ -47,9 +47,6 @@ int draft_open_own(struct draft *draft, int folder, const char *name, mode_t mod
 /* Appends bytes; a fault is told by draft_flush. */
 void draft_put(struct draft *draft, const unsigned char *bytes, size_t length);
 int draft_flush(struct draft *draft);
-
-/* Syncs a file, or a folder, to the disk, where its file system can. */
-int sync_file(int file);
 
 /* Gives the draft the owner, group and permissions of the file that it replaces, as far as the system permits, and takes away what
  * its folder gave it. `is_plain`: the mode says all of the permissions. */

@@ -40,7 +40,7 @@ enum { FIRST_MS = 3000, PASTE_SILENCE_MS = 1000 };
 #define SAVED_TITLE "\033[22;0t"
 #define END_TITLE "\033[23;0t"
 
-int line = -1, screen = -1;
+int terminal_line = -1, terminal_screen = -1;
 
 /* The settings from before, and the host's own. */
 static struct termios cooked, raw;
@@ -53,16 +53,16 @@ static size_t waiting_length;
 
 bool open_terminal(void) {
     const char *name = "/dev/tty";
-    line = open(name, O_RDWR | O_NONBLOCK | O_NOCTTY | O_CLOEXEC);
-    if (line < 0 && isatty(STDIN_FILENO) && isatty(STDOUT_FILENO)) {
+    terminal_line = open(name, O_RDWR | O_NONBLOCK | O_NOCTTY | O_CLOEXEC);
+    if (terminal_line < 0 && isatty(STDIN_FILENO) && isatty(STDOUT_FILENO)) {
         name = ttyname(STDIN_FILENO);
-        if (name) line = open(name, O_RDWR | O_NONBLOCK | O_NOCTTY | O_CLOEXEC);
+        if (name) terminal_line = open(name, O_RDWR | O_NONBLOCK | O_NOCTTY | O_CLOEXEC);
     }
-    if (!name || line < 0) return false;
-    screen = open(name, O_RDWR | O_NOCTTY | O_CLOEXEC);
-    if (screen >= 0) return true;
-    close(line);
-    line = -1;
+    if (!name || terminal_line < 0) return false;
+    terminal_screen = open(name, O_RDWR | O_NOCTTY | O_CLOEXEC);
+    if (terminal_screen >= 0) return true;
+    close(terminal_line);
+    terminal_line = -1;
     return false;
 }
 
@@ -72,14 +72,14 @@ static unsigned side(unsigned side, unsigned without) {
 
 bool measure(struct size *size) {
     struct winsize window = {0};
-    bool is_measured = line >= 0 && ioctl(line, TIOCGWINSZ, &window) == 0 && window.ws_row > 0 && window.ws_col > 0;
+    bool is_measured = terminal_line >= 0 && ioctl(terminal_line, TIOCGWINSZ, &window) == 0 && window.ws_row > 0 && window.ws_col > 0;
     size->rows = side(window.ws_row, 24);
     size->columns = side(window.ws_col, 80);
     return is_measured;
 }
 
 bool note_settings(void) {
-    if (tcgetattr(line, &cooked) != 0) return false;
+    if (tcgetattr(terminal_line, &cooked) != 0) return false;
     /* as `stty raw -echo -iexten` sets them */
     raw = cooked;
     raw.c_iflag &= ~(tcflag_t)(IGNBRK | BRKINT | IGNPAR | PARMRK | INPCK | ISTRIP | INLCR | IGNCR | ICRNL);
@@ -98,7 +98,7 @@ unsigned char erase_character(void) {
 /* A stop may interrupt this; what fails once is tried again, since a raw terminal is of no use to anyone. */
 static bool set(const struct termios *settings) {
     for (int tries = 0; tries < SETTINGS_TRIES;) {
-        if (tcsetattr(line, TCSANOW, settings) == 0) return true;
+        if (tcsetattr(terminal_line, TCSANOW, settings) == 0) return true;
         if (errno != EINTR) tries++;
     }
     return false;
@@ -107,7 +107,7 @@ static bool set(const struct termios *settings) {
 /* Whether no other program, as a shell, has set its own settings since the host's: all of them let signals through. */
 static bool is_raw(void) {
     struct termios settings;
-    return tcgetattr(line, &settings) == 0 && !(settings.c_lflag & (tcflag_t)(ICANON | ISIG));
+    return tcgetattr(terminal_line, &settings) == 0 && !(settings.c_lflag & (tcflag_t)(ICANON | ISIG));
 }
 
 void restore_settings(void) {
@@ -144,7 +144,7 @@ const char *first_sequences(void) {
 bool begin_screen(void) {
     if (!set(&raw)) return false;
     tell_outer(&kind, true, false);
-    write_within(line, saving, strlen(saving), FIRST_MS, false);
+    write_within(terminal_line, saving, strlen(saving), FIRST_MS, false);
     return true;
 }
 
@@ -175,7 +175,7 @@ bool is_showing(void) {
 }
 
 void go_on_showing(void) {
-    ssize_t count = write(line, waiting, waiting_length);
+    ssize_t count = write(terminal_line, waiting, waiting_length);
     if (count < 0 && (errno == EAGAIN || errno == EINTR)) return;
     /* a closed terminal takes nothing any more */
     size_t taken = count < 0 ? waiting_length : (size_t)count;
@@ -186,7 +186,7 @@ void go_on_showing(void) {
 void restore_screen(int64_t limit) {
     /* a sequence that was begun is ended first */
     show(ending);
-    write_within(line, waiting, waiting_length, limit, true);
+    write_within(terminal_line, waiting, waiting_length, limit, true);
     waiting_length = 0;
     tell_outer(&kind, false, true);
 }
@@ -206,14 +206,14 @@ void drain_paste(struct paste *paste, int64_t limit) {
     while (paste->is_under_way && now() < end) {
         unsigned char bytes[4096];
         int64_t left = end - now();
-        struct pollfd wanted = {.fd = line, .events = POLLIN};
+        struct pollfd wanted = {.fd = terminal_line, .events = POLLIN};
         int count = poll(&wanted, 1, left > PASTE_SILENCE_MS ? PASTE_SILENCE_MS : left > 0 ? (int)left : 0);
         if (count == 0) break;
-        ssize_t length = read(line, bytes, sizeof bytes);
+        ssize_t length = read(terminal_line, bytes, sizeof bytes);
         if (length == 0 || (length < 0 && errno != EAGAIN && errno != EINTR)) return;
         if (length > 0) follow_paste(paste, bytes, (size_t)length);
     }
-    if (paste->is_under_way) tcflush(line, TCIFLUSH);
+    if (paste->is_under_way) tcflush(terminal_line, TCIFLUSH);
 }
 
 /* ---- the watcher */
@@ -273,7 +273,7 @@ static void wait_for_host(pid_t host) {
 /* Drops the rest of a paste. Output is held meanwhile, so that a shell stops at its prompt and takes nothing of it. */
 static void end_paste(void) {
     if (!watched->paste.is_under_way) return;
-    tcflow(line, TCOOFF);
+    tcflow(terminal_line, TCOOFF);
     drain_paste(&watched->paste, PASTE_MS);
 }
 
@@ -284,7 +284,7 @@ static _Noreturn void watch(int words, pid_t host) {
     if (is_changed) end_paste();
     /* as soon as can be, since a shell sets its own now; where it has, they stay */
     if (is_changed && is_raw()) restore_settings();
-    if (is_paste) tcflow(line, TCOON);
+    if (is_paste) tcflow(terminal_line, TCOON);
     if (!ends_before(words, start + PROGRAM_MS) && watched->program > 0) kill(watched->program, SIGKILL);
     if (is_changed) restore_screen(TTY_RESTORE_MS);
     /* its pipe has ended with the program */
@@ -300,8 +300,8 @@ static _Noreturn void become_watcher(int words, int words_end, pid_t host) {
     sigprocmask(SIG_SETMASK, &mask, NULL);
     setpgid(0, 0);
     /* who has no terminal is never in the background of one */
-    ioctl(line, TIOCNOTTY);
-    const int others[] = {words_end, screen, STDIN_FILENO, STDOUT_FILENO, STDERR_FILENO};
+    ioctl(terminal_line, TIOCNOTTY);
+    const int others[] = {words_end, terminal_screen, STDIN_FILENO, STDOUT_FILENO, STDERR_FILENO};
     for (size_t i = 0; i < sizeof others / sizeof *others; i++) close(others[i]);
     watch(words, host);
 }

@@ -8,11 +8,9 @@
 #include <stdint.h>
 #include <sys/types.h>
 
-#include "terminal.h"
-
-/* The terminal has two open files, -1 without one: `line` does not block and is the host's, `screen` blocks and is the
- * program's. */
-extern int line, screen;
+/* The terminal has two open files, -1 without one: terminal_line does not block and is the host's, terminal_screen blocks and is
+ * the program's. */
+extern int terminal_line, terminal_screen;
 
 struct size {
     unsigned rows, columns;

@@ -12,8 +12,8 @@
 /* Closes a file, if it is open, and notes that it is not. */
 void close_one(int *file);
 
-/* In a child: closes all files but these, and opens nothing as the standard ones, so that nobody waits for the end of a pipe or
- * terminal that the child has, and what the C library says of a fault gets into no file. */
+/* In a child: closes all files but these, and has /dev/null in place of the standard ones, so that nobody waits for the end of a
+ * pipe or terminal that the child has, and what the C library says of a fault gets into no file. */
 void close_others(const int *kept, size_t count);
 
 /* Opens a folder of which nothing is read; what is at a name, a link as such. -1 at a fault. */
