@@ -28,13 +28,6 @@ void close_pipes(struct pipes *pipes) {
     close_one(&pipes->answers);
 }
 
-void close_program_ends(struct program_ends *ends) {
-    close_one(&ends->input);
-    close_one(&ends->words);
-    close_one(&ends->requests);
-    close_one(&ends->answers);
-}
-
 static bool open_pipe(int *reading, int *writing) {
     int ends[2];
     if (pipe2(ends, O_CLOEXEC) != 0) return false;
@@ -43,14 +36,14 @@ static bool open_pipe(int *reading, int *writing) {
     return true;
 }
 
-bool open_words(struct pipes *pipes, struct program_ends *ends) {
+bool open_words(struct pipes *pipes, struct pipes *ends) {
     *pipes = (struct pipes){-1, -1, -1, -1};
-    *ends = (struct program_ends){-1, -1, -1, -1};
+    *ends = (struct pipes){-1, -1, -1, -1};
     return open_pipe(&pipes->words, &ends->words) && fcntl(pipes->words, F_SETFL, O_NONBLOCK) == 0;
 }
 
-bool open_pipes(struct pipes *pipes, struct program_ends *ends) {
-    bool is_open = open_pipe(&ends->input, &pipes->keys) && open_pipe(&pipes->requests, &ends->requests) &&
+bool open_pipes(struct pipes *pipes, struct pipes *ends) {
+    bool is_open = open_pipe(&ends->keys, &pipes->keys) && open_pipe(&pipes->requests, &ends->requests) &&
                    open_pipe(&ends->answers, &pipes->answers) && fcntl(pipes->keys, F_SETFL, O_NONBLOCK) == 0;
     /* a larger pipe would serve as well */
     if (is_open) fcntl(pipes->keys, F_SETPIPE_SZ, INPUT_ROOM);
@@ -82,18 +75,18 @@ static _Noreturn void become(char *const *words, mode_t mask) {
 
 /* Becomes the program, which ends at its input's end, ignores a closed terminal's HUP, and fails at a write beyond the limit of
  * a file's size in place of being killed. */
-static _Noreturn void become_program(const struct run *run, const struct program_ends *ends, char *const *words) {
+static _Noreturn void become_program(const struct run *run, const struct pipes *ends, char *const *words) {
     signal(SIGHUP, SIG_IGN);
     signal(SIGXFSZ, SIG_IGN);
     watched->program = getpid();
-    if (dup2(ends->input, STDIN_FILENO) < 0 || dup2(terminal_screen, STDOUT_FILENO) < 0 || dup2(ends->words, STDERR_FILENO) < 0) _exit(126);
+    if (dup2(ends->keys, STDIN_FILENO) < 0 || dup2(terminal_screen, STDOUT_FILENO) < 0 || dup2(ends->words, STDERR_FILENO) < 0) _exit(126);
     hand_on_files(run);
     fcntl(ends->requests, F_SETFD, 0);
     fcntl(ends->answers, F_SETFD, 0);
     become(words, (mode_t)run->mask);
 }
 
-pid_t start_program(const struct run *run, const struct program_ends *ends, unsigned rows, unsigned columns) {
+pid_t start_program(const struct run *run, const struct pipes *ends, unsigned rows, unsigned columns) {
     char saves[32], side[2][16], erase[4], *words[OWN_WORDS + WORDS_MOST + 2];
     snprintf(saves, sizeof saves, "%d,%d", ends->requests, ends->answers);
     snprintf(side[0], sizeof side[0], "%u", rows);

@@ -260,7 +260,7 @@ static void restore(struct run *run) {
 }
 
 /* Starts the program in the changed terminal. Returns false, and the cause, where it cannot be started. */
-static bool start(struct run *run, struct program_ends *ends) {
+static bool start(struct run *run, struct pipes *ends) {
     struct size size, first;
     measure(&size);
     first = run->rows > 0 ? (struct size){run->rows, run->columns} : size;
@@ -281,7 +281,7 @@ static bool start(struct run *run, struct program_ends *ends) {
 }
 
 /* Makes what the watcher and the program need. */
-static bool prepare(struct run *run, struct program_ends *ends) {
+static bool prepare(struct run *run, struct pipes *ends) {
     run->cause = "the terminal tells no settings";
     if (!note_settings()) return false;
     prepare_screen(run->title);
@@ -294,12 +294,12 @@ static bool prepare(struct run *run, struct program_ends *ends) {
 }
 
 enum run_end run_program(struct run *run) {
-    struct program_ends ends = {-1, -1, -1, -1};
+    struct pipes ends = {-1, -1, -1, -1};
     run->said = (struct said){.end = END_NONE};
     run->status = 1;
     catch_signals();
     bool is_prepared = prepare(run, &ends), is_started = is_prepared && start(run, &ends);
-    close_program_ends(&ends);
+    close_pipes(&ends);
     if (is_started) go_on(run);
     /* a signal to the whole job ends the program too */
     listen_once();

@@ -75,27 +75,20 @@ int run_aside(struct run *run, char *const *words, int64_t limit);
 
 /* ---- the program as a child of the host, for run.c (program.c) */
 
-/* The host's ends: it writes the program's input, reads its words, and hands the other two on to the children of saves; -1 once
- * closed. `keys` does not block, nor does `words`. */
+/* Ends of pipes, of the host or of the program; -1 once closed. The host writes the program's keys, reads its words, and hands the
+ * other two on to the children of saves. Its `keys` and `words` do not block. */
 struct pipes {
     int keys, words, requests, answers;
 };
 
-/* The program's ends. */
-struct program_ends {
-    int input, words, requests, answers;
-};
-
 /* Makes the pipe of the words, the only one that the watcher may have, and later the others. Each returns false where that cannot
  * be done. */
-bool open_words(struct pipes *pipes, struct program_ends *ends);
-bool open_pipes(struct pipes *pipes, struct program_ends *ends);
-
+bool open_words(struct pipes *pipes, struct pipes *ends);
+bool open_pipes(struct pipes *pipes, struct pipes *ends);
 void close_pipes(struct pipes *pipes);
-void close_program_ends(struct program_ends *ends);
 
 /* Starts the program with this size of the window. Returns its process, or -1. */
-pid_t start_program(const struct run *run, const struct program_ends *ends, unsigned rows, unsigned columns);
+pid_t start_program(const struct run *run, const struct pipes *ends, unsigned rows, unsigned columns);
 
 /* Reads what is there of the program's words. Returns false at their end. */
 bool read_words_of(struct run *run, struct word_reader *reader, int words);
