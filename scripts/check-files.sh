@@ -20,7 +20,7 @@ check_all() { # [--points]
     # shellcheck disable=SC2046 # names without blanks
     compile driver tests/save_driver.c $(sources) || return
     python3 -B "$top/host/tests/save_faults.py" "$folder/driver" || result=1
-    [ -z "${1:-}" ] || [ -n "$kind" ] || check_points || result=1
+    [ -z "${1:-}" ] || [ -n "$build_kind" ] || check_points || result=1
     return "$result"
 }
 

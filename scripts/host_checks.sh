@@ -11,7 +11,7 @@ compile() { # NAME SOURCE..
         cd "$top/host" || exit
         # shellcheck disable=SC2086 # the compiler's own options
         ${CC:-cc} -std=c11 -D_GNU_SOURCE -Wall -Wextra -Wpedantic -Wconversion -Werror -O1 -pthread \
-            ${kind:+-g -fsanitize=address,undefined -fno-sanitize-recover=all} -o "$folder/$name" "$@"
+            ${build_kind:+-g -fsanitize=address,undefined -fno-sanitize-recover=all} -o "$folder/$name" "$@"
     )
 }
 
@@ -35,9 +35,9 @@ add_up() { # FUNCTION WORD..
     [ ! -e "$folder/failed" ]
 }
 
-kind=''
+build_kind=''
 if [ "${1:-}" = --sanitized ]; then
-    kind=sanitized
+    build_kind=sanitized
     shift
 fi
 command -v python3 >/dev/null || {
@@ -47,6 +47,6 @@ command -v python3 >/dev/null || {
 folder=$(mktemp -d) || exit 1
 trap 'rm -rf -- "$folder"' EXIT
 trap 'exit 1' HUP INT TERM
-# shellcheck disable=SC2086 # no word without a kind
-sh "$top/host/build.sh" $kind || exit 1
-built=$top/host/out/${kind:+$kind/}bidi-edit
+# shellcheck disable=SC2086 # no word without a build_kind
+sh "$top/host/build.sh" $build_kind || exit 1
+built=$top/host/out/${build_kind:+$build_kind/}bidi-edit

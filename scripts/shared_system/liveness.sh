@@ -43,22 +43,21 @@ check_other_host() {
     close_editors second
 }
 
-# Both starts ask before either gets an answer. ANSWER is the second's.
-check_two_answers() { # ANSWER
+# A second start while the first one asks about the session: it is told so, and the first one gets the session.
+check_two_starts() {
     leave_session note
     open_editor first '' note
-    open_editor second '' note
     wait_for 60 shows_in first '[d]elete for good'
-    wait_for 60 shows_in second '[d]elete for good'
+    open_editor second '' note
+    expect_in second 'liveness, a start while another one asks' 'note is open in another window of yours'
     say_in first recover
-    expect_in first "liveness, the first of two who ask ($1)" '* 1:2'
-    say_in second "$1"
-    expect_in second "liveness, the second, whose answer is $1" 'another start of the editor has that session by now'
-    expect_in second "liveness, the second, whose answer is $1, sees it live" 'note is open in another window of yours'
+    expect_in first 'liveness, the start that asked first' '* 1:2'
+    say_in second no
+    expect_in second 'liveness, a start while another one asks: no' 'status 2'
     terminal send-keys -t first y
     wait_for 30 shows_in first '* 1:3'
     # after the bytes of sizes and notices, which end in t and ~
-    same "liveness, both keys of the first are kept ($1)" "$(sed -e 's/.*[t~]//' "$(session_of_check)/journal")" y
+    same 'liveness, both keys of the first are kept' "$(sed -e 's/.*[t~]//' "$(session_of_check)/journal")" y
     close_editors first second
 }
 
@@ -113,8 +112,7 @@ check_liveness() {
     asked liveness || return 0
     check_other_namespace
     check_other_host
-    check_two_answers recover
-    check_two_answers delete
+    check_two_starts
     check_unreaped
     check_changed_meanwhile
     check_new_session
