@@ -25,6 +25,7 @@ fi
 # shellcheck source=scripts/host_checks.sh
 . "$top/scripts/host_checks.sh"
 # Counted by scenes.sh: points, those with a failure, failures and skipped checks, and the points of this kind.
+# shellcheck disable=SC2034 # of scenes.sh
 points=0 faulty=0 failures=0 skipped=0 kind='' kind_points=0
 # shellcheck disable=SC2034 # of the parts
 place=$folder/place

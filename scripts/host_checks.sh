@@ -47,6 +47,6 @@ command -v python3 >/dev/null || {
 folder=$(mktemp -d) || exit 1
 trap 'rm -rf -- "$folder"' EXIT
 trap 'exit 1' HUP INT TERM
-# shellcheck disable=SC2086 # no word without a build_kind
+# shellcheck disable=SC2086 # no word without a kind
 sh "$top/host/build.sh" $build_kind || exit 1
 built=$top/host/out/${build_kind:+$build_kind/}bidi-edit
