@@ -1,4 +1,5 @@
 pub mod Filter
+pub mod Frames
 pub mod Models
 pub mod Log
 pub mod Paste
@@ -6,3 +7,4 @@ pub mod PasteTail
 pub mod Running
 pub mod Table
 pub mod Wire
+pub mod Translating

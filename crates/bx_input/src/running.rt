@@ -29,7 +29,7 @@ impl Filter {
 }
 
 /// Appends the bytes of an output.
-fn append(out: &mut Vec<u8>, output: Output) -> Result<(), AllocError>
+pub(crate) fn append(out: &mut Vec<u8>, output: Output) -> Result<(), AllocError>
     ensures { OnOk result (out.new.items ≡ out.old.items ++ bytes_of output) }
 {
     out.extend_from_slice(output.before)?;
