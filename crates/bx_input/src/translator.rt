@@ -133,6 +133,7 @@ impl Translator {
     }
 
     /// Sends the size that waits.
+    #[tactic(auto, using(crate::proofs::Behind::behind))]
     fn send_size(&mut self, out: &mut Vec<u8>) -> Result<(), AllocError>
         ensures state { OnOk result (self.new ≡ (spec.with_size self.old.size self.old).state) }
         ensures output { OnOk result (out.new.items ≡ out.old.items ++ (spec.with_size self.old.size self.old).output) }
@@ -147,6 +148,7 @@ impl Translator {
     }
 
     /// Sends the notice that waits.
+    #[tactic(auto, using(crate::proofs::Behind::behind))]
     fn send_notice(&mut self, out: &mut Vec<u8>) -> Result<(), AllocError>
         ensures state { OnOk result (self.new ≡ (spec.with_notice self.old.notice self.old).state) }
         ensures output { OnOk result (out.new.items ≡ out.old.items ++ (spec.with_notice self.old.notice self.old).output) }
@@ -186,6 +188,7 @@ impl Translator {
     }
 
     /// Takes a typed byte.
+    #[tactic(auto, using(crate::proofs::Behind::behind))]
     fn type_byte(&mut self, byte: u8, out: &mut Vec<u8>) -> Result<(), AllocError>
         ensures state { OnOk result (self.new ≡ (spec.after_typed byte self.old).state) }
         ensures output { OnOk result (out.new.items ≡ out.old.items ++ (spec.after_typed byte self.old).output) }
