@@ -1,5 +1,6 @@
 pub mod Filter
 pub mod Frames
+pub mod Heard
 pub mod Models
 pub mod Log
 pub mod Paste

@@ -12,7 +12,7 @@ use crate::step::step;
 use std::marker::Model;
 
 /// A filter between a terminal and the editor.
-#[derive(Drop, Debug)]
+#[derive(Drop)]
 pub struct Filter {
     /// Whether the terminal's own erase character is DELETE, 7F.
     erases_by_delete: bool,

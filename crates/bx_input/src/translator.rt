@@ -87,6 +87,18 @@ impl Translator {
         }
     }
 
+    /// A copy of this translator.
+    pub(crate) fn copied(&self) -> Translator
+        ensures { result ≡ self.now }
+    {
+        Translator {
+            filter: self.filter.copied(),
+            ahead: self.ahead,
+            size: self.size,
+            notice: self.notice,
+        }
+    }
+
     /// Appends what the session reads for a frame.
     pub fn translate(&mut self, frame: Frame<'_>, out: &mut Vec<u8>) -> Result<(), AllocError>
         ensures state { OnOk result (self.new ≡ (spec.after_frame (record { letter = frame.entry.letter; bytes = frame.entry.bytes.now }) self.old).state) }
