@@ -2,19 +2,8 @@
 # shellcheck disable=SC2034,SC2154 # words that the scripts give and take
 # Built programs, for scripts that run one. `top` is the repository.
 
-# Prints a crate and the repository's crates below it, by crates.txt, whose lines are `CRATE [words]: CRATES BELOW`.
-crates_below() { # CRATE
-    awk -v crate="$1" '
-        !/^#/ && split($0, part, ":") == 2 { split(part[1], name, " "); below[name[1]] = part[2] }
-        function visit(name,    deps, count, i) {
-            if (!(name in below) || name in is_visited) return
-            is_visited[name] = 1
-            print name
-            count = split(below[name], deps, " ")
-            for (i = 1; i <= count; i++) visit(deps[i])
-        }
-        END { visit(crate) }' "$top/crates.txt"
-}
+# shellcheck source=launcher/dist.sh
+. "$top/launcher/dist.sh"
 
 # Whether a program has the stamp that the toolchain writes after a proved build. The stamp ends with the program's checksum.
 is_proved() { # PROGRAM
@@ -28,11 +17,15 @@ has_newer_source() { # CRATE STAMP
     [ -n "$(cd "$top/crates" && find ../crates.txt $(crates_below "$1" | sed 's|.*|&/src &/specs &/proofs|') -newer "$2" 2>/dev/null)" ]
 }
 
-# Sets `program` to the crate's program, proved and built of these sources: by an earlier `rt run` if nothing has changed since,
-# else by a new one, which may take minutes.
+# Sets `program` to the crate's program, proved and built of these sources: by an earlier `rt run` if nothing has changed since, else
+# that of dist/ if it is of these sources, which needs no toolchain, else by a new `rt run`, which may take minutes.
 find_built() { # CRATE
-    program=$top/crates/$1/out/$1
+    program=$top/crates/$1/out/$1 cause=''
     if is_proved "$program" && ! has_newer_source "$1" "$program.stamp"; then return; fi
+    if in_dist "$1" && find_start thoroughly; then
+        program=$start/lib/bidi_edit/$1
+        return
+    fi
     # a file whose time is the moment before rt runs
     begun=$(mktemp)
     # rt runs the program, whose status and output say nothing here, once it is proved or nothing has changed
@@ -44,6 +37,6 @@ find_built() { # CRATE
         return
     fi
     rm -f "$begun"
-    echo "$1 was not built: see rt check" >&2
+    echo "$1 was not built: see rt check${cause:+ ($cause)}" >&2
     exit 1
 }

@@ -11,6 +11,7 @@ room=$(mktemp -d) || exit 1
 trap 'rm -rf "$room"' EXIT
 trap 'exit 1' HUP INT TERM
 top=$room
+cp -R "$here/../launcher" "$room/launcher"
 # shellcheck source=scripts/built.sh
 . "$here/built.sh"
 passed=0 failed=0

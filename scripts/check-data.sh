@@ -1,7 +1,7 @@
 #!/bin/sh
 # check-data.sh [FOLDER]: compares data/ with Unicode's five files, from Debian's package unicode-data or from FOLDER: the class,
 # bracket, mirror, joining type and forms of each of the 1,114,112 codes. The awk program of unicode_answers.sh reads the files; if
-# crates/ucd_lookup is built, so does the editor's reader, for every character. data/ must contain nothing but facts. Exit status
+# crates/player is built, so does the editor's reader, for every character. data/ must contain nothing but facts. Exit status
 # 1: something differs; 77: Unicode's files are missing, or only the editor's reader is not built and all else agrees.
 set -eu
 export LC_ALL=C
@@ -39,17 +39,18 @@ if grep -v -h -E -x -e '# [A-Za-z]+-[0-9.]+, its facts alone, by scripts/make-da
     exit 1
 fi
 
-lookup=$top/crates/ucd_lookup/out/ucd_lookup
-if [ ! -x "$lookup" ]; then
-    echo "skipped: the editor's reader, since crates/ucd_lookup is not built (cd crates/ucd_lookup && rt run)"
+player=$top/crates/player/out/player
+if [ ! -x "$player" ]; then
+    echo "skipped: the editor's reader, since crates/player is not built (cd crates/player && rt run)"
     exit 77
 fi
 # surrogates, D800 to DFFF, are not characters: 2,048 of the codes
-awk 'BEGIN { for (code = 0; code <= 1114111; code++) if (code < 55296 || code > 57343) printf "%04X\n", code }' >"$scratch/codes"
-xargs "$lookup" --joining "$folder/ArabicShaping.txt" "$folder/UnicodeData.txt" "$classes" "$folder/BidiBrackets.txt" \
-    "$folder/BidiMirroring.txt" <"$scratch/codes" >"$scratch/unicode"
-xargs "$lookup" --joining "$data/ArabicShaping.txt" "$data/UnicodeData.txt" "$data/DerivedBidiClass.txt" "$data/BidiBrackets.txt" \
-    "$data/BidiMirroring.txt" <"$scratch/codes" >"$scratch/data"
+awk 'BEGIN { for (code = 0; code <= 1114111; code++) if (code < 55296 || code > 57343) printf "class\t%04X\tjoined\n", code }' \
+    >"$scratch/lines"
+"$player" "$classes" "$folder/BidiBrackets.txt" "$folder/BidiMirroring.txt" "$folder/ArabicShaping.txt" "$folder/UnicodeData.txt" \
+    <"$scratch/lines" >"$scratch/unicode"
+"$player" "$data/DerivedBidiClass.txt" "$data/BidiBrackets.txt" "$data/BidiMirroring.txt" "$data/ArabicShaping.txt" \
+    "$data/UnicodeData.txt" <"$scratch/lines" >"$scratch/data"
 [ "$(wc -l <"$scratch/unicode")" = 1112064 ]
 cmp "$scratch/unicode" "$scratch/data"
 echo "data: the editor's reader agrees for 1112064 characters"

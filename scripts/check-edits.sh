@@ -3,8 +3,8 @@
 # characters, half of them notes of real words and half of all kinds of characters, in windows of several sizes; some take the
 # place of a selection, are put round it, replace matches of a search, or undo and redo a run. After each edit the screen is
 # painted twice: with the layout that followed the edit, and with a new one. A change of direction discards the layout, and three
-# changes lead back to the first direction. It is not part of `rt ci`. The last line has the number of edits. Exit status 1: two
-# such paintings differ, or a run ends wrongly; 77: the program is not built or there is no python3.
+# changes lead back to the first direction. The last line has the totals, in which up to 200 edits of one text are one. Exit status
+# 1: two such paintings differ, or a run ends wrongly; 77: there is no python3.
 #
 # With gdb it counts, in 2,000 more edits of notes, the edits after which only the levels between two strong characters were
 # resolved again. The target of nine in ten is missed (docs/PERFORMANCE.md). Exit status 1: less than four in five, a little

@@ -19,4 +19,9 @@ command -v python3 >/dev/null || {
 }
 # shellcheck disable=SC2086 # no word without a kind
 sh "$top/host/build.sh" $kind || exit 1
+# shellcheck source=scripts/built.sh
+. "$top/scripts/built.sh"
+# without the filter the host copies keys itself, which is checked too
+BIDI_INPUT=$(find_built bidi_input 2>/dev/null && printf '%s' "$program") || :
+export BIDI_INPUT
 exec python3 "$top/host/tests/check_host.py" "$top/host/out/${kind:+$kind/}bidi-edit" "$@"

@@ -1,10 +1,11 @@
 #!/bin/sh
 # check-joined-rows.sh [ROWS]: prints texts with joined letters by bidi_print, and compares the rows: with those of ROWS, with the
-# output of fribidi for lines of words, and for each letter those by the tables of data/ with those by Unicode's own files. It is
-# not part of `rt ci`, which plays scenes with joined letters (crates/play_scenes/stdin). Exit status 1: a row differs; 77:
-# something is missing (no ROWS, python3, fribidi, word list or unicode-data), and all else agrees.
+# output of fribidi for lines of words, and for each letter those by the tables of data/ with those by Unicode's own files. What
+# cannot be compared (without fribidi, a word list or unicode-data) is skipped. The last line has the totals. Exit status 1: a row
+# differs; 77: there is no python3.
 #
-# ROWS is a file of rows from an independent source, made with Unicode's five files. A line has fields with tabs between: the
+# ROWS is a file of rows from an independent source, made with Unicode's five files, maybe packed by gzip; by default
+# tests/data/joined-rows.tsv.gz. A line has fields with tabs between: the
 # body, its characters in hexadecimal; the direction; the form of each character, which is ignored; the level of each unit; what
 # each unit is shown as, in the order of the body, with commas between, in hexadecimal; and the row of 500 columns from left to
 # right without the blanks that fill it up, in hexadecimal too. The row is compared with the printed one, and with what the units
@@ -30,8 +31,7 @@ export LC_ALL=C.UTF-8
 top=$(cd "$(dirname "$0")/.." && pwd)
 # shellcheck source=scripts/built.sh
 . "$top/scripts/built.sh"
-rows=''
-[ ! -r "${1:-}" ] || rows=$(readlink -f "$1")
+rows=$(readlink -f "${1:-$top/tests/data/joined-rows.tsv.gz}")
 
 if ! command -v python3 >/dev/null; then
     echo 'skipped: there is no python3'

@@ -1,9 +1,8 @@
 #!/bin/sh
 # check-launcher.sh [NAME..]: runs the host and the keeper in tmux: the input of a program that only records it, refusals and
-# messages, ends, the terminal's state afterwards, and then the editor itself, also as an editor that other programs call. It is
-# not part of `rt ci`. A NAME selects the checks whose names begin with it. The checks are in scripts/launcher. The last line has
-# the totals. Exit status 1: a check failed; 77: there is no tmux and none can be installed from Debian's packages, or the
-# programs are not built.
+# messages, ends, the terminal's state afterwards, and then the editor itself, also as an editor that other programs call. A NAME
+# selects the checks whose names begin with it. The checks are in scripts/launcher. The last line has the totals. Exit status 1: a
+# check failed, or a program is not built; 77: there is no tmux and none can be installed from Debian's packages.
 set -u
 
 if ! command -v tmux >/dev/null 2>&1; then
@@ -18,8 +17,9 @@ fi
 
 export LC_ALL=C.UTF-8
 top=$(cd "$(dirname "$0")/.." && pwd)
-# shellcheck disable=SC2034
-editor=$top/crates/bidi_edit/out/bidi_edit
+# shellcheck source=scripts/launcher/programs.sh
+. "$top/scripts/launcher/programs.sh"
+find_programs
 # shellcheck disable=SC2034
 wanted="$*"
 folder=$(mktemp -d)
@@ -40,12 +40,6 @@ cd "$folder/files" || exit 1
 
 # shellcheck source=scripts/report.sh
 . "$top/scripts/report.sh"
-for program in host/out/bidi-edit crates/bidi_keep/out/bidi_keep crates/bidi_input/out/bidi_input; do
-    [ -x "$top/$program" ] || {
-        echo "skipped: ${program##*/} is not built (./bidi-edit FILE builds it)"
-        exit 77
-    }
-done
 for part in person recorder joining refusals printing ends modes editor input keys callers; do
     # shellcheck source=/dev/null
     . "$top/scripts/launcher/$part.sh"

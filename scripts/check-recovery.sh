@@ -4,9 +4,9 @@
 # while matches are replaced, in a question, after what it put in or told, in a paste, with a selection or between runs of
 # changes, and what is typed after the recovery goes into the text, also if the session is killed and recovered once more.
 # recovery_sessions.py makes the keys, and the text after each by a plain model. The script also checks the messages and
-# questions, a full disk under the journal, a replay of 100,000 keys, and the journal's cost for a key. It is not part of `rt ci`.
+# questions, a full disk under the journal, a replay of 100,000 keys, and the journal's cost for a key.
 # COUNT is the number of sessions, by default 200, and SEED that of the random keys, by default 1. The last line has the totals.
-# Exit status 1: a check failed; 77: the programs are not built, or there is no tmux or no python3.
+# Exit status 1: a check failed, or the program is not built; 77: there is no tmux or no python3.
 set -u
 
 sessions=${1:-200}
@@ -15,7 +15,11 @@ top=$(CDPATH='' cd -- "$(dirname "$0")/.." && pwd)
 # for `wait_for`; here all waits are of fifteen seconds at most, since four sessions run at once
 # shellcheck source=scripts/report.sh
 . "$top/scripts/report.sh"
-editor=$top/crates/bidi_edit/out/bidi_edit
+# shellcheck source=scripts/built.sh
+. "$top/scripts/built.sh"
+find_built bidi_edit
+# shellcheck disable=SC2154 # built.sh sets `program`
+editor=$program
 
 skip() { # CAUSE
     echo "nothing was checked: $1"
@@ -24,12 +28,11 @@ skip() { # CAUSE
 
 command -v tmux >/dev/null || skip 'there is no tmux'
 command -v python3 >/dev/null || skip 'there is no python3'
-[ -x "$editor" ] || skip "$editor is not built"
 
 export LC_ALL=C.UTF-8
 folder=$(mktemp -d) || exit 1
 socket=bidi-edit-$$
-mounted=''
+mounted='' skipped=0
 clean_up() {
     tmux -L "$socket" kill-server 2>/dev/null
     [ -z "$mounted" ] || umount "$mounted"
@@ -354,7 +357,8 @@ check_full_disk() {
     mkdir "$folder/small"
     # the keys' journal has more than 100,000 bytes
     if ! mount -t tmpfs -o size=64k none "$folder/small" 2>/dev/null; then
-        echo 'full disk: not checked, since no small one could be mounted'
+        echo 'skipped: a full disk, since no small one could be mounted'
+        skipped=1
         return
     fi
     mounted=$folder/small
@@ -394,6 +398,6 @@ check_scenes
 check_sessions
 passed=$(grep -c '^ok' "$folder/results")
 failed=$(grep -c '^FAILS' "$folder/results")
-echo "$passed passed, $failed failed"
+echo "$passed passed, $failed failed, $skipped skipped"
 # each session, and more, must have been checked
 [ "$failed" = 0 ] && [ "$passed" -gt "$sessions" ]

@@ -7,8 +7,8 @@
 # A library in C, which scripts/refusals/loaded.sh builds, is loaded into each program. It refuses the growth, gives the program
 # its input one byte a read, and reports how many bytes were read at the refusal.
 #
-# 1. Scenes by play_scenes, each step by step and by one call, unchanged and with a byte that ends no key after each key and
-#    each size. A run must answer as the scene does without a refusal, or be one of these, and play_scenes must report the
+# 1. Scenes by crates/player, each step by step and by one call, unchanged and with a byte that ends no key after each key and
+#    each size. A run must answer as the scene does without a refusal, or be one of these, and player must report the
 #    step:
 #    - the file is not opened, or the program itself runs out of memory;
 #    - no memory for a key: all else is as with a byte that ends no key in the key's place;
@@ -22,7 +22,7 @@
 #    - no memory for the text at the scene's end: it is `?`, and all else is the same.
 #    So a run with two refusals, or with one that has any other effect, fails the check.
 # 2. Worked scenes: one run of each must give exactly the answer in scripts/refusals/scenes.sh.
-# 3. ucd_lookup with a class file: it answers as without a refusal, or reports that memory ran out.
+# 3. player with a class file: it answers as without a refusal, or reports that memory ran out, after some of the answers or none.
 # 4. Twenty of the recorded sessions in SESSIONS (see sessions.sh) by bidi_edit. A run must print, leave and end as the session
 #    does without a refusal, or be one of these, where K is the last byte read before the refusal:
 #    - before the first byte: status 1, `out of memory` alone, nothing on the screen, and an unchanged FILE;
@@ -45,10 +45,9 @@ top=$(cd "$(dirname "$0")/.." && pwd)
 # shellcheck source=scripts/refusals/runs.sh
 . "$top/scripts/refusals/runs.sh"
 
-player=$top/crates/play_scenes/out/play_scenes
-lookup=$top/crates/ucd_lookup/out/ucd_lookup
+player=$top/crates/player/out/player
 editor=$top/crates/bidi_edit/out/bidi_edit
-given=$(readlink -f "${1:-/nowhere}" || :)
+given=$(readlink -f "${1:-$top/tests/data/sessions.tar.gz}" || :)
 scratch=$(mktemp -d)
 trap 'rm -rf "$scratch"' EXIT
 trap 'exit 1' HUP INT TERM
@@ -83,14 +82,10 @@ if [ -x "$player" ]; then
     check_all_worked
     want_kinds 'scene: the program has no memory' 'scene: not opened' 'scene: Edit' 'scene: Paint' 'scene: Line' 'scene: Screen' \
         'scene: failed save' 'scene: no answers of a play' 'scene: nothing refused'
-else
-    skip 'the scenes, since crates/play_scenes is not built (cd crates/play_scenes && rt run)'
-fi
-if [ -x "$lookup" ]; then
     check_tables
     want_kinds 'tables: out of memory' 'tables: nothing refused'
 else
-    skip 'the tables, since crates/ucd_lookup is not built (cd crates/ucd_lookup && rt run)'
+    skip 'the scenes and the tables, since crates/player is not built (cd crates/player && rt run)'
 fi
 if ! [ -e "$given" ]; then
     skip 'the sessions, since none are given (scripts/check-refusals.sh SESSIONS)'

@@ -1,9 +1,9 @@
 #!/bin/sh
-# check-sessions.sh SESSIONS [--only NUMBER] [--max COUNT]: runs the program on recorded sessions, and prints how many agree
-# byte by byte in output, status and the resulting file. For a refused command line only the refusal is compared. No other file
-# may be left. SESSIONS is a folder in the form that sessions.sh describes, or an archive of one. --only selects one session, and
-# --max limits the number of differing sessions that are shown, 20 by default. It is not part of `rt ci`. Exit status 1: a session
-# differs or none was run; 77: no sessions are given.
+# check-sessions.sh [--only NUMBER] [--max COUNT] [SESSIONS..]: runs the program on recorded sessions, and compares output, status
+# and the resulting file byte by byte. For a refused command line only the refusal is compared. No other file may be left. SESSIONS
+# is a folder in the form that sessions.sh describes, or an archive of one; by default all archives of tests/data. --only selects
+# one session of each, and --max limits the number of differing sessions that are shown, 20 by default. The last line has the
+# totals. Exit status 1: a session differs or none was run.
 set -eu
 export LC_ALL=C
 
@@ -14,7 +14,7 @@ top=$(cd "$(dirname "$0")/.." && pwd)
 . "$top/scripts/sessions.sh"
 
 usage() {
-    echo 'usage: scripts/check-sessions.sh SESSIONS [--only NUMBER] [--max COUNT]' >&2
+    echo 'usage: scripts/check-sessions.sh [--only NUMBER] [--max COUNT] [SESSIONS..]' >&2
     exit 2
 }
 
@@ -67,7 +67,7 @@ plain() { # NUMBER
     printf '%s\n' "${1#"${1%%[!0]*}"}"
 }
 
-# Runs all sessions, and prints those that differ and the number that agree.
+# Runs all sessions of a folder, and prints those that differ and the number that agree.
 run_sessions() { # FOLDER
     agreed=0 differing=0
     list_sessions "$1" >"$scratch/list"
@@ -84,34 +84,31 @@ run_sessions() { # FOLDER
         cat "$scratch/differences"
         [ ! -f "$session/notes" ] || sed 's/^/    /' "$session/notes"
     done <"$scratch/list"
-    echo "$agreed of $((agreed + differing)) sessions agree"
-    [ "$differing" = 0 ] && [ "$agreed" -gt 0 ]
+    echo "${1##*/}: $agreed of $((agreed + differing)) sessions agree"
+    passed=$((passed + agreed)) failed=$((failed + differing))
 }
 
-if [ $# = 0 ]; then
-    echo 'skipped: no sessions are given (scripts/check-sessions.sh SESSIONS)'
-    exit 77
-fi
-sessions=$1 only='' most=20
-shift
-while [ $# -gt 1 ]; do
-    case $1:$2 in
-    *:*[!0-9]* | *:) usage ;;
-    --only:*) only=$2 ;;
-    --max:*) most=$2 ;;
-    *) usage ;;
+only='' most=20
+while [ $# -gt 0 ]; do
+    case $1 in
+    --only) only=${2:-} ;;
+    --max) most=${2:-} ;;
+    -*) usage ;;
+    *) break ;;
     esac
+    case ${2:-} in '' | *[!0-9]*) usage ;; esac
     shift 2
 done
-[ $# = 0 ] || usage
-if ! [ -e "$sessions" ]; then
-    echo "skipped: $sessions is not there"
-    exit 77
-fi
+[ $# -gt 0 ] || set -- "$top/tests/data/"*sessions.tar.gz "$top/tests/data/at-work-first-half.tar.gz"
 
 scratch=$(mktemp -d)
 trap 'rm -rf "$scratch"' EXIT
 trap 'exit 1' HUP INT TERM
-folder=$(sessions_of "$sessions" "$scratch")
 find_built bidi_edit
-run_sessions "$folder"
+passed=0 failed=0
+for sessions; do
+    [ -e "$sessions" ] || { echo "$sessions is not there" >&2 && exit 1; }
+    run_sessions "$(sessions_of "$sessions" "$scratch")"
+done
+echo "$passed passed, $failed failed"
+[ "$failed" = 0 ] && [ "$passed" -gt 0 ]

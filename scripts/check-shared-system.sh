@@ -2,8 +2,8 @@
 # check-shared-system.sh [NAME..]: runs the editor on a shared system: with other users and their files, with a second start, in a
 # second process namespace, on a small disk, and with simultaneous signals. Each part of scripts/shared_system runs as root and as
 # a plain user (setpriv), in tmux; if a plain user starts the script, only as that user, without what needs root. A NAME selects
-# the parts whose names begin with it. The last line has the totals. Exit status 1: a check failed; 77: tmux, setpriv or the built
-# programs are missing.
+# the parts whose names begin with it. The last line has the totals. Exit status 1: a check failed, or a program is not built; 77:
+# tmux or setpriv is missing.
 set -u
 
 export LC_ALL=C.UTF-8
@@ -18,9 +18,9 @@ lacks() { # CAUSE
 
 command -v tmux >/dev/null || lacks 'there is no tmux'
 command -v setpriv >/dev/null || lacks 'there is no setpriv'
-for program in bidi_edit bidi_input bidi_keep; do
-    [ -x "$top/crates/$program/out/$program" ] || lacks "$program is not built (./bidi-edit FILE builds it)"
-done
+# shellcheck source=scripts/launcher/programs.sh
+. "$top/scripts/launcher/programs.sh"
+find_programs
 
 # shellcheck disable=SC2034
 wanted="$*"

@@ -1,16 +1,17 @@
 #!/bin/sh
-# check-statuses.sh: runs the built program to each of its ends, and bidi_input if it is built, and compares the exit status, the
-# line on standard error and the saved file with the manual. It is not part of `rt ci`, whose tests call the functions that `main`
-# calls and not the program. The last line has the totals. Exit status 1: one differs; 77: the program is not built.
+# check-statuses.sh: runs the built programs bidi_edit and bidi_input to each of their ends, and compares the exit status, the line
+# on standard error and the saved file with the manual. The last line has the totals. Exit status 1: one differs, or a program is
+# not built.
 set -u
 
 cd "$(dirname "$0")/.." || exit 1
 top=$(pwd)
-editor=$top/crates/bidi_edit/out/bidi_edit
-if ! [ -x "$editor" ]; then
-    echo "skipped: the program is not built (rt run in crates/bidi_edit builds it)"
-    exit 77
-fi
+# shellcheck source=scripts/built.sh
+. "$top/scripts/built.sh"
+find_built bidi_input
+filter=$program
+find_built bidi_edit
+editor=$program
 
 folder=$(mktemp -d)
 trap 'rm -rf "$folder"' EXIT
@@ -149,21 +150,91 @@ ended check_with_a_text 2 'error: '
 run "$(printf 'a\377')"
 ended word_not_utf8 2 'bidi_edit: a word is not UTF-8'
 
-# Checks the input filter, if it is built. Sequences cut off by the input's end are passed on.
-filter=$top/crates/bidi_input/out/bidi_input
-if [ -x "$filter" ]; then
-    printf '\033[7~a\033[1;' | "$filter" >written 2>told
-    status=$?
-    ended filter_input_ends 0 ''
-    [ "$(cat -v written)" = '^[[Ha^[[1;' ] || { failed=$((failed + 1)); echo "FAILS filter_input_ends: $(cat -v written)"; }
-    "$filter" <"$folder" >written 2>told
-    status=$?
-    ended filter_input_failed 1 'bidi_input: input failed'
-    if [ -w /dev/full ]; then
-        echo a | "$filter" >/dev/full 2>told
+# Lines of Unicode's files that are refused: the first refused line of the first file is told, even where FILE is refused too.
+: >none
+refuse_line() { # NAME LINE CLASSES BRACKETS MIRRORING [JOINING CHARACTERS]
+    name=$1 line=$2
+    shift 2
+    number=0
+    for content; do
+        number=$((number + 1))
+        printf '%b' "$content" >"table$number"
+    done
+    set -- --classes table1 --brackets table2 --mirroring table3
+    [ "$number" = 3 ] || set -- "$@" --joining table4 --characters table5
+    for file in not-there bad; do
+        "$editor" --rows 1 --cols 5 "$@" "$file" <none >screen 2>told
         status=$?
-        ended filter_output_failed 1 'bidi_input: output failed'
+        ended "$name $file" 1 "bidi_edit: $line"
+    done
+}
+refuse_line a_field_is_missing 'classes line 1: bad line' 0041 '' ''
+refuse_line past_the_last_code 'classes line 2: bad code' '\n110000 ; L' '' ''
+refuse_line a_range_that_goes_down 'classes line 1: bad range' '0042..0041 ; L' '?' '?'
+refuse_line an_unknown_bracket 'brackets line 1: unknown value' '' '0028; 0029; x' '?'
+refuse_line a_control_as_mirror 'mirroring line 2: control in mirror' '' '' '# none\n0028; 001B'
+refuse_line a_mirror_before_joining 'mirroring line 1: bad line' '' '' 0028 0628 0628
+refuse_line a_joining_line 'joining line 1: bad line' '' '' '' 0628 0628
+refuse_line an_unknown_joining_type 'joining line 1: unknown value' '' '' '' '0628; X; Q; Y' 0628
+refuse_line a_character_line 'characters line 1: bad line' '' '' '' '0628; X; D; Y' 0628
+refuse_line a_control_with_a_form 'characters line 1: control in mirror' '' '' '' '' '001B;X;Cc;0;BN;<final> 0628;;;;N;;;;;'
+refuse_line a_form_of_no_code 'characters line 2: bad code' '' '' '' '' '\nZZ;X;Lo;0;AL;<final> 0628;;;;N;;;;;'
+
+# Files are read in order, all of them before a line is refused: the first that cannot be read is told.
+read_in_order() { # NAME PATH FILE CLASSES BRACKETS MIRRORING [JOINING CHARACTERS]
+    name=$1 path=$2 file=$3
+    shift 3
+    set -- --classes "$1" --brackets "$2" --mirroring "$3" ${4:+--joining "$4" --characters "$5"}
+    "$editor" --rows 1 --cols 5 "$@" "$file" <none >screen 2>told
+    status=$?
+    ended "$name" 1 "bidi_edit: cannot read $path"
+}
+read_in_order classes_first not-there / not-there / /
+read_in_order then_brackets not-there / none not-there /
+read_in_order then_mirroring not-there / none none not-there
+read_in_order then_file / / none none none
+read_in_order mirroring_before_joining not-there / none none not-there / /
+read_in_order joining_before_characters not-there / none none none not-there /
+read_in_order characters_before_file not-there / none none none none not-there
+read_in_order file_last / / none none none none none
+read_in_order before_a_bad_line / / short none none
+read_in_order before_a_bad_joining_line / / none none none short none
+
+# A journal replayed over the text `ab`: what FILE holds beside it, and the number of keys.
+printf 'x\023y\021\021' >journal
+replayed() { # NAME FILE-CONTENT WORDS
+    printf '%s' "$2" >beside
+    printf ab >opened
+    run --text opened --replay journal --to recovered beside
+    ended "$1" 0 ''
+    if [ "$(cat screen)" != "$3" ] || [ "$(cat recovered)" != xyab ]; then
+        failed=$((failed + 1))
+        echo "FAILS $1: '$(cat screen)' and '$(cat recovered)'"
     fi
+}
+replayed the_replayed_text xyab 'same 5'
+replayed a_saved_text xab 'known 5'
+replayed the_opened_text ab 'known 5'
+replayed another_text xa 'foreign 5'
+run --text opened --replay journal --to folder/none/recovered beside
+ended nowhere_to_store 1 'bidi_edit: cannot write the recovered text'
+printf 'y\023\021' >keys
+cp opened resumed
+run --text opened --replay journal resumed
+ended typing_goes_on 0 ''
+
+# The input filter. Sequences cut off by the input's end are passed on.
+printf '\033[7~a\033[1;' | "$filter" >written 2>told
+status=$?
+ended filter_input_ends 0 ''
+[ "$(cat -v written)" = '^[[Ha^[[1;' ] || { failed=$((failed + 1)); echo "FAILS filter_input_ends: $(cat -v written)"; }
+"$filter" <"$folder" >written 2>told
+status=$?
+ended filter_input_failed 1 'bidi_input: input failed'
+if [ -w /dev/full ]; then
+    echo a | "$filter" >/dev/full 2>told
+    status=$?
+    ended filter_output_failed 1 'bidi_input: output failed'
 fi
 
 echo "$passed passed, $failed failed"

@@ -1,7 +1,7 @@
 #!/bin/sh
-# check-unicode-suites.sh [FOLDER]: runs unicode_suites on Unicode's test suites, from FOLDER or from Debian's package
-# unicode-data, and compares the number of agreeing cases with the number of cases in the files; for clusters with the number
-# known to agree. The files may be packed. Exit status 1: a number differs; 77: a file is missing.
+# check-unicode-suites.sh [FOLDER]: plays the cases of Unicode's test suites, from FOLDER or from Debian's package unicode-data, by
+# crates/player, as lines of levels with the order in one row, and of clusters. All cases must be answered as the files say, but for
+# the clusters known to differ. The files may be packed. Exit status 1: a case differs; 77: a file is missing.
 set -eu
 export LC_ALL=C
 
@@ -32,42 +32,85 @@ for name in "$@"; do
     fi
 done
 
-find_built unicode_suites
-# the program's words are the names of the files
+find_built player
 cd "$scratch"
-status=0
-"$program" "$@" >found || status=$?
-cat found
-[ "$status" = 0 ]
 
-# Requires a line in the program's output.
-want() { # LINE
-    grep -qxF "$1" found || {
-        echo "FAILS: there is no line '$1'"
-        status=1
-    }
+# Plays lines over Unicode's tables.
+play() {
+    "$program" DerivedBidiClass.txt BidiBrackets.txt BidiMirroring.txt
 }
 
-# Prints the number of clusters that agree in a file of another version of Unicode. Of 15.0.0 all agree but one: two U+2701 and a
-# joiner between them, which are no longer one cluster.
-known_clusters() { # VERSION
-    case $1 in
-    15.0.0) echo 601 ;;
-    *) echo "a count that this script names for $1" ;;
-    esac
+# Writes a line and its wanted answer for each case of BidiCharacterTest.txt: characters, a direction, the paragraph's level, levels
+# and the order.
+character_cases() {
+    awk -F';' -v OFS='\t' '
+        BEGIN { split("ltr rtl auto", direction, " ") }
+        /^[0-9A-F]/ {
+            print "order", $1, direction[$2 + 1]
+            print $3, $4, ($5 == "" ? "-" : $5) >"wanted"
+        }' BidiCharacterTest.txt >lines
 }
 
-# a case of BidiTest counts once for each of the directions in its bitset: 1 auto, 2 left to right, 4 right to left
-characters=$(grep -c '^[0-9A-F]' BidiCharacterTest.txt)
-sequences=$(awk -F';' '/^[A-Z]/ { n += $2 % 2 + int($2 / 2) % 2 + int($2 / 4) % 2 } END { print n }' BidiTest.txt)
-clusters=$(grep -c '^÷' GraphemeBreakTest.txt)
-# what the program says before the number of clusters where the file is of another version than its own
-skipped=$(sed -n 's/^GraphemeBreakTest: \(skipped, the file is of [^ ]* and the code of [^ ]*; \).*/\1/p' found)
-version=$(sed -n '1s/^# GraphemeBreakTest-\(.*\)\.txt.*/\1/p' GraphemeBreakTest.txt)
-agreeing=$clusters
-[ -z "$skipped" ] || agreeing=$(known_clusters "$version")
-want "BidiCharacterTest: $characters of $characters agree"
-want "BidiTest: $sequences of $sequences agree"
-want "GraphemeBreakTest: $skipped$agreeing of $clusters agree"
-[ "$status" = 0 ] || exit 1
-echo "unicode-data: $characters and $sequences cases agree, and $agreeing of $clusters clusters"
+# The classes, and a character of each.
+classes='L=0061 R=05D0 AL=0627 EN=0030 ES=002B ET=0023 AN=0660 CS=002C NSM=0300 BN=00AD B=2029 S=0009 WS=0020 ON=0021 LRE=202A
+LRO=202D RLE=202B RLO=202E PDF=202C LRI=2066 RLI=2067 FSI=2068 PDI=2069'
+
+# The same for each case of BidiTest.txt, without the paragraph's level. Levels and order stand before the lines that they apply
+# to, each of which has classes and a bitset of directions: 1 auto, 2 left to right, 4 right to left.
+class_cases() {
+    awk -F';' -v OFS='\t' -v classes="$classes" '
+        function words(text) { gsub(/[ \t]+/, " ", text); sub(/^ /, "", text); sub(/ $/, "", text); return text == "" ? "-" : text }
+        BEGIN {
+            count = split(classes, each, /[ \n]/)
+            for (i = 1; i <= count; i++) { split(each[i], part, "="); character[part[1]] = part[2] }
+            split("auto ltr rtl", direction, " ")
+        }
+        sub(/^@Levels:/, "") { levels = words($0); next }
+        sub(/^@Reorder:/, "") { order = words($0); next }
+        /^[A-Z]/ {
+            count = split(words($1), name, " ")
+            codes = ""
+            for (i = 1; i <= count; i++) codes = codes (i > 1 ? " " : "") character[name[i]]
+            for (i = 1; i <= 3; i++) if (int($2 / 2 ^ (i - 1)) % 2) {
+                print "order", codes, direction[i]
+                print levels, order >"wanted"
+            }
+        }' BidiTest.txt >lines
+}
+
+# The same for each case of GraphemeBreakTest.txt.
+cluster_cases() {
+    sed -n 's/[[:space:]]*#.*//; /^÷/p' GraphemeBreakTest.txt >wanted
+    sed 's/[÷×] *//g; s/ *$//; s/^/clusters\t/' wanted >lines
+}
+
+# Compares the answers in `found` with those in `wanted`, of which `known` differ, and counts the cases.
+compare() { # NAME KNOWN
+    [ "$(wc -l <found)" = "$(wc -l <wanted)" ] || { echo "FAILS $1: not as many answers as cases"; exit 1; }
+    paste -d '|' wanted found lines | awk -F'|' '$1 != $2' >differing
+    cases=$(wc -l <wanted) differing=$(wc -l <differing)
+    echo "$1: $((cases - differing)) of $cases agree"
+    if [ "$cases" = 0 ] || [ "$differing" != "$2" ]; then
+        head -n 5 differing
+        echo "FAILS $1: $2 are known to differ"
+        exit 1
+    fi
+}
+
+# the characters are of their classes by these tables too, and none is a bracket
+for pair in $classes; do printf 'class\t%s\n' "${pair#*=}"; done | play | sed 's/,.*mirrored.*//' >found
+for pair in $classes; do printf 'U+%s %s\n' "${pair#*=}" "${pair%=*}"; done | cmp - found
+
+character_cases
+play <lines >found
+compare BidiCharacterTest 0
+class_cases
+play <lines | cut -f 2- >found
+compare BidiTest 0
+cluster_cases
+play <lines >found
+# the code follows 18.0.0, where two U+2701 and a joiner between them are no longer one cluster
+case $(head -n 1 GraphemeBreakTest.txt) in
+*-15.0.0.txt*) compare GraphemeBreakTest 1 ;;
+*) compare GraphemeBreakTest 0 ;;
+esac

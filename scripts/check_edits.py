@@ -140,11 +140,12 @@ def count_ways(count, kinds):
     return (hits[0], hits[1]) if len(hits) == 2 else (0, 0)
 
 
-done = failed = 0
+done = passed = failed = skipped = 0
 while done < edits:
     count = min(PER_TEXT, edits - done)
     wrong = check(count)
     done += count
+    passed += not wrong
     if wrong:
         failed += 1
         print(f"FAILS text {(done + PER_TEXT - 1) // PER_TEXT} of seed {seed}: {wrong}")
@@ -152,10 +153,14 @@ if shutil.which("gdb"):
     ways = [count_ways(2000 // len(NOTES), kinds) for kinds in NOTES]
     print("edits of notes that a layout followed, and of these those that strong characters cut off:", *(f"{one[0]} {one[1]}" for one in ways), sep=" | ")
     followed, cut_off = (sum(one[part] for one in ways) for part in (0, 1))
-    if not all(one[0] for one in ways) or 5 * cut_off < 4 * followed:
+    is_few = not all(one[0] for one in ways) or 5 * cut_off < 4 * followed
+    passed += not is_few
+    if is_few:
         failed += 1
         print(f"FAILS {cut_off} of {followed} are cut off")
 else:
+    skipped = 1
     print("skipped: the count of edits that strong characters cut off, since there is no gdb")
-print(f"{done} edits, {failed} texts failed")
+print(f"{done} edits")
+print(f"{passed} passed, {failed} failed, {skipped} skipped")
 sys.exit(1 if failed else 0)

@@ -1,10 +1,10 @@
 """Compares printed rows of joined letters with other sources, for check-joined-rows.sh: check_joined_rows.py PROGRAM DATA ROWS.
 
-DATA is a folder with the tables that the program takes, as data/ is. ROWS is a file in the form that check-joined-rows.sh tells, and
-may be empty. It writes a file into the working folder.
+DATA is a folder with the tables that the program takes, as data/ is. ROWS is a file in the form that check-joined-rows.sh tells. It
+writes a file into the working folder.
 """
 
-import os, random, re, shutil, subprocess, sys, zipfile
+import gzip, os, random, re, shutil, subprocess, sys, zipfile
 
 program, data, rows = sys.argv[1:]
 UNICODE = "/usr/share/unicode"
@@ -22,20 +22,21 @@ BEH = "\u0628"
 # fribidi's ligatures in the order of their codes, an isolated and a final one of each: the final form of the alef
 ALEFS = "\ufe82\ufe84\ufe88\ufe8e"
 LIGATURE = re.compile(f"([\ufef5-\ufefc])([{POINTS}]*)")
-failed = skipped = False
+passed = failed = skipped = 0
 
 
 def skip(why):
-    """Tells why a comparison is not made; the script then ends with status 77."""
+    """Tells why a comparison is not made."""
     global skipped
-    skipped = True
+    skipped += 1
     print(f"skipped: {why}")
 
 
 def tell(name, alike, count):
     """Tells how many of `count` are alike. A comparison of none counts as failed."""
-    global failed
-    failed = failed or alike < count or not count
+    global passed, failed
+    passed += alike
+    failed += count - alike or not count
     print(f"{name}: {alike} of {count} are alike")
 
 
@@ -85,7 +86,7 @@ def ordered(looks, levels):
 def check_rows():
     """Compares the rows of ROWS. The fields of a line are told by check-joined-rows.sh."""
     cases, ours = {}, []
-    with open(rows, encoding="utf-8") as file:
+    with (gzip.open if rows.endswith(".gz") else open)(rows, "rt", encoding="utf-8") as file:
         for line in file:
             if not line.startswith("#"):
                 body, direction, _, levels, looks, row = line.rstrip("\n").split("\t")
@@ -201,10 +202,7 @@ def check_words(lists):
 
 
 types, forms = read_letters()
-if rows:
-    check_rows()
-else:
-    skip("no rows from elsewhere are given")
+check_rows()
 if os.path.exists(f"{UNICODE}/UnicodeData.txt"):
     check_tables()
 else:
@@ -216,4 +214,5 @@ elif missing:
     skip(f"{' '.join(missing)} not there (apt-get install hunspell-ar myspell-fa firefox-esr-l10n-ur)")
 else:
     check_words(read_words())
-sys.exit(1 if failed else 77 if skipped else 0)
+print(f"{passed} passed, {failed} failed, {skipped} skipped")
+sys.exit(failed > 0)

@@ -1,8 +1,8 @@
 #!/bin/sh
-# install.sh [--uninstall] [PREFIX]: installs the host, the built programs, the tables and the manual page under PREFIX, by
-# default $HOME/.local, or removes them. It compiles the host where a source is newer, and proves nothing. Exit status 1: the
-# keeper, the editor or its filter is not built, or there is no C compiler for the host; the printing program is installed if it
-# is built. The installation is independent of this repository.
+# install.sh [--uninstall] [PREFIX]: installs the host, the programs, the tables and the manual page under PREFIX, by default
+# $HOME/.local, or removes them. It takes the programs that are built in crates/, or, where the keeper, the editor or its filter is
+# not, all of dist/, if they belong to the sources. It compiles the host where a source is newer, and proves nothing. Exit status 1:
+# neither is there, or there is no C compiler for the host. The installation is independent of this repository.
 #
 # All files are first copied beside their places, so that a failed copy changes nothing; then each is renamed into place. A
 # record, lib/bidi_edit/installed, has the checksum of each file and the folders that were created: only these are removed.
@@ -11,8 +11,8 @@ umask 022
 export LC_ALL=C CDPATH=''
 
 top=$(CDPATH='' cd -- "$(dirname -- "$0")/.." && pwd)
-# shellcheck source=launcher/names.sh
-. "$top/launcher/names.sh"
+# shellcheck source=launcher/dist.sh
+. "$top/launcher/dist.sh"
 
 # Sets `is_removal`, `prefix`, `lib` and `record`.
 read_words() { # WORD..
@@ -40,17 +40,30 @@ refuse() { # CAUSE
 
 # ---- the installed files
 
-# Sets `programs`, the built ones, and compiles the host.
-find_programs() {
+# Whether this program is built in crates/.
+is_built() { # NAME
+    [ -x "$top/crates/$1/out/$1" ]
+}
+
+# Sets `programs` and `host` to those built here, with the printing program if it is built. `start` stays empty.
+take_built() {
     host=$top/host/out/bidi-edit
     sh "$top/host/build.sh" || refuse "$(shown "$host") is not built"
-    programs="bidi_keep bidi_edit bidi_input"
-    # built at the first printing
-    [ ! -x "$top/crates/bidi_print/out/bidi_print" ] || programs="$programs bidi_print"
-    for program in $programs; do
-        built=$top/crates/$program/out/$program
-        [ -x "$built" ] || refuse "$(shown "$built") is not built: launcher/proving/prove.sh . $program builds it"
+    programs=''
+    for name in bidi_keep bidi_edit bidi_input bidi_print; do
+        ! is_built "$name" || programs="$programs $name"
     done
+    start=''
+}
+
+# The same, to those of dist/, and `start` to their folder.
+take_ready() {
+    find_start thoroughly || refuse "${cause:-there is no dist/ to take them from}; launcher/proving/prove.sh . bidi_keep bidi_edit bidi_input builds the programs"
+    programs='bidi_keep bidi_edit bidi_input bidi_print' host=$start/bin/bidi-edit
+}
+
+find_programs() {
+    if is_built bidi_keep && is_built bidi_edit && is_built bidi_input; then take_built; else take_ready; fi
 }
 
 # Copies a file into the new tree, in the folder `beside` of `put_there`, with these permissions, whatever its source's and the
@@ -62,13 +75,21 @@ take() { # MODE SOURCE PATH
 }
 
 copy_all() {
-    for program in $programs; do take 755 "$top/crates/$program/out/$program" "lib/bidi_edit/$program"; done
+    for program in $programs; do
+        built=$top/crates/$program/out/$program
+        [ -z "$start" ] || built=$start/lib/bidi_edit/$program
+        take 755 "$built" "lib/bidi_edit/$program"
+    done
     take 755 "$host" bin/bidi-edit
     for table in DerivedBidiClass BidiBrackets BidiMirroring ArabicShaping UnicodeData; do take 644 "$top/data/$table.txt" "share/bidi_edit/$table.txt"; done
     take 644 "$top/docs/bidi_edit.1" share/man/man1/bidi_edit.1
     echo '.so man1/bidi_edit.1' >"$beside/tree/share/man/man1/bidi-edit.1"
-    # the toolchain of this machine, which built the editor, for --version
-    ! command -v rt >/dev/null || rt version >"$beside/tree/lib/bidi_edit/kit"
+    # the toolchain that built the editor, for --version
+    if [ -n "$start" ]; then
+        take 644 "$start/lib/bidi_edit/kit" lib/bidi_edit/kit
+    elif command -v rt >/dev/null; then
+        rt version >"$beside/tree/lib/bidi_edit/kit"
+    fi
 }
 
 # ---- the record: a line `SUM PATH` for each file, `folder PATH` for each folder created, with paths below PREFIX

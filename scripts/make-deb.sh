@@ -1,7 +1,7 @@
 #!/bin/sh
 # make-deb.sh [FOLDER]: makes bidi-edit_VERSION_amd64.deb and bidi-edit_VERSION_amd64.tar.gz, with the same tree, for users
-# without the toolchain, in FOLDER (by default out/ at the top of the repository). It refuses programs that are not built and
-# proved, and compiles the host with cc. The only tools it needs beyond a plain Debian are these two; the status is 77 if dpkg-deb
+# without the toolchain, in FOLDER (by default out/ at the top of the repository). It takes the programs that are built and proved in
+# crates/, or those of dist/ if they belong to the sources, and compiles the host with cc. The only tools it needs beyond a plain Debian are these two; the status is 77 if dpkg-deb
 # is missing, and 1 without a compiler. Then it checks both: lintian and two readers of manuals find no fault, the package is
 # installed in a clean root folder, where it offers itself as `editor`, used there in tmux and removed, and the tree of the tar file
 # is used too. Checks without their tool are skipped. The last line has the totals. Exit status 1: a check failed.
@@ -35,11 +35,18 @@ has_tool() { # NAME TOOL
     return 1
 }
 
-# Refuses a program that is not built and proved.
-need_proved() { # PROGRAM
-    built=$top/crates/$1/out/$1
-    if ! [ -x "$built" ] || ! [ -f "$built.stamp" ]; then refuse "$built is not built and proved: launcher/proving/prove.sh . $1 does it"; fi
-    is_proved "$built" || refuse "$built is not what its stamp tells: rt run in crates/$1 builds it anew"
+# Refuses programs that are built in crates/ without a proof, and else the lack of ready ones. install.sh takes the latter where one
+# of the first three is not built.
+need_proved() {
+    for name in bidi_keep bidi_edit bidi_input bidi_print; do
+        built=$top/crates/$name/out/$name
+        if [ "$name" != bidi_print ] && ! [ -x "$built" ]; then
+            find_start thoroughly || refuse "${cause:-there is no dist/ to take it from}; launcher/proving/prove.sh . $name builds $name"
+            return
+        fi
+        if ! [ -x "$built" ] || ! [ -f "$built.stamp" ]; then refuse "$built is not built and proved: launcher/proving/prove.sh . $name does it"; fi
+        is_proved "$built" || refuse "$built is not what its stamp tells: rt run in crates/$name builds it anew"
+    done
 }
 
 # ---- the tree
@@ -249,7 +256,9 @@ command -v dpkg-deb >/dev/null || {
     echo 'skipped: there is no dpkg-deb'
     exit 77
 }
-for main in "$top"/crates/bidi_*/src/main.rt; do need_proved "$(basename "${main%/src/main.rt}")"; done
+compiler=${CC:-cc}
+command -v "${compiler%% *}" >/dev/null || refuse "there is no C compiler ${compiler%% *}"
+need_proved
 target=${1:-$top/out}
 mkdir -p "$target"
 make_package

@@ -1,14 +1,13 @@
 # shellcheck shell=sh
 # shellcheck disable=SC2034,SC2154 # words that the scripts give and take
 # For scripts that run the built editor by Python, in a folder of their own, which is removed at the end. `top` is the repository.
-# Sets `editor`, the program's path, and `folder`, where the script is from then on. Exit status 77: the program is not built or
-# there is no python3.
+# Sets `editor`, the program's path, and `folder`, where the script is from then on. Exit status 77: there is no python3; 1: the
+# program is not built.
 
-editor=$top/crates/bidi_edit/out/bidi_edit
-if ! [ -x "$editor" ]; then
-    echo 'skipped: the program is not built (rt run in crates/bidi_edit builds it)'
-    exit 77
-fi
+# shellcheck source=scripts/built.sh
+. "$top/scripts/built.sh"
+find_built bidi_edit
+editor=$program
 if ! command -v python3 >/dev/null 2>&1; then
     echo 'skipped: there is no python3'
     exit 77

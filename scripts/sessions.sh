@@ -9,6 +9,7 @@ sessions_of() { # SESSIONS SCRATCH
         readlink -f "$1"
         return
     fi
+    rm -rf "$2/sessions"
     mkdir "$2/sessions"
     tar -x -f "$1" -C "$2/sessions"
     found=$(find "$2/sessions" -type d -name tables | head -n 1)

@@ -43,7 +43,7 @@ answers() { # CLASSES BRACKETS MIRRORING JOINING CHARACTERS
     ' "$@"
 }
 
-# Turns these lines into those that ucd_lookup prints for the characters among the codes. A character without a joining type of its
+# Turns these lines into the answers of player to lines of class, for the characters among the codes. A character without a joining type of its
 # own is of type T if it is a direction mark, a nonspacing mark, a formatting character or a boundary neutral that is not a control,
 # else of type U. R, L and D count as U where there is no form. Type U is not printed.
 told() {

@@ -2,8 +2,8 @@
 import os, shutil, subprocess
 
 HERE = os.path.dirname(os.path.abspath(__file__))
-REPOSITORY = os.path.dirname(os.path.dirname(HERE))
-FILTER = f'{REPOSITORY}/crates/bidi_input/out/bidi_input'
+# the path of the built bidi_input, which check-host.sh looks for
+FILTER = os.environ.get('BIDI_INPUT', '')
 
 
 def write(path, text, mode=0o755):

@@ -100,7 +100,7 @@ shows_no() { # TEXT
 }
 
 check_callers() {
-    asked caller && has_editor || return 0
+    asked caller || return 0
     mkdir "$folder/home"
     make_wrapper
     check_git

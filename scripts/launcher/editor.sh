@@ -1,16 +1,8 @@
 # shellcheck shell=sh
 # shellcheck disable=SC2034,SC2154 # variables shared with other parts
 # The editor under the host. Its screen must be the one that the program alone makes for that size and those keys. Uses person.sh,
-# the file `paste` of recorder.sh, the shell of ends.sh, and `editor`, the path of the built program. `folder/opened` is a copy of
+# the file `paste` of recorder.sh, the shell of ends.sh, and `editor` of programs.sh. `folder/opened` is a copy of
 # the file as it was opened; `folder/files`, the working folder, is empty between two checks.
-
-# Whether the editor is built; else that is reported as skipped.
-has_editor() {
-    [ -x "$editor" ] || {
-        skip 'the editor' 'it is not built (./bidi-edit FILE builds it)'
-        return 1
-    }
-}
 
 # Prints the screen that the program alone, without host and filter, makes of a file and keys, in a window of this size, in the
 # form of `settled_screen`. KEYS has the editor's own bytes, in the notation of printf; a FILE that is not there is opened as a
@@ -200,7 +192,6 @@ check_install() {
 }
 
 check_editor() {
-    has_editor || return 0
     ! asked edit || check_edit
     ! asked breaks || check_line_ends
     ! asked quit || check_quit

@@ -4,14 +4,6 @@
 # and editor.sh. The editor's own sequences, as CSI 96~, are those of crates/bx_input/specs/Table.antt and
 # crates/bx_keys/specs/Keys.antt.
 
-# Whether the filter is built; else that is reported as skipped.
-has_filter() {
-    [ -x "$top/crates/bidi_input/out/bidi_input" ] || {
-        skip 'input' 'its filter is not built (rt run in crates/bidi_input builds it)'
-        return 1
-    }
-}
-
 # Writes a file's bytes to the session unchanged (-r) and without the marks of a paste (no -p), as if keys sent them.
 type_bytes() { # FILE
     terminal load-buffer -b bytes "$1"
@@ -240,13 +232,11 @@ check_big_edit() {
 
 check_input() {
     asked input || return 0
-    has_filter || return 0
     check_terminal_keys
     check_cut_keys
     check_erase_character
     check_big_paste
     check_marks
-    has_editor || return 0
     check_editor_input
     check_escape
     check_big_edit

@@ -310,7 +310,6 @@ check_sequences() { # TERMINAL F1 F3 F4 LEFT RIGHT HOME END DELETE
 
 check_keys() {
     asked keys || return 0
-    has_filter && has_editor || return 0
     check_control_bytes
     check_points
     check_runs

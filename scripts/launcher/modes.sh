@@ -160,10 +160,8 @@ check_terminal_modes() {
     if asked modes; then
         check_modes
         check_killed_program
-        if has_editor; then
-            check_bad_modes
-            check_last_column
-        fi
+        check_bad_modes
+        check_last_column
     fi
     ! asked nonblock || check_no_wait
     ! asked controlling || check_redirections

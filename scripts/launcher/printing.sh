@@ -58,10 +58,6 @@ last' --direction ltr --print ./-text
 check_printing() {
     asked printing || return 0
     check_refused_prints
-    if [ -x "$top/crates/bidi_print/out/bidi_print" ]; then
-        check_printed_rows
-    else
-        skip printing 'bidi_print is not built'
-    fi
+    check_printed_rows
     rm -f -- -text bytes
 }

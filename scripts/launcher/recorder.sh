@@ -1,16 +1,16 @@
 # shellcheck shell=sh
 # shellcheck disable=SC2034,SC2154 # variables shared with other parts
 # The words and the input that the host passes to its program, which here is the recorder: a script in the editor's place, which
-# only records them. Uses person.sh. Sets `recorder`, the path of a host that runs it, for the other parts.
+# only records them. Uses person.sh and programs.sh. Sets `recorder`, the path of a host that runs it, for the other parts.
 
 # Installs host, keeper, filter, tables and recorder as install.sh would, in `folder`, and makes the file `paste`.
 make_recorder() {
     recorder=$folder/recorder/bin/bidi-edit
     mkdir -p "$folder/recorder/bin" "$folder/recorder/lib/bidi_edit" "$folder/recorder/share"
     cp "$top/host/out/bidi-edit" "$recorder"
-    cp "$top/crates/bidi_keep/out/bidi_keep" "$folder/recorder/lib/bidi_edit/bidi_keep"
+    cp "$keeper" "$folder/recorder/lib/bidi_edit/bidi_keep"
     cp -r "$top/data" "$folder/recorder/share/bidi_edit"
-    cp "$top/crates/bidi_input/out/bidi_input" "$folder/recorder/lib/bidi_edit/bidi_input"
+    cp "$filter" "$folder/recorder/lib/bidi_edit/bidi_input"
     echo 'a kit' >"$folder/recorder/lib/bidi_edit/kit"
     cat >"$folder/recorder/lib/bidi_edit/bidi_edit" <<'TEXT'
 #!/bin/sh

@@ -120,7 +120,6 @@ refused_at_opening() { # NAME WANTED WORD..
 windows="iconv -f CP1255 -t UTF-8 may help if it is in Windows' Hebrew (CP1256: Arabic)"
 
 check_refused_texts() {
-    has_editor || return 0
     printf 'one\ntwo \377\n' >bytes
     refused_at_opening 'opening, not UTF-8' "1 bidi-edit: bytes is not UTF-8 in line 2: $windows" bytes
     printf 'one\ntwo\nthree \327' >bytes

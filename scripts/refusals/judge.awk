@@ -1,6 +1,6 @@
 # Prints the kind of each refused run of a scene, or its fault. The first file has the answers of the scene's variants without a
 # refusal (see `variants` in scenes.sh), and the second the runs (see loaded.sh); `steps` and `way` are the scene's. An answer
-# begins with a letter for each step and has more fields, all as crates/play_scenes/src/main.rt tells; here field 2 has the shown
+# begins with a letter for each step and has more fields, all as crates/player/src/main.rt tells; here field 2 has the shown
 # flags, 3 the text, 7 the queued bytes. answer[1] is that of the scene itself; with `count` steps, answer[1 + k] that with step k
 # replaced by a byte that ends no key, or by sending nothing, answer[1 + count + k] that of the steps before k, answer[1 + 2 *
 # count + c] that with call c of the store failing.
@@ -66,7 +66,7 @@ function is_failed_save(line, k,  call, found) {
 # the kind of the run in the fields $1 to $5, whose answer is `line`
 function kind_of(line,  letters, k, letter) {
     if ($3 == "") return "FAILS it ended by a signal or not at all"
-    if ($2 == 1 && line == "" && $4 ~ /^play_scenes: (.*: )?out of memory$/) return "scene: the program has no memory"
+    if ($2 == 1 && line == "" && $4 ~ /^player: (.*: )?out of memory$/) return "scene: the program has no memory"
     if ($2 != 0 || $4 != "") return "FAILS status " $2 ", " $4
     if (line == "refused: out of memory") return "scene: not opened"
     if (line == answer[1]) return $3 == -1 ? "scene: nothing refused" : "scene: the same"

@@ -1,23 +1,23 @@
 # shellcheck shell=sh
 # shellcheck disable=SC2154 # variables that check-refusals.sh sets
-# The scenes and the tables of check-refusals.sh. crates/play_scenes/src/main.rt tells what the fields of a scene and of its
+# The scenes and the tables of check-refusals.sh. crates/player/src/main.rt tells what the fields of a scene and of its
 # answer are, and what the steps do. FILE is in hexadecimal; a WAY is `step`, `play` or `alone`.
 
 # Plays scenes without refusals.
 play() {
-    timeout 60 "$player" "$top"/crates/play_scenes/data/classes.txt "$top"/crates/play_scenes/data/brackets.txt \
-        "$top"/crates/play_scenes/data/mirroring.txt
+    timeout 60 "$player" "$top"/crates/player/data/classes.txt "$top"/crates/player/data/brackets.txt \
+        "$top"/crates/player/data/mirroring.txt
 }
 
 # Plays the scene in the file `scene` with each growth refused in turn.
 sweep_scene() {
-    sweep scene "$player" "$top"/crates/play_scenes/data/classes.txt "$top"/crates/play_scenes/data/brackets.txt \
-        "$top"/crates/play_scenes/data/mirroring.txt
+    sweep scene "$player" "$top"/crates/player/data/classes.txt "$top"/crates/player/data/brackets.txt \
+        "$top"/crates/player/data/mirroring.txt
 }
 
 # Prints a scene as a line.
 scene_of() { # ROWS COLS FILE STEPS WAY
-    printf 'scene\tauto\t%s\t%s\t-\t%s\t%s\t%s\n' "$@"
+    printf 'scene\tscene\tauto\t%s\t%s\t-\t%s\t%s\t%s\n' "$@"
 }
 
 # Prints the variants of a scene that its refused runs are compared with: itself; for each step, itself with a byte that ends no
@@ -25,7 +25,7 @@ scene_of() { # ROWS COLS FILE STEPS WAY
 # twelve, more than it makes.
 variants() {
     awk -F '\t' -v OFS='\t' '
-        { head = $1 OFS $2 OFS $3 OFS $4; file = $6; way = $8; count = split($7, step, " ") }
+        { head = $1 OFS $2 OFS $3 OFS $4 OFS $5; file = $7; way = $9; count = split($8, step, " ") }
         function with(call, from, to, instead,  words, k) {
             words = ""
             for (k = 1; k <= to; k++) words = words (k > 1 ? " " : "") (k == from ? instead : step[k])
@@ -92,7 +92,7 @@ check_worked() { # NAME ROWS COLS FILE STEPS WAY WANTED [BEFORE]
     awk -F '\t' '
         { letters = $5; refusals = letters ~ /^refused: / ? 0 : gsub(/[EPLNf]/, "", letters) }
         $3 == "" || refusals > 1 { print; next }
-        ($2 != 0 || $4 != "") && !($2 == 1 && $4 ~ /^play_scenes: (.*: )?out of memory$/) { print }
+        ($2 != 0 || $4 != "") && !($2 == 1 && $4 ~ /^player: (.*: )?out of memory$/) { print }
     ' runs >odd
     [ ! -s odd ] || fail "$1: $(head -n 1 odd)"
 }
@@ -160,11 +160,12 @@ check_all_worked() {
 check_tables() {
     printf '# @missing: 0041..0042; Right_To_Left\n0041 ; L\n' >classes
     : >none
-    sweep none "$lookup" classes none none 0041 0042 0043
+    printf 'class\t0041\nclass\t0042\nclass\t0043\n' >asked
+    sweep asked "$player" classes none none
     awk -F '\t' '
         $3 == "" { print "FAILS it ended by a signal or not at all"; next }
         $5 == "U+0041 L|U+0042 R|U+0043 L" && $4 == "" { print ($3 == -1 ? "tables: nothing refused" : "tables: the same"); next }
-        $5 == "" && $4 ~ /^Error: (.*: )?(out of memory|memory allocation failed)$/ { print "tables: out of memory"; next }
+        index("U+0041 L|U+0042 R|U+0043 L", $5) == 1 && $4 ~ /^player: (.*: )?out of memory$/ { print "tables: out of memory"; next }
         { print "FAILS growth " $1 ": " $4 " " $5 }
     ' runs >judged
     count_kinds 'the tables' <judged

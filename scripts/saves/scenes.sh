@@ -19,11 +19,13 @@ end_kind() {
 
 fails() { # WHAT
     failures=$((failures + 1))
+    [ -n "$is_faulty" ] || faulty=$((faulty + 1))
+    is_faulty=1
     echo "FAILS $kind, $point: $1"
 }
 
 begin_point() { # NAME
-    point=$1
+    point=$1 is_faulty=''
     points=$((points + 1))
     kind_points=$((kind_points + 1))
 }

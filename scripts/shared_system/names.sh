@@ -182,10 +182,10 @@ END
     mv "$program.was" "$program"
 }
 
-# Checks a program's own messages about a name in UTF-8 without the host; it refuses other names.
-program_tells() { # CHECK WANTED PROGRAM WORD..
-    checked=$1 wanted_words=$2 built=$top/crates/$3/out/$3
-    shift 3
+# Checks the own messages of the program `built` about a name in UTF-8 without the host; it refuses other names.
+program_tells() { # CHECK WANTED WORD..
+    checked=$1 wanted_words=$2
+    shift 2
     as_user timeout -s KILL 20 "$built" --classes "$top/data/DerivedBidiClass.txt" --brackets "$top/data/BidiBrackets.txt" \
         --mirroring "$top/data/BidiMirroring.txt" "$@" </dev/null 2>"$folder/told" >/dev/null
     is_harmless "$folder/told"
@@ -195,18 +195,15 @@ program_tells() { # CHECK WANTED PROGRAM WORD..
 
 check_program_names() { # TOLD
     name_of_told "$1"
-    for program in bidi_edit bidi_print; do
-        [ -x "$top/crates/$program/out/$program" ] || {
-            skip "names, $program" 'it is not built'
-            continue
-        }
+    for built in "$editor" "$printer"; do
+        program=${built##*/}
         as_user mkdir "$name" 'שלום it'"'"'s'
-        program_tells "$program, a folder" "$program: cannot read \$'$1'" "$program" "$name"
-        program_tells "$program, letters" "$program: cannot read 'שלום it'\\''s'" "$program" 'שלום it'"'"'s'
-        program_tells "$program, a name without quotes" "$program: cannot read ./" "$program" ./
-        program_tells "$program, an option" 'error: unexpected argument' "$program" "--$name" f
-        program_tells "$program, columns" 'error: invalid value' "$program" --cols "$name" f
-        program_tells "$program, two files" 'error: unexpected argument' "$program" f "$name"
+        program_tells "$program, a folder" "$program: cannot read \$'$1'" "$name"
+        program_tells "$program, letters" "$program: cannot read 'שלום it'\\''s'" 'שלום it'"'"'s'
+        program_tells "$program, a name without quotes" "$program: cannot read ./" ./
+        program_tells "$program, an option" 'error: unexpected argument' "--$name" f
+        program_tells "$program, columns" 'error: invalid value' --cols "$name" f
+        program_tells "$program, two files" 'error: unexpected argument' f "$name"
         as_user rmdir "$name" 'שלום it'"'"'s'
     done
 }

@@ -275,7 +275,11 @@ fn report<R: AllocGlobal>(rt: &R, text: &Text, time: Duration) -> Result<Outcome
     let bytes = text.len();
     let pieces = text.pieces().count();
     let line = format!(in rt.alloc(); "{bytes} bytes in {pieces} pieces")?;
-    Ok(Outcome { line, time })
+    Ok(Outcome {
+        line,
+        time,
+        rounds: 1,
+    })
 }
 
 /// Runs a task with `turns` edits of a text of `bytes` bytes.

@@ -8,6 +8,8 @@ use std::time::{CpuClock, Duration};
 pub(crate) struct Outcome {
     pub(crate) line: String,
     pub(crate) time: Duration,
+    /// The rounds that took the time; 1 where a layer does all as one.
+    pub(crate) rounds: usize,
 }
 
 impl Outcome {
@@ -21,7 +23,13 @@ impl Outcome {
         Ok(Outcome {
             line: format!(in rt.alloc(); "{sum}")?,
             time: end.saturating_sub(start),
+            rounds: 1,
         })
+    }
+
+    /// The processor time of a round, in nanoseconds.
+    pub(crate) fn nanos_a_round(&self) -> u128 {
+        self.time.as_nanos() / u128::from(self.rounds.max(1) as u64)
     }
 }
 

@@ -195,7 +195,11 @@ fn parse(words: &[String]) -> Result<(Task, usize, usize)> {
 fn outcome_of<R: CpuClock + AllocGlobal>(rt: &R, text: &mut Text, task: Task) -> Result<Outcome> {
     let (count, time) = measure(rt, text, task)?;
     let line = format!(in rt.alloc(); "{count} paragraphs")?;
-    Ok(Outcome { line, time })
+    Ok(Outcome {
+        line,
+        time,
+        rounds: 1,
+    })
 }
 
 /// Carries out the words. Reports the number of paragraphs.

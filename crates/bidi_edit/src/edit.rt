@@ -19,7 +19,7 @@ use std::io::{Read, Write};
 const READS: u64 = 1_000_000_000;
 
 /// The fate of the changes in a session without a fault.
-#[derive(Clone, Copy, PartialEq, Eq, Debug)]
+#[derive(Clone, Copy)]
 pub enum Changes {
     /// Nothing is unsaved.
     Saved,

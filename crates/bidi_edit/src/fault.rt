@@ -12,7 +12,7 @@ use std::alloc::AllocError;
 use thiserror::Error;
 
 /// A fault. Its text is the line for standard error.
-#[derive(Debug, Drop, PartialEq, Eq, Error)]
+#[derive(Debug, Drop, Error)]
 pub enum ProgramFault<'a> {
     /// One of Unicode's files was refused.
     #[error("bidi_edit: {0}")]

@@ -239,6 +239,3 @@ fn main(rt: HostRuntime) -> ExitCode {
         Err(error) => refuse(&rt, NAME, &error),
     }
 }
-
-#[cfg(test)]
-mod tests;

@@ -7,7 +7,7 @@ use std::alloc::AllocError;
 use thiserror::Error;
 
 /// A fault. Its text is printed after the program's name.
-#[derive(Debug, Drop, PartialEq, Eq, Error)]
+#[derive(Debug, Drop, Error)]
 pub enum ProgramFault<'a> {
     /// A line of one of Unicode's files was refused.
     #[error("{0}")]

@@ -9,8 +9,6 @@ mod laws;
 mod line;
 mod names;
 mod question;
-#[cfg(test)]
-mod tests;
 mod told;
 
 pub use answers::{lengthened, shortened};

@@ -7,7 +7,7 @@ ghost use Rattle.bx_asking.specs.Line.{asked, digit_of, has_digit, is_digit, is_
 use bx_terms::first_char;
 
 /// A paragraph and a unit in it.
-#[derive(Clone, Copy, PartialEq, Eq, Debug)]
+#[derive(Clone, Copy)]
 pub struct Target {
     /// The paragraph's number, from 1; none for the paragraph where the cursor is.
     pub paragraph: Option<usize>,

@@ -1,10 +1,9 @@
 //! The questions that the status row asks.
 
 /// What the user is asked.
-#[derive(Clone, Copy, PartialEq, Eq, Debug, Default)]
+#[derive(Clone, Copy)]
 pub enum Ask {
     /// Nothing.
-    #[default]
     Off,
     /// To which paragraph and unit to go.
     Line,

@@ -39,14 +39,14 @@ fn counts_as(d: Class, t: Class) -> bool
 }
 
 /// A range of indexes, `from..to`, without any type that counts as a direction.
-#[derive(Clone, Copy, PartialEq, Eq, Debug)]
+#[derive(Clone, Copy)]
 struct Clear {
     from: usize,
     to: usize,
 }
 
 /// A range clear of the embedding direction, and a range clear of the other direction.
-#[derive(Clone, Copy, PartialEq, Eq, Debug)]
+#[derive(Clone, Copy)]
 struct Clears {
     embedding: Clear,
     other: Clear,
@@ -216,7 +216,7 @@ fn resolve_in(
 }
 
 /// State that a walk over the pairs carries: the context of an index, and the clear ranges.
-#[derive(Clone, Copy, PartialEq, Eq, Debug)]
+#[derive(Clone, Copy)]
 pub(crate) struct Known {
     /// The index of the last pair's opener, 0 before the first pair.
     index: usize,

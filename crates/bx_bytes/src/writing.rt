@@ -9,7 +9,7 @@ use std::io::{ErrorKind, Write};
 use thiserror::Error;
 
 /// A write failed, or took no byte.
-#[derive(Clone, Copy, PartialEq, Eq, Debug, Error)]
+#[derive(Clone, Copy, Debug, Error)]
 #[error("the write failed after {written} bytes")]
 pub struct WriteFault {
     /// The number of bytes that were written before the failure.

@@ -8,7 +8,7 @@ use bx_terms::first_char;
 
 /// A cluster of simple characters: its first character and columns, whether combining marks follow, and the byte offset in the
 /// body where the cluster ends.
-#[derive(Clone, Copy, PartialEq, Eq, Debug)]
+#[derive(Clone, Copy)]
 pub struct SimpleCluster {
     pub first: char,
     pub columns: u8,

@@ -10,7 +10,7 @@ use std::io::{self, ErrorKind, Read};
 use thiserror::Error;
 
 /// Why a file could not be read.
-#[derive(Debug, Drop, PartialEq, Eq, Error)]
+#[derive(Debug, Drop, Error)]
 pub enum FileFault<'a> {
     /// The file at this path does not exist or cannot be read.
     #[error("cannot read {}", Shown(.0))]

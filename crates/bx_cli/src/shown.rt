@@ -10,19 +10,19 @@ use std::fmt::{self, Display};
 
 /// A file name in a shell's syntax: bare if all its characters are plain, in `$'..'` if a terminal would obey or hide one of
 /// them, else in quotes. `$'..'` has a number in octal for each byte of such a character.
-#[derive(Clone, Copy, PartialEq, Eq, Debug)]
+#[derive(Clone, Copy)]
 pub struct Shown<'a>(pub &'a str);
 
 /// A text in which each byte of a character that a terminal would obey or hide is an octal number; line ends stay.
-#[derive(Clone, Copy, PartialEq, Eq, Debug)]
+#[derive(Clone, Copy)]
 pub struct Numbered<'a>(pub &'a str);
 
 /// A text as it stands between `$'` and `'`.
-#[derive(Clone, Copy, PartialEq, Eq, Debug)]
+#[derive(Clone, Copy)]
 pub struct Inner<'a>(pub &'a str);
 
 /// How a name is shown.
-#[derive(Clone, Copy, PartialEq, Eq, Debug)]
+#[derive(Clone, Copy)]
 pub enum Style {
     /// As it is.
     Bare,

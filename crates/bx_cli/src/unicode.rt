@@ -10,7 +10,7 @@ use clap::{Arg, ArgMatches};
 use std::alloc::{AllocError, Global};
 
 /// The paths of the two files by which letters are joined.
-#[derive(Clone, Copy, PartialEq, Eq, Debug)]
+#[derive(Clone, Copy)]
 pub struct JoiningPaths<'a> {
     /// ArabicShaping.txt
     pub joining: &'a str,
@@ -19,7 +19,7 @@ pub struct JoiningPaths<'a> {
 }
 
 /// The paths of Unicode's files.
-#[derive(Clone, Copy, PartialEq, Eq, Debug)]
+#[derive(Clone, Copy)]
 pub struct UnicodePaths<'a> {
     /// DerivedBidiClass.txt
     pub classes: &'a str,

@@ -9,7 +9,7 @@ use simdutf8::compat::from_utf8;
 use thiserror::Error;
 
 /// Why bytes cannot be opened.
-#[derive(Clone, Copy, PartialEq, Eq, Debug, Error)]
+#[derive(Clone, Copy, Debug, Error)]
 pub enum TextFault {
     /// They are more than 16,777,216.
     #[error("file too long")]

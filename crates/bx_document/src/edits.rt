@@ -15,7 +15,7 @@ use bx_ucd::BidiData;
 use std::alloc::Global;
 
 /// The end of a region at which the cursor stands.
-#[derive(Clone, Copy, PartialEq, Eq, Debug)]
+#[derive(Clone, Copy)]
 pub enum RegionEnd {
     /// The lower offset, before the region's first unit.
     Start,

@@ -12,7 +12,7 @@ use bx_text::Text;
 use bx_ucd::BidiData;
 
 /// What the characters read so far, from a text's start on, tell of its first separator.
-#[derive(Clone, Copy, PartialEq, Eq, Debug)]
+#[derive(Clone, Copy)]
 enum Seen {
     /// No separator is read yet.
     Nothing,

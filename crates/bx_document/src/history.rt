@@ -12,7 +12,7 @@ use bx_ucd::BidiData;
 use bx_view::{CachedRange, Source, View};
 
 /// A step in the history of a text's edits.
-#[derive(Clone, Copy, PartialEq, Eq, Debug)]
+#[derive(Clone, Copy)]
 pub enum HistoryStep {
     /// Undoes the latest edit.
     Undo,

@@ -2,7 +2,7 @@
 use thiserror::Error;
 
 /// Why a file was not opened.
-#[derive(Clone, Copy, PartialEq, Eq, Debug, Error)]
+#[derive(Clone, Copy, Debug, Error)]
 pub enum OpenError {
     /// The file has more than 16,777,216 bytes.
     #[error("file too long")]

@@ -13,7 +13,7 @@ use bx_terms::OutOfMemory;
 use bx_ucd::BidiData;
 
 /// Where a search leads.
-#[derive(Clone, Copy, PartialEq, Eq, Debug)]
+#[derive(Clone, Copy)]
 pub struct Landing {
     /// The cursor's new place; none if it stays.
     pub place: Option<usize>,

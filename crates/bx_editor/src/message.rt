@@ -7,7 +7,7 @@ use bx_store::SaveCause;
 use bx_terms::Base;
 
 /// The message of the status row.
-#[derive(Clone, Copy, PartialEq, Eq, Debug)]
+#[derive(Clone, Copy)]
 pub enum Message {
     /// The text was saved.
     Saved,

@@ -1,7 +1,7 @@
 //! How far a search is.
 
 /// How far a search is: what is asked for, and whether it was typed already.
-#[derive(Clone, Copy, PartialEq, Eq, Debug)]
+#[derive(Clone, Copy)]
 pub enum Seek {
     /// No search is on.
     Off,

@@ -1,10 +1,9 @@
 //! Selections.
 
 /// How fresh a selection is. It gives way to what is typed.
-#[derive(Clone, Copy, PartialEq, Eq, Debug, Default)]
+#[derive(Clone, Copy)]
 pub enum Soft {
     /// No selection: there is no mark, or Mark set it.
-    #[default]
     Off,
     /// Select was pressed last, but for Repaint: the next move goes on selecting.
     Fresh,

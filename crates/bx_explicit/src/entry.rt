@@ -7,7 +7,7 @@ ghost use Rattle.bx_explicit.specs.Stack.{max_depth};
 use bx_ucd::Class;
 
 /// The directional override status of an entry (X1).
-#[derive(Clone, Copy, PartialEq, Eq, Debug, Default)]
+#[derive(Clone, Copy, Default)]
 pub enum Override {
     /// No override.
     #[default]
@@ -19,7 +19,7 @@ pub enum Override {
 }
 
 /// An entry of the directional status stack (X1).
-#[derive(Clone, Copy, PartialEq, Eq, Debug, Default)]
+#[derive(Clone, Copy, Default)]
 pub struct Entry {
     /// The embedding level.
     pub level: u8,
@@ -30,7 +30,7 @@ pub struct Entry {
 }
 
 /// The level and type of a character after the explicit rules, if X9 keeps it.
-#[derive(Clone, Copy, PartialEq, Eq, Debug)]
+#[derive(Clone, Copy)]
 pub struct ExplicitChar {
     /// Its explicit level, at most `MAX_DEPTH`.
     pub level: u8,

@@ -5,7 +5,7 @@ ghost use Rattle.bx_explicit.specs.Role.{role_of};
 use bx_ucd::Class;
 
 /// The role of a character in the rules, in the order of X2 to X9. A role has the name of its class.
-#[derive(Clone, Copy, PartialEq, Eq, Debug)]
+#[derive(Clone, Copy)]
 pub enum Role {
     Rle,
     Lre,

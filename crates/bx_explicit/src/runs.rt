@@ -9,7 +9,7 @@ use crate::entry::ExplicitChar;
 use std::alloc::AllocError;
 
 /// A level run: the kept characters from index `first` to `last`, both included. Characters that X9 removes may be between them.
-#[derive(Clone, Copy, PartialEq, Eq, Debug)]
+#[derive(Clone, Copy)]
 pub struct Run {
     pub level: u8,
     pub first: usize,

@@ -15,8 +15,6 @@ mod ring;
 mod search;
 mod sought;
 mod spans;
-#[cfg(test)]
-mod tests;
 
 pub use haystack::Haystack;
 pub use letters::is_passed_over;

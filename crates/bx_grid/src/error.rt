@@ -4,7 +4,7 @@ use std::alloc::AllocError;
 use thiserror::Error;
 
 /// Why a grid, or a screen of its size, is not made.
-#[derive(Debug, Drop, PartialEq, Eq, Error)]
+#[derive(Debug, Drop, Error)]
 pub enum GridError {
     #[error("a side is not from 1 to 500")]
     SizeOutOfRange,

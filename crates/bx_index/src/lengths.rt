@@ -4,7 +4,7 @@ ghost use Rattle.std.specs.Prelude.{◌≡◌};
 ghost use Rattle.bx_index.specs.Positions.{bytes_of};
 
 /// The lengths of a paragraph, in bytes.
-#[derive(Clone, Copy, PartialEq, Eq, Debug)]
+#[derive(Clone, Copy)]
 pub struct Lengths {
     /// Length of its body.
     pub body: u32,

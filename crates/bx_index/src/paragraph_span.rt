@@ -1,7 +1,7 @@
 //! Where a paragraph is in the text, as a search of the blocks finds it.
 
 /// A paragraph's number, and its offsets in the text, in bytes.
-#[derive(Clone, Copy, PartialEq, Eq, Debug)]
+#[derive(Clone, Copy)]
 pub struct ParagraphSpan {
     /// Its number, from 0.
     pub number: usize,

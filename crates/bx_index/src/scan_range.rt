@@ -8,7 +8,7 @@ ghost use Rattle.bx_index.specs.ScanRanges.{IsScanRange};
 use bx_text::Text;
 
 /// The part of a text that a scan for paragraphs has to read. All numbers count bytes.
-#[derive(Clone, Copy, PartialEq, Eq, Debug)]
+#[derive(Clone, Copy)]
 pub struct ScanRange {
     /// Offset of its start. The paragraph that is scanned begins at or before it, and has no separator before it.
     pub start: usize,

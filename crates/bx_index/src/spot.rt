@@ -8,7 +8,7 @@ use crate::blocks::Blocks;
 use crate::lengths::Lengths;
 
 /// Where a paragraph is stored: in a block, or after all blocks if it is the last of the text.
-#[derive(Clone, Copy, PartialEq, Eq, Debug)]
+#[derive(Clone, Copy)]
 pub struct Spot {
     /// The paragraph's number, from 0.
     pub number: usize,

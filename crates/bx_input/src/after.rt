@@ -12,7 +12,7 @@ use crate::beginning::Beginning;
 pub const ESC: u8 = 0x1B;
 
 /// What the waiting bytes and one more are.
-#[derive(Clone, Copy, Debug)]
+#[derive(Clone, Copy)]
 pub enum After {
     /// The bytes begin a sequence of the table, or the start of a paste.
     Waits(Beginning),

@@ -4,7 +4,7 @@ ghost use Rattle.std.specs.Prelude.{◌≡◌, ◌∷◌, [], ◌++◌};
 ghost use Rattle.bx_input.specs.Models.{begun};
 
 /// The bytes that wait outside a paste.
-#[derive(Clone, Copy, PartialEq, Eq, Debug)]
+#[derive(Clone, Copy)]
 pub enum Beginning {
     /// No byte waits.
     Nothing,

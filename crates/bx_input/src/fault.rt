@@ -4,7 +4,7 @@ use bx_bytes::WriteFault;
 use thiserror::Error;
 
 /// Why a run stopped early.
-#[derive(Clone, Copy, PartialEq, Eq, Debug, Error)]
+#[derive(Clone, Copy, Debug, Error)]
 pub enum FilterFault {
     #[error("input failed")]
     ReadFault,

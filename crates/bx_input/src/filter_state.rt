@@ -4,7 +4,7 @@ use crate::beginning::Beginning;
 use crate::paste_tail::PasteTail;
 
 /// The state of the filter.
-#[derive(Clone, Copy, PartialEq, Eq, Debug)]
+#[derive(Clone, Copy)]
 pub enum FilterState {
     /// Outside a paste. A sequence that went out unchanged may still be open.
     Outside {

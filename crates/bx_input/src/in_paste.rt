@@ -8,7 +8,7 @@ use crate::after::ESC;
 use crate::paste_tail::PasteTail;
 
 /// What the waiting bytes and one more are.
-#[derive(Clone, Copy, PartialEq, Eq, Debug)]
+#[derive(Clone, Copy)]
 pub enum AfterInPaste {
     /// The bytes begin the paste's end, or a control character of C1.
     Waits(PasteTail),

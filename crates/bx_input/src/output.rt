@@ -2,7 +2,7 @@
 
 /// The output for one byte of input: first bytes, then the sequences of keys, then one more byte. Each of the three may be
 /// missing.
-#[derive(Clone, Copy, Debug)]
+#[derive(Clone, Copy)]
 pub struct Output {
     /// The waiting bytes that go out unchanged, at most five (CSI 200).
     pub before: &'static [u8],

@@ -5,7 +5,7 @@ ghost use Rattle.bx_input.specs.Paste.{pasted_part};
 ghost use Rattle.bx_input.specs.PasteTail.{tail_bytes};
 
 /// The beginnings of the paste's end (CSI 201~), and of a control character of C1 in UTF-8 (C2 and 80 to 9F).
-#[derive(Clone, Copy, PartialEq, Eq, Debug)]
+#[derive(Clone, Copy)]
 pub enum PasteTail {
     /// No byte waits.
     Nothing,

@@ -4,7 +4,7 @@ use bx_bytes::WriteFault;
 use thiserror::Error;
 
 /// A call of a pipe failed.
-#[derive(Clone, Copy, PartialEq, Eq, Debug, Error)]
+#[derive(Clone, Copy, Debug, Error)]
 #[error("the pipe failed")]
 pub struct PipeFault;
 

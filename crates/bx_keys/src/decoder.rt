@@ -17,7 +17,7 @@ use std::marker::Model;
 const HEAD_LEN: usize = 12;
 
 /// The bytes of an unfinished item, or the first 12 of a longer one, which gives no key.
-#[derive(Clone, Copy, PartialEq, Eq, Debug)]
+#[derive(Clone, Copy)]
 pub struct Decoder {
     /// Those from `len` on are 0.
     bytes: [u8; HEAD_LEN],

@@ -4,7 +4,7 @@ use crate::notice::Notice;
 
 /// A command of the user, or what the host tells. In a search or a question some keys answer it: `answer_of` in `bx_editor`'s
 /// specs/Keys.antt says which.
-#[derive(Clone, Copy, PartialEq, Eq, Debug)]
+#[derive(Clone, Copy)]
 pub enum Key {
     /// Inserts the character at the place.
     Insert(char),

@@ -1,7 +1,7 @@
 //! Notices for the status row, which come with the input.
 
 /// What the host, the program that starts the editor and keeps a copy of what is typed, tells its user.
-#[derive(Clone, Copy, PartialEq, Eq, Debug)]
+#[derive(Clone, Copy, PartialEq, Eq)]
 pub enum Notice {
     /// No copy is kept: the disk has no space.
     NoSpace,

@@ -8,7 +8,7 @@ use bx_ucd::{BidiData, Class};
 
 /// The characters that a text may have: all but formatting characters and those of class BN, or only those of them that keep a
 /// text in one direction.
-#[derive(Clone, Copy, PartialEq, Eq, Debug)]
+#[derive(Clone, Copy)]
 pub(crate) enum Direction {
     /// All but formatting characters and BN.
     Either,

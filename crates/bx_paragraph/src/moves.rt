@@ -3,7 +3,7 @@ ghost use Rattle.std.specs.Prelude.{◌≡◌};
 ghost use Rattle.bx_paragraph.specs.Slots.{opposite, reading_side};
 
 /// The side of a row that a move goes to.
-#[derive(Clone, Copy, PartialEq, Eq, Debug)]
+#[derive(Clone, Copy)]
 pub enum Visual {
     Left,
     Right,

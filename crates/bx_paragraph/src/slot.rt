@@ -1,7 +1,7 @@
 //! Slots, the positions of the cursor in a row.
 
 /// A slot of a row: a position for the cursor.
-#[derive(Clone, Copy, PartialEq, Eq, Debug)]
+#[derive(Clone, Copy)]
 pub struct Slot {
     /// The offset, in bytes of the paragraph's body, of its unit's start or of the body's end.
     pub offset: usize,

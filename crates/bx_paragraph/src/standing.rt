@@ -10,7 +10,7 @@ use bx_terms::OutOfMemory;
 use bx_ucd::BidiData;
 
 /// The position of a place in its row.
-#[derive(Clone, Copy, PartialEq, Eq, Debug)]
+#[derive(Clone, Copy)]
 pub struct Standing {
     /// The leftmost column, from 1, of the slot at the place; 1 if there is none.
     pub column: u16,

@@ -4,7 +4,7 @@ ghost use Rattle.std.specs.Prelude.{◌≡◌};
 ghost use Rattle.bx_pieces.specs.Pieces.{goes_on};
 
 /// The buffer that holds the bytes of a piece.
-#[derive(Clone, Copy, PartialEq, Eq, Debug)]
+#[derive(Clone, Copy)]
 pub enum Buffer {
     /// The text as it was opened.
     Opened,
@@ -13,7 +13,7 @@ pub enum Buffer {
 }
 
 /// A span of a buffer, counted in bytes.
-#[derive(Clone, Copy, PartialEq, Eq, Debug)]
+#[derive(Clone, Copy)]
 pub struct Piece {
     pub buffer: Buffer,
     /// Offset of its first byte in the buffer, from 0.

@@ -7,7 +7,7 @@ use bx_ucd::UcdError;
 use thiserror::Error;
 
 /// Why a session could not be opened or recovered.
-#[derive(Clone, Copy, Debug, PartialEq, Eq, Error)]
+#[derive(Clone, Copy, Debug, Error)]
 pub enum RecoveryFault {
     /// One of Unicode's files was refused.
     #[error("{0}")]

@@ -16,7 +16,7 @@ use bx_ucd::BidiData;
 use std::fmt;
 
 /// A file's content, compared with a session that is replayed over an earlier content of the file.
-#[derive(Clone, Copy, PartialEq, Eq, Debug)]
+#[derive(Clone, Copy)]
 pub enum FileText {
     /// The replayed text.
     Same,
@@ -27,7 +27,7 @@ pub enum FileText {
 }
 
 /// The result of a replay beside a file.
-#[derive(Clone, Copy, PartialEq, Eq, Debug)]
+#[derive(Clone, Copy)]
 pub struct Replayed {
     /// What the file holds.
     pub held: FileText,

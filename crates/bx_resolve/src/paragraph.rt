@@ -8,7 +8,7 @@ use std::marker::Model;
 const NONE: u8 = 255;
 
 /// The level of a character, or none where X9 removes it, in one byte.
-#[derive(Clone, Copy, PartialEq, Eq, Debug)]
+#[derive(Clone, Copy)]
 pub struct Level {
     byte: u8,
 }

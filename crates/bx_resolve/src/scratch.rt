@@ -15,7 +15,7 @@ use bx_ucd::class::direction;
 use std::alloc::{AllocError, Global};
 
 /// The level of a sequence, and the types before its first character (sos) and after its last (eos), L or R (X10).
-#[derive(Clone, Copy, PartialEq, Eq, Debug)]
+#[derive(Clone, Copy)]
 pub struct Ends {
     pub level: u8,
     pub sos: Class,

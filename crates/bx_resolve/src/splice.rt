@@ -6,7 +6,7 @@ use crate::paragraph::Level;
 use std::alloc::AllocError;
 
 /// A span of character indexes, `first..last`.
-#[derive(Clone, Copy, PartialEq, Eq, Debug)]
+#[derive(Clone, Copy)]
 pub struct Span {
     pub first: usize,
     /// The index after the last one.

@@ -19,7 +19,7 @@ use bx_ucd::BidiData;
 use std::alloc::{AllocError, Global};
 
 /// The start of a row.
-#[derive(Clone, Copy, PartialEq, Eq, Debug)]
+#[derive(Clone, Copy)]
 pub struct RowStart {
     /// The offset in the body, in bytes, of the row's first unit.
     pub offset: usize,

@@ -5,8 +5,6 @@
 
 mod laws;
 mod runs;
-#[cfg(test)]
-mod tests;
 mod typing;
 
 pub use laws::{

@@ -6,10 +6,9 @@ ghost use Rattle.bx_runs.specs.Typing.{after_insertion, after_removal, goes_on, 
 use bx_ucd::Class;
 
 /// What the next edit may go on with, as the latest key and edit left it.
-#[derive(Clone, Copy, PartialEq, Eq, Debug, Default)]
+#[derive(Clone, Copy)]
 pub enum Typing {
     /// Nothing: the next edit begins a run.
-    #[default]
     Off,
     /// A letter: letters and blanks go on with it.
     Word,
@@ -26,7 +25,7 @@ pub enum Typing {
 }
 
 /// Kinds of characters that are put in.
-#[derive(Clone, Copy, PartialEq, Eq, Debug)]
+#[derive(Clone, Copy)]
 pub enum Kind {
     /// A separator of paragraphs: class B.
     Separator,
@@ -50,7 +49,7 @@ impl Kind {
 }
 
 /// The two ways to remove a character.
-#[derive(Clone, Copy, PartialEq, Eq, Debug)]
+#[derive(Clone, Copy)]
 pub enum Removal {
     /// Removes the text before the cursor.
     Erase,

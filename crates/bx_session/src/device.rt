@@ -4,7 +4,7 @@ use bx_bytes::WriteFault;
 use thiserror::Error;
 
 /// A call of a device failed.
-#[derive(Clone, Copy, PartialEq, Eq, Debug, Error)]
+#[derive(Clone, Copy, Debug, Error)]
 #[error("the device failed")]
 pub struct DeviceFault;
 

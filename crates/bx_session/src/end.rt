@@ -3,7 +3,7 @@
 use thiserror::Error;
 
 /// How a run over a reader ended.
-#[derive(Clone, Copy, PartialEq, Eq, Debug)]
+#[derive(Clone, Copy)]
 pub enum End {
     /// A Quit ended the session.
     Quit,
@@ -12,7 +12,7 @@ pub enum End {
 }
 
 /// Why a run over a reader broke off.
-#[derive(Clone, Copy, PartialEq, Eq, Debug, Error)]
+#[derive(Clone, Copy, Debug, Error)]
 pub enum RunFault {
     /// A read failed.
     #[error("input failed")]

@@ -1,7 +1,7 @@
 //! Why a session refuses a call.
 
 /// Why a session refuses a call.
-#[derive(Clone, Copy, PartialEq, Eq, Debug)]
+#[derive(Clone, Copy, Debug)]
 pub enum Refused {
     /// Out of memory while applying a key, or moving the cursor before the first key. A key's bytes are consumed; nothing else
     /// has changed.

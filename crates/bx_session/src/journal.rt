@@ -12,7 +12,7 @@ use std::mem;
 use thiserror::Error;
 
 /// A call of a journal failed.
-#[derive(Clone, Copy, PartialEq, Eq, Debug, Error)]
+#[derive(Clone, Copy, Debug, Error)]
 #[error("the journal failed after {written} bytes")]
 pub struct JournalFault {
     /// The number of the call's bytes that were appended.
@@ -44,7 +44,7 @@ pub trait Journal {
 }
 
 /// A journal that keeps nothing.
-#[derive(Drop, Clone, Copy, Debug)]
+#[derive(Drop, Clone, Copy)]
 pub struct NoJournal;
 
 impl Journal for NoJournal {

@@ -1,7 +1,7 @@
 //! Whether a session has ended, as each byte that is fed tells.
 
 /// Whether a session has ended.
-#[derive(Clone, Copy, PartialEq, Eq, Debug)]
+#[derive(Clone, Copy)]
 pub enum Status {
     /// It takes more bytes.
     Running,

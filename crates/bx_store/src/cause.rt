@@ -5,7 +5,7 @@ ghost use Rattle.bx_store.specs.Causes.{cause_of_kind, cause_text};
 use std::io::ErrorKind;
 
 /// Why a save failed, as far as the system tells.
-#[derive(Clone, Copy, PartialEq, Eq, Debug)]
+#[derive(Clone, Copy, Debug)]
 pub enum SaveCause {
     /// The disk is full, or the user's share of it.
     NoSpace,

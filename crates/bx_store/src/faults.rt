@@ -5,7 +5,7 @@ ghost use Rattle.bx_store.specs.Stores.{no_faults, with_fault};
 use crate::store::StoreFault;
 
 /// How many calls of a store failed, and why the latest did.
-#[derive(Clone, Copy, PartialEq, Eq, Debug)]
+#[derive(Clone, Copy)]
 pub struct Faults {
     /// At most the greatest u64.
     pub count: u64,

@@ -7,7 +7,7 @@ use std::io;
 use thiserror::Error;
 
 /// A call of a store failed, with the cause if the store knows it.
-#[derive(Clone, Copy, PartialEq, Eq, Debug, Error)]
+#[derive(Clone, Copy, Debug, Error)]
 #[error("the store failed")]
 pub struct StoreFault {
     /// None if the store does not know it.

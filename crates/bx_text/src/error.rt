@@ -4,7 +4,7 @@ use std::alloc::AllocError;
 use thiserror::Error;
 
 /// Why a text was not opened or edited. An error leaves it unchanged.
-#[derive(Clone, Copy, PartialEq, Eq, Debug, Error)]
+#[derive(Clone, Copy, Debug, Error)]
 pub enum TextError {
     /// An offset is inside a character or past the end, or a range's start is past its end.
     #[error("not a boundary of characters")]

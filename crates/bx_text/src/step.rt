@@ -7,7 +7,7 @@ use crate::change::Change;
 use bx_pieces::Pieces;
 
 /// Where a step leads: back to the text before an edit, or again to the text after it.
-#[derive(Clone, Copy, PartialEq, Eq, Debug)]
+#[derive(Clone, Copy)]
 pub enum Way {
     Back,
     Again,

@@ -12,7 +12,7 @@ use crate::lines::{before_comment, is_all_blank, trimmed};
 use crate::parts::{Parts, cut};
 
 /// A line of the file: a bracket, its counterpart and its side.
-#[derive(Clone, Copy, PartialEq, Eq, Debug)]
+#[derive(Clone, Copy)]
 pub struct BracketEntry {
     pub bracket: char,
     pub paired: char,

@@ -15,7 +15,7 @@ use crate::words::two_words;
 use bx_terms::is_control;
 
 /// A line of the file that gives a form: the letter, the form, and the character that is this form of the letter.
-#[derive(Clone, Copy, PartialEq, Eq, Debug)]
+#[derive(Clone, Copy)]
 pub struct FormEntry {
     pub letter: char,
     pub form: Form,

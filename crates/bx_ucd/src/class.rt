@@ -5,7 +5,7 @@ ghost use Rattle.bx_ucd.specs.Class.{is_initiator, is_strong, is_neutral, is_unl
 
 /// A bidirectional class, under its short name in the data files. The order of the formatting classes, LRE to PDI without another
 /// between them, makes a test for them one range test (`bx_resolve/src/uniform.rt`).
-#[derive(Clone, Copy, PartialEq, Eq, Debug)]
+#[derive(Clone, Copy, PartialEq, Eq)]
 pub enum Class {
     /// Left_To_Right
     L,

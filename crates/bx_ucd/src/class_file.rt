@@ -14,14 +14,14 @@ use crate::lines::{before_comment, is_all_blank, trimmed, without_leading_blanks
 use crate::parts::{Parts, cut};
 
 /// A range of codes and their class.
-#[derive(Clone, Copy, PartialEq, Eq, Debug)]
+#[derive(Clone, Copy)]
 pub struct ClassRange {
     pub range: Range,
     pub class: Class,
 }
 
 /// A data line (`Given`), or an `@missing` line: the default for codes that no data line covers.
-#[derive(Clone, Copy, PartialEq, Eq, Debug)]
+#[derive(Clone, Copy)]
 pub enum ClassEntry {
     Given(ClassRange),
     Default(ClassRange),

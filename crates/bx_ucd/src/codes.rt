@@ -13,7 +13,7 @@ use crate::parts::{Parts, cut};
 const LAST: u32 = 0x10FFFF;
 
 /// Codes from `low` to `high`, both included.
-#[derive(Clone, Copy, PartialEq, Eq, Debug)]
+#[derive(Clone, Copy)]
 pub struct Range {
     pub low: u32,
     pub high: u32,

@@ -9,7 +9,7 @@ use crate::class::Class;
 use crate::joining::{Form, Joining};
 
 /// The side of a paired bracket (the property Bidi_Paired_Bracket_Type).
-#[derive(Clone, Copy, PartialEq, Eq, Debug)]
+#[derive(Clone, Copy)]
 pub enum Side {
     /// `o` in the file, as `(`.
     Opener,

@@ -7,7 +7,7 @@ use std::{error, fmt};
 use thiserror::Error;
 
 /// The data files, in the order in which they are read.
-#[derive(Clone, Copy, PartialEq, Eq, Debug, Error)]
+#[derive(Clone, Copy, Debug, Error)]
 pub enum UcdFile {
     /// DerivedBidiClass.txt
     #[error("classes")]
@@ -27,7 +27,7 @@ pub enum UcdFile {
 }
 
 /// The faults of a line, in the order of the checks: the first that fails is reported.
-#[derive(Clone, Copy, PartialEq, Eq, Debug, Error)]
+#[derive(Clone, Copy, Debug, Error)]
 pub enum Cause {
     /// The line has too few or too many fields.
     #[error("bad line")]
@@ -50,7 +50,7 @@ pub enum Cause {
 }
 
 /// The first refused line of the files, or a failed allocation.
-#[derive(Clone, Copy, PartialEq, Eq, Debug)]
+#[derive(Clone, Copy, Debug)]
 pub struct UcdError {
     pub file: UcdFile,
     /// The line in its file, counted from 1; 0 where an allocation failed.

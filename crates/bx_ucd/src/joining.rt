@@ -7,7 +7,7 @@ use crate::class::{Class, is_unlettered};
 use bx_terms::{is_control, is_direction_mark};
 
 /// A joining type (the property Joining_Type), under its short name in the data files.
-#[derive(Clone, Copy, PartialEq, Eq, Debug)]
+#[derive(Clone, Copy)]
 pub enum Joining {
     /// Right_Joining: joins the letter before it alone.
     R,
@@ -24,7 +24,7 @@ pub enum Joining {
 }
 
 /// The form of a letter, by the sides on which it joins.
-#[derive(Clone, Copy, PartialEq, Eq, Debug)]
+#[derive(Clone, Copy)]
 pub enum Form {
     /// It joins on no side.
     Isolated,

@@ -12,7 +12,7 @@ use crate::lines::{before_comment, is_all_blank, trimmed};
 use crate::parts::{Parts, cut};
 
 /// A line of the file: a character and its joining type.
-#[derive(Clone, Copy, PartialEq, Eq, Debug)]
+#[derive(Clone, Copy)]
 pub struct JoiningEntry {
     pub character: char,
     pub joining: Joining,

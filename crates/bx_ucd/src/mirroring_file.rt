@@ -12,7 +12,7 @@ use crate::parts::{Parts, cut};
 use bx_terms::is_control;
 
 /// A line of the file: a character and its mirror.
-#[derive(Clone, Copy, PartialEq, Eq, Debug)]
+#[derive(Clone, Copy)]
 pub struct MirrorEntry {
     pub character: char,
     pub mirror: char,

@@ -3,21 +3,21 @@
 use bx_paragraph::Visual;
 
 /// A direction in text order.
-#[derive(Clone, Copy, PartialEq, Eq, Debug)]
+#[derive(Clone, Copy)]
 pub enum Logical {
     Back,
     Forward,
 }
 
 /// A direction from row to row.
-#[derive(Clone, Copy, PartialEq, Eq, Debug)]
+#[derive(Clone, Copy)]
 pub enum Vertical {
     Up,
     Down,
 }
 
 /// A move of the cursor. The cursor stays if there is no place to go to.
-#[derive(Clone, Copy, PartialEq, Eq, Debug)]
+#[derive(Clone, Copy)]
 pub enum Move {
     /// To the previous or the next place.
     Logical(Logical),

@@ -13,7 +13,7 @@ use crate::view::View;
 use bx_ucd::BidiData;
 
 /// The position of a place. All fields count from 1.
-#[derive(Clone, Copy, PartialEq, Eq, Debug)]
+#[derive(Clone, Copy)]
 pub struct Position {
     /// The column of the place's cell.
     pub column: u16,

@@ -5,7 +5,7 @@ use bx_session::Refused;
 use thiserror::Error;
 
 /// An action of the user, the program or the terminal.
-#[derive(Clone, Copy, PartialEq, Eq, Debug)]
+#[derive(Clone, Copy)]
 pub enum Step {
     /// A byte of input.
     Byte(u8),
@@ -20,7 +20,7 @@ pub enum Step {
 }
 
 /// Why a step was refused.
-#[derive(Debug, Drop, PartialEq, Eq, Error)]
+#[derive(Debug, Drop, Error)]
 pub enum StepFault {
     /// The session refused a byte or a told size.
     #[error("the session refused the step")]

@@ -21,7 +21,7 @@ impl Read for Letters {
 }
 
 /// How a write fails.
-#[derive(Clone, Copy, PartialEq, Eq, Debug)]
+#[derive(Clone, Copy)]
 pub(crate) enum Refusal {
     /// The write fails.
     Error,

@@ -1,9 +1,15 @@
-//! Tests of session runs over readers, writers and stores that may fail. `play_scenes` plays scenes of sessions and worlds.
-//! These tests have their own crate, so that the tested crates stay quick to check.
+//! What no line of `player` can say: runs of a session over readers, writers and files that fail, what is flushed and appended
+//! before a read, and the number of questions for a class after an edit.
 #![tactic(auto)]
 
 #[cfg(test)]
+mod counting;
+#[cfg(test)]
+mod counts;
+#[cfg(test)]
 mod faulty;
+#[cfg(test)]
+mod journal;
 #[cfg(test)]
 mod logs;
 #[cfg(test)]

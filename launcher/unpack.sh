@@ -1,0 +1,138 @@
+# shellcheck shell=sh
+# shellcheck disable=SC2034,SC2154 # words that the scripts give and take
+# Unpacks dist/, for dist.sh. `top` is the repository, `place` the folder to unpack to, `begun` the time of the start.
+
+say_fault() { # WORDS
+    printf 'bidi-edit: %s\n' "$1" >&2
+}
+
+# Prints the cause that commands told in English, without their names. tar tells of a full disk by what it could not write.
+cause_of() { # WORDS
+    case $1 in
+    *'No space left on device'* | *'Wrote only'*) echo 'No space left on device' ;;
+    *) printf '%s\n' "$1" | grep -v 'Exiting with failure' | sed -n '$s/.*: //p' ;;
+    esac
+}
+
+# Marks the folder as checked when the start began.
+mark() { # FOLDER
+    TZ=UTC0 touch -t "$begun" "$1/lib/bidi_edit/SOURCES" 2>/dev/null || :
+}
+
+# Says that there is no room for the folder, and gives the status for that.
+refuse_place() { # WORDS
+    say_fault "dist/ cannot be unpacked in $(shown "${place%/*}"): $(cause_of "$1")"
+    return 2
+}
+
+# Runs a command whose messages are read. For a subshell.
+in_english() { # COMMAND..
+    export LC_ALL=C
+    "$@" 2>&1
+}
+
+# Puts the host of dist/ into the folder.
+copy_host() { # FOLDER
+    new=$1/bin/bidi-edit.$$
+    cp -- "$1/lib/bidi_edit/host" "$new" && mv -f -- "$new" "$1/bin/bidi-edit" && return
+    rm -f -- "$new"
+    return 1
+}
+
+# Puts the host into the folder: compiled, or that of dist/ where it cannot be compiled, if its sources are still the same.
+make_host() { # FOLDER
+    if told=$(sh "$top/host/build.sh" into "$1/bin" 2>&1); then return; fi
+    if [ "$(host_digest)" = "$(noted host)" ]; then
+        told=$(in_english copy_host "$1") || refuse_place "$told"
+        return
+    fi
+    case $told in
+    *'there is no C compiler'*)
+        say_fault 'there is no C compiler, and the host in dist/ is not of the sources in host/: on Debian, apt install gcc libc6-dev gives one'
+        ;;
+    *) printf '%s\n' "$told" >&2 ;;
+    esac
+    return 2
+}
+
+# Copies the tables, each by a rename, since an editor may read the old ones.
+copy_tables() { # FOLDER
+    for table in "$top"/data/*.txt; do
+        copy=$1/share/bidi_edit/${table##*/}
+        cp -- "$table" "$copy.new" && mv -f -- "$copy.new" "$copy" || return
+    done
+}
+
+# Unpacks all but the host into a new folder.
+fill() { # FOLDER
+    mkdir -p -- "$1/bin" "$1/lib/bidi_edit" "$1/share/bidi_edit" && tar -xzof "$top/dist/$dist_archive" -C "$1/lib/bidi_edit" &&
+        copy_tables "$1" && cp -- "$top/dist/SOURCES" "$1/lib/bidi_edit/SOURCES"
+}
+
+# Whether the programs can be executed here, by a call that changes nothing: the host starts the keeper, which tells the version.
+run_here() { # FOLDER
+    "$1/bin/bidi-edit" --version </dev/null >/dev/null 2>&1
+}
+
+# Makes the folder beside its place and then renames it, so that it is never there in part. `beside` is removed at the end.
+unpack() {
+    beside=$(in_english mktemp -d "$place.XXXXXX") || {
+        refuse_place "$beside"
+        return
+    }
+    trap 'rm -rf -- "$beside"' EXIT
+    trap 'exit 2' HUP INT TERM
+    told=$(in_english fill "$beside/tree") || {
+        refuse_place "$told"
+        return
+    }
+    make_host "$beside/tree" || return
+    run_here "$beside/tree" || return 3
+    mark "$beside/tree"
+    # without a lock another start may have put its own there, now or before the rename
+    ! is_unpacked "$place" || return 0
+    [ ! -e "$place" ] || mv -T -- "$place" "$beside/old" 2>/dev/null || :
+    told=$(in_english mv -T -- "$beside/tree" "$place") || is_unpacked "$place" || refuse_place "$told"
+}
+
+# Makes the place ready, one start at a time where there is flock; else the rename decides.
+prepare_alone() {
+    if command -v flock >/dev/null; then
+        flock 9
+        # what killed starts left
+        rm -rf -- "$place".??????
+    fi
+    is_unpacked "$place" || {
+        unpack
+        return
+    }
+    told=$(in_english copy_tables "$place") || {
+        refuse_place "$told"
+        return
+    }
+    make_host "$place" && mark "$place"
+}
+
+# Makes the folder that the place is in, and a file for the lock.
+make_room() {
+    if [ "$place" = "$top/out/start" ]; then mkdir -p -- "$top/out"; else (umask 077 && mkdir -p -- "${place%/*}"); fi &&
+        is_own_place && { [ "$place" = "$top/out/start" ] || chmod 700 -- "${place%/*}"; } && : >>"$place.lock"
+}
+
+# Makes the place ready and sets `start`; the statuses are those of find_start.
+prepare() {
+    told=$(in_english make_room) || {
+        [ -n "$told" ] || told=': it belongs to another user'
+        refuse_place "$told"
+        return
+    }
+    (prepare_alone) 9>>"$place.lock"
+    case $? in
+    0) start=$place ;;
+    3)
+        cause='the programs in dist/ do not run on this machine'
+        return 1
+        ;;
+    *) return 2 ;;
+    esac
+}
