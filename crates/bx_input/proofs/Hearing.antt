@@ -1,8 +1,9 @@
 -- What is heard of the pipe's bytes, frame by frame.
 use Rattle.std.proofs.Common.{◌≡◌, ◌≤◌, ◌<◌, ◌+◌, ◌-◌, ◌*◌, ℕ, zero, suc, Bool, true, false, List, [], ◌∷◌, ◌++◌, length, take, drop, Option, None, Some, refl, ap, sym, ◌∙◌, subst, arith, append_assoc, inl, inr}
-use Rattle.std.specs.Prelude.{nat_le, option_map}
-use Rattle.std.specs.Io.KnownBytes.{Consumes, Keeps}
-use Rattle.std.proofs.lemmas.List.{length-append, length-drop, length-take-le, take-append-le, drop-append-le}
+use Rattle.std.specs.Prelude.{nat_le, option_map, if◌then◌else◌}
+use Rattle.std.specs.Io.KnownBytes.{Consumes, IsAtEnd, Keeps}
+use Rattle.std.proofs.lemmas.List.{length-append, length-drop, length-take-le, take-append-le, take-append-drop, take_all, take-take, drop-append-le}
+use Rattle.std.proofs.Math.Seq.{take-append-add}
 use Rattle.std.proofs.lemmas.Bool.Decides.{leb_tells}
 use Rattle.bx_input.specs.Frames.{Frame, frame_of, first_frame}
 use Rattle.bx_input.specs.Translating.{Translating, after_frame, after_end}
@@ -102,3 +103,69 @@ pub holds_known : (s : Reading) (bytes : List ℕ) (old new : Option (List ℕ))
 holds_known s bytes None new h = tt
 holds_known s bytes (Some xs) None h = absurd h
 holds_known s bytes (Some xs) (Some ys) h = holds s bytes ys ∙ ap (left s) (sym h)
+
+-- the bytes that a read took are held
+pub hears : (s new : Reading) (bytes : List ℕ) (before after : Option (List ℕ)) → new.held ≡ s.held ++ bytes → new.translating ≡ s.translating
+    → new.ready ≡ s.ready → new.is_over ≡ s.is_over → Consumes before after bytes → Keeps (option_map (left s) before) (option_map (left new) after)
+hears s new bytes before after held translating ready over h =
+    let known = holds_known s bytes before after h in
+    subst (λ held. Keeps (option_map (left s) before) (option_map (left (record new { held = held })) after)) (sym held)
+      (subst (λ t. Keeps (option_map (left s) before) (option_map (left (record { translating = t; held = s.held ++ bytes; ready = new.ready; is_over = new.is_over })) after)) (sym translating)
+        (subst (λ ready. Keeps (option_map (left s) before) (option_map (left (record { translating = s.translating; held = s.held ++ bytes; ready = ready; is_over = new.is_over })) after)) (sym ready)
+          (subst (λ over. Keeps (option_map (left s) before) (option_map (left (record { translating = s.translating; held = s.held ++ bytes; ready = s.ready; is_over = over })) after)) (sym over)
+            known)))
+
+-- a read that failed took nothing
+pub kept_consumes : (before after : Option (List ℕ)) → Keeps before after → Consumes before after []
+kept_consumes None after h = tt
+kept_consumes (Some xs) None h = absurd h
+kept_consumes (Some xs) (Some ys) h = sym h
+
+-- bytes that were held stand before those that make room for a read
+pub held_first : (held grown more : List ℕ) (start room : ℕ) → start ≡ length held → grown ≡ take (start + room) held ++ more → take start grown ≡ held
+held_first held grown more start room is grown_is =
+    let all : take (start + room) held ≡ held = take_all (start + room) held (omega (arith, is)) in
+    ap (λ bs. take start bs) (grown_is ∙ ap (λ bs. bs ++ more) all)
+    ∙ take-append-le start held more (omega (arith, is))
+    ∙ take_all start held (omega (arith, is))
+
+-- what is cut off behind the bytes that a read gave
+pub cut_back : (held front given post rest : List ℕ) (start count total : ℕ) → front ≡ held → start ≡ length held → count ≤ length given → start + count ≤ total
+    → take (start + count) (take total ((front ++ (given ++ post)) ++ rest)) ≡ held ++ take count given
+cut_back held front given post rest start count total front_is is h k =
+    take-take (start + count) total ((front ++ (given ++ post)) ++ rest) k
+    ∙ ap (λ front. take (start + count) ((front ++ (given ++ post)) ++ rest)) front_is
+    ∙ ap (λ n. take (n + count) ((held ++ (given ++ post)) ++ rest)) is
+    ∙ ap (λ bs. take (length held + count) bs) (append_assoc held (given ++ post) rest)
+    ∙ take-append-add held ((given ++ post) ++ rest) count
+    ∙ ap (λ bs. held ++ take count bs) (append_assoc given post rest)
+    ∙ ap (λ bs. held ++ bs) (take-append-le count given (post ++ rest) h)
+
+-- the pipe has ended, and the reading too
+pub finished : (s new : Reading) (known : Option (List ℕ)) → IsAtEnd known → left new [] ≡ left s [] → Keeps (option_map (left s) known) (option_map (left new) known)
+finished s new None h is = tt
+finished s new (Some xs) h is = subst (λ xs. left new xs ≡ left s xs) (sym h) is
+
+-- the same is heard of whatever the pipe has left
+pub same_known : (s new : Reading) (known : Option (List ℕ)) → ((rest : List ℕ) → left new rest ≡ left s rest) → Keeps (option_map (left s) known) (option_map (left new) known)
+same_known s new None same = tt
+same_known s new (Some xs) same = same xs
+
+-- ---- what is given is heard first
+
+-- bytes that were copied to the front of a buffer
+pub copied_first : (count : ℕ) (copied behind ready : List ℕ) → copied ≡ take count ready → count ≤ length ready → take count (copied ++ behind) ≡ take count ready
+copied_first count copied behind ready is h =
+    let few : length (take count ready) ≡ count = length-take-le count ready h in
+    ap (λ bs. take count (bs ++ behind)) is
+    ∙ take-append-le count (take count ready) behind (omega (arith, few))
+    ∙ take_all count (take count ready) (omega (arith, few))
+
+-- the session takes the first bytes of what is ready
+pub gives : (s new : Reading) (count : ℕ) (given : List ℕ) → given ≡ take count s.ready → new.ready ≡ drop count s.ready
+    → new.translating ≡ s.translating → new.held ≡ s.held → new.is_over ≡ s.is_over → (rest : List ℕ) → left s rest ≡ given ++ left new rest
+gives s new count given is ready translating held over rest =
+    let later : List ℕ = if s.is_over then [] else heard (s.held ++ rest) s.translating in
+    ap (λ bs. bs ++ later) (sym (take-append-drop count s.ready))
+    ∙ append_assoc (take count s.ready) (drop count s.ready) later
+    ∙ rw (is, ready, translating, held, over) refl

@@ -42,7 +42,7 @@ fn hear<R: Read>(inbox: &mut Inbox, reader: &mut R) -> io::Result<usize>
 /// Reads the pipe until something is there for the session, or the pipe has ended.
 fn fill<R: Read>(inbox: &mut Inbox, reader: &mut R) -> io::Result<()>
     ensures left { Keeps (option_map (left inbox.old) (R.remaining reader.old)) (option_map (left inbox.new) (R.remaining reader.new)) }
-    ensures end { OnOk result (inbox.new.ready ≡ [] → (inbox.new.is_over ≡ true) × IsAtEnd (R.remaining reader.new)) }
+    ensures end { OnOk result (inbox.new.ready ≡ [] → inbox.new.is_over ≡ true) }
 {
     for _ in 0..u64::MAX {
         if inbox.is_settled() {

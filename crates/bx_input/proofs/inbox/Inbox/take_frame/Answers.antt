@@ -1,4 +1,4 @@
-use Rattle.std.proofs.Common.{◌≡◌, List, ℕ}
+use Rattle.std.proofs.Common.{rules, ◌≡◌, List, ℕ}
 use Rattle.bx_input.specs.Frames.{Frame}
 use Rattle.bx_input.specs.Heard.{Reading, left}
 use Rattle.bx_input.proofs.Hearing.{takes}
@@ -9,4 +9,4 @@ returns-clause-left c =
     let f : Frame = record { letter = c.in-Some.frame.letter; bytes = c.in-Some.frame.bytes.now } in
     let new : Reading = record {
       translating = c.translate.new.self; held = c.drop-drain.new.self.0.items; ready = c.translate.new.out.items; is_over = c.self.inside.is_over } in
-    takes c.args.self.now new f c.requires.ready c.requires.open (search) (search) (search) (search) (search)
+    takes c.args.self.now new f c.requires.ready c.requires.open (search rules) (search rules) (search rules) (search rules) (search rules)
