@@ -3,7 +3,8 @@
 ghost use Rattle.std.specs.Prelude.{◌≡◌, None, Some, MatchOption};
 ghost use Rattle.bx_input.specs.Frames.{first_frame};
 
-/// The letters of the frames that the program reads; docs/ARCHITECTURE.md tells of their bytes.
+// The letters of the frames that the program reads. docs/ARCHITECTURE.md tells of their bytes.
+
 /// Bytes as the terminal gave them.
 pub const TYPED: u8 = b'b';
 /// The window's rows and columns, in two bytes each.
@@ -14,6 +15,19 @@ pub const IDLE: u8 = b'i';
 pub const NOTICE: u8 = b'n';
 /// A second went by.
 pub const SECOND: u8 = b's';
+
+// The letters of the frames that the program writes to standard error.
+
+/// The text was read and can be opened.
+pub const OPENED: u8 = b'o';
+/// A fault before the run.
+pub const FAULT: u8 = b'f';
+/// The journal lost keys, or has all again.
+pub const JOURNAL: u8 = b'j';
+/// What a file holds compared with a journal, and the number of keys.
+pub const REPLAYED: u8 = b'r';
+/// How the run ended.
+pub const END: u8 = b'e';
 
 /// The bytes of a frame's letter and length.
 pub const FRAME_HEAD: usize = 3;

@@ -27,7 +27,10 @@ mod wired;
 
 pub use fault::FilterFault;
 pub use filter::Filter;
-pub use frame::{FRAME_HEAD, Frame, IDLE, NOTICE, SECOND, SIZE, TYPED, first_frame};
+pub use frame::{
+    END, FAULT, FRAME_HEAD, Frame, IDLE, JOURNAL, NOTICE, OPENED, REPLAYED, SECOND, SIZE, TYPED,
+    first_frame,
+};
 pub use frame_reader::FrameReader;
 pub use output::Output;
 pub use over_reader::run;
