@@ -1,15 +1,12 @@
 #!/bin/sh
-# check-statuses.sh: runs the built programs bidi_edit and bidi_input to each of their ends, and compares the exit status, the line
-# on standard error and the saved file with the manual. The last line has the totals. Exit status 1: one differs, or a program is
-# not built.
+# check-statuses.sh: runs the built program bidi_edit to each of its ends, and compares the exit status, the line on standard error
+# and the saved file with the manual. The last line has the totals. Exit status 1: one differs, or the program is not built.
 set -u
 
 cd "$(dirname "$0")/.." || exit 1
 top=$(pwd)
 # shellcheck source=scripts/built.sh
 . "$top/scripts/built.sh"
-find_built bidi_input
-filter=$program
 find_built bidi_edit
 editor=$program
 
@@ -113,10 +110,12 @@ status=$?
 ended input_failed 1 'bidi_edit: input failed'
 run
 ended no_file 2 'error: '
-run --in-place mark text
-ended in_place_without_journal 2 'error: '
-run --itself --replay keys --to text.out text
-ended itself_elsewhere 2 'error: '
+run --saves 3,4 text
+ended saves_without_frames 2 'error: '
+run --erase 7f text
+ended erase_without_frames 2 'error: '
+run --new --text text text
+ended new_with_a_text 2 'error: '
 run --rows 501 text
 ended rows_past_500 2 'error: '
 run --direction up text
@@ -223,19 +222,43 @@ cp opened resumed
 run --text opened --replay journal resumed
 ended typing_goes_on 0 ''
 
-# The input filter. Sequences cut off by the input's end are passed on.
-printf '\033[7~a\033[1;' | "$filter" >written 2>told
-status=$?
-ended filter_input_ends 0 ''
-[ "$(cat -v written)" = '^[[Ha^[[1;' ] || { failed=$((failed + 1)); echo "FAILS filter_input_ends: $(cat -v written)"; }
-"$filter" <"$folder" >written 2>told
-status=$?
-ended filter_input_failed 1 'bidi_input: input failed'
-if [ -w /dev/full ]; then
-    echo a | "$filter" >/dev/full 2>told
-    status=$?
-    ended filter_output_failed 1 'bidi_input: output failed'
-fi
+# Frames: words for the host, each a letter, a length in two bytes, and that many bytes.
+framed() { # NAME STATUS WORDS
+    said=$(tr '\000-\037' '.' <told)
+    if [ "$status" = "$2" ] && [ "$said" = "$3" ]; then
+        passed=$((passed + 1))
+        echo "ok $1"
+    else
+        failed=$((failed + 1))
+        echo "FAILS $1: status $status and '$said', not $2 and '$3'"
+    fi
+}
+printf 'b\000\001\327z\000\004\000\005\000\036b\000\001\220b\000\001\023' >keys
+rm -f journal framed
+run --frames --new --journal journal framed
+framed frames_saved 0 'o..e..saved'
+[ "$(cat framed)" = "$(printf '\327\220')" ] || { failed=$((failed + 1)); echo 'FAILS frames_saved: the size cuts the letter'; }
+printf 'b\000\001x' >keys
+run --frames text
+framed frames_unsaved 1 'o..e..unsaved'
+printf 'b\000\003x\021\021' >keys
+run --frames text
+framed frames_dropped 0 'o..e..dropped'
+run --frames bad
+framed frames_of_a_bad_text 1 'f..not-utf8 1'
+run --frames --text missing text
+framed frames_of_no_text 1 'f..unreadable'
+printf 'b\000\001x' >keys
+run --frames --journal missing/journal text
+framed frames_of_a_lost_journal 1 'o..j..lostj..loste..unsaved'
+printf 'x\023y\021\021' >journal
+printf xab >beside
+run --frames --text opened --replay journal --to recovered --against beside text
+framed frames_of_a_replay 0 'r..known 5'
+run --frames --text opened --replay journal --to recovered text
+framed frames_of_a_replay_without_a_file 0 'r..foreign 5'
+run --frames --text opened --replay journal --to folder/none/recovered text
+framed frames_of_nowhere_to_store 1 'f..unwritten'
 
 echo "$passed passed, $failed failed"
 [ "$failed" = 0 ]

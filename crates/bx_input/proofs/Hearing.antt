@@ -26,8 +26,8 @@ enough zero (suc m) bs t h k = sym (no_frame (heard_within m) bs t h)
 enough (suc n) zero bs t h k = no_frame (heard_within n) bs t k
 enough (suc n) (suc m) bs t h k = same_by (heard_within n) (heard_within m) bs t (first_frame bs) (λ f s.
     enough n m (behind_frame f bs) s
-      (let count = length-drop (3 + length f.bytes) bs in omega (arith, count, h))
-      (let count = length-drop (3 + length f.bytes) bs in omega (arith, count, k)))
+    (let count = length-drop (3 + length f.bytes) bs in omega (arith, count, h))
+    (let count = length-drop (3 + length f.bytes) bs in omega (arith, count, k)))
 
 -- ---- a frame stays the first one where more bytes follow
 
@@ -41,7 +41,7 @@ framed : (letter count : ℕ) (more : List ℕ) (is_there : Bool) → Option Fra
 framed letter count more true = Some (record { letter = letter; bytes = take count more })
 framed letter count more false = None
 
-there : (letter count : ℕ) (more : List ℕ) → count ≤ length more → frame_of letter count more ≡ Some (record { letter = letter; bytes = take count more })
+pub there : (letter count : ℕ) (more : List ℕ) → count ≤ length more → frame_of letter count more ≡ Some (record { letter = letter; bytes = take count more })
 there letter count more h = elim (leb_tells count (length more)) as (λ _. frame_of letter count more ≡ Some (record { letter = letter; bytes = take count more })) [
   | inl is ↦ rw is.0 refl
   | inr is ↦ absurd (omega (arith, h, is.1))
@@ -60,16 +60,16 @@ whole (l ∷ h ∷ []) rest f is = absurd (cc is)
 whole (l ∷ h ∷ low ∷ more) rest f is =
     let count : ℕ = h * 256 + low in
     elim (leb_tells count (length more)) as (λ _. IsWhole f (l ∷ h ∷ low ∷ more) rest) [
-    | inl fits ↦
-        let made : Frame = record { letter = l; bytes = take count more } in
-        let same : made ≡ f = cc (there l count more fits.1, is) in
-        let few : length (take count more) ≡ count = length-take-le count more fits.1 in
-        let long : count ≤ length (more ++ rest) = (let sum = length-append more rest in omega (arith, sum, fits.1)) in
-        subst (λ f. IsWhole f (l ∷ h ∷ low ∷ more) rest) same (record {
-          fits = omega (arith, few, fits.1);
-          stays = there l count (more ++ rest) long ∙ ap (λ bytes. Some (record { letter = l; bytes = bytes })) (take-append-le count more rest fits.1);
-        })
-    | inr lacks ↦ absurd (cc (not_there l count more lacks.1, is))
+      | inl fits ↦
+          let made : Frame = record { letter = l; bytes = take count more } in
+          let same : made ≡ f = cc (there l count more fits.1, is) in
+          let few : length (take count more) ≡ count = length-take-le count more fits.1 in
+          let long : count ≤ length (more ++ rest) = (let sum = length-append more rest in omega (arith, sum, fits.1)) in
+          subst (λ f. IsWhole f (l ∷ h ∷ low ∷ more) rest) same (record {
+            fits = omega (arith, few, fits.1);
+            stays = there l count (more ++ rest) long ∙ ap (λ bytes. Some (record { letter = l; bytes = bytes })) (take-append-le count more rest fits.1);
+          })
+      | inr lacks ↦ absurd (cc (not_there l count more lacks.1, is))
     ]
 
 -- the first frame is heard, and then all behind it
@@ -85,7 +85,7 @@ taken held rest t f is =
     ∙ ap (heard_by (heard_within n) (held ++ rest) t) w.stays
     ∙ ap (λ bs. (after_frame f t).output ++ heard_within n bs (after_frame f t).state) behind
     ∙ ap (λ more. (after_frame f t).output ++ more)
-        (enough n (length (behind_frame f held ++ rest)) (behind_frame f held ++ rest) (after_frame f t).state left_over (omega arith))
+    (enough n (length (behind_frame f held ++ rest)) (behind_frame f held ++ rest) (after_frame f t).state left_over (omega arith))
 
 -- a reading takes a frame: it hears the same as before
 pub takes : (s new : Reading) (f : Frame) → s.ready ≡ [] → s.is_over ≡ false → first_frame s.held ≡ Some f
@@ -110,10 +110,10 @@ pub hears : (s new : Reading) (bytes : List ℕ) (before after : Option (List �
 hears s new bytes before after held translating ready over h =
     let known = holds_known s bytes before after h in
     subst (λ held. Keeps (option_map (left s) before) (option_map (left (record new { held = held })) after)) (sym held)
-      (subst (λ t. Keeps (option_map (left s) before) (option_map (left (record { translating = t; held = s.held ++ bytes; ready = new.ready; is_over = new.is_over })) after)) (sym translating)
-        (subst (λ ready. Keeps (option_map (left s) before) (option_map (left (record { translating = s.translating; held = s.held ++ bytes; ready = ready; is_over = new.is_over })) after)) (sym ready)
-          (subst (λ over. Keeps (option_map (left s) before) (option_map (left (record { translating = s.translating; held = s.held ++ bytes; ready = s.ready; is_over = over })) after)) (sym over)
-            known)))
+    (subst (λ t. Keeps (option_map (left s) before) (option_map (left (record { translating = t; held = s.held ++ bytes; ready = new.ready; is_over = new.is_over })) after)) (sym translating)
+    (subst (λ ready. Keeps (option_map (left s) before) (option_map (left (record { translating = s.translating; held = s.held ++ bytes; ready = ready; is_over = new.is_over })) after)) (sym ready)
+    (subst (λ over. Keeps (option_map (left s) before) (option_map (left (record { translating = s.translating; held = s.held ++ bytes; ready = s.ready; is_over = over })) after)) (sym over)
+    known)))
 
 -- a read that failed took nothing
 pub kept_consumes : (before after : Option (List ℕ)) → Keeps before after → Consumes before after []

@@ -6,7 +6,7 @@ ghost use Rattle.bx_input.specs.Translating.{begun};
 
 use crate::filter::Filter;
 use crate::frame::{Frame, IDLE, NOTICE, SIZE, TYPED};
-use crate::running::append;
+use crate::output::append;
 use bx_keys::Decoder;
 use itoa::Buffer;
 use std::alloc::AllocError;
