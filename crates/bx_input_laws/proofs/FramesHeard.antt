@@ -16,7 +16,7 @@ one_heard : (f : Frame) (first more : List ℕ) (t : Translating) → IsEncoded 
     → heard (first ++ more) t ≡ (after_frame f t).output ++ heard more (after_frame f t).state
 one_heard f first more t is =
     let whole : List ℕ = f.letter ∷ is.high ∷ is.low ∷ f.bytes in
-    let none : behind_frame f whole ≡ [] = drop_all (length f.bytes) f.bytes (omega arith) in
+    let none : behind_frame f whole ≡ [] = drop_all (3 + length f.bytes) whole (omega arith) in
     ap (λ bs. heard (bs ++ more) t) is.all
     ∙ taken whole more t f (encoded_first f is.high is.low is.count)
     ∙ ap (λ bs. (after_frame f t).output ++ heard (bs ++ more) (after_frame f t).state) none

@@ -1,5 +1,7 @@
 //! A store that the host keeps: saves go to it as frames, over a pair of pipes.
-ghost use Rattle.std.specs.Prelude.{◌≡◌, ◌≤◌, length};
+ghost use Rattle.std.specs.Prelude.{◌≡◌, ◌≤◌, ◌∷◌, ◌++◌, ◌/◌, ◌%◌, [], true, length, OnOk, OnErr, IfErr};
+ghost use Rattle.std.specs.Io.KnownBytes.{Appends, Consumes};
+ghost use Rattle.bx_store.specs.Asking.{IsDone, unknown};
 ghost use Rattle.bx_store.specs.Stores.{with_fault};
 
 use crate::cause::SaveCause;
@@ -51,6 +53,9 @@ impl<R: Read + Drop, W: Write + Drop> HostStore<R, W> {
     /// Writes a frame. Its length goes before its bytes, the high byte first.
     fn say(&mut self, letter: u8, bytes: &[u8]) -> io::Result<()>
         requires { length bytes.now ≤ 65535 }
+        ensures said { OnOk result (Appends (W.contents self.old.requests) (W.contents self.new.requests)
+            (letter ∷ length bytes.now / 256 ∷ length bytes.now % 256 ∷ bytes.now)) }
+        ensures answers { self.new.answers ≡ self.old.answers }
         ensures failures { self.new.failures ≡ self.old.failures }
         ensures draft { self.new.has_draft ≡ self.old.has_draft }
     {
@@ -73,6 +78,8 @@ impl<R: Read + Drop, W: Write + Drop> HostStore<R, W> {
 
     /// Sends a frame without bytes after all that waits, and reads the answer.
     fn ask(&mut self, letter: u8) -> Result<(), StoreFault>
+        ensures done { OnOk result (IsDone letter (W.contents self.old.requests) (W.contents self.new.requests)
+            (R.remaining self.old.answers) (R.remaining self.new.answers)) }
         ensures failures { self.new.failures ≡ self.old.failures }
         ensures draft { self.new.has_draft ≡ self.old.has_draft }
     {
@@ -102,11 +109,11 @@ impl<R: Read + Drop, W: Write + Drop> HostStore<R, W> {
 }
 
 impl<R: Read + Drop, W: Write + Drop> Store for HostStore<R, W> {
-    ghost use Rattle.std.specs.Prelude.{None};
+    ghost use Rattle.bx_store.specs.Asking.{unknown};
 
-    ghost contents = { λ _. None };
+    ghost contents = { λ _. unknown };
 
-    ghost draft = { λ _. None };
+    ghost draft = { λ _. unknown };
 
     ghost has_draft = { λ s. s.has_draft };
 
@@ -129,7 +136,14 @@ impl<R: Read + Drop, W: Write + Drop> Store for HostStore<R, W> {
         }
     }
 
-    fn commit(&mut self) -> Result<(), StoreFault> {
+    fn commit(&mut self) -> Result<(), StoreFault>
+        ensures stored { OnOk result (unknown ≡ unknown) }
+        ensures not_stored { OnErr result (unknown ≡ unknown) }
+        ensures no_failure { OnOk result (self.new.failures ≡ self.old.failures) }
+        ensures failure { IfErr result (λ fault. self.new.failures ≡ with_fault fault self.old.failures) }
+        ensures done { OnOk result (IsDone 0x43 (W.contents self.old.requests) (W.contents self.new.requests)
+            (R.remaining self.old.answers) (R.remaining self.new.answers)) }
+    {
         self.has_draft = false;
         match self.ask(COMMIT) {
             Ok(()) => Ok(()),
