@@ -1,12 +1,14 @@
 -- Worked examples of frames: what the session reads for the bytes of the pipe.
 use Rattle.std.proofs.Common.{◌≡◌, ℕ, false, List, [], ◌∷◌, ◌++◌, refl}
 use Rattle.std.specs.Prelude.{codes}
+use Rattle.std.specs.Fmt.{digits}
 use Rattle.bx_input.specs.Translating.{begun}
 use Rattle.bx_input.specs.Heard.{heard}
 
 -- the letter Alef of Hebrew is D7 90: a size that comes between goes in behind it
 pub a_size_cuts_no_letter : heard (codes "b\0\u{1}" ++ 0xD7 ∷ (codes "z\0\u{4}\0\u{18}\0P" ++ (codes "b\0\u{1}" ++ 0x90 ∷ []))) (begun false)
     ≡ 0xD7 ∷ 0x90 ∷ codes "\u{1b}[8;24;80t"
+unfolding digits
 a_size_cuts_no_letter = refl
 
 -- an Escape that waits alone becomes Cancel when time goes by
@@ -16,6 +18,7 @@ an_escape_alone_is_a_key = refl
 -- a notice waits for the end of a paste
 pub a_notice_comes_behind_a_paste : heard (codes "b\0\u{7}\u{1b}[200~an\0\u{1}\u{3}b\0\u{7}b\u{1b}[201~") (begun false)
     ≡ codes "\u{1b}[90~ab\u{1b}[91~\u{1b}[>3~"
+unfolding digits
 a_notice_comes_behind_a_paste = refl
 
 -- a frame that the end cuts off says nothing
