@@ -1,5 +1,5 @@
 -- Frames: the messages by which the host hands on input. `host/frames.h` has the same table.
-use Rattle.std.specs.Prelude.{◌≡◌, ℕ, ◌+◌, ◌*◌, nat_le, List, [], ◌∷◌, ◌++◌, length, take, Option, Some, None, if◌then◌else◌}
+use Rattle.std.specs.Prelude.{◌≡◌, ℕ, ◌+◌, ◌*◌, nat_le, List, ◌∷◌, length, take, Option, Some, None, if◌then◌else◌}
 
 -- a frame: its letter, and its bytes
 pub record Frame : Type 0 where

@@ -2,7 +2,7 @@
 -- `bs` are the pipe's bytes, `t` is a translation's state.
 use Rattle.std.specs.Prelude.{ℕ, zero, suc, ◌+◌, Bool, List, [], ◌++◌, length, drop, Option, Some, None, if◌then◌else◌}
 use Rattle.bx_input.specs.Frames.{Frame, first_frame}
-use Rattle.bx_input.specs.Translating.{Translating, Translated, after_frame, after_end}
+use Rattle.bx_input.specs.Translating.{Translating, after_frame, after_end}
 
 -- the bytes behind a frame: its head has three
 abbrev pub behind_frame : Frame → List ℕ → List ℕ

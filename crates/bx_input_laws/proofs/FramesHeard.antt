@@ -1,11 +1,11 @@
 -- Frames are heard in their order.
-use Rattle.std.proofs.Common.{◌≡◌, ◌≤◌, ◌+◌, ◌*◌, ℕ, List, [], ◌∷◌, ◌++◌, length, take, drop, Option, Some, refl, ap, sym, subst, ◌∙◌, arith}
+use Rattle.std.proofs.Common.{◌≡◌, ◌+◌, ◌*◌, ℕ, List, [], ◌∷◌, ◌++◌, length, Some, ap, ◌∙◌, arith}
 use Rattle.std.proofs.lemmas.List.{take_all, drop_all}
-use Rattle.bx_input.specs.Frames.{Frame, IsEncoded, first_frame, frame_of}
-use Rattle.bx_input.specs.Translating.{Translating, after_frame, after_end}
+use Rattle.bx_input.specs.Frames.{Frame, IsEncoded, first_frame}
+use Rattle.bx_input.specs.Translating.{Translating, after_frame}
 use Rattle.bx_input.specs.Heard.{behind_frame, heard}
 use Rattle.bx_input.proofs.Hearing.{taken, there}
-use Rattle.bx_input_laws.specs.Hearing.{AreEncoded, AreHeardInOrder, after_frames}
+use Rattle.bx_input_laws.specs.Hearing.{AreHeardInOrder}
 
 encoded_first : (f : Frame) (high low : ℕ) → high * 256 + low ≡ length f.bytes → first_frame (f.letter ∷ high ∷ low ∷ f.bytes) ≡ Some f
 encoded_first f high low count =

@@ -1,4 +1,4 @@
-use Rattle.std.proofs.Common.{◌≡◌, List, ℕ, option_map}
+use Rattle.std.proofs.Common.{option_map}
 use Rattle.std.specs.Io.KnownBytes.{Keeps}
 use Rattle.bx_input.specs.Heard.{left}
 use Rattle.bx_input.proofs.frame_reader.fill.Given as goal

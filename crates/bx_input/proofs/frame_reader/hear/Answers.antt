@@ -1,4 +1,4 @@
-use Rattle.std.proofs.Common.{rules, ◌≡◌, ◌≤◌, ◌<◌, ◌+◌, ◌++◌, ℕ, List, [], length, take, ap, ◌∙◌, replicate, ◌-◌}
+use Rattle.std.proofs.Common.{rules, ◌≡◌, ◌+◌, ◌++◌, ℕ, List, [], take, ◌∙◌, replicate, ◌-◌}
 use Rattle.std.specs.Prelude.{vec_len}
 use Rattle.bx_input.specs.Heard.{Reading}
 use Rattle.bx_input.proofs.Hearing.{hears, kept_consumes, held_first, cut_back}

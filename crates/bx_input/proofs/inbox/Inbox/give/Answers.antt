@@ -1,5 +1,5 @@
-use Rattle.std.proofs.Common.{rules, ◌≡◌, ◌≤◌, ◌<◌, ◌++◌, ℕ, List, [], length, take, drop}
-use Rattle.bx_input.specs.Heard.{Reading, left}
+use Rattle.std.proofs.Common.{rules, ◌++◌, ℕ, take, drop}
+use Rattle.bx_input.specs.Heard.{Reading}
 use Rattle.bx_input.proofs.Hearing.{copied_first, gives}
 use Rattle.bx_input.proofs.inbox.Inbox.give.Goals as goal
 

@@ -1,6 +1,6 @@
-use Rattle.std.proofs.Common.{rules, ◌≡◌, List, ℕ}
+use Rattle.std.proofs.Common.{rules}
 use Rattle.bx_input.specs.Frames.{Frame}
-use Rattle.bx_input.specs.Heard.{Reading, left}
+use Rattle.bx_input.specs.Heard.{Reading}
 use Rattle.bx_input.proofs.Hearing.{takes}
 use Rattle.bx_input.proofs.inbox.Inbox.take_frame.Goals as goal
 
