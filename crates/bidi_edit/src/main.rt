@@ -1,33 +1,35 @@
 //! A full-screen editor: keys come from standard input, the screen goes to standard output.
 //!
-//! `bidi_edit [--rows N] [--cols N] [--direction auto|ltr|rtl] [--line N] [--text PATH] [--unsaved] [--journal PATH [--in-place
-//! MARK]] [--itself] [--replay PATH [--to PATH]] [--before TEXT] [--words] --classes F --brackets F --mirroring F [--joining F
-//! --characters F] FILE`. `Options` of `bx_command` says what each option is for. With `--check` it only checks that FILE can
-//! be opened. Exit status 0: ended by Quit, or the input ended without unsaved changes, or FILE can be opened; 1: a fault, with
-//! a line on standard error; 2: the command line was refused, and standard error says why.
+//! `bidi_edit [--rows N] [--cols N] [--direction auto|ltr|rtl] [--line N] [--text PATH | --new] [--unsaved] [--journal PATH]
+//! [--replay PATH [--to PATH [--against PATH]]] [--before TEXT] [--frames [--saves REQUEST,ANSWER] [--erase XX]] --classes F
+//! --brackets F --mirroring F [--joining F --characters F] FILE`. `Options` of `bx_command` says what each option is for. With
+//! `--check` it only checks that FILE can be opened. Exit status 0: ended by Quit, or the input ended without unsaved changes, or
+//! FILE can be opened; 1: a fault, with a line on standard error; 2: the command line was refused, and standard error says why.
 //!
-//! With `--before`, TEXT goes to standard output once FILE is read and can be opened. With `--words`, standard error gets words,
-//! each of which ends with NUL: `o DEVICE INODE SIZE SECONDS NANOS`, or `o -` if FILE does not exist, or `o changed`, once it was
-//! read; `f KIND` or `f KIND VALUE` for a fault; `j lost` and `j kept` for a journal that could not be written, and is kept
-//! again.
+//! With `--before`, TEXT goes to standard output once FILE is read and can be opened. With `--frames`, standard input has frames,
+//! and standard error gets some (`bx_input/src/frame.rt`): OPENED once the text was read and can be opened; JOURNAL with `lost` or
+//! `kept`; END with a word of `ending.rt`; FAULT with a kind and a value, for a fault before the run; and REPLAYED.
 #![tactic(auto)]
 
 mod edit;
+mod ending;
 mod fault;
-mod look;
+mod files;
 mod telling;
 
-use bx_cli::{is_text_of, refuse, refuse_words, text_of, words_of};
-use bx_command::{Files, JournalFile, Options, TextFault, check_text, command_line, empty_journal};
-use bx_recovery::{Beginning, is_foreign, recover};
+use bx_cli::{refuse, refuse_words, words_of};
+use bx_command::{Files, JournalFile, Options, command_line, empty_journal};
+use bx_input::FrameReader;
+use bx_recovery::{Beginning, Replayed, recover};
 use bx_session::{Recorder, WrittenJournal};
-use bx_store::{FileStore, Store, StoreFault};
+use bx_store::{FileStore, MemoryStore, Store};
 use edit::{Changes, edit};
+use ending::end_of;
 use fault::ProgramFault;
-use look::Look;
+use files::{check_file, held_text, host_store, read_files, write_text};
 use std::io::{Read, Write};
 use std::process::ExitCode;
-use telling::{finish, journal_notes, tell_look, tell_lost_journal};
+use telling::{finish, journal_notes, tell_end, tell_lost_journal, tell_opened, tell_replayed};
 
 /// The program's name, at the start of its lines on standard error.
 const NAME: &str = "bidi_edit";
@@ -47,28 +49,46 @@ fn edit_file<'a, R: Read + Drop, W: Write, S: Store>(
     if !recorder.has_all() {
         tell_lost_journal(rt, options);
     }
-    match (changes?, options.journal) {
-        (Changes::Saved, Some(path)) => empty_journal(rt, path),
-        (Changes::Saved, None) | (Changes::Dropped, _) => {}
+    if let (Ok(Changes::Saved), Some(path)) = (&changes, options.journal) {
+        empty_journal(rt, path);
     }
+    if options.frames {
+        tell_end(rt, end_of(&changes));
+    }
+    changes?;
     Ok(())
 }
 
-/// Stores the text recovered from a journal, and writes a line: what FILE holds compared with it, and the number of keys. A FILE
-/// that does not exist counts as empty.
-fn recover_to<'a, W: Write, S: Store>(
-    rt: &HostRuntime,
-    options: &Options<'a>,
-    beginning: Beginning<'_>,
+/// Writes what FILE holds compared with a journal, and the number of keys.
+fn write_replayed<'a, W: Write>(
     writer: &mut W,
-    store: &mut S,
+    replayed: Replayed,
 ) -> Result<(), ProgramFault<'a>> {
-    let file = text_of(rt, options.file)?.unwrap_or(Vec::new(rt.alloc()));
-    let replayed = recover(store, beginning, file.as_slice())?;
     match writeln!(writer, "{replayed}") {
         Ok(()) => Ok(()),
         Err(_) => Err(ProgramFault::Untold),
     }
+}
+
+/// Writes the text recovered from a journal to a file, and tells what FILE holds compared with it, and the number of keys.
+fn recover_to<'a, W: Write>(
+    rt: &HostRuntime,
+    options: &Options<'a>,
+    beginning: Beginning<'_>,
+    writer: &mut W,
+    to: &str,
+) -> Result<(), ProgramFault<'a>> {
+    let held = held_text(rt, options)?;
+    let mut store = MemoryStore::new(rt.alloc(), None);
+    let replayed = recover(&mut store, beginning, held.as_slice())?;
+    if write_text(rt, to, store.contents()).is_err() {
+        return Err(ProgramFault::Unwritten);
+    }
+    if options.frames {
+        tell_replayed(rt, replayed);
+        return Ok(());
+    }
+    write_replayed(writer, replayed)
 }
 
 /// The start of a session over these files. `text` is the opened text; None if FILE does not exist.
@@ -91,105 +111,37 @@ fn beginning_of<'a>(
     }
 }
 
-/// The store that Saves write to, or the recovered text with `--to`.
-fn store_of<'a>(
-    rt: &'a HostRuntime,
-    options: &Options<'_>,
-) -> Result<FileStore<'a, HostRuntime>, StoreFault> {
-    if let Some(mark) = options.in_place {
-        return FileStore::in_place(rt, rt.alloc(), options.file, mark);
-    }
-    let mut store = FileStore::new(rt, rt.alloc(), options.to.unwrap_or(options.file))?;
-    if options.itself {
-        store.hold();
-    }
-    Ok(store)
-}
-
-/// Whether FILE may have changed since the opened text was copied from it: then the first save is a fault. Only a text named by
-/// `--text` is compared, and neither one to be recovered nor one that counts as changed from the start. A FILE that cannot be
-/// read may have changed; one that does not exist has not.
-fn is_changed(
-    rt: &HostRuntime,
-    options: &Options<'_>,
-    files: &Files,
-) -> Result<bool, ProgramFault<'static>> {
-    if options.text.is_none() || options.to.is_some() || options.unsaved {
-        return Ok(false);
-    }
-    let Some(text) = &files.text else {
-        return Ok(false);
-    };
-    match is_text_of(rt, options.file, text.as_slice()) {
-        Ok(Some(true)) | Ok(None) => Ok(false),
-        Ok(Some(false)) if !files.keys.is_empty() => is_unknown(
-            rt,
-            options,
-            files,
-            text.as_slice(),
-        ),
-        Ok(Some(false)) | Err(_) => Ok(true),
-    }
-}
-
-/// Whether FILE holds no text that the replayed session knows, or cannot be read. FILE is read whole, and the session is opened a
-/// second time, and replayed.
-fn is_unknown(
-    rt: &HostRuntime,
-    options: &Options<'_>,
-    files: &Files,
-    text: &[u8],
-) -> Result<bool, ProgramFault<'static>> {
-    let Ok(Some(held)) = text_of(rt, options.file) else {
-        return Ok(true);
-    };
-    let text = Vec::from_slice(rt.alloc(), text)?;
-    let beginning = beginning_of(rt, options, files, Some(text));
-    Ok(is_foreign(beginning, held.as_slice())?)
-}
-
-/// Checks that FILE can be opened. A file that does not exist can: it is an empty text.
-fn check_file<'a>(rt: &HostRuntime, path: &'a str) -> Result<(), ProgramFault<'a>> {
-    if let Some(bytes) = text_of(rt, path)? {
-        check_text(bytes.as_slice())?;
-    }
-    Ok(())
-}
-
-/// Reads the input files. Where words are wanted, also tells how FILE looked, and checks the text.
-fn read_files<'a>(
-    rt: &HostRuntime,
-    options: &Options<'a>,
-    store: &mut FileStore<'_, HostRuntime>,
-) -> Result<Files, ProgramFault<'a>> {
-    let look = Look::at(rt, options.file);
-    let files = Files::read(rt, options)?;
-    if options.words || options.before.is_some() {
-        check_opened(&files)?;
-    }
-    if is_changed(rt, options, &files)? {
-        store.distrust();
-    }
-    if options.words {
-        tell_look(rt, look, Look::at(rt, options.file));
-    }
-    Ok(files)
-}
-
-/// Checks that the text can be opened.
-fn check_opened(files: &Files) -> Result<(), TextFault> {
-    match &files.text {
-        Some(bytes) => check_text(bytes.as_slice()),
-        None => Ok(()),
-    }
-}
-
 /// Writes what comes before the first painting.
 fn write_before<'a, W: Write>(writer: &mut W, text: &str) -> Result<(), ProgramFault<'a>> {
     if writer.write_all(text.as_bytes()).is_err() || writer.flush().is_err() {
         return Err(ProgramFault::Untold);
     }
     Ok(())
+}
+
+/// Edits FILE with keys and saves as the options say.
+fn edit_by<'a, R: Read + Drop, W: Write>(
+    rt: &HostRuntime,
+    options: &Options<'a>,
+    beginning: Beginning<'_>,
+    reader: R,
+    writer: &mut W,
+) -> Result<(), ProgramFault<'a>> {
+    if !options.frames {
+        let mut store = FileStore::new(rt, rt.alloc(), options.file)?;
+        return edit_file(rt, options, beginning, reader, writer, &mut store);
+    }
+    let frames = FrameReader::new(rt.alloc(), reader, options.erases_by_delete);
+    match options.saves {
+        Some(pipes) => {
+            let mut store = host_store(rt, pipes)?;
+            edit_file(rt, options, beginning, frames, writer, &mut store)
+        }
+        None => {
+            let mut store = FileStore::new(rt, rt.alloc(), options.file)?;
+            edit_file(rt, options, beginning, frames, writer, &mut store)
+        }
+    }
 }
 
 /// Edits FILE, or recovers a text from a journal.
@@ -199,18 +151,19 @@ fn run<'a, R: Read + Drop, W: Write>(
     reader: R,
     writer: &mut W,
 ) -> Result<(), ProgramFault<'a>> {
-    // made before the files are read, so that the first save notices a change by another program in between
-    let mut store = store_of(rt, options)?;
-    let mut files = read_files(rt, options, &mut store)?;
+    let mut files = read_files(rt, options)?;
+    let text = files.text.take();
+    let beginning = beginning_of(rt, options, &files, text);
+    if let Some(to) = options.to {
+        return recover_to(rt, options, beginning, writer, to);
+    }
+    if options.frames {
+        tell_opened(rt);
+    }
     if let Some(text) = options.before {
         write_before(writer, text)?;
     }
-    let text = files.text.take();
-    let beginning = beginning_of(rt, options, &files, text);
-    match options.to {
-        None => edit_file(rt, options, beginning, reader, writer, &mut store),
-        Some(_) => recover_to(rt, options, beginning, writer, &mut store),
-    }
+    edit_by(rt, options, beginning, reader, writer)
 }
 
 /// Carries out the command line.
@@ -234,7 +187,7 @@ fn main(rt: HostRuntime) -> ExitCode {
     match command_line(rt.alloc(), words.as_slice()) {
         Ok(options) => {
             let outcome = program(&rt, &options, rt.reader(), &mut rt.stdout());
-            finish(&rt, options.words, outcome)
+            finish(&rt, options.frames, outcome)
         }
         Err(error) => refuse(&rt, NAME, &error),
     }

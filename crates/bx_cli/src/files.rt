@@ -52,49 +52,6 @@ pub fn text_of<'a>(rt: &HostRuntime, path: &'a str) -> Result<Option<Vec<u8>>, F
     read.map_err(|error| fault_of(path, error.kind()))
 }
 
-/// Size of the blocks in which a file is compared, in bytes: a choice, so that a long file takes little memory.
-const BLOCK: usize = 65_536;
-
-/// Whether the bytes that are left in a reader are `text`. Reads them into a buffer, a part at a time.
-fn has_text<R: Read>(reader: &mut R, buffer: &mut [u8], text: &[u8]) -> io::Result<bool> {
-    let mut rest = text;
-    for _ in 0..u64::MAX {
-        let count = reader.read(buffer)?;
-        if count == 0 {
-            return Ok(rest.is_empty());
-        }
-        match rest.strip_prefix(&buffer[..count]) {
-            Some(more) => rest = more,
-            None => return Ok(false),
-        }
-    }
-    Ok(false)
-}
-
-/// Whether a file has just these bytes; None if it does not exist. Takes memory for one block of it.
-///
-/// Errors: `Unreadable`; `OutOfMemory`.
-pub fn is_text_of<'a>(
-    rt: &HostRuntime,
-    path: &'a str,
-    text: &[u8],
-) -> Result<Option<bool>, FileFault<'a>>
-    ensures { IfErr result (IsFaultOf path.entry.now) }
-{
-    let mut file = match File::open(rt, path) {
-        Ok(file) => file,
-        Err(error) if error.kind() == ErrorKind::NotFound => return Ok(None),
-        Err(error) => return Err(fault_of(path, error.kind())),
-    };
-    let Ok(mut buffer) = vec![in rt.alloc(); 0u8; BLOCK] else {
-        return Err(FileFault::OutOfMemory);
-    };
-    match has_text(&mut file, buffer.as_mut_slice(), text) {
-        Ok(answer) => Ok(Some(answer)),
-        Err(error) => Err(fault_of(path, error.kind())),
-    }
-}
-
 /// All bytes of a file.
 ///
 /// Errors: `Unreadable`, also if the file does not exist; `OutOfMemory`.

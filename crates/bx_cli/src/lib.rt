@@ -9,6 +9,6 @@ mod unicode;
 
 pub use arguments::{direction, direction_of, parse, side, side_of, words_of};
 pub use ending::{finish, refuse, refuse_words};
-pub use files::{FileFault, bytes_of, is_text_of, text_of};
+pub use files::{FileFault, bytes_of, text_of};
 pub use shown::{Inner, Numbered, Shown, Style, style_of};
 pub use unicode::{JoiningPaths, UnicodeBytes, UnicodeFiles, UnicodePaths, add_tables, paths_of};

@@ -1,5 +1,5 @@
 -- Worked examples: the lines of a text, and the refusals of its check.
-use Rattle.std.proofs.Common.{◌≡◌, ℕ, ◌<◌, ◌≤◌, List, [], ◌∷◌, ◌++◌, length, refl, arith}
+use Rattle.std.proofs.Common.{◌≡◌, ℕ, ◌≤◌, List, [], ◌∷◌, length, refl, arith}
 use Rattle.std.specs.Prelude.{codes}
 use Rattle.bx_terms.specs.Sizes.{largest_text}
 use Rattle.bx_command.specs.declared.check.TextFault.TheVariants.{NotUtf8, TooLong}

@@ -18,8 +18,9 @@ pub record AreOptionsIn (matches : ArgMatches) (options : Options) : Type 0 wher
   pub file : text_of matches (codes "file") ≡ Some options.file.now
   pub opened : text_of matches (codes "text") ≡ text_in options.text
   pub journal : text_of matches (codes "journal") ≡ text_in options.journal
-  pub in_place : text_of matches (codes "in-place") ≡ text_in options.in_place
   pub replay : text_of matches (codes "replay") ≡ text_in options.replay
   pub to : text_of matches (codes "to") ≡ text_in options.to
+  pub against : text_of matches (codes "against") ≡ text_in options.against
+  pub saves : text_of matches (codes "saves") ≡ text_in options.saves
   pub before : text_of matches (codes "before") ≡ text_in options.before
   pub direction : text_of matches (codes "direction") ≡ Some (word_of options.direction)

@@ -14,11 +14,15 @@ pub struct Files {
     pub keys: Vec<u8>,
 }
 
-/// The bytes of the opened text. A file named by --text must exist; FILE itself may be created by the first save.
+/// The bytes of the opened text. With --new there are none. A file named by --text must exist; FILE itself may be created by the
+/// first save.
 fn opened_text<'a>(
     rt: &HostRuntime,
     options: &Options<'a>,
 ) -> Result<Option<Vec<u8>>, FileFault<'a>> {
+    if options.is_new {
+        return Ok(None);
+    }
     let Some(path) = options.text else {
         return text_of(rt, options.file);
     };

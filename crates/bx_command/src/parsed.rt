@@ -19,28 +19,33 @@ pub struct Options<'a> {
     pub file: &'a str,
     /// The path of the text to open; None to open FILE itself.
     pub text: Option<&'a str>,
+    /// Whether the text is empty, since FILE does not exist.
+    pub is_new: bool,
     /// Whether FILE is only checked, and not opened.
     pub check: bool,
     /// Whether the text counts as changed from the start.
     pub unsaved: bool,
     /// The path of the journal that keys are appended to; None if none is kept.
     pub journal: Option<&'a str>,
-    /// The path of the mark, which has the whole text while a save overwrites FILE; None if saves replace FILE.
-    pub in_place: Option<&'a str>,
-    /// Whether saves overwrite FILE also without a mark; a draft beside FILE then has the whole text.
-    pub itself: bool,
     /// The path of the journal to replay; None if none is.
     pub replay: Option<&'a str>,
     /// The path to store the replayed text at, without a terminal; None to edit it.
     pub to: Option<&'a str>,
+    /// The path of what FILE holds, which is compared with the replayed text; None if FILE does not exist.
+    pub against: Option<&'a str>,
     /// The cursor's first line, from 1; None for the first.
     pub line: Option<u64>,
     /// The base direction of the paragraphs at first.
     pub direction: Base,
     /// The text to write to standard output before the first painting; None for none.
     pub before: Option<&'a str>,
-    /// Whether faults and notes are written to standard error as words, each of which ends with NUL.
-    pub words: bool,
+    /// Whether standard input has frames of the host, and standard error gets frames for it.
+    pub frames: bool,
+    /// The host's two pipes for saves, for requests and for answers, divided by a comma: each a descriptor's number or a path. None
+    /// if the program saves by itself.
+    pub saves: Option<&'a str>,
+    /// Whether the terminal's own erase character is DELETE, 7F.
+    pub erases_by_delete: bool,
     pub ghost has_rows: { is_side rows ≡ true },
     pub ghost has_cols: { is_side cols ≡ true },
 }

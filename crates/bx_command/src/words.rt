@@ -43,22 +43,40 @@ fn check<'a>(alloc: Global) -> Result<Arg<'a>, AllocError> {
         .conflicts_with("text")?
         .conflicts_with("journal")?
         .conflicts_with("replay")?
+        .conflicts_with("new")?
         .conflicts_with("to")
 }
 
-/// The option for saves that overwrite FILE. It requires a journal, from which the text can be recovered after an interrupted
-/// save.
-fn in_place<'a>(alloc: Global) -> Result<Arg<'a>, AllocError> {
-    Arg::new(alloc, "in-place")
-        .long("in-place")
-        .value_name("MARK")
-        .requires_arg("journal")?
-        .conflicts_with("to")
+/// The flag for a FILE that does not exist.
+fn new<'a>(alloc: Global) -> Result<Arg<'a>, AllocError> {
+    flag(alloc, "new").conflicts_with("text")
 }
 
-/// The flag for saves that overwrite FILE where there is no session, and so no mark.
-fn itself<'a>(alloc: Global) -> Result<Arg<'a>, AllocError> {
-    flag(alloc, "itself").conflicts_with("to")
+/// The option for the host's pipes for saves.
+fn saves<'a>(alloc: Global) -> Result<Arg<'a>, AllocError> {
+    Arg::new(alloc, "saves")
+        .long("saves")
+        .value_name("REQUEST,ANSWER")
+        .requires_arg("frames")
+}
+
+/// The option for the terminal's own erase character, in hexadecimal.
+fn erase<'a>(alloc: Global) -> Result<Arg<'a>, AllocError> {
+    Arg::new(alloc, "erase")
+        .long("erase")
+        .value_name("XX")
+        .requires_arg("frames")
+}
+
+/// The value of --erase for DELETE.
+const DELETE: &str = "7f";
+
+/// Whether a value of --erase is DELETE.
+fn is_delete(erase: Option<&str>) -> bool {
+    match erase {
+        Some(code) => code.eq_ignore_ascii_case(DELETE),
+        None => false,
+    }
 }
 
 /// Adds the options that stand alone, and FILE.
@@ -69,7 +87,7 @@ fn add_options<'a>(args: &mut Vec<Arg<'a>>, alloc: Global) -> Result<(), AllocEr
     for name in ["text", "journal", "replay"] {
         args.push(path(alloc, name))?;
     }
-    for name in ["unsaved", "words"] {
+    for name in ["unsaved", "frames"] {
         args.push(flag(alloc, name))?;
     }
     for arg in [direction(alloc), line(alloc), before(alloc), file(alloc)] {
@@ -81,9 +99,11 @@ fn add_options<'a>(args: &mut Vec<Arg<'a>>, alloc: Global) -> Result<(), AllocEr
 /// Adds the options that require others or exclude them.
 fn add_bound_options<'a>(args: &mut Vec<Arg<'a>>, alloc: Global) -> Result<(), AllocError> {
     args.push(check(alloc)?)?;
-    args.push(in_place(alloc)?)?;
-    args.push(itself(alloc)?)?;
+    args.push(new(alloc)?)?;
+    args.push(saves(alloc)?)?;
+    args.push(erase(alloc)?)?;
     args.push(path(alloc, "to").requires_arg("replay")?)?;
+    args.push(path(alloc, "against").requires_arg("to")?)?;
     Ok(())
 }
 
@@ -110,17 +130,19 @@ fn options_of<'a>(matches: &ArgMatches<'a>) -> Option<Options<'a>>
         unicode: paths_of(matches)?,
         file: matches.get_str("file")?,
         text: matches.get_str("text"),
+        is_new: matches.get_flag("new"),
         check: matches.get_flag("check"),
         unsaved: matches.get_flag("unsaved"),
         journal: matches.get_str("journal"),
-        in_place: matches.get_str("in-place"),
-        itself: matches.get_flag("itself"),
         replay: matches.get_str("replay"),
         to: matches.get_str("to"),
+        against: matches.get_str("against"),
         line: matches.get_one::<u64>("line"),
         direction: direction_of(matches)?,
         before: matches.get_str("before"),
-        words: matches.get_flag("words"),
+        frames: matches.get_flag("frames"),
+        saves: matches.get_str("saves"),
+        erases_by_delete: is_delete(matches.get_str("erase")),
     })
 }
 

@@ -1,11 +1,11 @@
 -- The filter's step for a byte, and its output for input, in two states: outside a paste, and within one. `b` is a byte, `bs` are
 -- bytes, `s` is a state.
-use Rattle.std.specs.Prelude.{ℕ, Bool, true, false, not, ◌&&◌, ◌||◌, ◌==◌, List, [], ◌∷◌, ◌++◌, Option, Some, None, if◌then◌else◌}
+use Rattle.std.specs.Prelude.{ℕ, Bool, true, false, not, ◌&&◌, ◌||◌, ◌==◌, List, [], ◌∷◌, ◌++◌, codes, Option, Some, None, if◌then◌else◌}
 use Rattle.std.specs.Str.{bytes_eq}
 use Rattle.bx_bytes.specs.Pattern.{is_within}
 use Rattle.bx_bytes.specs.declared.fate.Fate.{Fate}
 use Rattle.bx_bytes.specs.declared.fate.Fate.TheVariants.{Waits, Ends, Breaks}
-use Rattle.bx_input.specs.Table.{Row, fate, row_of, paste_end, start_told, end_told}
+use Rattle.bx_input.specs.Table.{Row, csi, fate, row_of, paste_end, start_told, end_told}
 use Rattle.bx_input.specs.Paste.{pasted_byte, pasted_part, paste_fate}
 
 -- The waiting bytes begin a sequence that the filter knows. Outside a paste, a sequence that went out unchanged may still be
@@ -100,6 +100,16 @@ paste_step_by Breaks waiting after_return b = with_front (pasted_part waiting) (
 abbrev pub at_end : State → List ℕ
 at_end (Outside waiting is_open) = waiting
 at_end (Within waiting after_return) = pasted_part waiting
+
+-- time goes by after the last byte: an Escape that waits alone is the key Cancel, and all else goes on waiting
+abbrev pub idle : State → Step
+idle (Outside waiting is_open) = if bytes_eq waiting (0x1B ∷ []) then step_to start (csi (codes "93~")) else step_to (Outside waiting is_open) []
+idle (Within waiting after_return) = step_to (Within waiting after_return) []
+
+-- a paste is under way
+abbrev pub is_in_paste : State → Bool
+is_in_paste (Outside waiting is_open) = false
+is_in_paste (Within waiting after_return) = true
 
 module _ (erases_by_delete : Bool) where
   -- a byte in any state

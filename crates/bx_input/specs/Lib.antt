@@ -1,8 +1,8 @@
 pub mod Filter
+pub mod Frames
+pub mod Heard
 pub mod Models
-pub mod Log
 pub mod Paste
 pub mod PasteTail
-pub mod Running
 pub mod Table
-pub mod Wire
+pub mod Translating

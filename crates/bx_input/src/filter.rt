@@ -53,6 +53,31 @@ impl Filter {
         output
     }
 
+    /// Takes note that nothing follows for a while: an Escape that waits alone is the key Cancel, whose sequence is returned.
+    /// All else that waits goes on waiting.
+    pub fn idle(&mut self) -> &'static [u8]
+        ensures state { self.new ≡ filtering self.old.erases_by_delete (spec.idle self.old.state).state }
+        ensures output { result.now ≡ (spec.idle self.old.state).output }
+    {
+        match self.state {
+            FilterState::Outside {
+                waiting: Beginning::Escape,
+                ..
+            } => {
+                *self = Filter::new(self.erases_by_delete);
+                b"\x1b[93~"
+            }
+            _ => b"",
+        }
+    }
+
+    /// Whether a paste is under way.
+    pub fn is_in_paste(&self) -> bool
+        ensures { result ≡ spec.is_in_paste self.now.state }
+    {
+        matches!(self.state, FilterState::Within { .. })
+    }
+
     /// Ends the input: returns the output of the bytes that still wait, and resets the filter.
     pub fn finish(&mut self) -> &'static [u8]
         ensures state { self.new ≡ filtering self.old.erases_by_delete spec.start }

@@ -5,25 +5,29 @@
 //! st, F1 to F4, the keypad's digits, and pastes. `specs/Table.antt` has the table. All else passes unchanged, broken
 //! sequences too. A paste becomes text between two keys that tell its start and its end: of its control bytes only TAB and
 //! LF are left, so it can neither save nor quit nor move nor erase, nor set a mark, cut or search.
+//!
+//! The host sends what the terminal typed in frames, between sizes of the window and notices (`specs/Translating.antt`).
+//! `FrameReader` reads these, and gives the session one stream of bytes.
 #![tactic(auto)]
 
 mod after;
 mod beginning;
-mod fault;
 mod filter;
 mod filter_state;
+mod frame;
+mod frame_reader;
 mod in_paste;
+mod inbox;
 mod output;
-mod over_reader;
 mod paste_tail;
-mod pipe;
-mod running;
 mod step;
-mod wired;
+mod translator;
 
-pub use fault::FilterFault;
 pub use filter::Filter;
+pub use frame::{
+    END, FAULT, FRAME_HEAD, Frame, IDLE, JOURNAL, NOTICE, OPENED, REPLAYED, SECOND, SIZE, TYPED,
+    first_frame,
+};
+pub use frame_reader::FrameReader;
 pub use output::Output;
-pub use over_reader::run;
-pub use pipe::{Pipe, PipeFault};
-pub use running::run_pipe;
+pub use translator::Translator;

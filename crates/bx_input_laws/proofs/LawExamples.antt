@@ -1,11 +1,10 @@
 -- A row that follows from each law alone, and from the contract of a run.
-use Rattle.std.proofs.Common.{◌≡◌, ◌≢◌, ℕ, ◌≤◌, inl, inr, Bool, true, false, not, ◌&&◌, List, [], ◌∷◌, ◌++◌, length, length-append, take}
-use Rattle.std.proofs.Common.{Option, Some, None, refl, ap, sym, ◌∙◌, subst, arith}
+use Rattle.std.proofs.Common.{◌≡◌, ◌≢◌, ℕ, ◌≤◌, Bool, true, false, not, ◌&&◌, List, [], ◌∷◌, ◌++◌, length}
+use Rattle.std.proofs.Common.{refl, ap, sym, ◌∙◌, subst, arith}
 use Rattle.std.specs.Prelude.{codes, unwrap_or}
 use Rattle.std.specs.List.{AllByRecursion, list_all}
 use Rattle.std.specs.Str.{chars, IsUtf8}
 use Rattle.std.proofs.lemmas.Bool.{and_left, and_parts, both_ways, not-true, or_from}
-use Rattle.std.proofs.lemmas.List.{append-nil, take_at}
 use Rattle.std.proofs.lemmas.List.Folds.{list_all-append}
 use lib.Utf8.{encode}
 use Rattle.bx_bytes.specs.Pattern.{Piece, One, Many, is_within, matches, matches_any}
@@ -18,7 +17,6 @@ use Rattle.bx_input.specs.Filter.{State, Outside, Within, Step, step_to, start, 
 use Rattle.bx_input_laws.specs.Laws.{ComesInPieces, WaitsForFive, waiting_in, BecomesRow, HasNone, OthersPass, PastesText, IsText, PastesAreClean}
 use Rattle.bx_input_laws.specs.Laws.{GrowsFiveTimes, GrowsByTenThirds}
 use Rattle.bx_input_laws.specs.Laws.{HasKeys, AddsKeys, has_short, HasNoShort, GrowsByTwoThirds, PastesInsert, PastesKeepCharacters}
-use Rattle.bx_input.specs.Running.{HasPassed, IsBrokenOff, IsFiltered, IsOneReadLate}
 
 -- ---- bytes with which no sequence begins
 
@@ -196,40 +194,3 @@ unfolding chars encode
 of_pastes_insert law =
     let is = law [] [] false (codes "a\r\n\u{13}b") refl (no_sequence (exact paste_end ∷ []) (codes "a\r\n\u{13}b") refl refl) in
     is.0 ∙ ap (λ keys. PasteStart ∷ (keys ++ PasteEnd ∷ [])) (is.2 (0x61 ∷ 0x0A ∷ 0x62 ∷ [], (refl, refl)))
-
--- ---- a run
-
--- a reader of known bytes leaves exactly their filtered text
-pub of_filtered : (bytes : List ℕ) (reader' writer' : Option (List ℕ)) → IsFiltered false (Some (codes "x\u{1b}OA")) reader' (Some []) writer' bytes
-    → writer' ≡ Some (codes "x\u{1b}[96~")
-of_filtered bytes None writer' h = absurd h.reads
-of_filtered bytes (Some ys) None h = absurd h.writes
-of_filtered bytes (Some ys) (Some zs) h =
-    let all : codes "x\u{1b}OA" ≡ bytes = h.reads ∙ ap (λ xs. bytes ++ xs) h.ends ∙ append-nil bytes in
-    ap Some (h.writes ∙ ap filtered (sym all))
-
--- a run that broke off behind two bytes wrote a front of them
-pub of_broken_off : (bytes zs : List ℕ) → IsBrokenOff false (Some (codes "ab")) (Some []) (Some []) (Some zs) bytes → (rest : List ℕ) × (zs ++ rest ≡ codes "ab")
-of_broken_off bytes zs h =
-    let all : codes "ab" ≡ bytes = h.reads ∙ append-nil bytes in
-    elim h.writes [
-      | inl going ↦ (going.1, ap (λ xs. xs ++ going.1) going.2.appends ∙ sym going.2.parts ∙ ap (λ xs. (run start xs).output) (sym all))
-      | inr ended ↦ (ended.1.1, ap (λ xs. xs ++ ended.1.1) ended.1.2.appends ∙ sym ended.1.2.parts ∙ ap filtered (sym all))
-    ]
-
--- and one that a read broke off wrote the output of the first of them
-pub of_passed : (bytes zs : List ℕ) → HasPassed false (Some (codes "ab")) (Some (codes "b")) (Some []) (Some zs) bytes (run start bytes).state → zs ≡ codes "a"
-of_passed [] zs h = absurd (let same : codes "ab" ≡ codes "b" = h.reads in cc same)
-of_passed (x ∷ []) zs h = let one : 0x61 ≡ x = (let same : codes "ab" ≡ x ∷ codes "b" = h.reads in cc same) in h.writes ∙ ap (λ y. (run start (y ∷ [])).output) (sym one)
-of_passed (x ∷ y ∷ ys) zs h = absurd (let same : codes "ab" ≡ x ∷ y ∷ (ys ++ codes "b") = h.reads in omega (arith, ap length same, length-append ys (codes "b")))
-
--- after 300 bytes that were read, the output of the first 44 or more was written
-pub of_late : (bytes zs : List ℕ) → length bytes ≡ 300 → IsOneReadLate false (Some []) (Some zs) bytes
-    → (n : ℕ) × (more : List ℕ) × (44 ≤ n) × (zs ≡ (run start (take n bytes)).output ++ more)
-of_late bytes zs count h =
-    let front : take (length h.before) bytes ≡ h.before = ap (take (length h.before)) h.parts ∙ take_at h.before h.last (length h.before) refl in (
-      length h.before,
-      h.more,
-      omega (arith, count, ap length h.parts, length-append h.before h.last, h.few),
-      h.appends ∙ ap (λ xs. (run start xs).output ++ h.more) (sym front),
-    )

@@ -1,13 +1,14 @@
 pub mod Clean
 pub mod Decoding
 pub mod Firsts
+pub mod FrameExamples
+pub mod FramesHeard
 pub mod Following
 pub mod Growth
 pub mod Inserting
 pub mod KeyExamples
 pub mod Keys
 pub mod LawExamples
-pub mod LogExamples
 pub mod Passing
 pub mod PastedCharacters
 pub mod Pastes

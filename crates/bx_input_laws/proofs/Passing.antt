@@ -1,5 +1,5 @@
 -- Outside a paste: sequences of the table, and all else.
-use Rattle.std.proofs.Common.{◌≡◌, ℕ, Bool, true, false, not, List, [], ◌∷◌, ◌++◌, drop, cond, Option, Some, None, refl, ap, sym, ◌∙◌, append_assoc, subst}
+use Rattle.std.proofs.Common.{◌≡◌, ℕ, Bool, true, false, List, [], ◌∷◌, ◌++◌, drop, cond, Option, Some, None, refl, ap, sym, ◌∙◌, append_assoc, subst}
 use Rattle.std.proofs.Common.{rules}
 use Rattle.std.specs.List.{AllByRecursion, list_all}
 use Rattle.std.specs.Str.{bytes_eq}

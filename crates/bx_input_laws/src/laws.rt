@@ -3,6 +3,7 @@
 
 ghost use Rattle.std.specs.Prelude.{Bool};
 ghost use Rattle.std.specs.List.{AllByRecursion};
+ghost use Rattle.bx_input_laws.specs.Hearing.{AreHeardInOrder};
 ghost use Rattle.bx_input_laws.specs.Laws.{AddsKeys, BecomesRow, ComesInPieces, GrowsByTenThirds, GrowsByTwoThirds, GrowsFiveTimes, HasKeys, OthersPass};
 ghost use Rattle.bx_input_laws.specs.Laws.{PastesAreClean, WaitsForFive};
 ghost use Rattle.bx_input_laws.specs.Laws.{PastesInsert, PastesKeepCharacters, PastesText};
@@ -67,4 +68,9 @@ pub fn rows_add_keys()
 /// in order, if that is UTF-8.
 pub fn pastes_insert()
     ensures { (erases_by_delete : Bool) → PastesInsert erases_by_delete }
+{}
+
+/// The session reads the frames of the host in their order, however the pipe cuts them.
+pub fn frames_are_heard_in_order()
+    ensures { AreHeardInOrder }
 {}

@@ -4,7 +4,7 @@
 mod laws;
 
 pub use laws::{
-    grows_five_times, in_any_pieces, others_pass, pastes_are_clean, pastes_become_text,
-    pastes_insert, pastes_keep_characters, rows_add_keys, rows_become, rows_have_keys,
-    waits_for_five,
+    frames_are_heard_in_order, grows_five_times, in_any_pieces, others_pass, pastes_are_clean,
+    pastes_become_text, pastes_insert, pastes_keep_characters, rows_add_keys, rows_become,
+    rows_have_keys, waits_for_five,
 };

@@ -1,6 +1,6 @@
 //! A decoder of keys, byte by byte, for the session that reads the input.
 
-ghost use Rattle.std.specs.Prelude.{◌≡◌, ◌≤◌, ℕ, List, [], ◌∷◌, ◌++◌, length, option_to_list, IfOk, IfSome, OnOk, OnErr};
+ghost use Rattle.std.specs.Prelude.{◌≡◌, ◌≤◌, ◌↔◌, ℕ, List, [], ◌∷◌, ◌++◌, length, option_to_list, IfOk, IfSome, IsTrue, OnOk, OnErr};
 ghost use Rattle.bx_keys.specs.Keys as spec;
 ghost use Rattle.bx_keys.specs.Keys.{HasSides, decoding, key_after, rest_after};
 ghost use Rattle.bx_keys.specs.Waiting.{fate, head_of, StandsFor};
@@ -58,6 +58,13 @@ impl Decoder {
             bytes: [0; HEAD_LEN],
             len: 0,
         }
+    }
+
+    /// Whether no byte waits.
+    pub fn is_idle(&self) -> bool
+        ensures { IsTrue result ↔ (self.now ≡ []) }
+    {
+        self.len == 0
     }
 
     /// Reads the next byte and returns the key that it completes.

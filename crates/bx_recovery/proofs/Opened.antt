@@ -1,6 +1,6 @@
 -- A session opened from its files, and what a recovery from it says.
 use Rattle.std.proofs.Common.{◌≡◌, ℕ, Bool, true, false, List, [], Option, None, Some, Result, Ok, Err, refl, sym, ap, subst, ◌∙◌, length}
-use Rattle.std.specs.Prelude.{IfOk, IsTrue, ◌↔◌, vec_items, unwrap_or}
+use Rattle.std.specs.Prelude.{IfOk, vec_items, unwrap_or}
 use Rattle.std.specs.Global.{Vec}
 use Rattle.bx_terms.specs.declared.base.Base.{Base}
 use Rattle.bx_keys.specs.Keys.{keys_from}
@@ -10,11 +10,9 @@ use Rattle.bx_session.specs.Session.{Session, SessionState, at_opening}
 use Rattle.bx_session.specs.Saving.{StoreState}
 use Rattle.bx_session.specs.Painting.{QueuesPicture}
 use Rattle.bx_session.specs.Beginning.{Beginning, after_going_to, at_offset, changed_if}
-use Rattle.bx_recovery.specs.declared.replaying.FileText.{FileText}
 use Rattle.bx_recovery.specs.declared.replaying.Replayed.{Replayed}
-use Rattle.bx_recovery.specs.declared.replaying.FileText.TheVariants.{Same, Known, Foreign}
 use Rattle.bx_recovery.specs.Beginnings.{AreOfFiles, IsOpened, bytes_of}
-use Rattle.bx_recovery.specs.Recovery.{HoldsBeside, IsForeign, RecoversFrom, Recovers, TellsForeign}
+use Rattle.bx_recovery.specs.Recovery.{RecoversFrom, Recovers}
 
 pub bytes_or_none : (text : Option (Vec ℕ)) (none result : Vec ℕ) → vec_items none ≡ [] → result ≡ unwrap_or text none → vec_items result ≡ bytes_of text
 bytes_or_none None none result empty is = ap (λ (v : Vec ℕ). vec_items v) is ∙ empty
@@ -66,20 +64,3 @@ recovers_of b files file d s (Ok x) store store' are opened recovers =
       holds = from.holds;
       keys = from.keys reads.1 ∙ ap (λ rest. length (keys_from rest b.journal)) reads.0;
     }
-
--- ---- a foreign file
-
-tells_at : (d : Data) (b : Beginning) (file : List ℕ) (held : FileText) (foreign : Bool) → HoldsBeside d (at_offset d b) b.journal file held
-    → (IsTrue foreign ↔ (held ≡ Foreign)) → IsTrue foreign ↔ IsForeign d b file
-tells_at d b file Same foreign holds is = (λ f. absurd (let e : Same ≡ Foreign = is.0 f in cc e), λ h. absurd (h.0 holds))
-tells_at d b file Known foreign holds is = (λ f. absurd (let e : Known ≡ Foreign = is.0 f in cc e), λ h. absurd (h.1 holds.1))
-tells_at d b file Foreign foreign holds is = (λ f. holds, λ h. is.1 refl)
-
-pub tells_foreign : (b : Beginning) (files : UnicodeFiles) (file : List ℕ) (d : Data) (s : Session) (held : FileText) (foreign : Bool)
-    → AreOfFiles d files → IsOpened d b s → HoldsBeside d s b.journal file held → (IsTrue foreign ↔ (held ≡ Foreign))
-    → TellsForeign b files file foreign
-tells_foreign b files file d s held foreign are opened holds is = record {
-  tables = d;
-  answers = are;
-  tells = tells_at d b file held foreign (subst (λ (t : Session). HoldsBeside d t b.journal file held) opened.session holds) is;
-}

@@ -1,7 +1,7 @@
 -- What an edited file holds, compared with the replay of a journal (`FileText`), and the text that is recovered. Where another
 -- program changed FILE, the text is recovered as a new file. `d` is Unicode's data, `b` what a session starts with (but in
 -- `texts_at_saves` a byte), `s` the session before the journal.
-use Rattle.std.specs.Prelude.{◌≡◌, ◌≢◌, ◌↔◌, ℕ, Bool, true, false, IsTrue, List, [], ◌∷◌, Contains, length}
+use Rattle.std.specs.Prelude.{◌≡◌, ◌≢◌, ℕ, Bool, true, false, List, [], ◌∷◌, Contains, length}
 use Rattle.bx_ucd.specs.Data.{Data}
 use Rattle.bx_keys.specs.Keys.{keys_from}
 use Rattle.bx_cli.specs.declared.unicode.UnicodeFiles.{UnicodeFiles}
@@ -36,16 +36,6 @@ abbrev pub HoldsBeside : Data → Session → List ℕ → List ℕ → FileText
 HoldsBeside d s journal file Same = file ≡ replayed_text d s journal
 HoldsBeside d s journal file Known = (file ≢ replayed_text d s journal) × Contains (known_texts d s journal) file
 HoldsBeside d s journal file Foreign = (file ≢ replayed_text d s journal) × ¬ Contains (known_texts d s journal) file
-
--- a file of these bytes is neither the text after the journal nor one that the session knows
-abbrev pub IsForeign : Data → Beginning → List ℕ → Type 0
-IsForeign d b file = HoldsBeside d (at_offset d b) b.journal file Foreign
-
--- the file is told to be foreign exactly if it is, by the tables of these files
-pub record TellsForeign (b : Beginning) (files : UnicodeFiles) (file : List ℕ) (foreign : Bool) : Type 0 where
-  pub tables : Data
-  pub answers : AreOfFiles tables files
-  pub tells : IsTrue foreign ↔ IsForeign tables b file
 
 -- The session's text after a journal was stored. `replayed` tells what a file of these bytes holds, and the number of keys in
 -- the journal.

@@ -4,14 +4,12 @@
 
 mod beginning;
 mod fault;
-mod foreign;
 mod opening;
 mod recovering;
 mod replaying;
 
 pub use beginning::Beginning;
 pub use fault::RecoveryFault;
-pub use foreign::is_foreign;
 pub use opening::open;
 pub use recovering::recover;
 pub use replaying::{FileText, Replayed, replay, replay_beside};

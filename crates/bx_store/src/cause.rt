@@ -44,6 +44,22 @@ impl SaveCause {
         }
     }
 
+    /// The cause of the host's byte (`host/frames.h`). One that it never sends is `Other`.
+    pub fn of_byte(byte: u8) -> Self {
+        match byte {
+            1 => SaveCause::NoSpace,
+            2 => SaveCause::NotPermitted,
+            3 => SaveCause::FolderGone,
+            4 => SaveCause::ReadOnly,
+            5 => SaveCause::TooLarge,
+            6 => SaveCause::OutOfMemory,
+            7 => SaveCause::Changed,
+            8 => SaveCause::NotPlain,
+            9 => SaveCause::CutOff,
+            _ => SaveCause::Other,
+        }
+    }
+
     /// The words for the status row.
     pub fn text(self) -> &'static str
         ensures { result.now ≡ cause_text self }

@@ -1,20 +1,16 @@
-//! Stores that a text is saved to: the trait, a store in memory, and a store in a file.
+//! Stores that a text is saved to: the trait, a store in memory, a store in a file, and one that the host keeps.
 #![tactic(auto)]
 
 mod cause;
-mod draft;
 mod faults;
 mod file_store;
-mod in_place;
+mod host_store;
 mod memory_store;
-mod owner;
-mod saving;
 mod store;
-mod target;
-mod watch;
 
 pub use cause::SaveCause;
 pub use faults::Faults;
 pub use file_store::FileStore;
+pub use host_store::HostStore;
 pub use memory_store::MemoryStore;
 pub use store::{Store, StoreFault};

@@ -42,9 +42,10 @@ fn add_options(line: &mut String, options: &Options<'_>) -> Result<(), AllocErro
         ("file", Some(options.file)),
         ("text", options.text),
         ("journal", options.journal),
-        ("in-place", options.in_place),
         ("replay", options.replay),
         ("to", options.to),
+        ("against", options.against),
+        ("saves", options.saves),
         ("before", options.before),
     ] {
         add_option(line, name, value)?;
@@ -52,8 +53,9 @@ fn add_options(line: &mut String, options: &Options<'_>) -> Result<(), AllocErro
     for (name, is_given) in [
         ("check", options.check),
         ("unsaved", options.unsaved),
-        ("itself", options.itself),
-        ("words", options.words),
+        ("new", options.is_new),
+        ("frames", options.frames),
+        ("erases-by-delete", options.erases_by_delete),
     ] {
         if is_given {
             write!(line, " {name}")?;

@@ -1,2 +1,0 @@
-pub mod DigitsSoFar
-pub mod LastWord

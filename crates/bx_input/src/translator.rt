@@ -1,0 +1,262 @@
+//! The host's frames as the bytes that the session reads.
+
+ghost use Rattle.std.specs.Prelude.{◌≡◌, ◌≤◌, ◌++◌, OnOk, drop, length};
+ghost use Rattle.bx_input.specs.Translating as spec;
+ghost use Rattle.bx_input.specs.Translating.{begun};
+
+use crate::filter::Filter;
+use crate::frame::{Frame, IDLE, NOTICE, SIZE, TYPED};
+use crate::output::append;
+use bx_keys::Decoder;
+use itoa::Buffer;
+use std::alloc::AllocError;
+use std::marker::Model;
+
+/// Rows and columns of a window.
+#[derive(Clone, Copy)]
+struct Size {
+    rows: u16,
+    columns: u16,
+}
+
+/// Turns the host's frames into the bytes that the session reads: typed bytes as the filter has them, and sizes and notices as
+/// the sequences of their keys. These go in only where no key is half read, so that none is cut.
+#[derive(Drop)]
+pub struct Translator {
+    filter: Filter,
+    /// A decoder that is where the session's will be after the same bytes.
+    ahead: Decoder,
+    /// A size that waits for the end of a key.
+    size: Option<Size>,
+    /// A notice that waits for the end of a key, or of a paste.
+    notice: Option<u8>,
+}
+
+impl Model for Translator {
+    ghost use Rattle.std.specs.Prelude.{option_map};
+    ghost use Rattle.bx_input.specs.Translating.{Translating, size_of};
+
+    ghost Value = { Translating };
+
+    ghost view = { λ t. record { filter = t.filter; rest = t.ahead; size = option_map size_of t.size; notice = t.notice } };
+}
+
+/// The decoder after these bytes.
+fn read_ahead(decoder: Decoder, bytes: &[u8]) -> Decoder
+    ensures { result ≡ spec.rest_behind decoder bytes.now }
+{
+    let mut ahead = decoder;
+    for byte in bytes {
+        let _ = ahead.feed(*byte);
+    }
+    ahead
+}
+
+/// Appends the sequence of a size's key.
+fn append_size(out: &mut Vec<u8>, size: Size) -> Result<(), AllocError>
+    ensures { OnOk result (out.new.items ≡ out.old.items ++ spec.size_bytes (spec.size_of size)) }
+{
+    out.extend_from_slice(b"\x1b[8;")?;
+    out.extend_from_slice(Buffer::new().format(size.rows).as_bytes())?;
+    out.push(b';')?;
+    out.extend_from_slice(Buffer::new().format(size.columns).as_bytes())?;
+    out.push(b't')?;
+    Ok(())
+}
+
+/// Appends the sequence of a notice's key.
+fn append_notice(out: &mut Vec<u8>, number: u8) -> Result<(), AllocError>
+    ensures { OnOk result (out.new.items ≡ out.old.items ++ spec.notice_bytes number) }
+{
+    out.extend_from_slice(b"\x1b[>")?;
+    out.extend_from_slice(Buffer::new().format(number).as_bytes())?;
+    out.push(b'~')?;
+    Ok(())
+}
+
+impl Translator {
+    /// A translator at the start of its input. `erases_by_delete` says whether the terminal's own erase character is DELETE, 7F.
+    pub fn new(erases_by_delete: bool) -> Translator
+        ensures { result ≡ begun erases_by_delete }
+    {
+        Translator {
+            filter: Filter::new(erases_by_delete),
+            ahead: Decoder::new(),
+            size: None,
+            notice: None,
+        }
+    }
+
+    /// A copy of this translator.
+    pub(crate) fn copied(&self) -> Translator
+        ensures { result ≡ self.now }
+    {
+        Translator {
+            filter: self.filter.copied(),
+            ahead: self.ahead,
+            size: self.size,
+            notice: self.notice,
+        }
+    }
+
+    /// Appends what the session reads for a frame.
+    pub fn translate(&mut self, frame: Frame<'_>, out: &mut Vec<u8>) -> Result<(), AllocError>
+        ensures state { OnOk result (self.new ≡ (spec.after_frame (record { letter = frame.entry.letter; bytes = frame.entry.bytes.now }) self.old).state) }
+        ensures output { OnOk result (out.new.items
+            ≡ out.old.items ++ (spec.after_frame (record { letter = frame.entry.letter; bytes = frame.entry.bytes.now }) self.old).output) }
+    {
+        if frame.letter == TYPED {
+            self.type_all(frame.bytes, out)
+        } else if frame.letter == SIZE {
+            self.take_size(frame.bytes, out)
+        } else if frame.letter == IDLE {
+            self.idle(out)
+        } else if frame.letter == NOTICE {
+            self.take_notice(frame.bytes, out)
+        } else {
+            Ok(())
+        }
+    }
+
+    /// Appends what waits at the input's end.
+    pub fn finish(&mut self, out: &mut Vec<u8>) -> Result<(), AllocError>
+        ensures state { OnOk result (self.new ≡ (spec.after_end self.old).state) }
+        ensures output { OnOk result (out.new.items ≡ out.old.items ++ (spec.after_end self.old).output) }
+    {
+        let rest = self.filter.finish();
+        self.send(rest, out)
+    }
+
+    /// Reads ahead what was appended for the session, from `start` on.
+    fn follow(&mut self, out: &[u8], start: usize)
+        requires { start ≤ length out.now }
+        ensures { self.new ≡ (spec.sent self.old (drop start out.now)).state }
+    {
+        self.ahead = read_ahead(self.ahead, &out[start..]);
+    }
+
+    /// Appends bytes for the session.
+    fn send(&mut self, bytes: &[u8], out: &mut Vec<u8>) -> Result<(), AllocError>
+        ensures state { OnOk result (self.new ≡ (spec.sent self.old bytes.now).state) }
+        ensures output { OnOk result (out.new.items ≡ out.old.items ++ bytes.now) }
+    {
+        self.ahead = read_ahead(self.ahead, bytes);
+        out.extend_from_slice(bytes)
+    }
+
+    /// Sends the size that waits.
+    #[tactic(auto, using(crate::proofs::Behind::behind))]
+    fn send_size(&mut self, out: &mut Vec<u8>) -> Result<(), AllocError>
+        ensures state { OnOk result (self.new ≡ (spec.with_size self.old.size self.old).state) }
+        ensures output { OnOk result (out.new.items ≡ out.old.items ++ (spec.with_size self.old.size self.old).output) }
+    {
+        let Some(size) = self.size.take() else {
+            return Ok(());
+        };
+        let start = out.len();
+        append_size(out, size)?;
+        self.follow(out.as_slice(), start);
+        Ok(())
+    }
+
+    /// Sends the notice that waits.
+    #[tactic(auto, using(crate::proofs::Behind::behind))]
+    fn send_notice(&mut self, out: &mut Vec<u8>) -> Result<(), AllocError>
+        ensures state { OnOk result (self.new ≡ (spec.with_notice self.old.notice self.old).state) }
+        ensures output { OnOk result (out.new.items ≡ out.old.items ++ (spec.with_notice self.old.notice self.old).output) }
+    {
+        let Some(number) = self.notice.take() else {
+            return Ok(());
+        };
+        let start = out.len();
+        append_notice(out, number)?;
+        self.follow(out.as_slice(), start);
+        Ok(())
+    }
+
+    /// Sends the size that waits, and outside a paste the notice.
+    fn send_waiting(&mut self, out: &mut Vec<u8>) -> Result<(), AllocError>
+        ensures state { OnOk result (self.new ≡ (spec.with_waiting self.old).state) }
+        ensures output { OnOk result (out.new.items ≡ out.old.items ++ (spec.with_waiting self.old).output) }
+    {
+        self.send_size(out)?;
+        if self.filter.is_in_paste() {
+            Ok(())
+        } else {
+            self.send_notice(out)
+        }
+    }
+
+    /// Sends what waits, if no key is half read.
+    fn settle(&mut self, out: &mut Vec<u8>) -> Result<(), AllocError>
+        ensures state { OnOk result (self.new ≡ (spec.settled self.old).state) }
+        ensures output { OnOk result (out.new.items ≡ out.old.items ++ (spec.settled self.old).output) }
+    {
+        if self.ahead.is_idle() {
+            self.send_waiting(out)
+        } else {
+            Ok(())
+        }
+    }
+
+    /// Takes a typed byte.
+    #[tactic(auto, using(crate::proofs::Behind::behind))]
+    fn type_byte(&mut self, byte: u8, out: &mut Vec<u8>) -> Result<(), AllocError>
+        ensures state { OnOk result (self.new ≡ (spec.after_typed byte self.old).state) }
+        ensures output { OnOk result (out.new.items ≡ out.old.items ++ (spec.after_typed byte self.old).output) }
+    {
+        let output = self.filter.feed(byte);
+        let start = out.len();
+        append(out, output)?;
+        self.follow(out.as_slice(), start);
+        self.settle(out)
+    }
+
+    /// Takes typed bytes.
+    fn type_all(&mut self, bytes: &[u8], out: &mut Vec<u8>) -> Result<(), AllocError>
+        ensures state { OnOk result (self.new ≡ (spec.after_all_typed bytes.now self.old).state) }
+        ensures output { OnOk result (out.new.items ≡ out.old.items ++ (spec.after_all_typed bytes.now self.old).output) }
+    {
+        for byte in bytes {
+            self.type_byte(*byte, out)?;
+        }
+        Ok(())
+    }
+
+    /// Takes note that time went by after typed bytes.
+    fn idle(&mut self, out: &mut Vec<u8>) -> Result<(), AllocError>
+        ensures state { OnOk result (self.new ≡ (spec.after_idle self.old).state) }
+        ensures output { OnOk result (out.new.items ≡ out.old.items ++ (spec.after_idle self.old).output) }
+    {
+        let key = self.filter.idle();
+        self.send(key, out)?;
+        self.send_waiting(out)
+    }
+
+    /// Takes a size in four bytes.
+    fn take_size(&mut self, bytes: &[u8], out: &mut Vec<u8>) -> Result<(), AllocError>
+        ensures state { OnOk result (self.new ≡ (spec.after_size bytes.now self.old).state) }
+        ensures output { OnOk result (out.new.items ≡ out.old.items ++ (spec.after_size bytes.now self.old).output) }
+    {
+        let [a, b, c, d] = bytes else {
+            return Ok(());
+        };
+        self.size = Some(Size {
+            rows: u16::from(*a) * 256 + u16::from(*b),
+            columns: u16::from(*c) * 256 + u16::from(*d),
+        });
+        self.settle(out)
+    }
+
+    /// Takes a notice's number in one byte.
+    fn take_notice(&mut self, bytes: &[u8], out: &mut Vec<u8>) -> Result<(), AllocError>
+        ensures state { OnOk result (self.new ≡ (spec.after_notice bytes.now self.old).state) }
+        ensures output { OnOk result (out.new.items ≡ out.old.items ++ (spec.after_notice bytes.now self.old).output) }
+    {
+        let [number] = bytes else {
+            return Ok(());
+        };
+        self.notice = Some(*number);
+        self.settle(out)
+    }
+}

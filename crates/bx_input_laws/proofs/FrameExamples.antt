@@ -1,0 +1,39 @@
+-- Worked examples of frames: what the session reads for the bytes of the pipe.
+use Rattle.std.proofs.Common.{◌≡◌, false, [], ◌∷◌, ◌++◌, map, refl}
+use Rattle.std.specs.Prelude.{codes}
+use Rattle.std.specs.Fmt.{digits}
+use Rattle.bx_input.specs.Translating.{begun, notice_bytes, size_bytes}
+use Rattle.bx_input.specs.Heard.{heard}
+use Rattle.bx_keys.specs.Keys.{decoding}
+use Rattle.bx_keys.specs.declared.key.Key.TheVariants.{Notice, Size}
+use Rattle.bx_keys.specs.declared.notice.Notice.TheVariants.{NoSpace, FolderGone, NotPermitted, ReadOnly, Unkept, KeptAgain, Recovered, RecoveredAside, InPlace}
+
+-- the letter Alef of Hebrew is D7 90: a size that comes between goes in behind it
+pub a_size_cuts_no_letter : heard (codes "b\0\u{1}" ++ 0xD7 ∷ (codes "z\0\u{4}\0\u{18}\0P" ++ (codes "b\0\u{1}" ++ 0x90 ∷ []))) (begun false)
+    ≡ 0xD7 ∷ 0x90 ∷ codes "\u{1b}[8;24;80t"
+unfolding digits
+a_size_cuts_no_letter = refl
+
+-- an Escape that waits alone becomes Cancel when time goes by
+pub an_escape_alone_is_a_key : heard (codes "b\0\u{2}a\u{1b}i\0\0b\0\u{2}[D") (begun false) ≡ codes "a\u{1b}[93~[D"
+an_escape_alone_is_a_key = refl
+
+-- a notice waits for the end of a paste
+pub a_notice_comes_behind_a_paste : heard (codes "b\0\u{7}\u{1b}[200~an\0\u{1}\u{3}b\0\u{7}b\u{1b}[201~") (begun false)
+    ≡ codes "\u{1b}[90~ab\u{1b}[91~\u{1b}[>3~"
+unfolding digits
+a_notice_comes_behind_a_paste = refl
+
+-- a frame that the end cuts off says nothing
+pub a_broken_frame_says_nothing : heard (codes "b\0\u{1}xb\0\u{2}y") (begun false) ≡ codes "x"
+a_broken_frame_says_nothing = refl
+
+-- the editor's keys of what sizes and notices become
+pub a_size_is_a_key : (decoding (size_bytes (record { rows = 24; columns = 80 }))).keys ≡ Size 24 80 ∷ []
+unfolding digits
+a_size_is_a_key = refl
+
+pub notices_are_keys : map (λ number. (decoding (notice_bytes number)).keys) (1 ∷ 2 ∷ 3 ∷ 4 ∷ 5 ∷ 6 ∷ 7 ∷ 8 ∷ 9 ∷ [])
+    ≡ map (λ notice. Notice notice ∷ []) (NoSpace ∷ FolderGone ∷ NotPermitted ∷ ReadOnly ∷ Unkept ∷ KeptAgain ∷ Recovered ∷ RecoveredAside ∷ InPlace ∷ [])
+unfolding digits
+notices_are_keys = refl

@@ -1,2 +1,0 @@
-pub mod LineEndsSoFar
-pub mod Torn

@@ -1,3 +1,0 @@
-pub mod NoticeKeys
-pub mod ReadBack
-pub mod Examples

@@ -1,6 +1,0 @@
-pub mod Facts
-pub mod Letters
-pub mod Messages
-pub mod Notices
-pub mod Reading
-pub mod Laws
