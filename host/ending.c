@@ -47,6 +47,7 @@ enum replayed replay(struct edit *edit, const struct session *session, int *text
     add_tables(&words, &edit->tables, false);
     if (session_has(session, PART_UNSAVED)) add_word(&words, "--unsaved");
     add_option(&words, "--text", handed_path(&run, session->text));
+    add_word(&words, "--frames");
     add_option(&words, "--replay", handed_path(&run, session->journal));
     add_option(&words, "--to", handed_path(&run, made));
     if (edit->file.text >= 0) add_option(&words, "--against", handed_path(&run, edit->file.text));
