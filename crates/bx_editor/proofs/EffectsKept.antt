@@ -1,6 +1,6 @@
 -- What keys keep outside a search and a question.
 use Rattle.std.proofs.Common.{◌≡◌, ℕ, Bool, true, false, List, [], ◌∷◌, length, Option, Some, None, refl, if◌then◌else◌}
-use Rattle.std.specs.Prelude.{◌&&◌, ◌||◌, ◌==◌, not, encode_utf8}
+use Rattle.std.specs.Prelude.{◌||◌, ◌==◌, not, encode_utf8}
 use Rattle.bx_terms.specs.declared.base.Base.{Base}
 use Rattle.bx_store.specs.declared.store.StoreFault.{StoreFault}
 use Rattle.bx_text.specs.declared.change.Change.{Change}
@@ -13,9 +13,14 @@ use Rattle.bx_runs.specs.declared.typing.Kind.{Kind}
 use Rattle.bx_runs.specs.declared.typing.Kind.TheVariants.{Separator}
 use Rattle.bx_runs.specs.declared.typing.Removal.{Removal}
 use Rattle.bx_runs.specs.declared.typing.Typing.{Typing}
+use Rattle.bx_runs.specs.declared.typing.Typing.TheVariants.{Off, Paste}
 use Rattle.bx_ucd.specs.Data.{Data}
+use Rattle.bx_asking.specs.declared.question.Ask.{Ask}
+use Rattle.bx_asking.specs.declared.question.Ask.TheVariants as asks
 use Rattle.bx_editor.specs.declared.message.Message.{Message}
 use Rattle.bx_editor.specs.declared.message.Message.TheVariants as messages
+use Rattle.bx_editor.specs.declared.seek.Seek.{Seek}
+use Rattle.bx_editor.specs.declared.seek.Seek.TheVariants as seeks
 use Rattle.bx_editor.specs.declared.soft.Soft.{Soft}
 use Rattle.bx_editor.specs.declared.soft.Soft.TheVariants as softness
 use Rattle.bx_editor.specs.Editor.{Editor, after_help, after_quit, after_redo, after_save, after_step, after_undo, next_base}
@@ -25,11 +30,13 @@ use Rattle.bx_editor.specs.Effects.{Selects, Unmarks, Copies, Cuts, Seeks, Seeks
 use Rattle.bx_editor.specs.Effects.{Tells, Rests, Before, by}
 use Rattle.bx_editor.specs.Erasing.{after_erasing, after_erasing_word, after_removing, removed_on}
 use Rattle.bx_editor.specs.Goal.{after_row_move}
-use Rattle.bx_editor.specs.Putting.{after_character, after_new_line, after_put, has_room, is_paste, line_end, only_paste, put_in}
+use Rattle.bx_editor.specs.Pasting.{after_paste_end, after_paste_start, after_pasted_letter, ended_with, paste_begun, paste_ended, pasted_with}
+use Rattle.bx_editor.specs.Pasting.{with_paste, with_pasted, without_paste}
+use Rattle.bx_editor.specs.Putting.{after_character, after_new_line, after_put, has_room, line_end, only_paste, placed, put_in}
 use Rattle.bx_editor.specs.Putting.{typed, with_selection_replaced, yielding}
-use Rattle.bx_editor.specs.Region.{after_copy, after_cut, after_mark, bytes_in, is_at_mark, is_empty, line, region, taken}
+use Rattle.bx_editor.specs.Region.{after_copy, after_cut, after_mark, bytes_in, held_message, is_at_mark, is_empty, line, region, taken, with_held}
 use Rattle.bx_editor.specs.Runs.{after_run_step, by_run, is_changed_at, run_goal, run_length}
-use Rattle.bx_editor.specs.Selecting.{is_selection, selecting, unselected}
+use Rattle.bx_editor.specs.Selecting.{aged, is_selection, selecting, unselected}
 
 -- edits, undo and redo, and all that leaves the text, the search and the question keep this property of editors
 pub record IsKeptPressing (d : Data) (P : Editor → Type 0) : Type 0 where
@@ -64,31 +71,28 @@ module _ (d : Data) (P : Editor → Type 0) (keeps : IsKeptPressing d P) where
 
   -- ---- edits
 
+  placing : (e : Editor) (new : List ℕ) (on : Bool) → P e → P (placed d e new on)
+  placing e new on h =
+      let without = with_removal d e (region e).0 (region e).1 false in
+      either (is_selection e) (with_selection_replaced d e new) (with_insertion d e new on)
+      (keeps.inserted without new true (keeps.removed e (region e).0 (region e).1 false h)) (keeps.inserted e new on h)
+
   putting : (e : Editor) (new : List ℕ) (on : Bool) → P e → P (put_in d e new on)
   putting e new on h =
-      let two = with_selection_replaced d e new in
-      let one = with_insertion d e new on in
-      let without = with_removal d e (region e).0 (region e).1 false in
-      either (has_room e new) (if is_selection e then two else one) (record e { message = Some messages.TextFull })
-      (either (is_selection e) two one (keeps.inserted without new true (keeps.removed e (region e).0 (region e).1 false h))
-      (keeps.inserted e new on h))
+      either (has_room e new) (placed d e new on) (record e { message = Some messages.TextFull }) (placing e new on h)
       (message e messages.TextFull h)
 
   typing-keeps : (typing : Typing) (e : Editor) (new : List ℕ) (kind : Kind) → P e → P (typed d typing e new kind)
   typing-keeps typing e new kind h =
       let put = put_in d e new (goes_on typing kind) in
-      keeps.told put put.message (if has_room e new then after_insertion typing kind else only_paste typing)
+      keeps.told put put.message (if has_room e new then after_insertion kind else only_paste typing)
       (putting e new (goes_on typing kind) h)
 
   new-line : (typing : Typing) (e : Editor) → P e → P (after_new_line d typing e)
   new-line typing e h = typing-keeps typing e (line_end d (splice e.content.text (yielding e).0 (yielding e).1 [])) Separator h
 
   character : (typing : Typing) (e : Editor) (c : ℕ) → P e → P (after_character d typing e c)
-  character typing e c h =
-      let kind = kind_of (d.class c) in
-      either ((c == 0xA) && is_paste typing) (after_new_line d typing e) (typed d typing e (encode_utf8 c) kind)
-      (new-line typing e h)
-      (typing-keeps typing e (encode_utf8 c) kind h)
+  character typing e c h = typing-keeps typing e (encode_utf8 c) (kind_of (d.class c)) h
 
   put : (e : Editor) → P e → P (after_put d e)
   put e h =
@@ -117,39 +121,38 @@ module _ (d : Data) (P : Editor → Type 0) (keeps : IsKeptPressing d P) where
 
   -- ---- the mark and the held text
 
-  unmarked : (e : Editor) (held : List ℕ) (m : Message) → P e
-      → P (record e { mark = None; soft = softness.Off; held = held; message = Some m })
+  unmarked : (e : Editor) (held : List ℕ) (m : Option Message) → P e
+      → P (record e { mark = None; soft = softness.Off; held = held; message = m })
   unmarked e held m h =
-      message (record e { mark = None; soft = softness.Off; held = held }) m (keeps.marked e None softness.Off held h)
+      let free : Editor = record e { mark = None; soft = softness.Off; held = held } in
+      keeps.told free m e.typing (keeps.marked e None softness.Off held h)
+
+  holding : (e : Editor) (held : List ℕ) (own : Message) → P e → P (with_held e held own)
+  holding e held own h = unmarked e held (held_message e.clipboard held (Some own)) h
 
   copy : (e : Editor) → P e → P (after_copy d e)
   copy e h =
       let none : Editor = record e { mark = None; soft = softness.Off; message = Some messages.NothingToCopy } in
-      let one : Editor = record e {
-        mark = None;
-        soft = softness.Off;
-        held = bytes_in e
-            (line d e);
-        message = Some messages.LineCopied;
-      } in
-      either (is_empty (region e)) (if is_empty (line d e) then none else one)
-      (record e { mark = None; soft = softness.Off; held = bytes_in e (region e); message = Some messages.Copied })
-      (either (is_empty (line d e)) none one (unmarked e e.held messages.NothingToCopy h)
-      (unmarked e (bytes_in e (line d e)) messages.LineCopied h))
-      (unmarked e (bytes_in e (region e)) messages.Copied h)
+      let one = with_held e (bytes_in e (line d e)) messages.LineCopied in
+      either (is_empty (region e)) (if is_empty (line d e) then none else one) (with_held e (bytes_in e (region e)) messages.Copied)
+      (either (is_empty (line d e)) none one (unmarked e e.held (Some messages.NothingToCopy) h)
+      (holding e (bytes_in e (line d e)) messages.LineCopied h))
+      (holding e (bytes_in e (region e)) messages.Copied h)
 
   cut : (e : Editor) → P e → P (after_cut d e)
   cut e h =
       let part = taken d e in
       let without = with_removal d e part.0 part.1 false in
-      either (is_empty part) (after_copy d e) (record without { held = bytes_in e part }) (copy e h)
-      (keeps.marked without without.mark without.soft (bytes_in e part) (keeps.removed e part.0 part.1 false h))
+      let cut : Editor = record without { held = bytes_in e part } in
+      let told = held_message e.clipboard (bytes_in e part) e.message in
+      either (is_empty part) (after_copy d e) (record cut { message = told }) (copy e h)
+      (keeps.told cut told e.typing (keeps.marked without without.mark without.soft (bytes_in e part) (keeps.removed e part.0 part.1 false h)))
 
   mark : (e : Editor) → P e → P (after_mark e)
   mark e h =
       let set : Editor = record e { mark = Some e.place; soft = softness.Off } in
       either (is_at_mark e.mark e.place) (record e { mark = None; soft = softness.Off; message = Some messages.MarkOff })
-      (record set { message = Some messages.MarkSet }) (unmarked e e.held messages.MarkOff h)
+      (record set { message = Some messages.MarkSet }) (unmarked e e.held (Some messages.MarkOff) h)
       (message set messages.MarkSet (keeps.marked e (Some e.place) softness.Off e.held h))
 
   select : (e : Editor) (mark : Option ℕ) (soft : Soft) → P e → P (selecting e mark soft)
@@ -197,6 +200,58 @@ module _ (d : Data) (P : Editor → Type 0) (keeps : IsKeptPressing d P) where
   effect-keeps fault was e AsksName h asking = asking refl
   effect-keeps fault was e Tells h asking = message e messages.Told h
   effect-keeps fault was e Rests h asking = keeps.told e e.message was.typing h
+
+-- ---- a paste
+
+-- the list of a paste, and what goes with it, keep this property of editors
+pub record IsKeptPasting (P : Editor → Type 0) : Type 0 where
+  pub pasted : (e : Editor) (pasted : Option (List ℕ)) (message : Option Message) (typing : Typing) → P e
+      → P (record e { pasted = pasted; message = message; typing = typing })
+  pub lengthened : (e : Editor) (pasted : Option (List ℕ)) (soft : Soft) → P e
+      → P (record e { pasted = pasted; quit_before = false; goal = None; soft = soft })
+
+module _ (P : Editor → Type 0) (keeps : IsKeptPasting P) where
+  pub begun-keeps : (e : Editor) → P e → P (with_paste e)
+  begun-keeps e h = keeps.pasted e (Some []) (Some messages.Pasting) e.typing h
+
+  begin-keeps : (e : Editor) (ask : Ask) (seek : Seek) (pasted : Option (List ℕ)) → P e → P (paste_begun ask seek pasted e)
+  begin-keeps e asks.Off seeks.Off None h = begun-keeps e h
+  begin-keeps e asks.Off seeks.Off (Some list) h = h
+  begin-keeps e asks.Off seeks.Begun pasted h = h
+  begin-keeps e asks.Off seeks.Typed pasted h = h
+  begin-keeps e asks.Off seeks.WithBegun pasted h = h
+  begin-keeps e asks.Off seeks.WithTyped pasted h = h
+  begin-keeps e asks.Off seeks.Replacing pasted h = h
+  begin-keeps e asks.Line seek pasted h = h
+  begin-keeps e asks.Name seek pasted h = h
+  begin-keeps e asks.Code seek pasted h = h
+
+  pub start-keeps : (e : Editor) → P e → P (after_paste_start e)
+  start-keeps e h =
+      let begun = paste_begun e.ask e.seek e.pasted e in
+      keeps.pasted begun begun.pasted begun.message Paste (begin-keeps e e.ask e.seek e.pasted h)
+
+  pub pasted-letter-keeps : (d : Data) (e : Editor) (c : ℕ) → P e → P (after_pasted_letter d e c)
+  pasted-letter-keeps d e c h = keeps.lengthened e (pasted_with d e.content.text e.pasted c) (aged e.soft) h
+
+module _ (d : Data) (P : Editor → Type 0) (keeps : IsKeptPressing d P) (pastes : IsKeptPasting P) where
+  list-keeps : (e : Editor) (list : List ℕ) → P e → P (with_pasted d e list)
+  list-keeps e list h =
+      let left = without_paste e in
+      let k = pastes.pasted e None None Off h in
+      either d P keeps (length list == 0) left (put_in d left list false) k (putting d P keeps left list false k)
+
+  end-keeps : (e : Editor) (pasted : Option (List ℕ)) → P e → P (ended_with d e pasted)
+  end-keeps e None h = h
+  end-keeps e (Some list) h = list-keeps e list h
+
+  pub ended-keeps : (e : Editor) → P e → P (paste_ended d e)
+  ended-keeps e h = end-keeps e e.pasted h
+
+  pub paste-end-keeps : (e : Editor) → P e → P (after_paste_end d e)
+  paste-end-keeps e h =
+      let ended = paste_ended d e in
+      pastes.pasted ended ended.pasted ended.message Off (ended-keeps e h)
 
 -- ---- undo and redo, where any other text of the history keeps the property
 

@@ -1,5 +1,5 @@
 -- Keys in a search, and in a question.
-use Rattle.std.proofs.Common.{◌≡◌, ℕ, false, Option, Some, None, refl, sym, ap, ap₂, ◌∙◌}
+use Rattle.std.proofs.Common.{◌≡◌, ℕ, List, false, Option, Some, None, refl, sym, ap, ap₂, ◌∙◌}
 use Rattle.bx_keys.specs.declared.key.Key.{Key}
 use Rattle.bx_keys.specs.declared.key.Key.TheVariants.{Insert, Erase, Delete, Back, Forward, Up, Down, Right, Left, RowHome, RowEnd, PageUp, PageDown, Save}
 use Rattle.bx_keys.specs.declared.key.Key.TheVariants.{Quit, Undo, Redo, Repaint, Direction, Size, Mark, Copy, Cut, Put}
@@ -14,14 +14,13 @@ use Rattle.bx_asking.specs.declared.question.Ask.TheVariants as asks
 use Rattle.bx_editor.specs.Asking.{without_ask}
 use Rattle.bx_editor.specs.declared.seek.Seek.{Seek}
 use Rattle.bx_editor.specs.declared.seek.Seek.TheVariants.{Off, Begun, Typed, WithBegun, WithTyped, Replacing}
-use Rattle.bx_editor.specs.Editor.{Editor, after_save, cleared, with_notice, with_size, with_typing}
+use Rattle.bx_editor.specs.Editor.{Editor, after_save, cleared, with_notice, with_size}
 use Rattle.bx_editor.specs.Effects.{Before, before}
-use Rattle.bx_editor.specs.Keys.{after_any, after_key, after_user, is_told_key}
+use Rattle.bx_editor.specs.Keys.{after_any, after_in_paste, after_key, after_press, after_user, is_told_key}
+use Rattle.bx_editor.specs.Pasting.{after_paste_end, after_paste_start, after_pasted_letter, paste_ended}
 use Rattle.bx_editor.specs.Prompts.{HasOnePrompt}
 use Rattle.bx_editor.specs.Search.{without_search}
 use Rattle.bx_editor.specs.Selecting.{aged}
-use Rattle.bx_runs.specs.declared.typing.Typing.TheVariants as typings
-use Rattle.bx_runs.specs.declared.typing.Typing.TheVariants.{Paste}
 
 -- what a key leaves that keeps no column, and ages a selection
 abbrev pub behind : Editor → Editor
@@ -30,8 +29,8 @@ behind e = record e { goal = None; soft = aged e.soft }
 -- any key is told, or one that the user presses
 pub each-key : (d : Data) (fault : Option StoreFault) (e : Editor) (P : Key → Editor → Type 0) → ((height width : ℕ) → P (Size height width) (with_size e height width))
     → ((notice : told.Notice) → P (Notice notice) (with_notice e notice))
-    → (P PasteStart (with_typing e Paste) × P PasteEnd (with_typing e typings.Off))
-    → ((key : Key) → is_told_key key ≡ false → P key (after_user d fault e key)) → (key : Key)
+    → (P PasteStart (after_paste_start e) × P PasteEnd (after_paste_end d e))
+    → ((key : Key) → is_told_key key ≡ false → P key (after_press d fault e.pasted e key)) → (key : Key)
     → P key (after_key d fault e key)
 each-key d fault e P sized noted pasted other (Size height width) = sized height width
 each-key d fault e P sized noted pasted other (Notice notice) = noted notice
@@ -85,11 +84,38 @@ each-key d fault e P sized noted pasted other Tell = other Tell refl
 each-key d fault e P sized noted pasted other PasteStart = pasted.0
 each-key d fault e P sized noted pasted other PasteEnd = pasted.1
 
-pub any-key : (d : Data) (fault : Option StoreFault) (e : Editor) (key : Key) → is_told_key key ≡ false
-    → after_key d fault e key ≡ after_user d fault e key
-any-key d fault e =
-    each-key d fault e (λ key new. is_told_key key ≡ false → new ≡ after_user d fault e key)
+pub pressed-key : (d : Data) (fault : Option StoreFault) (e : Editor) (key : Key) → is_told_key key ≡ false
+    → after_key d fault e key ≡ after_press d fault e.pasted e key
+pressed-key d fault e =
+    each-key d fault e (λ key new. is_told_key key ≡ false → new ≡ after_press d fault e.pasted e key)
     (λ height width told. absurd (cc told)) (λ notice told. absurd (cc told)) (λ told. absurd (cc told), λ told. absurd (cc told)) (λ key small other. refl)
+
+-- where no paste is under way
+pub any-key : (d : Data) (fault : Option StoreFault) (e : Editor) (key : Key) → e.pasted ≡ None → is_told_key key ≡ false
+    → after_key d fault e key ≡ after_user d fault e key
+any-key d fault e key none small = pressed-key d fault e key small ∙ ap (λ pasted. after_press d fault pasted e key) none
+
+-- ---- while a paste is under way
+
+-- a character goes into it, Repaint leaves it, and any other key ends it
+in-paste : (d : Data) (fault : Option StoreFault) (e : Editor) (P : Editor → Type 0) (key : Key) → ((c : ℕ) → P (after_pasted_letter d e c))
+    → P (after_user d fault e key) → P (after_user d fault (paste_ended d e) key) → P (after_in_paste d fault e key)
+in-paste d fault e P (Insert c) letter painted ended = letter c
+in-paste d fault e P Repaint letter painted ended = painted
+in-paste d fault e P key letter painted ended = ended
+
+press-by : (d : Data) (fault : Option StoreFault) (e : Editor) (P : Editor → Type 0) (key : Key) (pasted : Option (List ℕ))
+    → ((c : ℕ) → P (after_pasted_letter d e c)) → P (after_user d fault e key) → P (after_user d fault (paste_ended d e) key)
+    → P (after_press d fault pasted e key)
+press-by d fault e P key None letter plain ended = plain
+press-by d fault e P key (Some list) letter plain ended = in-paste d fault e P key letter plain ended
+
+-- a key that the user presses: `plain` where no paste is under way, `ended` once it has ended
+pub press-keeps : (d : Data) (fault : Option StoreFault) (e : Editor) (P : Editor → Type 0) (key : Key)
+    → (plain : (x : Editor) → P x → P (after_user d fault x key)) → (ended : (x : Editor) → P x → P (paste_ended d x))
+    → ((c : ℕ) → P (after_pasted_letter d e c)) → P e → P (after_press d fault e.pasted e key)
+press-keeps d fault e P key plain ended letter h =
+    press-by d fault e P key e.pasted letter (plain e h) (plain (paste_ended d e) (ended e h))
 
 -- ---- a Save
 
@@ -117,6 +143,7 @@ save-any d fault was asks.Line seek e asked is one = saved e fault asks.Off e.se
 save-any d fault was asks.Name seek e asked is one = saved e fault asks.Off e.seek refl (one (λ off. let both = sym asked ∙ off in cc both))
 save-any d fault was asks.Code seek e asked is one = saved e fault asks.Off e.seek refl (one (λ off. let both = sym asked ∙ off in cc both))
 
-pub save-ends : (d : Data) (fault : Option StoreFault) (e : Editor) → HasOnePrompt e
+pub save-ends : (d : Data) (fault : Option StoreFault) (e : Editor) → e.pasted ≡ None → HasOnePrompt e
     → after_key d fault e Save ≡ behind (without_ask (without_search (after_save (cleared e) fault)))
-save-ends d fault e one = ap behind (save-any d fault (before e) e.ask e.seek (cleared e) refl refl one)
+save-ends d fault e none one =
+    any-key d fault e Save none refl ∙ ap behind (save-any d fault (before e) e.ask e.seek (cleared e) refl refl one)

@@ -1,5 +1,6 @@
 -- No key leaves a search on while something is asked.
-use Rattle.std.proofs.Common.{◌≡◌, ℕ, List, [], ◌∷◌, Option, refl, sym, ◌∙◌}
+use Rattle.std.proofs.Common.{◌≡◌, ℕ, Bool, true, false, List, [], ◌∷◌, length, Option, Some, None, refl, sym, ◌∙◌, if◌then◌else◌}
+use Rattle.std.specs.Prelude.{◌==◌}
 use Rattle.bx_keys.specs.declared.key.Key.{Key}
 use Rattle.bx_store.specs.declared.store.StoreFault.{StoreFault}
 use Rattle.bx_ucd.specs.Data.{Data}
@@ -8,13 +9,18 @@ use Rattle.bx_asking.specs.declared.question.Ask.TheVariants as asks
 use Rattle.bx_editor.specs.declared.seek.Seek.{Seek}
 use Rattle.bx_editor.specs.declared.seek.Seek.TheVariants.{Off, Begun, Typed, WithBegun, WithTyped, Replacing}
 use Rattle.bx_editor.specs.Asking.{without_ask}
-use Rattle.bx_editor.specs.Editor.{Editor, cleared, with_exchange}
+use Rattle.bx_editor.specs.declared.message.Message.TheVariants.{TextFull}
+use Rattle.bx_editor.specs.Editor.{Editor, cleared, with_exchange, with_insertion}
 use Rattle.bx_editor.specs.Effects.{Effect, AsksLine, AsksName, Before, before, by}
-use Rattle.bx_editor.specs.Keys.{Answer, Letter, Shortens, GoesBack, Next, Previous, Replaces, Stays, Ends, after_any, after_asking, after_key, answer_of}
+use Rattle.bx_editor.specs.Keys.{Answer, Letter, Shortens, GoesBack, Next, Previous, Replaces, Stays, Ends, after_any, after_asking, after_key, after_user, answer_of}
 use Rattle.bx_editor.specs.Keys.{answered, answered_match, answered_other, answered_question, effect_of}
+use Rattle.bx_editor.specs.Pasting.{ended_with, paste_ended, without_paste}
 use Rattle.bx_editor.specs.Prompts.{HasOnePrompt}
+use Rattle.bx_editor.specs.Putting.{has_room, placed, put_in, with_selection_replaced}
 use Rattle.bx_editor.specs.Search.{without_search}
-use Rattle.bx_editor.proofs.InSearch.{each-key}
+use Rattle.bx_editor.specs.Selecting.{is_selection}
+use Rattle.bx_editor.proofs.EffectsKept as kept
+use Rattle.bx_editor.proofs.InSearch.{each-key, press-keeps}
 use Rattle.bx_editor.proofs.QuestionKept.{effect-keeps}
 use Rattle.bx_editor.proofs.Questions.{IsKept, letter-keeps, shorter-keeps}
 use Rattle.bx_editor.proofs.Searches.{IsKeptSeeking, match-keeps, other-keeps, query-keeps}
@@ -46,6 +52,7 @@ sought-asks d first = record {
   told = λ e message h. h;
   placed = λ e place h. h;
   typed = λ e typing h. h;
+  begun = λ e h. h;
   sought = λ e seek aim origin query other at count h. h;
 }
 
@@ -105,7 +112,37 @@ any d fault was asks.Line seek e key is sought_is one = asking d fault was asks.
 any d fault was asks.Name seek e key is sought_is one = asking d fault was asks.Name e key is (λ off. cc off) one
 any d fault was asks.Code seek e key is sought_is one = asking d fault was asks.Code e key is (λ off. cc off) one
 
+-- ---- a paste
+
+either-one : (b : Bool) (p q : Editor) → HasOnePrompt p → HasOnePrompt q → HasOnePrompt (if b then p else q)
+either-one true p q h k = h
+either-one false p q h k = k
+
+put-one : (d : Data) (e : Editor) (new : List ℕ) → HasOnePrompt e → HasOnePrompt (put_in d e new false)
+put-one d e new one =
+    either-one (has_room e new) (placed d e new false) (record e { message = Some TextFull })
+    (either-one (is_selection e) (with_selection_replaced d e new) (with_insertion d e new false) (λ asked. refl) (λ asked. refl)) one
+
+list-one : (d : Data) (e : Editor) (pasted : Option (List ℕ)) → HasOnePrompt e → HasOnePrompt (ended_with d e pasted)
+list-one d e None one = one
+list-one d e (Some list) one =
+    let left = without_paste e in
+    either-one (length list == 0) left (put_in d left list false) one (put-one d left list one)
+
+ended-one : (d : Data) (e : Editor) → HasOnePrompt e → HasOnePrompt (paste_ended d e)
+ended-one d e one = list-one d e e.pasted one
+
+pasting-one : kept.IsKeptPasting HasOnePrompt
+pasting-one = record {
+  pasted = λ e pasted message typing one. one;
+  lengthened = λ e pasted soft one. one;
+}
+
+user-one : (d : Data) (fault : Option StoreFault) (e : Editor) (key : Key) → HasOnePrompt e → HasOnePrompt (after_user d fault e key)
+user-one d fault e key one = any d fault (before e) e.ask e.seek (cleared e) key refl refl one
+
 pub keeps-one-prompt : (d : Data) (fault : Option StoreFault) (e : Editor) (key : Key) → HasOnePrompt e → HasOnePrompt (after_key d fault e key)
 keeps-one-prompt d fault e key one =
-    each-key d fault e (λ k new. HasOnePrompt new) (λ height width. one) (λ notice. one) (one, one)
-    (λ k other. any d fault (before e) e.ask e.seek (cleared e) k refl refl one) key
+    each-key d fault e (λ k new. HasOnePrompt new) (λ height width. one) (λ notice. one)
+    (kept.start-keeps HasOnePrompt pasting-one e one, ended-one d e one)
+    (λ k other. press-keeps d fault e HasOnePrompt k (λ e one. user-one d fault e k one) (ended-one d) (λ c. one) one) key

@@ -2,7 +2,6 @@
 use Rattle.std.proofs.Common.{◌≡◌, ℕ, Bool, true, false, Option, Some, None, refl}
 use Rattle.std.specs.Prelude.{encode_utf8, if◌then◌else◌}
 use Rattle.bx_runs.specs.Typing.{after_insertion, kind_of}
-use Rattle.bx_runs.specs.declared.typing.Typing.TheVariants as typings
 use Rattle.bx_text.specs.Edits.{fits, fits_both}
 use Rattle.bx_ucd.specs.Data.{Data}
 use Rattle.bx_editor.specs.declared.message.Message.TheVariants.{MoreThanOneLine, TextFull}
@@ -17,7 +16,7 @@ either false x y new other h k = k
 
 pub character-left : (d : Data) (e : Editor) (c : ℕ) → with_character d (without_ask e) c ≡ without_ask (with_character d e c)
 character-left d e c =
-    let put : Editor → Editor = λ x. with_typing (with_insertion d x (encode_utf8 c) false) (after_insertion typings.Off (kind_of (d.class c))) in
+    let put : Editor → Editor = λ x. with_typing (with_insertion d x (encode_utf8 c) false) (after_insertion (kind_of (d.class c))) in
     let full : Editor → Editor = λ x. record x { message = Some TextFull } in
     either (fits e.content.text e.place e.place (encode_utf8 c)) (put e) (full e) (put (without_ask e)) (full (without_ask e)) refl refl
 

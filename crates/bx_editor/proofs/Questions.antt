@@ -5,7 +5,6 @@ use Rattle.bx_keys.specs.declared.key.Key.{Key}
 use Rattle.bx_store.specs.declared.store.StoreFault.{StoreFault}
 use Rattle.bx_text.specs.Edits.{fits, fits_both}
 use Rattle.bx_runs.specs.declared.typing.Typing.{Typing}
-use Rattle.bx_runs.specs.declared.typing.Typing.TheVariants as typings
 use Rattle.bx_runs.specs.Typing.{after_insertion, kind_of}
 use Rattle.bx_ucd.specs.Data.{Data}
 use Rattle.bx_asking.specs.declared.line.Target.{Target}
@@ -62,7 +61,7 @@ module _ (d : Data) (P : Editor → Type 0) (keeps : IsKept d P) where
   character : (e : Editor) (c : ℕ) → P e → P (with_character d e c)
   character e c h =
       let new = encode_utf8 c in
-      let typing = after_insertion typings.Off (kind_of (d.class c)) in
+      let typing = after_insertion (kind_of (d.class c)) in
       let one = with_insertion d e new false in
       either (fits e.content.text e.place e.place new) (with_typing one typing) (record e { message = Some TextFull })
       (keeps.typed one typing (keeps.inserted e new h)) (keeps.told e TextFull h)

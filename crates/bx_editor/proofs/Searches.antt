@@ -19,21 +19,23 @@ use Rattle.bx_editor.specs.Editor.{Editor, rows, with_exchange, with_place, with
 use Rattle.bx_editor.specs.Effects.{Before, Seeks, by}
 use Rattle.bx_editor.specs.Keys.{Answer, Letter, Shortens, GoesBack, Next, Previous, Replaces, Stays, Ends, after_pressing}
 use Rattle.bx_editor.specs.Keys.{answered, answered_match, answered_other}
+use Rattle.bx_editor.specs.Pasting.{with_paste}
 use Rattle.bx_editor.specs.Putting.{is_paste, only_paste}
 use Rattle.bx_editor.specs.Replacing.{after_asking_other, after_ending, after_match_letter, after_other_letter, after_replacing}
-use Rattle.bx_editor.specs.Replacing.{after_replacing_all, after_showing, after_sought_letter, asked_at, at_match, is_replacing}
+use Rattle.bx_editor.specs.Replacing.{after_replacing_all, after_showing, after_sought_end, after_sought_letter, asked_at, at_match, is_replacing}
 use Rattle.bx_editor.specs.Replacing.{longest_other, match_stop, matches_on, next_match, on_from, other_typed, shown_at}
 use Rattle.bx_editor.specs.Replacing.{with_matches_replaced, with_other}
 use Rattle.bx_editor.specs.Search.{after_letter, backward, is_no_letter, kept, landed, landing_from, lengthened, longest_query}
 use Rattle.bx_editor.specs.Search.{next_or_start, reading, search_from, shortened, sought}
 use Rattle.bx_editor.specs.Search.{with_query, without_search}
 
--- matches that give way, moves, and what is told, sought and typed keep this property of editors
+-- matches that give way, moves, the beginning of a paste, and what is told, sought and typed keep this property of editors
 pub record IsKeptSeeking (d : Data) (P : Editor → Type 0) : Type 0 where
   pub exchanged : (e : Editor) (start stop : ℕ) (new : List ℕ) → P e → P (with_exchange d e start stop new)
   pub told : (e : Editor) (message : Option Message) → P e → P (record e { message = message })
   pub placed : (e : Editor) (place : ℕ) → P e → P (with_place e place)
   pub typed : (e : Editor) (typing : Typing) → P e → P (with_typing e typing)
+  pub begun : (e : Editor) → P e → P (with_paste e)
   pub sought : (e : Editor) (seek : Seek) (aim : Aim) (origin : ℕ) (query other : List ℕ) (at count : ℕ) → P e
       → P (record e { seek = seek; aim = aim; origin = origin; query = query; other = other; at = at; count = count })
 
@@ -66,8 +68,7 @@ module _ (d : Data) (P : Editor → Type 0) (keeps : IsKeptSeeking d P) where
   letter e c h =
       let query = lengthened longest_query (kept e.seek e.query) c in
       let longer = with_query e query in
-      either (c == 0xA) (without_search e) (if is_no_letter d c then e else search_from d e.place longer) (seeking e Off h)
-      (either (is_no_letter d c) e (search_from d e.place longer) h (searching longer e.place (queried e query h)))
+      either (is_no_letter d c) e (search_from d e.place longer) h (searching longer e.place (queried e query h))
 
   asked : (e : Editor) (place : Option ℕ) → P e → P (asked_at place e)
   asked e None h = seeking e Typed h
@@ -81,10 +82,17 @@ module _ (d : Data) (P : Editor → Type 0) (keeps : IsKeptSeeking d P) where
       either (length (sought d aimed) == 0) aimed (asked_at l.place (landed aimed l)) k
       (asked (landed aimed l) l.place (landing aimed l k))
 
+  sought-end : (typing : Typing) (e : Editor) → P e → P (after_sought_end d typing e)
+  sought-end typing e h =
+      let left = without_search e in
+      let k = seeking e Off h in
+      either (is_replacing e.aim) (if is_paste typing then e else after_asking_other d e) (if is_paste typing then with_paste left else left)
+      (either (is_paste typing) e (after_asking_other d e) h (asking e h))
+      (either (is_paste typing) (with_paste left) left (keeps.begun left k) k)
+
   sought-letter : (typing : Typing) (e : Editor) (c : ℕ) → P e → P (after_sought_letter d typing e c)
   sought-letter typing e c h =
-      either ((c == 0xA) && is_replacing e.aim) (if is_paste typing then e else after_asking_other d e) (after_letter d e c)
-      (either (is_paste typing) e (after_asking_other d e) h (asking e h)) (letter e c h)
+      either (c == 0xA) (after_sought_end d typing e) (after_letter d e c) (sought-end typing e h) (letter e c h)
 
   -- `pressed`: a key that ends the search
   pub query-keeps : (fault : Option StoreFault) (was : Before) (e : Editor) (key : Key) (answer : Answer) → P e

@@ -1,6 +1,6 @@
 -- Where a search leads, and where it starts.
 use Rattle.std.proofs.Common.{◌≡◌, ℕ, ◌<◌, Bool, true, false, nat_lt, cond, List, [], ◌∷◌, length, Some, None, refl, ap, ◌∙◌, arith}
-use Rattle.std.proofs.Common.{ltb-true, ne_eqb, if◌then◌else◌}
+use Rattle.std.proofs.Common.{ltb-true, if◌then◌else◌}
 use Rattle.std.specs.Prelude.{◌==◌, find, not, unwrap_or}
 use Rattle.bx_ucd.specs.Data.{Data}
 use Rattle.bx_find.specs.declared.reading.Reading.{Reading}
@@ -15,7 +15,7 @@ use Rattle.bx_editor.specs.Origin.{BeganAt}
 use Rattle.bx_editor.specs.Editor.{Editor}
 use Rattle.bx_editor.specs.Search.{after_beginning, after_find_next, after_letter, backward, forward, is_no_letter, kept}
 use Rattle.bx_editor.specs.Search.{lengthened, longest_query, match_or, next_or_start}
-use Rattle.bx_editor.specs.Search.{not_found, search_from, sought, with_query, without_search}
+use Rattle.bx_editor.specs.Search.{not_found, search_from, sought, with_query}
 
 pub began : (d : Data) (text : List ℕ) (seek : Seek) (origin : ℕ) → IsTextPlace d text origin → BeganAt d text seek origin
 began d text Off origin is = tt
@@ -69,12 +69,10 @@ next-is-start place (p ∷ ps) not-less = over place p ps (nat_lt place p) refl 
 
 -- ---- what a key seeks
 
-pub letter-sought : (d : Data) (e : Editor) (c : ℕ) → (c ≡ 10 → ⊥) → is_no_letter d c ≡ false
+pub letter-sought : (d : Data) (e : Editor) (c : ℕ) → is_no_letter d c ≡ false
     → after_letter d e c ≡ search_from d e.place (with_query e (lengthened longest_query (kept e.seek e.query) c))
-letter-sought d e c other plain =
-    let longer = search_from d e.place (with_query e (lengthened longest_query (kept e.seek e.query) c)) in
-    ap (λ b. if b then without_search e else if is_no_letter d c then e else longer) (ne_eqb c 10 other)
-    ∙ ap (λ b. if b then e else longer) plain
+letter-sought d e c plain =
+    ap (λ b. if b then e else search_from d e.place (with_query e (lengthened longest_query (kept e.seek e.query) c))) plain
 
 pub find-next-sought : (d : Data) (e : Editor) → (length (sought d e) == 0) ≡ false
     → after_find_next d e ≡ search_from d (next_or_start d e) (record e { seek = Off; aim = aims.Find })

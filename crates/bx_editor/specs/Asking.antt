@@ -10,7 +10,6 @@ use Rattle.bx_asking.specs.Codes.{coded, is_code_letter}
 use Rattle.bx_asking.specs.Line.{asked, is_line_letter}
 use Rattle.bx_asking.specs.Names.{asks_code, closing, named}
 use Rattle.bx_runs.specs.declared.typing.Typing.{Typing}
-use Rattle.bx_runs.specs.declared.typing.Typing.TheVariants as typings
 use Rattle.bx_runs.specs.Typing.{after_insertion, kind_of}
 use Rattle.bx_text.specs.Edits.{fits}
 use Rattle.bx_view.specs.Going.{place_of}
@@ -71,7 +70,7 @@ after_line_letter d typing e c =
 abbrev pub with_character : Data → Editor → ℕ → Editor
 with_character d e c =
     if fits e.content.text e.place e.place (encode_utf8 c)
-    then with_typing (with_insertion d e (encode_utf8 c) false) (after_insertion typings.Off (kind_of (d.class c)))
+    then with_typing (with_insertion d e (encode_utf8 c) false) (after_insertion (kind_of (d.class c)))
     else record e { message = Some TextFull }
 
 -- the character `c` that a letter names is put in: with `closer`, which ends what `c` begins, around the region if there is one;

@@ -25,7 +25,7 @@ use Rattle.bx_runs.specs.Runs.{edited}
 use Rattle.bx_ucd.specs.Data.{Data}
 use Rattle.bx_terms.specs.Sizes.{is_side}
 
--- an editor's state, without Unicode's tables; which row is shown first is the session's
+-- an editor's state, without Unicode's tables
 pub record Editor : Type 0 where
   -- the text, with its past and its future
   pub content : Edited
@@ -54,6 +54,8 @@ pub record Editor : Type 0 where
   -- what the user is asked, and the answer as far as it is typed, in UTF-8
   pub ask : Ask
   pub answer : List ℕ
+  -- what a paste has brought so far, in UTF-8; none while none is under way that goes into the text
+  pub pasted : Option (List ℕ)
   -- the lengths of the past at which runs of edits begin
   pub runs : List ℕ
   -- what the next edit may go on with
@@ -72,6 +74,10 @@ pub record Editor : Type 0 where
   -- the window's rows and columns
   pub height : ℕ
   pub width : ℕ
+  -- the offset whose row was last shown first
+  pub top : ℕ
+  -- text that is copied or cut goes out to a clipboard
+  pub clipboard : Bool
 
 -- an editor and its tables
 pub record EditorState (D : Type 0) : Type 0 where
@@ -95,6 +101,7 @@ at_start text height width base = record {
   count = 0;
   ask = asks.Off;
   answer = [];
+  pasted = None;
   runs = [];
   typing = typings.Off;
   stored = Some 0;
@@ -106,6 +113,8 @@ at_start text height width base = record {
   goal = None;
   height = height;
   width = width;
+  top = 0;
+  clipboard = false;
 }
 
 -- the rows of any text in the editor's layout
@@ -232,6 +241,14 @@ after_help e told = record e { message = Some (help_behind told) }
 -- the window gets this size, in rows and columns
 abbrev pub with_size : Editor → ℕ → ℕ → Editor
 with_size e height width = record e { height = height; width = width }
+
+-- the row of this offset is shown first
+abbrev pub with_top : Editor → ℕ → Editor
+with_top e top = record e { top = top }
+
+-- text that is copied or cut goes out to a clipboard
+abbrev pub with_clipboard : Editor → Editor
+with_clipboard e = record e { clipboard = true }
 
 abbrev pub with_place : Editor → ℕ → Editor
 with_place e place = record e { place = place }

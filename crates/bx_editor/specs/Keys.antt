@@ -1,6 +1,6 @@
 -- The effect of each key on the editor's state. `d`: Unicode's data; `fault`: why a Save failed, None if it succeeded; `was`: what
 -- the key before left; `e`: the editor, from which `after_user` clears that.
-use Rattle.std.specs.Prelude.{ℕ, Bool, true, false, List, [], ◌∷◌, length, Option}
+use Rattle.std.specs.Prelude.{ℕ, Bool, true, false, ◌&&◌, ◌||◌, is_some, List, [], ◌∷◌, length, Option, Some, None}
 use Rattle.bx_keys.specs.declared.key.Key.{Key}
 use Rattle.bx_keys.specs.declared.key.Key.TheVariants.{Insert, Erase, Delete, Back, Forward, Up, Down, Right, Left, RowHome, RowEnd, PageUp, PageDown}
 use Rattle.bx_keys.specs.declared.key.Key.TheVariants.{Save, Quit, Undo, Redo, Repaint, Direction, Size, Mark, Copy, Cut, Put}
@@ -11,7 +11,6 @@ use Rattle.bx_store.specs.declared.store.StoreFault.{StoreFault}
 use Rattle.bx_document.specs.declared.history.HistoryStep.TheVariants as steps
 use Rattle.bx_paragraph.specs.declared.moves.Visual.TheVariants as visual
 use Rattle.bx_runs.specs.declared.typing.Removal.TheVariants as removals
-use Rattle.bx_runs.specs.declared.typing.Typing.TheVariants as typings
 use Rattle.bx_view.specs.declared.moves.Logical.TheVariants as logical
 use Rattle.bx_view.specs.declared.moves.Vertical.TheVariants as ways
 use Rattle.bx_view.specs.Moves.{step_logical, step_visual, vertical, page, row_home, row_end, word_towards}
@@ -28,6 +27,7 @@ use Rattle.bx_editor.specs.Effects.{Effect, Types, BeginsLine, Puts, Removes, Re
 use Rattle.bx_editor.specs.Effects.{Unmarks, Copies, Cuts, Seeks, SeeksNext, Saves, Quits, Turns, Helps, AsksLine, AsksName, Tells, Rests, Before, before, by}
 use Rattle.bx_editor.specs.Erasing.{point_before}
 use Rattle.bx_editor.specs.Goal.{goal_behind}
+use Rattle.bx_editor.specs.Pasting.{after_paste_end, after_paste_start, after_pasted_letter, paste_ended}
 use Rattle.bx_editor.specs.Putting.{only_paste}
 use Rattle.bx_editor.specs.Replacing.{after_asking_other, after_ending, after_match_letter, after_other_letter, after_passing_over}
 use Rattle.bx_editor.specs.Replacing.{after_replacing_all, after_shorter_other, after_showing, after_sought_letter}
@@ -194,17 +194,29 @@ after_any d fault was _ _ e key = after_asking d fault was e key
 abbrev pub as_left : Key → Editor → Editor
 as_left key e = record e { goal = goal_behind key e.goal; soft = soft_behind key e.soft }
 
--- a key that the user presses
+-- a key that the user presses where no paste is under way
 abbrev pub after_user : Data → Option StoreFault → Editor → Key → Editor
 after_user d fault e key = as_left key (after_any d fault (before e) e.ask e.seek (cleared e) key)
+
+-- ---- while a paste is under way: a character goes into it, and Repaint leaves it; any other key first ends it
+
+abbrev pub after_in_paste : Data → Option StoreFault → Editor → Key → Editor
+after_in_paste d fault e (Insert c) = after_pasted_letter d e c
+after_in_paste d fault e Repaint = after_user d fault e Repaint
+after_in_paste d fault e key = after_user d fault (paste_ended d e) key
+
+-- a key that the user presses; `pasted` is what a paste has brought, if one is under way
+abbrev pub after_press : Data → Option StoreFault → Option (List ℕ) → Editor → Key → Editor
+after_press d fault None e key = after_user d fault e key
+after_press d fault (Some list) e key = after_in_paste d fault e key
 
 -- any key
 abbrev pub after_key : Data → Option StoreFault → Editor → Key → Editor
 after_key d fault e (Size height width) = with_size e height width
 after_key d fault e (Notice notice) = with_notice e notice
-after_key d fault e PasteStart = with_typing e typings.Paste
-after_key d fault e PasteEnd = with_typing e typings.Off
-after_key d fault e key = after_user d fault e key
+after_key d fault e PasteStart = after_paste_start e
+after_key d fault e PasteEnd = after_paste_end d e
+after_key d fault e key = after_press d fault e.pasted e key
 
 -- keys in sequence; all Saves succeed, or all fail with this fault
 abbrev pub after_keys : Data → Option StoreFault → Editor → List Key → Editor
@@ -213,7 +225,7 @@ after_keys d fault e (key ∷ keys) = after_keys d fault (after_key d fault e ke
 
 -- ---- kinds of keys
 
--- a key that edits, undoes, redoes, moves, copies or finds: only such a key may be refused for want of memory
+-- a key that edits, undoes, redoes, moves, copies or finds
 abbrev pub is_edit_or_move : Key → Bool
 is_edit_or_move Save = false
 is_edit_or_move Quit = false
@@ -231,6 +243,29 @@ is_edit_or_move PasteEnd = false
 is_edit_or_move (Size height width) = false
 is_edit_or_move (Notice notice) = false
 is_edit_or_move _ = true
+
+-- a key that ends a paste
+abbrev pub ends_paste : Key → Bool
+ends_paste (Insert c) = false
+ends_paste Repaint = false
+ends_paste PasteStart = false
+ends_paste (Size height width) = false
+ends_paste (Notice notice) = false
+ends_paste _ = true
+
+-- only such a key may be refused for want of memory; while a paste is under way also one that ends it
+abbrev pub may_refuse : Editor → Key → Bool
+may_refuse e key = is_edit_or_move key || (is_some e.pasted && ends_paste key)
+
+-- a key that changes only what a paste has brought, or nothing: a character, or PasteStart once more
+abbrev pub is_of_paste : Key → Bool
+is_of_paste (Insert c) = true
+is_of_paste PasteStart = true
+is_of_paste _ = false
+
+-- such a key while a paste is under way needs no painting: the picture stays as it is
+abbrev pub needs_no_painting : Editor → Key → Bool
+needs_no_painting e key = is_some e.pasted && is_of_paste key
 
 abbrev pub is_save : Key → Bool
 is_save Save = true

@@ -5,6 +5,7 @@ pub mod Search
 pub mod Goal
 pub mod Erasing
 pub mod Putting
+pub mod Pasting
 pub mod Replacing
 pub mod Wrapping
 pub mod Asking
@@ -18,4 +19,5 @@ pub mod Keys
 pub mod Replay
 pub mod Opening
 pub mod Picture
+pub mod Clipboard
 pub mod Status

@@ -1,13 +1,13 @@
 -- What is typed or put in: characters, line ends, the held text; a selection gives way to it. `d` is Unicode's data, `e` the editor,
 -- `new` a text in UTF-8, `c` a character.
-use Rattle.std.specs.Prelude.{ℕ, ◌∷◌, [], ◌==◌, ◌&&◌, Bool, true, false, List, length, encode_utf8, Some, if◌then◌else◌}
+use Rattle.std.specs.Prelude.{ℕ, ◌∷◌, [], ◌==◌, Bool, true, false, List, length, encode_utf8, Some, if◌then◌else◌}
 use Rattle.bx_text.specs.Edits.{fits, splice}
 use Rattle.bx_ucd.specs.Data.{Data}
 use Rattle.bx_document.specs.FirstSeparator.{has_crlf_first}
 use Rattle.bx_runs.specs.declared.typing.Kind.{Kind}
 use Rattle.bx_runs.specs.declared.typing.Kind.TheVariants.{Separator}
 use Rattle.bx_runs.specs.declared.typing.Typing.{Typing}
-use Rattle.bx_runs.specs.declared.typing.Typing.TheVariants.{Off, Paste, Pasting}
+use Rattle.bx_runs.specs.declared.typing.Typing.TheVariants.{Off, Paste}
 use Rattle.bx_runs.specs.Typing.{after_insertion, goes_on, kind_of}
 use Rattle.bx_editor.specs.declared.message.Message.TheVariants.{NothingToPut, TextFull}
 use Rattle.bx_editor.specs.Editor.{Editor, with_insertion, with_removal}
@@ -28,32 +28,31 @@ has_room e new = fits e.content.text (yielding e).0 (yielding e).1 new
 abbrev pub with_selection_replaced : Data → Editor → List ℕ → Editor
 with_selection_replaced d e new = with_insertion d (with_removal d e (region e).0 (region e).1 false) new true
 
--- bytes are put in, in the run before if `goes_on` and nothing is selected; without room the text stays as it is
+-- bytes are put in, in the run before if `goes_on` and nothing is selected
+abbrev pub placed : Data → Editor → List ℕ → Bool → Editor
+placed d e new goes_on = if is_selection e then with_selection_replaced d e new else with_insertion d e new goes_on
+
+-- the same; without room the text stays as it is
 abbrev pub put_in : Data → Editor → List ℕ → Bool → Editor
-put_in d e new goes_on =
-    if has_room e new
-    then (if is_selection e then with_selection_replaced d e new else with_insertion d e new goes_on)
-    else record e { message = Some TextFull }
+put_in d e new goes_on = if has_room e new then placed d e new goes_on else record e { message = Some TextFull }
 
 -- ---- typing
 
 -- a paste is being read
 abbrev pub is_paste : Typing → Bool
 is_paste Paste = true
-is_paste Pasting = true
 is_paste _ = false
 
 -- what goes on where nothing was put into the text: only a paste
 abbrev pub only_paste : Typing → Typing
 only_paste Paste = Paste
-only_paste Pasting = Pasting
 only_paste _ = Off
 
 -- bytes of this kind are typed; `typing` tells what the key before left
 abbrev pub typed : Data → Typing → Editor → List ℕ → Kind → Editor
 typed d typing e new kind =
     record (put_in d e new (goes_on typing kind)) {
-      typing = if has_room e new then after_insertion typing kind else only_paste typing;
+      typing = if has_room e new then after_insertion kind else only_paste typing;
     }
 
 -- the line end that a text has: CR LF if its first separator is that, else LF
@@ -64,10 +63,9 @@ line_end d text = if has_crlf_first d text then 0xD ∷ 0xA ∷ [] else 0xA ∷ 
 abbrev pub after_new_line : Data → Typing → Editor → Editor
 after_new_line d typing e = typed d typing e (line_end d (splice e.content.text (yielding e).0 (yielding e).1 [])) Separator
 
--- a typed character; LF in a paste is a new line
+-- a typed character
 abbrev pub after_character : Data → Typing → Editor → ℕ → Editor
-after_character d typing e c =
-    if (c == 0xA) && is_paste typing then after_new_line d typing e else typed d typing e (encode_utf8 c) (kind_of (d.class c))
+after_character d typing e c = typed d typing e (encode_utf8 c) (kind_of (d.class c))
 
 -- ---- the held text
 

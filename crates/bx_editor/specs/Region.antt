@@ -1,9 +1,10 @@
 -- The region between the mark and the cursor's place, and the keys that mark, copy and cut. `d` is Unicode's data, `e` the
 -- editor.
-use Rattle.std.specs.Prelude.{ℕ, ◌==◌, min, max, Bool, false, List, slice_range, Option, Some, None, unwrap_or, if◌then◌else◌}
+use Rattle.std.specs.Prelude.{ℕ, ◌==◌, ◌&&◌, nat_lt, min, max, Bool, false, List, length, slice_range, Option, Some, None, unwrap_or, if◌then◌else◌}
 use Rattle.bx_ucd.specs.Data.{Data}
 use Rattle.bx_document.specs.Line as lines
-use Rattle.bx_editor.specs.declared.message.Message.TheVariants.{Copied, LineCopied, MarkOff, MarkSet, NothingToCopy}
+use Rattle.bx_editor.specs.declared.message.Message.{Message}
+use Rattle.bx_editor.specs.declared.message.Message.TheVariants.{Copied, LineCopied, MarkOff, MarkSet, NothingToCopy, TooLongForClipboard}
 use Rattle.bx_editor.specs.declared.soft.Soft.TheVariants.{Off}
 use Rattle.bx_editor.specs.Editor.{Editor, with_removal}
 
@@ -43,18 +44,33 @@ after_mark e =
 abbrev pub without_mark : Editor → Editor
 without_mark e = record e { mark = None; soft = Off }
 
+-- the most bytes of held text that go out to a clipboard
+abbrev pub largest_clip : ℕ
+largest_clip = 65536
+
+-- the message of a key that held this text: its own, but with a clipboard a text that is too long for it is told
+abbrev pub held_message : Bool → List ℕ → Option Message → Option Message
+held_message clipboard held own = if clipboard && nat_lt largest_clip (length held) then Some TooLongForClipboard else own
+
+-- this text is held, with its message, and the mark is removed
+abbrev pub with_held : Editor → List ℕ → Message → Editor
+with_held e held own = record e { mark = None; soft = Off; held = held; message = held_message e.clipboard held (Some own) }
+
 -- Copy makes the region the held text, or the line if the region is empty; if both are empty, the held text stays
 abbrev pub after_copy : Data → Editor → Editor
 after_copy d e =
     if is_empty (region e)
     then (if is_empty (line d e)
     then record e { mark = None; soft = Off; message = Some NothingToCopy }
-    else record e { mark = None; soft = Off; held = bytes_in e (line d e); message = Some LineCopied })
-    else record e { mark = None; soft = Off; held = bytes_in e (region e); message = Some Copied }
+    else with_held e (bytes_in e (line d e)) LineCopied)
+    else with_held e (bytes_in e (region e)) Copied
 
 -- Cut makes the part that Copy would take the held text, and removes it from the text
 abbrev pub after_cut : Data → Editor → Editor
 after_cut d e =
     if is_empty (taken d e)
     then after_copy d e
-    else record (with_removal d e ((taken d e).0) ((taken d e).1) false) { held = bytes_in e (taken d e) }
+    else record (with_removal d e ((taken d e).0) ((taken d e).1) false) {
+      held = bytes_in e (taken d e);
+      message = held_message e.clipboard (bytes_in e (taken d e)) e.message;
+    }

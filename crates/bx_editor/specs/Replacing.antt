@@ -14,9 +14,10 @@ use Rattle.bx_editor.specs.declared.message.Message.TheVariants.{Replaced, TextF
 use Rattle.bx_editor.specs.declared.seek.Seek.{Seek}
 use Rattle.bx_editor.specs.declared.seek.Seek.TheVariants.{Off, Typed, WithBegun, WithTyped, Replacing}
 use Rattle.bx_editor.specs.Editor.{Editor, rows, rows_of, with_exchange}
+use Rattle.bx_editor.specs.Pasting.{with_paste}
 use Rattle.bx_editor.specs.Putting.{is_paste}
 use Rattle.bx_editor.specs.Region.{region}
-use Rattle.bx_editor.specs.Search.{after_letter, is_no_letter, kept, landed, landing_from, lengthened, reading, shortened, sought}
+use Rattle.bx_editor.specs.Search.{after_letter, is_no_letter, kept, landed, landing_from, lengthened, reading, shortened, sought, without_search}
 
 -- ---- the question for the other text
 
@@ -37,10 +38,17 @@ abbrev pub is_replacing : Aim → Bool
 is_replacing Find = false
 is_replacing Replace = true
 
--- a typed character in a search; in one for replacing a line end asks for the other text, but a pasted one asks nothing
+-- a line end in a search: in one for replacing it asks for the other text, but a pasted one asks nothing; in one for finding it ends
+-- the search, and what a paste then brings goes into the text
+abbrev pub after_sought_end : Data → Typing → Editor → Editor
+after_sought_end d typing e =
+    if is_replacing e.aim
+    then (if is_paste typing then e else after_asking_other d e)
+    else if is_paste typing then with_paste (without_search e) else without_search e
+
+-- a typed character in a search
 abbrev pub after_sought_letter : Data → Typing → Editor → ℕ → Editor
-after_sought_letter d typing e c =
-    if (c == 0xA) && is_replacing e.aim then (if is_paste typing then e else after_asking_other d e) else after_letter d e c
+after_sought_letter d typing e c = if c == 0xA then after_sought_end d typing e else after_letter d e c
 
 -- ---- the other text
 

@@ -107,12 +107,10 @@ after_giving_up e = record e { seek = Off; place = e.origin }
 abbrev pub with_query : Editor → List ℕ → Editor
 with_query e query = record e { query = query; seek = Typed }
 
--- a typed character is added to the query, which is sought from the place on; a line feed ends the search
+-- a typed character other than a line feed is added to the query, which is sought from the place on
 abbrev pub after_letter : Data → Editor → ℕ → Editor
 after_letter d e c =
-    if c == 0xA
-    then without_search e
-    else if is_no_letter d c then e else search_from d e.place (with_query e (lengthened longest_query (kept e.seek e.query) c))
+    if is_no_letter d c then e else search_from d e.place (with_query e (lengthened longest_query (kept e.seek e.query) c))
 
 -- the query loses its last character, and is sought from where the search began
 abbrev pub after_shortening : Data → Editor → Editor

@@ -15,7 +15,7 @@ use Rattle.bx_editor.specs.declared.aim.Aim.TheVariants.{Find, Replace}
 use Rattle.bx_editor.specs.declared.message.Message.{Message}
 use Rattle.bx_editor.specs.declared.message.Message.TheVariants.{Saved, SaveFailed, TextFull, NothingToUndo, NothingToRedo, Unsaved, Direction, MarkSet, MarkOff}
 use Rattle.bx_editor.specs.declared.message.Message.TheVariants.{Copied, LineCopied, NothingToCopy, NothingToPut, FromStart, FromEnd, NotFound, Help}
-use Rattle.bx_editor.specs.declared.message.Message.TheVariants.{MoreHelp, MoreThanOneLine, NoSuchCharacter, Replaced, Told, Notice}
+use Rattle.bx_editor.specs.declared.message.Message.TheVariants.{MoreHelp, MoreThanOneLine, NoSuchCharacter, Pasting, Replaced, Told, TooLongForClipboard, Notice}
 use Rattle.bx_editor.specs.declared.seek.Seek.{Seek}
 use Rattle.bx_editor.specs.declared.seek.Seek.TheVariants.{Off, Begun, Typed, WithBegun, WithTyped, Replacing}
 use Rattle.bx_ucd.specs.Data.{Data}
@@ -65,6 +65,8 @@ message_text Help = codes "^S save ^Q quit ^Z undo ^W find ^@ mark ^X cut ^C cop
 message_text MoreHelp = codes "F4 replace ^G line ^K insert ^T tell ^Y redo ^R back ^L paint"
 message_text MoreThanOneLine = codes "more than one line"
 message_text NoSuchCharacter = codes "no such character"
+message_text Pasting = codes "pasting"
+message_text TooLongForClipboard = codes "too long for the clipboard"
 message_text (Replaced n) = codes " replaced"
 message_text (Notice notice) = notice_text notice
 message_text Told = []

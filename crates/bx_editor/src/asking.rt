@@ -18,7 +18,7 @@ use bx_asking::{
     Ask, Target, asked, asks_code, closing, coded, is_code_letter, is_line_letter, lengthened,
     named, shortened,
 };
-use bx_runs::{Kind, Typing};
+use bx_runs::Kind;
 use bx_terms::OutOfMemory;
 use bx_ucd::BidiData;
 
@@ -128,7 +128,7 @@ impl<D: BidiData + Drop> Editor<D> {
         let room = self.insert_text(new, false)?;
         self.clear();
         if room {
-            self.typing = Typing::Off.after_insertion(kind);
+            self.typing = kind.typing();
         } else {
             self.message = Some(Message::TextFull);
         }

@@ -5,7 +5,7 @@ ghost use Rattle.std.specs.Iterator.{Drains};
 ghost use Rattle.bx_terms.specs.Sizes.{is_side};
 ghost use Rattle.bx_text.specs.Slices.{joined, lends};
 ghost use Rattle.bx_grid.specs.Picture.{is_size};
-ghost use Rattle.bx_editor.specs.Editor.{with_size};
+ghost use Rattle.bx_editor.specs.Editor.{with_size, with_top};
 ghost use Rattle.bx_editor.specs.Search.{without_search};
 
 use crate::aim::Aim;
@@ -38,16 +38,19 @@ pub struct Editor<D: BidiData + Drop> {
     pub(crate) count: usize,
     pub(crate) ask: Ask,
     pub(crate) answer: String,
+    pub(crate) pasted: Option<String>,
     pub(crate) typing: Typing,
     pub(crate) message: Option<Message>,
     pub(crate) quit_before: bool,
     pub(crate) ended: bool,
     pub(crate) goal: Option<u16>,
     pub(crate) height: u16,
+    pub(crate) top: usize,
+    pub(crate) clipboard: bool,
 }
 
 impl<D: BidiData + Drop> Model for Editor<D> {
-    ghost use Rattle.std.specs.Prelude.{◌≡◌, ◌≤◌, true, IfSome, chars, length, string_bytes};
+    ghost use Rattle.std.specs.Prelude.{◌≡◌, ◌≤◌, true, IfSome, chars, length, option_map, string_bytes};
     ghost use Rattle.bx_terms.specs.Sizes.{is_side};
     ghost use Rattle.bx_view.specs.Places.{IsTextPlace};
     ghost use Rattle.bx_editor.specs.Answers.{IsAnswer};
@@ -73,6 +76,7 @@ impl<D: BidiData + Drop> Model for Editor<D> {
         count = e.count;
         ask = e.ask;
         answer = string_bytes e.answer;
+        pasted = option_map string_bytes e.pasted;
         runs = e.past.runs.numbers;
         typing = e.typing;
         stored = e.past.stored;
@@ -84,6 +88,8 @@ impl<D: BidiData + Drop> Model for Editor<D> {
         goal = e.goal;
         height = e.height;
         width = e.document.document.w;
+        top = e.top;
+        clipboard = e.clipboard;
       };
     } };
 
@@ -128,13 +134,6 @@ impl<D: BidiData + Drop> Editor<D> {
         ensures { result ≡ self.now.editor.ended }
     {
         self.ended
-    }
-
-    /// Whether there was an edit since the opening or the last save, or the text is not the stored one. Allocates nothing.
-    pub fn changed(&self) -> bool
-        ensures { result ≡ self.now.editor.changed }
-    {
-        self.past.changed
     }
 
     /// The cursor's place, in bytes from 0. Allocates nothing.
@@ -214,6 +213,20 @@ impl<D: BidiData + Drop> Editor<D> {
         ensures side { is_side self.now.editor.width ≡ true }
     {
         self.document.width()
+    }
+
+    /// The offset, in bytes, whose row was last shown first. Allocates nothing.
+    pub fn top(&self) -> usize
+        ensures { result ≡ self.now.editor.top }
+    {
+        self.top
+    }
+
+    /// Notes the offset whose row is shown first. Allocates nothing.
+    pub fn set_top(&mut self, top: usize)
+        ensures { self.new ≡ record self.old { editor = with_top self.old.editor top } }
+    {
+        self.top = top;
     }
 
     /// Ends the search, if one is on. The cursor stays. Allocates nothing.

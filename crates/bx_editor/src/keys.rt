@@ -3,8 +3,9 @@ ghost use Rattle.std.specs.Prelude.{◌≡◌, None, Some, true, false, OnErr, O
 ghost use Rattle.bx_editor.specs.Asking.{without_ask};
 ghost use Rattle.bx_editor.specs.Editor.{after_help, after_quit, cleared, next_base, with_base, with_typing};
 ghost use Rattle.bx_editor.specs.Effects.{before};
-ghost use Rattle.bx_editor.specs.Keys.{after_any, after_asking, after_key, after_pressing};
-ghost use Rattle.bx_editor.specs.Keys.{is_edit_or_move, is_save, is_size_key, is_told_key};
+ghost use Rattle.bx_editor.specs.Keys.{after_any, after_asking, after_key, after_pressing, after_user, is_edit_or_move, is_save};
+ghost use Rattle.bx_editor.specs.Keys.{is_size_key, is_told_key, may_refuse, needs_no_painting};
+ghost use Rattle.bx_editor.specs.Picture.{LooksAs};
 
 use crate::aim::Aim;
 use crate::editor::Editor;
@@ -91,8 +92,10 @@ impl<D: BidiData + Drop> Editor<D> {
         self.tell(Message::Direction(base));
     }
 
-    /// Reports the end of a Save, with its fault if it failed, and ends a search or a question. Allocates nothing.
+    /// Reports the end of a Save, with its fault if it failed, and ends a search or a question. Call [`Editor::end_paste`] before the
+    /// text is stored. Allocates nothing.
     pub fn finish_save(&mut self, fault: Option<StoreFault>)
+        requires no_paste { self.old.editor.pasted ≡ None }
         ensures { self.new ≡ record self.old { editor = after_key (D.data self.old.tables) fault self.old.editor Key.Save } }
     {
         match fault {
@@ -113,25 +116,44 @@ impl<D: BidiData + Drop> Editor<D> {
 
     /// Applies a key other than Save and Size.
     ///
-    /// Errors: `OutOfMemory`, only for a key that edits, undoes, redoes, moves, copies or finds, and nothing has changed.
+    /// Errors: `OutOfMemory`, only for a key that edits, undoes, redoes, moves, copies or finds, or ends a paste, and nothing has
+    /// changed.
     pub fn apply(&mut self, key: Key) -> Result<(), OutOfMemory>
         requires no_save { is_save key ≡ false }
         requires no_size { is_size_key key ≡ false }
         ensures ok { OnOk result (self.new.editor ≡ after_key (D.data self.old.tables) None self.old.editor key) }
         ensures tables { self.new.tables ≡ self.old.tables }
         ensures err { OnErr result (self.new ≡ self.old) }
+        ensures edits { OnErr result (may_refuse self.old.editor key ≡ true) }
+        ensures unseen { needs_no_painting self.old.editor key ≡ true
+            → OnOk result (LooksAs (D.data self.old.tables) self.old.editor self.new.editor) }
+    {
+        match (key, self.pasted.is_some()) {
+            (Key::Notice(notice), _) => self.message = Some(Message::Notice(notice)),
+            (Key::PasteStart, _) => self.start_paste(),
+            (Key::PasteEnd, _) => {
+                self.end_paste()?;
+                self.typing = Typing::Off;
+            }
+            (Key::Insert(c), true) => self.paste_letter(c)?,
+            (Key::Repaint, true) | (_, false) => self.press_key(key)?,
+            (_, true) => self.press_behind_paste(key)?,
+        }
+        Ok(())
+    }
+
+    /// Applies a key that the user presses where no paste is under way.
+    fn press_key(&mut self, key: Key) -> Result<(), OutOfMemory>
+        requires no_save { is_save key ≡ false }
+        requires typed { is_told_key key ≡ false }
+        ensures ok { OnOk result (self.new.editor ≡ after_user (D.data self.old.tables) None self.old.editor key) }
+        ensures tables { self.new.tables ≡ self.old.tables }
+        ensures err { OnErr result (self.new ≡ self.old) }
         ensures edits { OnErr result (is_edit_or_move key ≡ true) }
     {
-        match key {
-            Key::Notice(notice) => self.message = Some(Message::Notice(notice)),
-            Key::PasteStart => self.typing = Typing::Paste,
-            Key::PasteEnd => self.typing = Typing::Off,
-            _ => {
-                self.press_any(key)?;
-                self.goal = goal_behind(key, self.goal);
-                self.cursor.soft = soft_behind(key, self.cursor.soft);
-            }
-        }
+        self.press_any(key)?;
+        self.goal = goal_behind(key, self.goal);
+        self.cursor.soft = soft_behind(key, self.cursor.soft);
         Ok(())
     }
 

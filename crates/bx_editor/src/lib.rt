@@ -3,6 +3,7 @@
 
 pub mod aim;
 mod asking;
+mod clipboard;
 mod cursor;
 mod editor;
 mod erasing;
@@ -14,6 +15,7 @@ mod moving;
 mod opening;
 mod other;
 mod past;
+mod pasting;
 mod picture;
 mod putting;
 mod query;

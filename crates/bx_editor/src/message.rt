@@ -42,6 +42,10 @@ pub enum Message {
     MoreThanOneLine,
     /// The answer writes no character's code.
     NoSuchCharacter,
+    /// A paste is under way.
+    Pasting,
+    /// What was copied or cut is held, but is too long for the clipboard.
+    TooLongForClipboard,
     /// Replacing has ended, with the number of matches that were replaced.
     Replaced(usize),
     /// What stands at the cursor's place: the state tells it, and not the message.
@@ -118,6 +122,8 @@ impl Message {
             Message::MoreHelp => "F4 replace ^G line ^K insert ^T tell ^Y redo ^R back ^L paint",
             Message::MoreThanOneLine => "more than one line",
             Message::NoSuchCharacter => "no such character",
+            Message::Pasting => "pasting",
+            Message::TooLongForClipboard => "too long for the clipboard",
             Message::Replaced(_) => " replaced",
             Message::Told => "",
             Message::Notice(notice) => notice_text(notice),

@@ -2,7 +2,7 @@
 ghost use Rattle.std.specs.Prelude.{◌≡◌, if◌then◌else◌, IfOk, OnErr, OnOk, encode_utf8};
 ghost use Rattle.bx_text.specs.Edits.{fits};
 ghost use Rattle.bx_editor.specs.Editor.{cleared, with_insertion};
-ghost use Rattle.bx_editor.specs.Putting.{after_character, after_new_line, after_put, has_room, is_paste, only_paste, put_in, typed, with_selection_replaced};
+ghost use Rattle.bx_editor.specs.Putting.{after_character, after_new_line, after_put, has_room, is_paste, only_paste, placed, put_in, typed, with_selection_replaced};
 ghost use Rattle.bx_editor.specs.Region.{region};
 
 use crate::editor::Editor;
@@ -16,7 +16,7 @@ use std::mem;
 pub(crate) fn is_paste(typing: Typing) -> bool
     ensures { result ≡ is_paste typing }
 {
-    matches!(typing, Typing::Paste | Typing::Pasting)
+    matches!(typing, Typing::Paste)
 }
 
 /// What goes on where nothing was put into the text: only a paste.
@@ -24,7 +24,7 @@ pub(crate) fn only_paste(typing: Typing) -> Typing
     ensures { result ≡ only_paste typing }
 {
     match typing {
-        Typing::Paste | Typing::Pasting => typing,
+        Typing::Paste => Typing::Paste,
         _ => Typing::Off,
     }
 }
@@ -68,6 +68,20 @@ impl<D: BidiData + Drop> Editor<D> {
         Ok(true)
     }
 
+    /// Puts bytes in, in place of the selection if there is one. Returns whether there was room.
+    pub(crate) fn place(&mut self, new: &str, goes_on: bool) -> Result<bool, OutOfMemory>
+        ensures room { IfOk result (λ room. room ≡ has_room self.old.editor new.now) }
+        ensures ok { IfOk result (λ room. self.new ≡ record self.old {
+          editor = if room then placed (D.data self.old.tables) self.old.editor new.now goes_on else self.old.editor;
+        }) }
+        ensures err { OnErr result (self.new ≡ self.old) }
+    {
+        if self.is_selection() {
+            return self.replace_region(new);
+        }
+        self.insert_text(new, goes_on)
+    }
+
     /// Puts bytes in, in place of the selection if there is one; without room, sets a message. Returns whether there was room.
     fn put_in(&mut self, new: &str, goes_on: bool) -> Result<bool, OutOfMemory>
         ensures room { IfOk result (λ room. room ≡ has_room self.old.editor new.now) }
@@ -76,11 +90,7 @@ impl<D: BidiData + Drop> Editor<D> {
         }) }
         ensures err { OnErr result (self.new ≡ self.old) }
     {
-        let room = if self.is_selection() {
-            self.replace_region(new)?
-        } else {
-            self.insert_text(new, goes_on)?
-        };
+        let room = self.place(new, goes_on)?;
         self.clear();
         if !room {
             self.message = Some(Message::TextFull);
@@ -98,7 +108,7 @@ impl<D: BidiData + Drop> Editor<D> {
         let typing = self.typing;
         let room = self.put_in(new, typing.goes_on(kind))?;
         self.typing = if room {
-            typing.after_insertion(kind)
+            kind.typing()
         } else {
             only_paste(typing)
         };
@@ -121,16 +131,13 @@ impl<D: BidiData + Drop> Editor<D> {
         self.type_text(if is_crlf { "\r\n" } else { "\n" }, Kind::Separator)
     }
 
-    /// Types a character; LF in a paste is a new line.
+    /// Types a character.
     pub(crate) fn insert(&mut self, c: char) -> Result<(), OutOfMemory>
         ensures ok { OnOk result (self.new ≡ record self.old {
           editor = after_character (D.data self.old.tables) self.old.editor.typing (cleared self.old.editor) c;
         }) }
         ensures err { OnErr result (self.new ≡ self.old) }
     {
-        if c == '\n' && is_paste(self.typing) {
-            return self.new_line();
-        }
         let kind = Kind::of(self.document.class(c));
         // a character has at most four bytes
         let mut buffer = [0; 4];

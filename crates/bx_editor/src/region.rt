@@ -1,8 +1,8 @@
 //! The mark, and the keys that copy and cut.
-ghost use Rattle.std.specs.Prelude.{◌≡◌, OnErr, OnOk, Some, None, slice_range};
+ghost use Rattle.std.specs.Prelude.{◌≡◌, OnErr, OnOk, slice_range};
 ghost use Rattle.bx_text.specs.Edits.{IsRange};
 ghost use Rattle.bx_editor.specs.Editor.{cleared};
-ghost use Rattle.bx_editor.specs.Region.{after_copy, after_cut, after_mark, is_at_mark, region, taken, without_mark};
+ghost use Rattle.bx_editor.specs.Region.{after_copy, after_cut, after_mark, held_message, is_at_mark, region, taken, with_held, without_mark};
 
 use crate::editor::Editor;
 use crate::message::Message;
@@ -18,6 +18,19 @@ fn is_at_mark(mark: Option<usize>, place: usize) -> bool
         Some(mark) => mark == place,
         None => false,
     }
+}
+
+/// The most bytes of held text that go out to a clipboard. A choice, which docs/bidi_edit.1 tells; many terminals take no more.
+const LARGEST_CLIP: usize = 65_536;
+
+/// The message of a key that held this text: its own, but with a clipboard a text that is too long for it is told.
+fn held_message(clipboard: bool, held: &str, own: Option<Message>) -> Option<Message>
+    ensures { result ≡ held_message clipboard held.now own }
+{
+    if clipboard && held.len() > LARGEST_CLIP {
+        return Some(Message::TooLongForClipboard);
+    }
+    own
 }
 
 impl<D: BidiData + Drop> Editor<D> {
@@ -71,19 +84,16 @@ impl<D: BidiData + Drop> Editor<D> {
     fn hold(&mut self, start: usize, stop: usize, message: Message) -> Result<(), OutOfMemory>
         requires range { IsRange self.old.editor.content.text start stop }
         ensures ok { OnOk result (self.new ≡ record self.old {
-          editor = record (cleared self.old.editor) {
-            mark = None;
-            soft = Soft.Off;
-            held = slice_range self.old.editor.content.text start stop;
-            message = Some message;
-          };
+          editor = with_held (cleared self.old.editor) (slice_range self.old.editor.content.text start stop) message;
         }) }
         ensures err { OnErr result (self.new ≡ self.old) }
     {
-        self.held = self.document.copy(start, stop)?;
+        let held = self.document.copy(start, stop)?;
+        self.clear();
+        self.message = held_message(self.clipboard, held.as_str(), Some(message));
+        self.held = held;
         self.cursor.mark = None;
         self.cursor.soft = Soft::Off;
-        self.tell(message);
         Ok(())
     }
 
@@ -121,6 +131,7 @@ impl<D: BidiData + Drop> Editor<D> {
         }
         let held = self.document.copy(start, stop)?;
         self.remove(start, stop, false)?;
+        self.message = held_message(self.clipboard, held.as_str(), None);
         self.held = held;
         Ok(())
     }

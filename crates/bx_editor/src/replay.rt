@@ -1,5 +1,6 @@
-//! What a replay does in place of keys of a journal that save or quit, and its end.
-ghost use Rattle.std.specs.Prelude.{◌≡◌};
+//! What a replay does in place of keys of a journal that save or quit, and its end. Each of the calls wants a paste to be ended before
+//! ([`Editor::end_paste`]).
+ghost use Rattle.std.specs.Prelude.{◌≡◌, None};
 ghost use Rattle.bx_editor.specs.Replay.{after_passed_quit, after_passed_save, at_replay_end};
 
 use crate::editor::Editor;
@@ -12,6 +13,7 @@ use bx_ucd::BidiData;
 impl<D: BidiData + Drop> Editor<D> {
     /// Passes over a Quit of a journal, outside a search and a question: it ends what any key ends. Allocates nothing.
     pub fn pass_quit(&mut self)
+        requires no_paste { self.old.editor.pasted ≡ None }
         ensures { self.new ≡ record self.old { editor = after_passed_quit self.old.editor } }
     {
         self.typing = Typing::Off;
@@ -22,6 +24,7 @@ impl<D: BidiData + Drop> Editor<D> {
     /// Passes over a Save of a journal: it ends a search, a question and what any key ends. No undo counts as leading to the stored
     /// text, since a journal does not tell whether the save succeeded. Allocates nothing.
     pub fn pass_save(&mut self)
+        requires no_paste { self.old.editor.pasted ≡ None }
         ensures { self.new ≡ record self.old { editor = after_passed_save self.old.editor } }
     {
         self.pass_quit();
@@ -33,6 +36,7 @@ impl<D: BidiData + Drop> Editor<D> {
     /// Ends a replay: no search is on, nothing is asked, the next edit begins a run, and the text is the stored one unless it counts
     /// as changed. Allocates nothing.
     pub fn end_replay(&mut self)
+        requires no_paste { self.old.editor.pasted ≡ None }
         ensures { self.new ≡ record self.old { editor = at_replay_end self.old.editor } }
     {
         self.cursor.seek = Seek::Off;

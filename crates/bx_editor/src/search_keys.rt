@@ -6,7 +6,7 @@ ghost use Rattle.bx_editor.specs.Effects.{before};
 ghost use Rattle.bx_editor.specs.Keys.{after_pressing, after_seeking, answer_of, answered_match, answered_other, is_edit_or_move, is_save, is_told_key};
 ghost use Rattle.bx_editor.specs.Origin.{asks_other, is_queried};
 ghost use Rattle.bx_editor.specs.Putting.{only_paste};
-ghost use Rattle.bx_editor.specs.Replacing.{after_match_letter, after_other_letter, after_sought_letter};
+ghost use Rattle.bx_editor.specs.Replacing.{after_match_letter, after_other_letter, after_sought_end, after_sought_letter};
 ghost use Rattle.bx_editor.specs.Search.{without_search};
 
 use crate::aim::Aim;
@@ -14,10 +14,42 @@ use crate::editor::Editor;
 use crate::putting::{is_paste, only_paste};
 use crate::seek::Seek;
 use bx_keys::Key;
+use bx_runs::Typing;
 use bx_terms::OutOfMemory;
 use bx_ucd::BidiData;
 
 impl<D: BidiData + Drop> Editor<D> {
+    /// Applies a line end in a search: in one for replacing it asks for the other text, but a pasted one asks nothing; in one for
+    /// finding it ends the search, and what a paste then brings goes into the text.
+    fn end_query(&mut self) -> Result<(), OutOfMemory>
+        requires origin { IsTextPlace (D.data self.old.tables) self.old.editor.content.text self.old.editor.origin }
+        requires queried { is_queried self.old.editor.seek ≡ true }
+        ensures ok { OnOk result (self.new ≡ record self.old {
+          editor = with_typing (after_sought_end (D.data self.old.tables) self.old.editor.typing (cleared self.old.editor))
+              (only_paste self.old.editor.typing);
+        }) }
+        ensures err { OnErr result (self.new ≡ self.old) }
+    {
+        let typing = self.typing;
+        match (self.aim, is_paste(typing)) {
+            (Aim::Replace, true) => {
+                self.rest();
+                Ok(())
+            }
+            (Aim::Replace, false) => self.ask_other(),
+            (Aim::Find, true) => {
+                self.end_search();
+                self.begin_paste();
+                self.typing = Typing::Paste;
+                Ok(())
+            }
+            (Aim::Find, false) => {
+                self.end_search();
+                Ok(())
+            }
+        }
+    }
+
     /// Applies a character that is typed while the query is asked for; a paste goes on behind it.
     fn answer(&mut self, c: char) -> Result<(), OutOfMemory>
         requires origin { IsTextPlace (D.data self.old.tables) self.old.editor.content.text self.old.editor.origin }
@@ -28,14 +60,10 @@ impl<D: BidiData + Drop> Editor<D> {
         }) }
         ensures err { OnErr result (self.new ≡ self.old) }
     {
-        let typing = self.typing;
-        if c == '\n' && self.aim == Aim::Replace {
-            if is_paste(typing) {
-                self.rest();
-                return Ok(());
-            }
-            return self.ask_other();
+        if c == '\n' {
+            return self.end_query();
         }
+        let typing = self.typing;
         self.type_letter(c)?;
         self.typing = only_paste(typing);
         Ok(())

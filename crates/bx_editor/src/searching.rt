@@ -70,8 +70,8 @@ impl<D: BidiData + Drop> Editor<D> {
         self.cursor.seek = Seek::Typed;
     }
 
-    /// Appends a character to the query, and seeks it from the place on. A line feed ends the search; a tab or another character
-    /// that separates paragraphs only clears the message.
+    /// Appends a character to the query, and seeks it from the place on. A tab, or a character that separates paragraphs, only clears
+    /// the message.
     pub(crate) fn type_letter(&mut self, c: char) -> Result<(), OutOfMemory>
         requires origin { IsTextPlace (D.data self.old.tables) self.old.editor.content.text self.old.editor.origin }
         ensures ok { OnOk result (self.new ≡ record self.old {
@@ -79,10 +79,6 @@ impl<D: BidiData + Drop> Editor<D> {
         }) }
         ensures err { OnErr result (self.new ≡ self.old) }
     {
-        if c == '\n' {
-            self.end_search();
-            return Ok(());
-        }
         if c == '\t' || self.document.separates(c) {
             self.clear();
             return Ok(());

@@ -7,7 +7,7 @@ use Rattle.bx_runs.specs.declared.typing.Kind.TheVariants.{Separator, Blank, Let
 use Rattle.bx_runs.specs.declared.typing.Removal.{Removal}
 use Rattle.bx_runs.specs.declared.typing.Removal.TheVariants.{Erase, Delete}
 use Rattle.bx_runs.specs.declared.typing.Typing.{Typing}
-use Rattle.bx_runs.specs.declared.typing.Typing.TheVariants.{Off, Word, Blanks, Erasing, Paste, Pasting}
+use Rattle.bx_runs.specs.declared.typing.Typing.TheVariants.{Off, Word, Blanks, Erasing}
 use Rattle.bx_runs.specs.Typing.{kind_of, goes_on, after_insertion, goes_on_removing, after_removal}
 use Rattle.bx_runs.specs.Runs.{edited, run_start, run_end}
 use Rattle.bx_runs.specs.Laws.{undone, redone}
@@ -27,7 +27,7 @@ abbrev nothing : Typed
 nothing = record { typing = Off; past = 0; begins = [] }
 
 abbrev put : Typed → Kind → Typed
-put t kind = record { typing = after_insertion t.typing kind; past = t.past + 1; begins = edited t.begins t.past (goes_on t.typing kind) }
+put t kind = record { typing = after_insertion kind; past = t.past + 1; begins = edited t.begins t.past (goes_on t.typing kind) }
 
 abbrev put_all : Typed → List Kind → Typed
 put_all t kinds = fold put t kinds
@@ -35,9 +35,6 @@ put_all t kinds = fold put t kinds
 abbrev take_out : Typed → Removal → Typed
 take_out t removal =
     record { typing = after_removal removal; past = t.past + 1; begins = edited t.begins t.past (goes_on_removing t.typing removal) }
-
-abbrev with_typing : Typing → Typed → Typed
-with_typing typing t = record t { typing = typing }
 
 -- `ab cd`
 abbrev two_words : List Kind
@@ -58,20 +55,6 @@ letter_behind_blanks = refl
 separators : put_all nothing (Letter ∷ Separator ∷ Separator ∷ Letter ∷ Blank ∷ Separator ∷ [])
     ≡ record { typing = Off; past = 6; begins = 0 ∷ 1 ∷ 2 ∷ 3 ∷ 5 ∷ [] }
 separators = refl
-
--- `a`, then `b c`, two line feeds and `d` pasted, then `e`: a paste is one run, with blanks and separators
-abbrev pasted : Typed
-pasted = put_all (with_typing Paste (put nothing Letter)) (Letter ∷ Blank ∷ Letter ∷ Separator ∷ Separator ∷ Letter ∷ [])
-
-a_paste : put (with_typing Off pasted) Letter ≡ record { typing = Word; past = 8; begins = 0 ∷ 1 ∷ 7 ∷ [] }
-a_paste = refl
-
-within_a_paste : pasted.typing ≡ Pasting
-within_a_paste = refl
-
--- each paste is a run
-two_pastes : (put (with_typing Paste (put_all (with_typing Paste nothing) (Letter ∷ Letter ∷ []))) Letter).begins ≡ 0 ∷ 2 ∷ []
-two_pastes = refl
 
 -- erasures are a run; a letter between them begins one, and so does the erasure after it
 erasures : fold take_out (put (fold take_out nothing (Erase ∷ Erase ∷ [])) Letter) (Erase ∷ Erase ∷ [])

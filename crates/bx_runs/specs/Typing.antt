@@ -7,7 +7,7 @@ use Rattle.bx_runs.specs.declared.typing.Kind.TheVariants.{Separator, Blank, Let
 use Rattle.bx_runs.specs.declared.typing.Removal.{Removal}
 use Rattle.bx_runs.specs.declared.typing.Removal.TheVariants.{Erase, Delete}
 use Rattle.bx_runs.specs.declared.typing.Typing.{Typing}
-use Rattle.bx_runs.specs.declared.typing.Typing.TheVariants.{Off, Word, Blanks, Erasing, Deleting, Paste, Pasting}
+use Rattle.bx_runs.specs.declared.typing.Typing.TheVariants.{Off, Word, Blanks, Erasing, Deleting}
 
 -- the kind of the characters of a class
 abbrev pub kind_of : Class → Kind
@@ -18,21 +18,18 @@ kind_of _ = Letter
 
 -- ---- insertions
 
--- all of a paste but its first character goes on; so do letters and blanks after a letter, and blanks after blanks
+-- letters and blanks go on after a letter, and blanks after blanks
 abbrev pub goes_on : Typing → Kind → Bool
-goes_on Pasting _ = true
 goes_on Word Separator = false
 goes_on Word _ = true
 goes_on Blanks Blank = true
 goes_on _ _ = false
 
 -- what the next edit may go on with after an insertion of this kind
-abbrev pub after_insertion : Typing → Kind → Typing
-after_insertion Paste _ = Pasting
-after_insertion Pasting _ = Pasting
-after_insertion _ Separator = Off
-after_insertion _ Blank = Blanks
-after_insertion _ Letter = Word
+abbrev pub after_insertion : Kind → Typing
+after_insertion Separator = Off
+after_insertion Blank = Blanks
+after_insertion Letter = Word
 
 -- ---- removals
 

@@ -18,10 +18,8 @@ pub enum Typing {
     Erasing,
     /// Characters deleted forward.
     Deleting,
-    /// A paste of which nothing is in the text yet: its first character begins a run.
+    /// A paste is being read.
     Paste,
-    /// A paste of which something is in the text.
-    Pasting,
 }
 
 /// Kinds of characters that are put in.
@@ -44,6 +42,17 @@ impl Kind {
             Class::B => Kind::Separator,
             Class::WS | Class::S => Kind::Blank,
             _ => Kind::Letter,
+        }
+    }
+
+    /// What the next edit may go on with after an insertion of a character of this kind.
+    pub fn typing(self) -> Typing
+        ensures { result ≡ after_insertion self }
+    {
+        match self {
+            Kind::Separator => Typing::Off,
+            Kind::Blank => Typing::Blanks,
+            Kind::Letter => Typing::Word,
         }
     }
 }
@@ -75,22 +84,9 @@ impl Typing {
         ensures { result ≡ goes_on self kind }
     {
         match self {
-            Typing::Pasting => true,
             Typing::Word => kind != Kind::Separator,
             Typing::Blanks => kind == Kind::Blank,
             _ => false,
-        }
-    }
-
-    /// What the next edit may go on with after an insertion of a character of this kind.
-    pub fn after_insertion(self, kind: Kind) -> Typing
-        ensures { result ≡ after_insertion self kind }
-    {
-        match (self, kind) {
-            (Typing::Paste | Typing::Pasting, _) => Typing::Pasting,
-            (_, Kind::Separator) => Typing::Off,
-            (_, Kind::Blank) => Typing::Blanks,
-            (_, Kind::Letter) => Typing::Word,
         }
     }
 

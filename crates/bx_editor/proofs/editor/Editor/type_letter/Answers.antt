@@ -32,4 +32,4 @@ returns-clause-ok g c =
       c.as_str.ensures.value,
     ) at c.land.ensures)
     ∙ ap (λ (x : Editor). (let s : EditorState g.row.D.Denot = record now { editor = x } in s))
-    (sym (letter-sought d e letter c.if-c-eq10.false plain))
+    (sym (letter-sought d e letter plain))

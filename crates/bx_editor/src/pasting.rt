@@ -1,0 +1,146 @@
+//! A paste: what stands between PasteStart and PasteEnd goes into the text at once.
+ghost use Rattle.std.specs.Prelude.{◌≡◌, ℕ, List, [], ◌∷◌, None, is_some, option_map, string_bytes, IsOk, OnErr, OnOk, if◌then◌else◌};
+ghost use Rattle.bx_ucd.specs.Data.{Data};
+ghost use Rattle.bx_editor.specs.Pasting.{after_paste_start, after_pasted_letter, has_changes, has_pasted, longer, paste_ended, with_paste, with_pasted};
+ghost use Rattle.bx_editor.specs.Pasting.{without_paste};
+ghost use Rattle.bx_editor.specs.Putting.{line_end};
+
+use crate::editor::Editor;
+use crate::message::Message;
+use crate::seek::Seek;
+use crate::selecting::aged;
+use bx_asking::Ask;
+use bx_runs::Typing;
+use bx_terms::{LARGEST_TEXT, OutOfMemory};
+use bx_ucd::BidiData;
+
+/// Appends a character to what a paste has brought, LF as CR LF if `is_crlf`. A list that is longer than any text stays as it is.
+///
+/// Errors: `OutOfMemory`, and nothing is appended.
+fn lengthen(list: &mut String, c: char, is_crlf: bool) -> Result<(), OutOfMemory>
+    ensures ok { (d : Data) (text : List ℕ) → line_end d text ≡ (if is_crlf then 0xD ∷ 0xA ∷ [] else 0xA ∷ [])
+        → OnOk result (string_bytes list.new ≡ longer d text (string_bytes list.old) c) }
+    ensures err { OnErr result (string_bytes list.new ≡ string_bytes list.old) }
+{
+    if list.len() > LARGEST_TEXT {
+        return Ok(());
+    }
+    if c == '\n' && is_crlf {
+        list.push_str("\r\n")?;
+        return Ok(());
+    }
+    list.push(c)?;
+    Ok(())
+}
+
+/// Whether something was pasted that is not in the text yet.
+fn has_pasted(pasted: &Option<String>) -> bool
+    ensures { result ≡ has_pasted (option_map string_bytes pasted.now) }
+{
+    match pasted {
+        Some(list) => !list.is_empty(),
+        None => false,
+    }
+}
+
+impl<D: BidiData + Drop> Editor<D> {
+    /// Whether a paste is under way that goes into the text. Allocates nothing.
+    pub fn is_pasting(&self) -> bool
+        ensures { result ≡ is_some self.now.editor.pasted }
+    {
+        self.pasted.is_some()
+    }
+
+    /// Whether there was an edit since the opening or the last save, or the text is not the stored one, or something was pasted that
+    /// is not in the text yet. Allocates nothing.
+    pub fn changed(&self) -> bool
+        ensures { result ≡ has_changes self.now.editor }
+    {
+        self.past.changed || has_pasted(&self.pasted)
+    }
+
+    /// Begins a paste into the text. Allocates nothing.
+    pub(crate) fn begin_paste(&mut self)
+        ensures { self.new ≡ record self.old { editor = with_paste self.old.editor } }
+    {
+        self.pasted = Some(String::new(*self.held.allocator()));
+        self.message = Some(Message::Pasting);
+    }
+
+    /// Applies PasteStart. Allocates nothing.
+    pub(crate) fn start_paste(&mut self)
+        ensures { self.new ≡ record self.old { editor = after_paste_start self.old.editor } }
+    {
+        if let (Ask::Off, Seek::Off, None) = (self.ask, self.cursor.seek, &self.pasted) {
+            self.begin_paste();
+        }
+        self.typing = Typing::Paste;
+    }
+
+    /// Applies a character while a paste is under way. It takes no memory but the list's.
+    pub(crate) fn paste_letter(&mut self, c: char) -> Result<(), OutOfMemory>
+        ensures ok { OnOk result (self.new ≡ record self.old {
+          editor = after_pasted_letter (D.data self.old.tables) self.old.editor c;
+        }) }
+        ensures err { OnErr result (self.new ≡ self.old) }
+    {
+        let is_crlf = self.document.has_crlf_first();
+        if let Some(list) = &mut self.pasted {
+            lengthen(list, c, is_crlf)?;
+        }
+        self.quit_before = false;
+        self.goal = None;
+        self.cursor.soft = aged(self.cursor.soft);
+        Ok(())
+    }
+
+    /// Ends a paste without its text, and takes the message away. Allocates nothing.
+    fn leave_paste(&mut self)
+        ensures { self.new ≡ record self.old { editor = without_paste self.old.editor } }
+    {
+        self.pasted = None;
+        self.typing = Typing::Off;
+        self.message = None;
+    }
+
+    /// Ends a paste, and puts what it has brought in as Put puts the held text in.
+    fn put_pasted(&mut self, list: &str) -> Result<(), OutOfMemory>
+        ensures ok { OnOk result (self.new ≡ record self.old {
+          editor = with_pasted (D.data self.old.tables) self.old.editor list.now;
+        }) }
+        ensures err { OnErr result (self.new ≡ self.old) }
+    {
+        if list.is_empty() {
+            self.leave_paste();
+            return Ok(());
+        }
+        let room = self.place(list, false)?;
+        self.leave_paste();
+        if !room {
+            self.message = Some(Message::TextFull);
+        }
+        Ok(())
+    }
+
+    /// Ends the paste, if one is under way: what it has brought goes into the text. A key that ends a paste does this first, before
+    /// the session stores the text for a Save too.
+    ///
+    /// Errors: `OutOfMemory`, and nothing has changed. Never without a paste.
+    pub fn end_paste(&mut self) -> Result<(), OutOfMemory>
+        ensures ok { OnOk result (self.new ≡ record self.old { editor = paste_ended (D.data self.old.tables) self.old.editor }) }
+        ensures none { OnOk result (self.new.editor.pasted ≡ None) }
+        ensures err { OnErr result (self.new ≡ self.old) }
+        ensures idle { self.old.editor.pasted ≡ None → IsOk result }
+    {
+        let Some(list) = self.pasted.take() else {
+            return Ok(());
+        };
+        match self.put_pasted(list.as_str()) {
+            Ok(()) => Ok(()),
+            Err(refused) => {
+                self.pasted = Some(list);
+                Err(refused)
+            }
+        }
+    }
+}
