@@ -29,3 +29,8 @@ pub mod RunSteps
 pub mod HeldApart
 pub mod ManySteps
 pub mod QuestionKept
+pub mod Pasted
+pub mod Unseen
+pub mod OnePaste
+pub mod SentOut
+mod PasteExamples
