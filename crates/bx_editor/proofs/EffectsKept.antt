@@ -32,7 +32,7 @@ use Rattle.bx_editor.specs.Erasing.{after_erasing, after_erasing_word, after_rem
 use Rattle.bx_editor.specs.Goal.{after_row_move}
 use Rattle.bx_editor.specs.Pasting.{after_paste_end, after_paste_start, after_pasted_letter, ended_with, paste_begun, paste_ended, pasted_with}
 use Rattle.bx_editor.specs.Pasting.{with_paste, with_pasted, without_paste}
-use Rattle.bx_editor.specs.Putting.{after_character, after_new_line, after_put, has_room, line_end, only_paste, placed, put_in}
+use Rattle.bx_editor.specs.Putting.{after_character, after_new_line, after_put, has_room, line_end, only_paste, put_in}
 use Rattle.bx_editor.specs.Putting.{typed, with_selection_replaced, yielding}
 use Rattle.bx_editor.specs.Region.{after_copy, after_cut, after_mark, bytes_in, held_message, is_at_mark, is_empty, line, region, taken, with_held}
 use Rattle.bx_editor.specs.Runs.{after_run_step, by_run, is_changed_at, run_goal, run_length}
@@ -71,15 +71,14 @@ module _ (d : Data) (P : Editor → Type 0) (keeps : IsKeptPressing d P) where
 
   -- ---- edits
 
-  placing : (e : Editor) (new : List ℕ) (on : Bool) → P e → P (placed d e new on)
-  placing e new on h =
-      let without = with_removal d e (region e).0 (region e).1 false in
-      either (is_selection e) (with_selection_replaced d e new) (with_insertion d e new on)
-      (keeps.inserted without new true (keeps.removed e (region e).0 (region e).1 false h)) (keeps.inserted e new on h)
-
   putting : (e : Editor) (new : List ℕ) (on : Bool) → P e → P (put_in d e new on)
   putting e new on h =
-      either (has_room e new) (placed d e new on) (record e { message = Some messages.TextFull }) (placing e new on h)
+      let two = with_selection_replaced d e new in
+      let one = with_insertion d e new on in
+      let without = with_removal d e (region e).0 (region e).1 false in
+      either (has_room e new) (if is_selection e then two else one) (record e { message = Some messages.TextFull })
+      (either (is_selection e) two one (keeps.inserted without new true (keeps.removed e (region e).0 (region e).1 false h))
+      (keeps.inserted e new on h))
       (message e messages.TextFull h)
 
   typing-keeps : (typing : Typing) (e : Editor) (new : List ℕ) (kind : Kind) → P e → P (typed d typing e new kind)

@@ -29,3 +29,5 @@ pub mod RunSteps
 pub mod HeldApart
 pub mod ManySteps
 pub mod QuestionKept
+pub mod Pasted
+pub mod Unseen

@@ -16,7 +16,7 @@ use Rattle.bx_editor.specs.Keys.{Answer, Letter, Shortens, GoesBack, Next, Previ
 use Rattle.bx_editor.specs.Keys.{answered, answered_match, answered_other, answered_question, effect_of}
 use Rattle.bx_editor.specs.Pasting.{ended_with, paste_ended, without_paste}
 use Rattle.bx_editor.specs.Prompts.{HasOnePrompt}
-use Rattle.bx_editor.specs.Putting.{has_room, placed, put_in, with_selection_replaced}
+use Rattle.bx_editor.specs.Putting.{has_room, put_in, with_selection_replaced}
 use Rattle.bx_editor.specs.Search.{without_search}
 use Rattle.bx_editor.specs.Selecting.{is_selection}
 use Rattle.bx_editor.proofs.EffectsKept as kept
@@ -120,8 +120,10 @@ either-one false p q h k = k
 
 put-one : (d : Data) (e : Editor) (new : List ℕ) → HasOnePrompt e → HasOnePrompt (put_in d e new false)
 put-one d e new one =
-    either-one (has_room e new) (placed d e new false) (record e { message = Some TextFull })
-    (either-one (is_selection e) (with_selection_replaced d e new) (with_insertion d e new false) (λ asked. refl) (λ asked. refl)) one
+    let two = with_selection_replaced d e new in
+    let one_edit = with_insertion d e new false in
+    either-one (has_room e new) (if is_selection e then two else one_edit) (record e { message = Some TextFull })
+    (either-one (is_selection e) two one_edit (λ asked. refl) (λ asked. refl)) one
 
 list-one : (d : Data) (e : Editor) (pasted : Option (List ℕ)) → HasOnePrompt e → HasOnePrompt (ended_with d e pasted)
 list-one d e None one = one

@@ -68,6 +68,22 @@ paste_ended d e = ended_with d e e.pasted
 abbrev pub after_paste_end : Data → Editor → Editor
 after_paste_end d e = with_typing (paste_ended d e) Off
 
+-- `new` with all that the end of a paste changes as it was in `e`
+abbrev pub as_before : Editor → Editor → Editor
+as_before e new = record new {
+  content = e.content;
+  place = e.place;
+  mark = e.mark;
+  soft = e.soft;
+  seek = e.seek;
+  runs = e.runs;
+  stored = e.stored;
+  changed = e.changed;
+  pasted = e.pasted;
+  typing = e.typing;
+  message = e.message;
+}
+
 -- ---- what counts as changed
 
 -- something was pasted that is not in the text yet

@@ -28,13 +28,12 @@ has_room e new = fits e.content.text (yielding e).0 (yielding e).1 new
 abbrev pub with_selection_replaced : Data → Editor → List ℕ → Editor
 with_selection_replaced d e new = with_insertion d (with_removal d e (region e).0 (region e).1 false) new true
 
--- bytes are put in, in the run before if `goes_on` and nothing is selected
-abbrev pub placed : Data → Editor → List ℕ → Bool → Editor
-placed d e new goes_on = if is_selection e then with_selection_replaced d e new else with_insertion d e new goes_on
-
--- the same; without room the text stays as it is
+-- bytes are put in, in the run before if `goes_on` and nothing is selected; without room the text stays as it is
 abbrev pub put_in : Data → Editor → List ℕ → Bool → Editor
-put_in d e new goes_on = if has_room e new then placed d e new goes_on else record e { message = Some TextFull }
+put_in d e new goes_on =
+    if has_room e new
+    then (if is_selection e then with_selection_replaced d e new else with_insertion d e new goes_on)
+    else record e { message = Some TextFull }
 
 -- ---- typing
 

@@ -1,10 +1,10 @@
 //! The effect of each key.
-ghost use Rattle.std.specs.Prelude.{◌≡◌, None, Some, true, false, OnErr, OnOk};
+ghost use Rattle.std.specs.Prelude.{◌≡◌, ◌||◌, None, Some, true, false, OnErr, OnOk};
 ghost use Rattle.bx_editor.specs.Asking.{without_ask};
 ghost use Rattle.bx_editor.specs.Editor.{after_help, after_quit, cleared, next_base, with_base, with_typing};
 ghost use Rattle.bx_editor.specs.Effects.{before};
-ghost use Rattle.bx_editor.specs.Keys.{after_any, after_asking, after_key, after_pressing, after_user, is_edit_or_move, is_save};
-ghost use Rattle.bx_editor.specs.Keys.{is_size_key, is_told_key, may_refuse, needs_no_painting};
+ghost use Rattle.bx_editor.specs.Keys.{after_any, after_asking, after_in_paste, after_key, after_pressing, after_user, ends_paste, is_edit_or_move};
+ghost use Rattle.bx_editor.specs.Keys.{is_of_paste, is_save, is_size_key, is_told_key, may_refuse, needs_no_painting};
 ghost use Rattle.bx_editor.specs.Picture.{LooksAs};
 
 use crate::aim::Aim;
@@ -98,6 +98,13 @@ impl<D: BidiData + Drop> Editor<D> {
         requires no_paste { self.old.editor.pasted ≡ None }
         ensures { self.new ≡ record self.old { editor = after_key (D.data self.old.tables) fault self.old.editor Key.Save } }
     {
+        self.note_save(fault);
+    }
+
+    /// The same, in any state.
+    fn note_save(&mut self, fault: Option<StoreFault>)
+        ensures { self.new ≡ record self.old { editor = after_user (D.data self.old.tables) fault self.old.editor Key.Save } }
+    {
         match fault {
             None => {
                 self.past.stored = Some(self.document.past_len());
@@ -128,22 +135,41 @@ impl<D: BidiData + Drop> Editor<D> {
         ensures unseen { needs_no_painting self.old.editor key ≡ true
             → OnOk result (LooksAs (D.data self.old.tables) self.old.editor self.new.editor) }
     {
-        match (key, self.pasted.is_some()) {
-            (Key::Notice(notice), _) => self.message = Some(Message::Notice(notice)),
-            (Key::PasteStart, _) => self.start_paste(),
-            (Key::PasteEnd, _) => {
-                self.end_paste()?;
-                self.typing = Typing::Off;
+        match key {
+            Key::Notice(notice) => {
+                self.message = Some(Message::Notice(notice));
+                Ok(())
             }
-            (Key::Insert(c), true) => self.paste_letter(c)?,
-            (Key::Repaint, true) | (_, false) => self.press_key(key)?,
-            (_, true) => self.press_behind_paste(key)?,
+            Key::PasteStart => {
+                self.start_paste();
+                Ok(())
+            }
+            Key::PasteEnd => self.finish_paste(),
+            _ if self.is_pasting() => self.press_in_paste(key),
+            _ => self.press_key(key),
         }
-        Ok(())
+    }
+
+    /// Applies a key that the user presses while a paste is under way: a character goes into it, Repaint leaves it, and any other key
+    /// first ends it.
+    fn press_in_paste(&mut self, key: Key) -> Result<(), OutOfMemory>
+        requires no_save { is_save key ≡ false }
+        requires typed { is_told_key key ≡ false }
+        ensures ok { OnOk result (self.new.editor ≡ after_in_paste (D.data self.old.tables) None self.old.editor key) }
+        ensures tables { self.new.tables ≡ self.old.tables }
+        ensures err { OnErr result (self.new ≡ self.old) }
+        ensures edits { OnErr result ((is_edit_or_move key || ends_paste key) ≡ true) }
+        ensures unseen { is_of_paste key ≡ true → OnOk result (LooksAs (D.data self.old.tables) self.old.editor self.new.editor) }
+    {
+        match key {
+            Key::Insert(c) => self.paste_letter(c),
+            Key::Repaint => self.press_key(key),
+            _ => self.press_behind_paste(key),
+        }
     }
 
     /// Applies a key that the user presses where no paste is under way.
-    fn press_key(&mut self, key: Key) -> Result<(), OutOfMemory>
+    pub(crate) fn press_key(&mut self, key: Key) -> Result<(), OutOfMemory>
         requires no_save { is_save key ≡ false }
         requires typed { is_told_key key ≡ false }
         ensures ok { OnOk result (self.new.editor ≡ after_user (D.data self.old.tables) None self.old.editor key) }
@@ -213,6 +239,7 @@ impl<D: BidiData + Drop> Editor<D> {
             Key::LineDown => self.move_by_rows(Vertical::Down, 1),
             Key::PageBack => self.move_by_rows(Vertical::Up, page),
             Key::PageOn => self.move_by_rows(Vertical::Down, page),
+            Key::Point(row, column) => self.point(row, column),
             Key::FindNext => self.go_to_next(),
             Key::Undo => self.step(HistoryStep::Undo),
             Key::Redo => self.step(HistoryStep::Redo),

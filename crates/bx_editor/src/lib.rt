@@ -17,6 +17,7 @@ mod other;
 mod past;
 mod pasting;
 mod picture;
+mod pointing;
 mod putting;
 mod query;
 mod region;

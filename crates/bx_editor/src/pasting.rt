@@ -1,15 +1,18 @@
 //! A paste: what stands between PasteStart and PasteEnd goes into the text at once.
 ghost use Rattle.std.specs.Prelude.{◌≡◌, ℕ, List, [], ◌∷◌, None, is_some, option_map, string_bytes, IsOk, OnErr, OnOk, if◌then◌else◌};
 ghost use Rattle.bx_ucd.specs.Data.{Data};
-ghost use Rattle.bx_editor.specs.Pasting.{after_paste_start, after_pasted_letter, has_changes, has_pasted, longer, paste_ended, with_paste, with_pasted};
-ghost use Rattle.bx_editor.specs.Pasting.{without_paste};
+ghost use Rattle.bx_editor.specs.Pasting.{after_paste_end, after_paste_start, after_pasted_letter, has_changes, has_pasted, longer, paste_ended, with_paste, with_pasted};
+ghost use Rattle.bx_editor.specs.Keys.{after_user, is_save, is_told_key};
+ghost use Rattle.bx_editor.specs.Pasting.{as_before, without_paste};
 ghost use Rattle.bx_editor.specs.Putting.{line_end};
 
 use crate::editor::Editor;
 use crate::message::Message;
+use crate::past::Past;
 use crate::seek::Seek;
 use crate::selecting::aged;
 use bx_asking::Ask;
+use bx_keys::Key;
 use bx_runs::Typing;
 use bx_terms::{LARGEST_TEXT, OutOfMemory};
 use bx_ucd::BidiData;
@@ -114,11 +117,21 @@ impl<D: BidiData + Drop> Editor<D> {
             self.leave_paste();
             return Ok(());
         }
-        let room = self.place(list, false)?;
-        self.leave_paste();
-        if !room {
-            self.message = Some(Message::TextFull);
-        }
+        let again = self.quit_before;
+        self.put_in(list, false)?;
+        self.quit_before = again;
+        self.pasted = None;
+        Ok(())
+    }
+
+    /// Applies PasteEnd.
+    pub(crate) fn finish_paste(&mut self) -> Result<(), OutOfMemory>
+        ensures ok { OnOk result (self.new ≡ record self.old { editor = after_paste_end (D.data self.old.tables) self.old.editor }) }
+        ensures err { OnErr result (self.new ≡ self.old) }
+        ensures idle { self.old.editor.pasted ≡ None → IsOk result }
+    {
+        self.end_paste()?;
+        self.typing = Typing::Off;
         Ok(())
     }
 
@@ -138,6 +151,54 @@ impl<D: BidiData + Drop> Editor<D> {
         match self.put_pasted(list.as_str()) {
             Ok(()) => Ok(()),
             Err(refused) => {
+                self.pasted = Some(list);
+                Err(refused)
+            }
+        }
+    }
+
+    /// Puts in what a paste has brought, and applies a key with its usual effect.
+    ///
+    /// Errors: `OutOfMemory`. The key has changed nothing, but the text may have what was put in.
+    fn put_and_press(&mut self, list: &str, key: Key) -> Result<(), OutOfMemory>
+        requires no_save { is_save key ≡ false }
+        requires typed { is_told_key key ≡ false }
+        ensures ok { OnOk result (self.new.editor ≡ after_user (D.data self.old.tables) None (with_pasted (D.data self.old.tables) self.old.editor list.now) key) }
+        ensures tables { self.new.tables ≡ self.old.tables }
+        ensures err { OnErr result (as_before self.old.editor self.new.editor ≡ self.old.editor) }
+    {
+        self.put_pasted(list)?;
+        self.press_key(key)
+    }
+
+    /// Ends the paste, and applies a key with its usual effect. A refused key leaves the paste as it was: for that the text is copied
+    /// first, with its history. Only a paste whose end was lost is ended so.
+    pub(crate) fn press_behind_paste(&mut self, key: Key) -> Result<(), OutOfMemory>
+        requires no_save { is_save key ≡ false }
+        requires typed { is_told_key key ≡ false }
+        ensures ok { OnOk result (self.new.editor ≡ after_user (D.data self.old.tables) None (paste_ended (D.data self.old.tables) self.old.editor) key) }
+        ensures tables { self.new.tables ≡ self.old.tables }
+        ensures err { OnErr result (self.new ≡ self.old) }
+    {
+        let document = self.document.backup()?;
+        let runs = self.past.runs.copy()?;
+        let (stored, changed) = (self.past.stored, self.past.changed);
+        let (cursor, typing, message) = (self.cursor, self.typing, self.message);
+        let Some(list) = self.pasted.take() else {
+            return self.press_key(key);
+        };
+        match self.put_and_press(list.as_str(), key) {
+            Ok(()) => Ok(()),
+            Err(refused) => {
+                self.document.restore(document);
+                self.past = Past {
+                    runs,
+                    stored,
+                    changed,
+                };
+                self.cursor = cursor;
+                self.typing = typing;
+                self.message = message;
                 self.pasted = Some(list);
                 Err(refused)
             }

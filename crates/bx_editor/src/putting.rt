@@ -2,7 +2,7 @@
 ghost use Rattle.std.specs.Prelude.{◌≡◌, if◌then◌else◌, IfOk, OnErr, OnOk, encode_utf8};
 ghost use Rattle.bx_text.specs.Edits.{fits};
 ghost use Rattle.bx_editor.specs.Editor.{cleared, with_insertion};
-ghost use Rattle.bx_editor.specs.Putting.{after_character, after_new_line, after_put, has_room, is_paste, only_paste, placed, put_in, typed, with_selection_replaced};
+ghost use Rattle.bx_editor.specs.Putting.{after_character, after_new_line, after_put, has_room, is_paste, only_paste, put_in, typed, with_selection_replaced};
 ghost use Rattle.bx_editor.specs.Region.{region};
 
 use crate::editor::Editor;
@@ -68,29 +68,19 @@ impl<D: BidiData + Drop> Editor<D> {
         Ok(true)
     }
 
-    /// Puts bytes in, in place of the selection if there is one. Returns whether there was room.
-    pub(crate) fn place(&mut self, new: &str, goes_on: bool) -> Result<bool, OutOfMemory>
-        ensures room { IfOk result (λ room. room ≡ has_room self.old.editor new.now) }
-        ensures ok { IfOk result (λ room. self.new ≡ record self.old {
-          editor = if room then placed (D.data self.old.tables) self.old.editor new.now goes_on else self.old.editor;
-        }) }
-        ensures err { OnErr result (self.new ≡ self.old) }
-    {
-        if self.is_selection() {
-            return self.replace_region(new);
-        }
-        self.insert_text(new, goes_on)
-    }
-
     /// Puts bytes in, in place of the selection if there is one; without room, sets a message. Returns whether there was room.
-    fn put_in(&mut self, new: &str, goes_on: bool) -> Result<bool, OutOfMemory>
+    pub(crate) fn put_in(&mut self, new: &str, goes_on: bool) -> Result<bool, OutOfMemory>
         ensures room { IfOk result (λ room. room ≡ has_room self.old.editor new.now) }
         ensures ok { OnOk result (self.new ≡ record self.old {
           editor = put_in (D.data self.old.tables) (cleared self.old.editor) new.now goes_on;
         }) }
         ensures err { OnErr result (self.new ≡ self.old) }
     {
-        let room = self.place(new, goes_on)?;
+        let room = if self.is_selection() {
+            self.replace_region(new)?
+        } else {
+            self.insert_text(new, goes_on)?
+        };
         self.clear();
         if !room {
             self.message = Some(Message::TextFull);

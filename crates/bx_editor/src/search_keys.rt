@@ -31,23 +31,20 @@ impl<D: BidiData + Drop> Editor<D> {
         ensures err { OnErr result (self.new ≡ self.old) }
     {
         let typing = self.typing;
-        match (self.aim, is_paste(typing)) {
-            (Aim::Replace, true) => {
+        if self.aim == Aim::Replace {
+            if is_paste(typing) {
                 self.rest();
-                Ok(())
+                return Ok(());
             }
-            (Aim::Replace, false) => self.ask_other(),
-            (Aim::Find, true) => {
-                self.end_search();
-                self.begin_paste();
-                self.typing = Typing::Paste;
-                Ok(())
-            }
-            (Aim::Find, false) => {
-                self.end_search();
-                Ok(())
-            }
+            return self.ask_other();
         }
+        self.end_search();
+        if is_paste(typing) {
+            self.begin_paste();
+            self.typing = Typing::Paste;
+            return Ok(());
+        }
+        Ok(())
     }
 
     /// Applies a character that is typed while the query is asked for; a paste goes on behind it.

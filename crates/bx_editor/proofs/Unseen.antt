@@ -1,0 +1,85 @@
+-- What a key changes that is not seen in the picture.
+use Rattle.std.proofs.Common.{◌≡◌, ℕ, ◌-◌, Bool, List, ◌++◌, Option, refl, ap, ap₂, subst, sym, ◌∙◌, if◌then◌else◌}
+use Rattle.std.specs.Prelude.{nat_le, [], Some, None, is_some, true, false}
+use Rattle.bx_view.specs.TextRows.{cell_of, row_of}
+use Rattle.bx_view.specs.Top.{shown_rows}
+use Rattle.bx_grid.specs.Picture.{PictureState}
+use Rattle.bx_rows.specs.RowPicture.{Glyph}
+use Rattle.bx_ucd.specs.Data.{Data}
+use Rattle.bx_asking.specs.declared.question.Ask.{Ask}
+use Rattle.bx_asking.specs.declared.question.Ask.TheVariants as asks
+use Rattle.bx_runs.specs.declared.typing.Typing.{Typing}
+use Rattle.bx_runs.specs.declared.typing.Typing.TheVariants.{Paste}
+use Rattle.bx_editor.specs.declared.seek.Seek.{Seek}
+use Rattle.bx_editor.specs.declared.seek.Seek.TheVariants as seeks
+use Rattle.bx_editor.specs.declared.soft.Soft.{Soft}
+use Rattle.bx_editor.specs.Editor.{Editor, rows, text_height}
+use Rattle.bx_editor.specs.Pasting.{after_paste_start, after_pasted_letter, paste_begun, pasted_with}
+use Rattle.bx_editor.specs.Picture.{LooksAs, blank_picture, picture, region_rows}
+use Rattle.bx_editor.specs.Replacing.{seen_in}
+use Rattle.bx_editor.specs.Selecting.{aged}
+use Rattle.bx_editor.specs.Status.{glyph_row, letter_glyphs, prompt_glyphs, status_text}
+
+-- an editor with other values of what is not seen
+abbrev with_unseen : Editor → Option (List ℕ) → Bool → Option ℕ → Soft → Typing → Editor
+with_unseen e pasted quit_before goal soft typing =
+    record e { pasted = pasted; quit_before = quit_before; goal = goal; soft = soft; typing = typing }
+
+module _ (d : Data) (e : Editor) (pasted : Option (List ℕ)) (quit_before : Bool) (goal : Option ℕ) (soft : Soft) (typing : Typing) where
+  abbrev new : Editor
+  new = with_unseen e pasted quit_before goal soft typing
+
+  same-part : (seek : Seek) → seen_in d new seek ≡ seen_in d e seek
+  same-part seeks.Off = refl
+  same-part seeks.Begun = refl
+  same-part seeks.Typed = refl
+  same-part seeks.WithBegun = refl
+  same-part seeks.WithTyped = refl
+  same-part seeks.Replacing = refl
+
+  same-prompt : (ask : Ask) → prompt_glyphs d new ask ≡ prompt_glyphs d e ask
+  same-prompt asks.Off = refl
+  same-prompt asks.Line = refl
+  same-prompt asks.Name = refl
+  same-prompt asks.Code = refl
+
+  -- the picture with this part of the text in the other rendition, and this prompt
+  abbrev with_parts : ℕ → ℕ × ℕ → List Glyph → PictureState
+  with_parts top part glyphs =
+      if e.ended
+      then blank_picture e.height e.width
+      else record {
+        height = e.height;
+        width = e.width;
+        columns = region_rows d e.width part (text_height e.height) (shown_rows (rows d e) top (text_height e.height))
+            ++ (if nat_le 2 e.height then glyph_row e.width (letter_glyphs (status_text d e) ++ glyphs) else []);
+        row = row_of (rows d e) e.place - row_of (rows d e) top;
+        column = cell_of e.width (rows d e) e.place - 1;
+      }
+
+  looks-same : LooksAs d e new
+  looks-same = record {
+    top = λ top. refl;
+    same = λ top. ap₂ (with_parts top) (same-part e.seek) (same-prompt e.ask);
+  }
+
+pub letter-unseen : (d : Data) (e : Editor) (c : ℕ) → LooksAs d e (after_pasted_letter d e c)
+letter-unseen d e c = looks-same d e (pasted_with d e.content.text e.pasted c) false None (aged e.soft) e.typing
+
+begun-unseen : (e : Editor) (ask : Ask) (seek : Seek) (list : List ℕ) → paste_begun ask seek (Some list) e ≡ e
+begun-unseen e asks.Off seeks.Off list = refl
+begun-unseen e asks.Off seeks.Begun list = refl
+begun-unseen e asks.Off seeks.Typed list = refl
+begun-unseen e asks.Off seeks.WithBegun list = refl
+begun-unseen e asks.Off seeks.WithTyped list = refl
+begun-unseen e asks.Off seeks.Replacing list = refl
+begun-unseen e asks.Line seek list = refl
+begun-unseen e asks.Name seek list = refl
+begun-unseen e asks.Code seek list = refl
+
+pub start-unseen : (d : Data) (e : Editor) (pasted : Option (List ℕ)) → e.pasted ≡ pasted → is_some pasted ≡ true
+    → LooksAs d e (after_paste_start e)
+start-unseen d e None is some = absurd (cc some)
+start-unseen d e (Some list) is some =
+    let same : paste_begun e.ask e.seek e.pasted e ≡ e = ap (λ pasted. paste_begun e.ask e.seek pasted e) is ∙ begun-unseen e e.ask e.seek list in
+    subst (λ (x : Editor). LooksAs d e (record x { typing = Paste })) (sym same) (looks-same d e e.pasted e.quit_before e.goal e.soft Paste)
