@@ -5,6 +5,7 @@ use Rattle.bx_terms.specs.declared.base.Base.{Base}
 use Rattle.bx_store.specs.declared.store.StoreFault.{StoreFault}
 use Rattle.bx_text.specs.declared.change.Change.{Change}
 use Rattle.bx_text.specs.Edits.{Edit, Edited, redone, splice, undone}
+use Rattle.bx_document.specs.FirstSeparator.{has_crlf_first}
 use Rattle.bx_document.specs.History.{next_changes, stepped_times}
 use Rattle.bx_document.specs.declared.history.HistoryStep.{HistoryStep}
 use Rattle.bx_document.specs.declared.history.HistoryStep.TheVariants as steps
@@ -231,7 +232,7 @@ module _ (P : Editor → Type 0) (keeps : IsKeptPasting P) where
       keeps.pasted begun begun.pasted begun.message Paste (begin-keeps e e.ask e.seek e.pasted h)
 
   pub pasted-letter-keeps : (d : Data) (e : Editor) (c : ℕ) → P e → P (after_pasted_letter d e c)
-  pasted-letter-keeps d e c h = keeps.lengthened e (pasted_with d e.content.text e.pasted c) (aged e.soft) h
+  pasted-letter-keeps d e c h = keeps.lengthened e (pasted_with (has_crlf_first d e.content.text) e.pasted c) (aged e.soft) h
 
 module _ (d : Data) (P : Editor → Type 0) (keeps : IsKeptPressing d P) (pastes : IsKeptPasting P) where
   list-keeps : (e : Editor) (list : List ℕ) → P e → P (with_pasted d e list)

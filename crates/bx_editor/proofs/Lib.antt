@@ -31,3 +31,6 @@ pub mod ManySteps
 pub mod QuestionKept
 pub mod Pasted
 pub mod Unseen
+pub mod OnePaste
+pub mod SentOut
+mod PasteExamples

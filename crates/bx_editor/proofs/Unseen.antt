@@ -1,11 +1,12 @@
 -- What a key changes that is not seen in the picture.
 use Rattle.std.proofs.Common.{◌≡◌, ℕ, ◌-◌, Bool, List, ◌++◌, Option, refl, ap, ap₂, subst, sym, ◌∙◌, if◌then◌else◌}
-use Rattle.std.specs.Prelude.{nat_le, [], Some, None, is_some, true, false}
+use Rattle.std.specs.Prelude.{nat_le, [], Some, None, is_some, true, false, ◌&&◌}
 use Rattle.bx_view.specs.TextRows.{cell_of, row_of}
 use Rattle.bx_view.specs.Top.{shown_rows}
 use Rattle.bx_grid.specs.Picture.{PictureState}
 use Rattle.bx_rows.specs.RowPicture.{Glyph}
 use Rattle.bx_ucd.specs.Data.{Data}
+use Rattle.bx_document.specs.FirstSeparator.{has_crlf_first}
 use Rattle.bx_asking.specs.declared.question.Ask.{Ask}
 use Rattle.bx_asking.specs.declared.question.Ask.TheVariants as asks
 use Rattle.bx_runs.specs.declared.typing.Typing.{Typing}
@@ -14,6 +15,9 @@ use Rattle.bx_editor.specs.declared.seek.Seek.{Seek}
 use Rattle.bx_editor.specs.declared.seek.Seek.TheVariants as seeks
 use Rattle.bx_editor.specs.declared.soft.Soft.{Soft}
 use Rattle.bx_editor.specs.Editor.{Editor, rows, text_height}
+use Rattle.bx_keys.specs.declared.key.Key.TheVariants.{Insert, PasteStart}
+use Rattle.bx_editor.specs.Keys.{after_press}
+use Rattle.bx_editor.specs.PasteLaws.{PasteIsUnseen}
 use Rattle.bx_editor.specs.Pasting.{after_paste_start, after_pasted_letter, paste_begun, pasted_with}
 use Rattle.bx_editor.specs.Picture.{LooksAs, blank_picture, picture, region_rows}
 use Rattle.bx_editor.specs.Replacing.{seen_in}
@@ -64,7 +68,7 @@ module _ (d : Data) (e : Editor) (pasted : Option (List ℕ)) (quit_before : Boo
   }
 
 pub letter-unseen : (d : Data) (e : Editor) (c : ℕ) → LooksAs d e (after_pasted_letter d e c)
-letter-unseen d e c = looks-same d e (pasted_with d e.content.text e.pasted c) false None (aged e.soft) e.typing
+letter-unseen d e c = looks-same d e (pasted_with (has_crlf_first d e.content.text) e.pasted c) false None (aged e.soft) e.typing
 
 begun-unseen : (e : Editor) (ask : Ask) (seek : Seek) (list : List ℕ) → paste_begun ask seek (Some list) e ≡ e
 begun-unseen e asks.Off seeks.Off list = refl
@@ -83,3 +87,17 @@ start-unseen d e None is some = absurd (cc some)
 start-unseen d e (Some list) is some =
     let same : paste_begun e.ask e.seek e.pasted e ≡ e = ap (λ pasted. paste_begun e.ask e.seek pasted e) is ∙ begun-unseen e e.ask e.seek list in
     subst (λ (x : Editor). LooksAs d e (record x { typing = Paste })) (sym same) (looks-same d e e.pasted e.quit_before e.goal e.soft Paste)
+
+by-press : (d : Data) (e : Editor) (pasted : Option (List ℕ)) (c : ℕ) → is_some pasted ≡ true → after_press d None pasted e (Insert c) ≡ after_pasted_letter d e c
+by-press d e None c some = absurd (cc some)
+by-press d e (Some list) c some = refl
+
+both : (b c : Bool) → (b && c) ≡ true → (b ≡ true) × (c ≡ true)
+both true true h = (refl, refl)
+both true false h = absurd (cc h)
+both false c h = absurd (cc h)
+
+pub paste-is-unseen : PasteIsUnseen
+paste-is-unseen d e (Insert c) h = subst (LooksAs d e) (sym (by-press d e e.pasted c (both (is_some e.pasted) true h).0)) (letter-unseen d e c)
+paste-is-unseen d e PasteStart h = start-unseen d e e.pasted refl (both (is_some e.pasted) true h).0
+paste-is-unseen d e key h = absurd (cc ((both (is_some e.pasted) false h).1))

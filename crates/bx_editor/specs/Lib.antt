@@ -21,4 +21,5 @@ pub mod Replay
 pub mod Opening
 pub mod Picture
 pub mod Clipboard
+pub mod PasteLaws
 pub mod Status

@@ -1,8 +1,9 @@
 -- A paste: what stands between PasteStart and PasteEnd goes into the text at once. `d` is Unicode's data, `e` the editor, `list` what
 -- the paste has brought so far, in UTF-8, and `c` a character.
-use Rattle.std.specs.Prelude.{ℕ, ◌==◌, ◌||◌, nat_lt, Bool, false, List, [], ◌++◌, length, Option, Some, None, encode_utf8, if◌then◌else◌}
+use Rattle.std.specs.Prelude.{ℕ, ◌==◌, ◌&&◌, ◌||◌, nat_lt, Bool, false, List, [], ◌∷◌, ◌++◌, length, Option, Some, None, encode_utf8, if◌then◌else◌}
 use Rattle.bx_terms.specs.Sizes.{largest_text}
 use Rattle.bx_ucd.specs.Data.{Data}
+use Rattle.bx_document.specs.FirstSeparator.{has_crlf_first}
 use Rattle.bx_asking.specs.declared.question.Ask.{Ask}
 use Rattle.bx_asking.specs.declared.question.Ask.TheVariants as asks
 use Rattle.bx_runs.specs.declared.typing.Typing.TheVariants.{Off, Paste}
@@ -10,7 +11,7 @@ use Rattle.bx_editor.specs.declared.message.Message.TheVariants.{Pasting}
 use Rattle.bx_editor.specs.declared.seek.Seek.{Seek}
 use Rattle.bx_editor.specs.declared.seek.Seek.TheVariants as seeks
 use Rattle.bx_editor.specs.Editor.{Editor, with_typing}
-use Rattle.bx_editor.specs.Putting.{line_end, put_in}
+use Rattle.bx_editor.specs.Putting.{put_in}
 use Rattle.bx_editor.specs.Selecting.{aged}
 
 -- a paste into the text begins
@@ -28,22 +29,27 @@ after_paste_start e = with_typing (paste_begun e.ask e.seek e.pasted e) Paste
 
 -- ---- what it brings
 
--- a pasted character in UTF-8; LF is the line end of the text
-abbrev pub pasted_bytes : Data → List ℕ → ℕ → List ℕ
-pasted_bytes d text c = if c == 0xA then line_end d text else encode_utf8 c
+-- a pasted character in UTF-8: LF is CR LF if `is_crlf`, as where the text's first separator is CR LF
+abbrev pub pasted_bytes : Bool → ℕ → List ℕ
+pasted_bytes is_crlf c = if (c == 0xA) && is_crlf then 0xD ∷ 0xA ∷ [] else encode_utf8 c
 
 -- a list with one more character; one that is longer than any text stays as it is
-abbrev pub longer : Data → List ℕ → List ℕ → ℕ → List ℕ
-longer d text list c = if nat_lt largest_text (length list) then list else list ++ pasted_bytes d text c
+abbrev pub longer : Bool → List ℕ → ℕ → List ℕ
+longer is_crlf list c = if nat_lt largest_text (length list) then list else list ++ pasted_bytes is_crlf c
 
--- what the paste, if one is under way, has brought with one more character
-abbrev pub pasted_with : Data → List ℕ → Option (List ℕ) → ℕ → Option (List ℕ)
-pasted_with d text None c = None
-pasted_with d text (Some list) c = Some (longer d text list c)
+-- what a paste, if one is under way, has brought with one more character
+abbrev pub pasted_with : Bool → Option (List ℕ) → ℕ → Option (List ℕ)
+pasted_with is_crlf None c = None
+pasted_with is_crlf (Some list) c = Some (longer is_crlf list c)
 
 -- a character is pasted: the text, the message and what is typed stay, and for all else it is a key as others are
 abbrev pub after_pasted_letter : Data → Editor → ℕ → Editor
-after_pasted_letter d e c = record e { pasted = pasted_with d e.content.text e.pasted c; quit_before = false; goal = None; soft = aged e.soft }
+after_pasted_letter d e c = record e {
+  pasted = pasted_with (has_crlf_first d e.content.text) e.pasted c;
+  quit_before = false;
+  goal = None;
+  soft = aged e.soft;
+}
 
 -- ---- its end
 

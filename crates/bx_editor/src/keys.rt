@@ -1,11 +1,10 @@
 //! The effect of each key.
-ghost use Rattle.std.specs.Prelude.{◌≡◌, ◌||◌, None, Some, true, false, OnErr, OnOk};
+ghost use Rattle.std.specs.Prelude.{◌≡◌, None, Some, is_some, true, false, OnErr, OnOk};
 ghost use Rattle.bx_editor.specs.Asking.{without_ask};
 ghost use Rattle.bx_editor.specs.Editor.{after_help, after_quit, cleared, next_base, with_base, with_typing};
 ghost use Rattle.bx_editor.specs.Effects.{before};
-ghost use Rattle.bx_editor.specs.Keys.{after_any, after_asking, after_in_paste, after_key, after_pressing, after_user, ends_paste, is_edit_or_move};
-ghost use Rattle.bx_editor.specs.Keys.{is_of_paste, is_save, is_size_key, is_told_key, may_refuse, needs_no_painting};
-ghost use Rattle.bx_editor.specs.Picture.{LooksAs};
+ghost use Rattle.bx_editor.specs.Keys.{after_any, after_asking, after_in_paste, after_key, after_pressing, after_user, is_edit_or_move, is_save};
+ghost use Rattle.bx_editor.specs.Keys.{is_size_key, is_told_key, may_refuse};
 
 use crate::aim::Aim;
 use crate::editor::Editor;
@@ -132,8 +131,6 @@ impl<D: BidiData + Drop> Editor<D> {
         ensures tables { self.new.tables ≡ self.old.tables }
         ensures err { OnErr result (self.new ≡ self.old) }
         ensures edits { OnErr result (may_refuse self.old.editor key ≡ true) }
-        ensures unseen { needs_no_painting self.old.editor key ≡ true
-            → OnOk result (LooksAs (D.data self.old.tables) self.old.editor self.new.editor) }
     {
         match key {
             Key::Notice(notice) => {
@@ -155,11 +152,11 @@ impl<D: BidiData + Drop> Editor<D> {
     fn press_in_paste(&mut self, key: Key) -> Result<(), OutOfMemory>
         requires no_save { is_save key ≡ false }
         requires typed { is_told_key key ≡ false }
+        requires some { is_some self.old.editor.pasted ≡ true }
         ensures ok { OnOk result (self.new.editor ≡ after_in_paste (D.data self.old.tables) None self.old.editor key) }
         ensures tables { self.new.tables ≡ self.old.tables }
         ensures err { OnErr result (self.new ≡ self.old) }
-        ensures edits { OnErr result ((is_edit_or_move key || ends_paste key) ≡ true) }
-        ensures unseen { is_of_paste key ≡ true → OnOk result (LooksAs (D.data self.old.tables) self.old.editor self.new.editor) }
+        ensures edits { OnErr result (may_refuse self.old.editor key ≡ true) }
     {
         match key {
             Key::Insert(c) => self.paste_letter(c),

@@ -1,10 +1,8 @@
 //! A paste: what stands between PasteStart and PasteEnd goes into the text at once.
-ghost use Rattle.std.specs.Prelude.{◌≡◌, ℕ, List, [], ◌∷◌, None, is_some, option_map, string_bytes, IsOk, OnErr, OnOk, if◌then◌else◌};
-ghost use Rattle.bx_ucd.specs.Data.{Data};
-ghost use Rattle.bx_editor.specs.Pasting.{after_paste_end, after_paste_start, after_pasted_letter, has_changes, has_pasted, longer, paste_ended, with_paste, with_pasted};
-ghost use Rattle.bx_editor.specs.Keys.{after_user, is_save, is_told_key};
+ghost use Rattle.std.specs.Prelude.{◌≡◌, None, false, is_some, option_map, string_bytes, IsOk, OnErr, OnOk};
+ghost use Rattle.bx_editor.specs.Pasting.{after_paste_end, after_paste_start, after_pasted_letter, has_changes, has_pasted, longer, paste_begun, paste_ended, pasted_with, with_paste, with_pasted};
+ghost use Rattle.bx_editor.specs.Keys.{after_user, is_of_paste, is_save, is_told_key, needs_no_painting};
 ghost use Rattle.bx_editor.specs.Pasting.{as_before, without_paste};
-ghost use Rattle.bx_editor.specs.Putting.{line_end};
 
 use crate::editor::Editor;
 use crate::message::Message;
@@ -21,8 +19,7 @@ use bx_ucd::BidiData;
 ///
 /// Errors: `OutOfMemory`, and nothing is appended.
 fn lengthen(list: &mut String, c: char, is_crlf: bool) -> Result<(), OutOfMemory>
-    ensures ok { (d : Data) (text : List ℕ) → line_end d text ≡ (if is_crlf then 0xD ∷ 0xA ∷ [] else 0xA ∷ [])
-        → OnOk result (string_bytes list.new ≡ longer d text (string_bytes list.old) c) }
+    ensures ok { OnOk result (string_bytes list.new ≡ longer is_crlf (string_bytes list.old) c) }
     ensures err { OnErr result (string_bytes list.new ≡ string_bytes list.old) }
 {
     if list.len() > LARGEST_TEXT {
@@ -34,6 +31,26 @@ fn lengthen(list: &mut String, c: char, is_crlf: bool) -> Result<(), OutOfMemory
     }
     list.push(c)?;
     Ok(())
+}
+
+/// Appends a character to what a paste has brought, if one is under way.
+///
+/// Errors: `OutOfMemory`, and nothing is appended.
+fn lengthen_pasted(pasted: &mut Option<String>, c: char, is_crlf: bool) -> Result<(), OutOfMemory>
+    ensures ok { OnOk result (option_map string_bytes pasted.new ≡ pasted_with is_crlf (option_map string_bytes pasted.old) c) }
+    ensures err { OnErr result (option_map string_bytes pasted.new ≡ option_map string_bytes pasted.old) }
+{
+    match pasted {
+        Some(list) => lengthen(list, c, is_crlf),
+        None => Ok(()),
+    }
+}
+
+/// Whether a key changes only what a paste has brought, or nothing.
+fn is_of_paste(key: Key) -> bool
+    ensures { result ≡ is_of_paste key }
+{
+    matches!(key, Key::Insert(_) | Key::PasteStart)
 }
 
 /// Whether something was pasted that is not in the text yet.
@@ -54,6 +71,13 @@ impl<D: BidiData + Drop> Editor<D> {
         self.pasted.is_some()
     }
 
+    /// Whether this key leaves the picture as it is, so that it needs no painting unless one is owed. Allocates nothing.
+    pub fn needs_no_painting(&self, key: Key) -> bool
+        ensures { result ≡ needs_no_painting self.now.editor key }
+    {
+        self.pasted.is_some() && is_of_paste(key)
+    }
+
     /// Whether there was an edit since the opening or the last save, or the text is not the stored one, or something was pasted that
     /// is not in the text yet. Allocates nothing.
     pub fn changed(&self) -> bool
@@ -70,13 +94,21 @@ impl<D: BidiData + Drop> Editor<D> {
         self.message = Some(Message::Pasting);
     }
 
+    /// Begins a paste into the text, unless something is asked or sought, or one is under way. Allocates nothing.
+    fn begin_if_free(&mut self)
+        ensures { self.new ≡ record self.old { editor = paste_begun self.old.editor.ask self.old.editor.seek self.old.editor.pasted self.old.editor } }
+    {
+        match (self.ask, self.cursor.seek, &self.pasted) {
+            (Ask::Off, Seek::Off, None) => self.begin_paste(),
+            _ => {}
+        }
+    }
+
     /// Applies PasteStart. Allocates nothing.
     pub(crate) fn start_paste(&mut self)
         ensures { self.new ≡ record self.old { editor = after_paste_start self.old.editor } }
     {
-        if let (Ask::Off, Seek::Off, None) = (self.ask, self.cursor.seek, &self.pasted) {
-            self.begin_paste();
-        }
+        self.begin_if_free();
         self.typing = Typing::Paste;
     }
 
@@ -88,9 +120,7 @@ impl<D: BidiData + Drop> Editor<D> {
         ensures err { OnErr result (self.new ≡ self.old) }
     {
         let is_crlf = self.document.has_crlf_first();
-        if let Some(list) = &mut self.pasted {
-            lengthen(list, c, is_crlf)?;
-        }
+        lengthen_pasted(&mut self.pasted, c, is_crlf)?;
         self.quit_before = false;
         self.goal = None;
         self.cursor.soft = aged(self.cursor.soft);

@@ -1,0 +1,124 @@
+-- A paste is one edit.
+use Rattle.std.proofs.Common.{◌≡◌, ℕ, suc, ◌+◌, Bool, true, false, List, [], ◌∷◌, ◌++◌, length, map, refl, sym, ap, ap₂, subst, ◌∙◌, arith, if◌then◌else◌}
+use Rattle.std.specs.Prelude.{◌≢◌, ◌==◌, ◌&&◌, not, Option, Some, None}
+use Rattle.bx_keys.specs.declared.key.Key.TheVariants.{Insert, PasteEnd}
+use Rattle.bx_text.specs.Edits.{fits}
+use Rattle.bx_ucd.specs.Data.{Data}
+use Rattle.bx_document.specs.FirstSeparator.{has_crlf_first}
+use Rattle.bx_asking.specs.declared.question.Ask.TheVariants as asks
+use Rattle.bx_runs.specs.declared.typing.Typing.TheVariants as typings
+use Rattle.bx_editor.specs.declared.message.Message.TheVariants.{Pasting, TextFull}
+use Rattle.bx_editor.specs.declared.seek.Seek.TheVariants as seeks
+use Rattle.bx_editor.specs.declared.soft.Soft.{Soft}
+use Rattle.bx_editor.specs.declared.soft.Soft.TheVariants.{Off, Fresh, Old}
+use Rattle.bx_editor.specs.Editor.{Editor, with_insertion, with_typing}
+use Rattle.bx_editor.specs.Keys.{after_keys}
+use Rattle.bx_editor.specs.PasteLaws.{IsOneEdit, IsPaste, PasteIsOneEdit, brought}
+use Rattle.bx_editor.specs.Pasting.{after_paste_end, after_paste_start, longer, paste_begun}
+use Rattle.bx_editor.specs.Putting.{has_room, put_in, with_selection_replaced}
+use Rattle.bx_editor.specs.Region.{is_empty, region}
+use Rattle.bx_editor.specs.Selecting.{aged, is_selection, is_soft}
+use Rattle.bx_editor.proofs.TwoEdits.{runs-of-two}
+
+-- the editor while a paste is under way
+abbrev in_paste : Editor → List ℕ → Bool → Option ℕ → Soft → Editor
+in_paste e list again goal soft =
+    record e { pasted = Some list; typing = typings.Paste; message = Some Pasting; quit_before = again; goal = goal; soft = soft }
+
+-- the same once it is over, and before its list is put in
+abbrev over : Editor → Bool → Option ℕ → Soft → Editor
+over e again goal soft = record e { pasted = None; typing = typings.Off; message = None; quit_before = again; goal = goal; soft = soft }
+
+aged-soft : (soft : Soft) → is_soft (aged soft) ≡ is_soft soft
+aged-soft Off = refl
+aged-soft Fresh = refl
+aged-soft Old = refl
+
+none-long : (list : List ℕ) → list ≢ [] → (length list == 0) ≡ false
+none-long [] some = absurd (some refl)
+none-long (b ∷ bs) some = refl
+
+module _ (d : Data) (e : Editor) where
+  letters : (P : List ℕ → Editor → Type 0)
+      → ((list : List ℕ) (again : Bool) (goal : Option ℕ) (soft : Soft) → is_soft soft ≡ is_soft e.soft
+      → P list (after_paste_end d (in_paste e list again goal soft)))
+      → (cs list : List ℕ) (again : Bool) (goal : Option ℕ) (soft : Soft) → is_soft soft ≡ is_soft e.soft
+      → P (brought (has_crlf_first d e.content.text) list cs) (after_keys d None (in_paste e list again goal soft) (map Insert cs ++ PasteEnd ∷ []))
+  letters P end [] list again goal soft same = end list again goal soft same
+  letters P end (c ∷ cs) list again goal soft same =
+      letters P end cs (longer (has_crlf_first d e.content.text) list c) false None (aged soft) (aged-soft soft ∙ same)
+
+  module _ (list : List ℕ) (again : Bool) (goal : Option ℕ) (soft : Soft) (same : is_soft soft ≡ is_soft e.soft) where
+    abbrev was : Editor
+    was = over e again goal soft
+
+    -- what is put in, by whether there is room, and whether a selection gives way
+    abbrev shaped : Bool → Bool → Editor
+    shaped room selected =
+        with_typing (if room then (if selected then with_selection_replaced d was list else with_insertion d was list false)
+        else record was { message = Some TextFull }) typings.Off
+
+    same-selection : is_selection was ≡ is_selection e
+    same-selection = ap (λ s. s && not (is_empty (region e))) same
+
+    same-room : has_room was list ≡ has_room e list
+    same-room =
+        ap (λ (s : Bool). (let part = if s then region e else (e.place, e.place) in fits e.content.text part.0 part.1 list)) same-selection
+
+    one : (selected : Bool) → is_selection e ≡ selected → IsOneEdit d e list (shaped true selected)
+    one true is = record {
+      alone = λ none. (let no = sym is ∙ none in absurd (cc no));
+      instead = λ some. refl;
+      begins = runs-of-two e.runs (length e.content.past);
+    }
+    one false is = record { alone = λ none. refl; instead = λ some. (let no = sym is ∙ some in absurd (cc no)); begins = refl }
+
+    put : (room selected : Bool) → list ≢ [] → has_room e list ≡ room → is_selection e ≡ selected → IsPaste d e list (shaped room selected)
+    put true true some fits is = record {
+      put = λ _ room. one true is;
+      full = λ _ none. (let no = sym fits ∙ none in absurd (cc no));
+      empty = λ none. absurd (some none);
+      over = refl;
+    }
+    put true false some fits is = record {
+      put = λ _ room. one false is;
+      full = λ _ none. (let no = sym fits ∙ none in absurd (cc no));
+      empty = λ none. absurd (some none);
+      over = refl;
+    }
+    put false selected some fits is = record {
+      put = λ _ room. (let no = sym fits ∙ room in absurd (cc no));
+      full = λ _ none. (record { content = refl; place = refl }, refl);
+      empty = λ none. absurd (some none);
+      over = refl;
+    }
+
+    some-put : list ≢ [] → IsPaste d e list (after_paste_end d (in_paste e list again goal soft))
+    some-put some =
+        subst (λ (b : Bool). IsPaste d e list (with_typing (if b then was else put_in d was list false) typings.Off)) (sym (none-long list some))
+        (subst (λ (r : Bool). IsPaste d e list (shaped r (is_selection was))) (sym same-room)
+        (subst (λ (s : Bool). IsPaste d e list (shaped (has_room e list) s)) (sym same-selection)
+        (put (has_room e list) (is_selection e) some refl refl)))
+
+  ended : (list : List ℕ) (again : Bool) (goal : Option ℕ) (soft : Soft) → is_soft soft ≡ is_soft e.soft
+      → IsPaste d e list (after_paste_end d (in_paste e list again goal soft))
+  ended [] again goal soft same = record {
+    put = λ some. absurd (some refl);
+    full = λ some. absurd (some refl);
+    empty = λ _. record { content = refl; place = refl };
+    over = refl;
+  }
+  ended (b ∷ bs) again goal soft same = some-put (b ∷ bs) again goal soft same (λ none. cc none)
+
+begun : (e : Editor) → e.ask ≡ asks.Off → e.seek ≡ seeks.Off → e.pasted ≡ None
+    → after_paste_start e ≡ in_paste e [] e.quit_before e.goal e.soft
+begun e unasked off none =
+    ap (λ a. with_typing (paste_begun a e.seek e.pasted e) typings.Paste) unasked
+    ∙ ap (λ s. with_typing (paste_begun asks.Off s e.pasted e) typings.Paste) off
+    ∙ ap (λ p. with_typing (paste_begun asks.Off seeks.Off p e) typings.Paste) none
+
+pub paste-is-one-edit : PasteIsOneEdit
+paste-is-one-edit d e cs unasked off none =
+    subst (λ (x : Editor). IsPaste d e (brought (has_crlf_first d e.content.text) [] cs) (after_keys d None x (map Insert cs ++ PasteEnd ∷ [])))
+    (sym (begun e unasked off none))
+    (letters d e (IsPaste d e) (ended d e) cs [] e.quit_before e.goal e.soft refl)

@@ -1,0 +1,78 @@
+-- Laws of a paste, and of what goes out to a clipboard. `d` is Unicode's data, `e` the editor before, `new` the editor after.
+use Rattle.std.specs.Prelude.{◌≡◌, ◌≢◌, ℕ, ◌<◌, ◌≤◌, ◌⊎◌, Bool, true, false, List, [], ◌∷◌, ◌++◌, length, map, Some, None}
+use Rattle.bx_keys.specs.declared.key.Key.{Key}
+use Rattle.bx_keys.specs.declared.key.Key.TheVariants.{Copy, Cut, Insert, PasteEnd, PasteStart}
+use Rattle.bx_runs.specs.Runs.{edited}
+use Rattle.bx_text.specs.Edits.{exchanged, inserted, splice}
+use Rattle.bx_ucd.specs.Data.{Data}
+use Rattle.bx_document.specs.FirstSeparator.{has_crlf_first}
+use Rattle.bx_asking.specs.declared.question.Ask.TheVariants as asks
+use Rattle.bx_editor.specs.declared.message.Message.TheVariants.{TextFull, TooLongForClipboard}
+use Rattle.bx_editor.specs.declared.seek.Seek.TheVariants.{Off}
+use Rattle.bx_editor.specs.Clipboard.{clip_of}
+use Rattle.bx_editor.specs.Editor.{Editor, place_after}
+use Rattle.bx_editor.specs.Keys.{after_key, after_keys, needs_no_painting}
+use Rattle.bx_editor.specs.Picture.{LooksAs}
+use Rattle.bx_editor.specs.Pasting.{longer}
+use Rattle.bx_editor.specs.Putting.{has_room}
+use Rattle.bx_editor.specs.Region.{bytes_in, is_empty, largest_clip, region, taken}
+use Rattle.bx_editor.specs.Selecting.{is_selection}
+
+-- ---- a paste
+
+-- a list with more characters, each in UTF-8, and LF as CR LF if `is_crlf`
+abbrev pub brought : Bool → List ℕ → List ℕ → List ℕ
+brought is_crlf list [] = list
+brought is_crlf list (c ∷ cs) = brought is_crlf (longer is_crlf list c) cs
+
+-- the editor after characters are pasted
+abbrev pub after_paste : Data → Editor → List ℕ → Editor
+after_paste d e cs = after_keys d None e (PasteStart ∷ (map Insert cs ++ PasteEnd ∷ []))
+
+-- the place once the selection is removed
+abbrev pub place_between : Data → Editor → ℕ
+place_between d e = place_after d e (splice e.content.text (region e).0 (region e).1 []) (region e).0
+
+-- `list` was put in as one edit that begins a run; where a selection gave way, as two of one run
+pub record IsOneEdit (d : Data) (e : Editor) (list : List ℕ) (new : Editor) : Type 0 where
+  pub alone : is_selection e ≡ false → new.content ≡ inserted e.content e.place list e.place new.place
+  pub instead : is_selection e ≡ true
+      → new.content ≡ exchanged e.content (region e).0 (region e).1 (place_between d e) list e.place (place_between d e) new.place
+  pub begins : new.runs ≡ edited e.runs (length e.content.past) false
+
+-- the text, with its past and future, and the cursor's place stay
+pub record StaysAsText (e new : Editor) : Type 0 where
+  pub content : new.content ≡ e.content
+  pub place : new.place ≡ e.place
+
+-- of the characters that a paste brings nothing is lost, and none is put in alone
+pub record IsPaste (d : Data) (e : Editor) (list : List ℕ) (new : Editor) : Type 0 where
+  pub put : list ≢ [] → has_room e list ≡ true → IsOneEdit d e list new
+  pub full : list ≢ [] → has_room e list ≡ false → StaysAsText e new × (new.message ≡ Some TextFull)
+  pub empty : list ≡ [] → StaysAsText e new
+  pub over : new.pasted ≡ None
+
+-- outside a search and a question a paste is one edit of all that it brings, or nothing where the text has no room for that
+abbrev pub PasteIsOneEdit : Type 0
+PasteIsOneEdit =
+    (d : Data) (e : Editor) (cs : List ℕ) → e.ask ≡ asks.Off → e.seek ≡ Off → e.pasted ≡ None
+    → IsPaste d e (brought (has_crlf_first d e.content.text) [] cs) (after_paste d e cs)
+
+-- a character that goes into a paste, and PasteStart once more, leave the picture as it is
+abbrev pub PasteIsUnseen : Type 0
+PasteIsUnseen = (d : Data) (e : Editor) (key : Key) → needs_no_painting e key ≡ true → LooksAs d e (after_key d None e key)
+
+-- ---- a clipboard
+
+-- a part of the text goes out by a key unless it is empty or too long; that it is too long is told
+pub record SendsHeld (e : Editor) (part : ℕ × ℕ) (key : Key) (new : Editor) : Type 0 where
+  pub sent : is_empty part ≡ false → length (bytes_in e part) ≤ largest_clip → clip_of new key ≡ Some (bytes_in e part)
+  pub too_long : is_empty part ≡ false → largest_clip < length (bytes_in e part)
+      → (clip_of new key ≡ None) × (new.message ≡ Some TooLongForClipboard)
+  pub nothing : is_empty part ≡ true → clip_of new key ≡ None
+
+-- with a clipboard, outside a search and a question and with no paste under way, Copy and Cut send what they take
+abbrev pub CopiesGoOut : Type 0
+CopiesGoOut =
+    (d : Data) (e : Editor) (key : Key) → (key ≡ Copy) ⊎ (key ≡ Cut) → e.clipboard ≡ true → e.ask ≡ asks.Off → e.seek ≡ Off → e.pasted ≡ None
+    → SendsHeld e (taken d e) key (after_key d None e key)
