@@ -1,6 +1,6 @@
 //! A paste: what stands between PasteStart and PasteEnd goes into the text at once.
 ghost use Rattle.std.specs.Prelude.{◌≡◌, None, false, is_some, option_map, string_bytes, IsOk, OnErr, OnOk};
-ghost use Rattle.bx_editor.specs.Pasting.{after_paste_end, after_paste_start, after_pasted_letter, has_changes, has_pasted, longer, paste_begun, paste_ended, pasted_with, with_paste, with_pasted};
+ghost use Rattle.bx_editor.specs.Pasting.{after_paste_end, after_paste_start, after_pasted_letter, has_changes, has_pasted, longer, paste_begun, paste_ended, pasted_with, pastes_crlf, with_paste, with_pasted};
 ghost use Rattle.bx_editor.specs.Keys.{after_user, is_of_paste, is_save, is_told_key, needs_no_painting};
 ghost use Rattle.bx_editor.specs.Pasting.{as_before, without_paste};
 
@@ -15,7 +15,7 @@ use bx_runs::Typing;
 use bx_terms::{LARGEST_TEXT, OutOfMemory};
 use bx_ucd::BidiData;
 
-/// Appends a character to what a paste has brought, LF as CR LF if `is_crlf`. A list that is longer than any text stays as it is.
+/// Appends a character to what a paste has brought, or CR LF in its place. A list that is longer than any text stays as it is.
 ///
 /// Errors: `OutOfMemory`, and nothing is appended.
 fn lengthen(list: &mut String, c: char, is_crlf: bool) -> Result<(), OutOfMemory>
@@ -25,7 +25,7 @@ fn lengthen(list: &mut String, c: char, is_crlf: bool) -> Result<(), OutOfMemory
     if list.len() > LARGEST_TEXT {
         return Ok(());
     }
-    if c == '\n' && is_crlf {
+    if is_crlf {
         list.push_str("\r\n")?;
         return Ok(());
     }
@@ -33,7 +33,7 @@ fn lengthen(list: &mut String, c: char, is_crlf: bool) -> Result<(), OutOfMemory
     Ok(())
 }
 
-/// Appends a character to what a paste has brought, if one is under way.
+/// Appends a character, or CR LF in its place, to what a paste has brought, if one is under way.
 ///
 /// Errors: `OutOfMemory`, and nothing is appended.
 fn lengthen_pasted(pasted: &mut Option<String>, c: char, is_crlf: bool) -> Result<(), OutOfMemory>
@@ -112,6 +112,13 @@ impl<D: BidiData + Drop> Editor<D> {
         self.typing = Typing::Paste;
     }
 
+    /// Whether a character is pasted as CR LF. Allocates nothing.
+    fn pastes_crlf(&self, c: char) -> bool
+        ensures { result ≡ pastes_crlf (D.data self.now.tables) self.now.editor.content.text c }
+    {
+        c == '\n' && self.document.has_crlf_first()
+    }
+
     /// Applies a character while a paste is under way. It takes no memory but the list's.
     pub(crate) fn paste_letter(&mut self, c: char) -> Result<(), OutOfMemory>
         ensures ok { OnOk result (self.new ≡ record self.old {
@@ -119,7 +126,7 @@ impl<D: BidiData + Drop> Editor<D> {
         }) }
         ensures err { OnErr result (self.new ≡ self.old) }
     {
-        let is_crlf = self.document.has_crlf_first();
+        let is_crlf = self.pastes_crlf(c);
         lengthen_pasted(&mut self.pasted, c, is_crlf)?;
         self.quit_before = false;
         self.goal = None;
