@@ -1,6 +1,7 @@
 -- A paste is one edit.
 use Rattle.std.proofs.Common.{◌≡◌, ℕ, suc, ◌+◌, Bool, true, false, List, [], ◌∷◌, ◌++◌, length, map, refl, sym, ap, ap₂, subst, ◌∙◌, arith, if◌then◌else◌}
 use Rattle.std.specs.Prelude.{◌≢◌, ◌==◌, ◌&&◌, not, Option, Some, None}
+use Rattle.std.proofs.lemmas.Bool.{ne_eqb}
 use Rattle.bx_keys.specs.declared.key.Key.TheVariants.{Insert, PasteEnd}
 use Rattle.bx_text.specs.Edits.{fits}
 use Rattle.bx_ucd.specs.Data.{Data}
@@ -35,7 +36,7 @@ aged-soft Old = refl
 
 none-long : (list : List ℕ) → list ≢ [] → (length list == 0) ≡ false
 none-long [] some = absurd (some refl)
-none-long (b ∷ bs) some = refl
+none-long (b ∷ bs) some = ne_eqb (length (b ∷ bs)) 0 (λ none. omega (arith, none))
 
 module _ (d : Data) (e : Editor) where
   letters : (P : List ℕ → Editor → Type 0)
