@@ -8,6 +8,7 @@ pub mod History
 pub mod Line
 pub mod OwnText
 pub mod Past
+pub mod Backup
 pub mod PlaceLevel
 pub mod Region
 pub mod RegionSlots

@@ -2,6 +2,7 @@
 //! grid.
 #![tactic(auto)]
 
+mod backup;
 mod copying;
 mod document;
 mod drawing;
@@ -24,6 +25,7 @@ mod shown;
 mod swapping;
 mod touched;
 
+pub use backup::Backup;
 pub use document::Document;
 pub use edits::RegionEnd;
 pub use error::DocumentError;

@@ -8,6 +8,7 @@ ghost use Rattle.bx_text.specs.Edits.{IsChange, IsRange, exchanged, fits_both, i
 ghost use Rattle.bx_text.specs.Slices.{joined, lends};
 ghost use Rattle.bx_document.specs.History.{next_changes, stepped_times};
 
+use crate::backup::Backup;
 use crate::error::DocumentError;
 use crate::history::{HistoryStep, next_changes, step_in};
 use bx_find::Haystack;
@@ -86,6 +87,29 @@ impl<D: BidiData + Drop> OwnText<D> {
             index,
             tables,
         })
+    }
+
+    /// A copy of the text with its past and its future, and the index of it.
+    pub(crate) fn backup(&self, alloc: Global) -> Result<Backup, OutOfMemory>
+        ensures text { IfOk result (λ b. b.text.edited ≡ self.now.content) }
+        ensures paragraphs { IfOk result (λ b. b.index.paragraphs ≡ lengths (D.data self.now.tables) self.now.content.text) }
+        ensures utf8 { IsUtf8 self.now.content.text }
+    {
+        // proof only: the text is UTF-8
+        let _utf8 = self.text.len();
+        let text = self.text.copy()?;
+        let index = Index::build(alloc, &text, &self.tables)?;
+        Ok(Backup { text, index })
+    }
+
+    /// Takes a copy of a text, with its history and its index, in place of this one. Allocates nothing.
+    pub(crate) fn restore(&mut self, backup: Backup)
+        requires paragraphs { backup.index.paragraphs ≡ lengths (D.data self.old.tables) backup.text.edited.text }
+        requires utf8 { IsUtf8 backup.text.edited.text }
+        ensures { self.new ≡ record self.old { content = backup.text.edited } }
+    {
+        self.text = backup.text;
+        self.index = backup.index;
     }
 
     /// The text with its index and the tables, lent. Allocates nothing.

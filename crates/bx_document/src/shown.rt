@@ -25,6 +25,19 @@ pub struct Shown {
 }
 
 impl<D: BidiData + Drop> Document<D> {
+    /// The offset at which the first visible row begins: the row of the offset `top`, scrolled by the fewest rows that make the row of
+    /// `place` one of `count` visible rows.
+    pub fn follow(&mut self, top: usize, place: usize, count: u16) -> Result<usize, OutOfMemory>
+        requires some { 0 < count }
+        ensures same { self.new ≡ self.old }
+        ensures top { IfOk result (λ o. o ≡ follow (rows (D.data self.old.tables) self.old.document) top place count) }
+    {
+        let source = self.own.source();
+        let located = self.view.locate(&source, top, place, usize::from(count))?;
+        let first = self.view.first_in(&source, located.top);
+        Ok(first)
+    }
+
     /// Draws the first `count` rows of a grid. They show the rows of the text from the row of the offset `top` on, scrolled by
     /// the fewest rows that make the row of `place` visible. The region goes from the offset `region.0` up to `region.1`; the
     /// columns of units that begin in it are turned to the other rendition.

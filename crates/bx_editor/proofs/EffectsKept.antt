@@ -5,7 +5,6 @@ use Rattle.bx_terms.specs.declared.base.Base.{Base}
 use Rattle.bx_store.specs.declared.store.StoreFault.{StoreFault}
 use Rattle.bx_text.specs.declared.change.Change.{Change}
 use Rattle.bx_text.specs.Edits.{Edit, Edited, redone, splice, undone}
-use Rattle.bx_document.specs.FirstSeparator.{has_crlf_first}
 use Rattle.bx_document.specs.History.{next_changes, stepped_times}
 use Rattle.bx_document.specs.declared.history.HistoryStep.{HistoryStep}
 use Rattle.bx_document.specs.declared.history.HistoryStep.TheVariants as steps
@@ -31,7 +30,7 @@ use Rattle.bx_editor.specs.Effects.{Selects, Unmarks, Copies, Cuts, Seeks, Seeks
 use Rattle.bx_editor.specs.Effects.{Tells, Rests, Before, by}
 use Rattle.bx_editor.specs.Erasing.{after_erasing, after_erasing_word, after_removing, removed_on}
 use Rattle.bx_editor.specs.Goal.{after_row_move}
-use Rattle.bx_editor.specs.Pasting.{after_paste_end, after_paste_start, after_pasted_letter, ended_with, paste_begun, paste_ended, pasted_with}
+use Rattle.bx_editor.specs.Pasting.{after_paste_end, after_paste_start, after_pasted_letter, ended_with, paste_begun, paste_ended, pasted_with, pastes_crlf}
 use Rattle.bx_editor.specs.Pasting.{with_paste, with_pasted, without_paste}
 use Rattle.bx_editor.specs.Putting.{after_character, after_new_line, after_put, has_room, line_end, only_paste, put_in}
 use Rattle.bx_editor.specs.Putting.{typed, with_selection_replaced, yielding}
@@ -232,7 +231,7 @@ module _ (P : Editor → Type 0) (keeps : IsKeptPasting P) where
       keeps.pasted begun begun.pasted begun.message Paste (begin-keeps e e.ask e.seek e.pasted h)
 
   pub pasted-letter-keeps : (d : Data) (e : Editor) (c : ℕ) → P e → P (after_pasted_letter d e c)
-  pasted-letter-keeps d e c h = keeps.lengthened e (pasted_with (has_crlf_first d e.content.text) e.pasted c) (aged e.soft) h
+  pasted-letter-keeps d e c h = keeps.lengthened e (pasted_with (pastes_crlf d e.content.text c) e.pasted c) (aged e.soft) h
 
 module _ (d : Data) (P : Editor → Type 0) (keeps : IsKeptPressing d P) (pastes : IsKeptPasting P) where
   list-keeps : (e : Editor) (list : List ℕ) → P e → P (with_pasted d e list)

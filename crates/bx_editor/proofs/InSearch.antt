@@ -5,7 +5,7 @@ use Rattle.bx_keys.specs.declared.key.Key.TheVariants.{Insert, Erase, Delete, Ba
 use Rattle.bx_keys.specs.declared.key.Key.TheVariants.{Quit, Undo, Redo, Repaint, Direction, Size, Mark, Copy, Cut, Put}
 use Rattle.bx_keys.specs.declared.key.Key.TheVariants.{Find, FindBack, WordLeft, WordRight, TextStart, TextEnd, Help, Notice}
 use Rattle.bx_keys.specs.declared.key.Key.TheVariants.{EraseWord, DeleteWord, ErasePoint, NewLine, FindNext, Cancel, LineUp, LineDown, PageBack, PageOn}
-use Rattle.bx_keys.specs.declared.key.Key.TheVariants.{Select, UndoRun, RedoRun, GoTo, Replace, Name, Tell, PasteStart, PasteEnd}
+use Rattle.bx_keys.specs.declared.key.Key.TheVariants.{Select, UndoRun, RedoRun, GoTo, Replace, Name, Tell, PasteStart, PasteEnd, Point}
 use Rattle.bx_keys.specs.declared.notice.Notice as told
 use Rattle.bx_store.specs.declared.store.StoreFault.{StoreFault}
 use Rattle.bx_ucd.specs.Data.{Data}
@@ -81,6 +81,7 @@ each-key d fault e P sized noted pasted other GoTo = other GoTo refl
 each-key d fault e P sized noted pasted other Replace = other Replace refl
 each-key d fault e P sized noted pasted other Name = other Name refl
 each-key d fault e P sized noted pasted other Tell = other Tell refl
+each-key d fault e P sized noted pasted other (Point row column) = other (Point row column) refl
 each-key d fault e P sized noted pasted other PasteStart = pasted.0
 each-key d fault e P sized noted pasted other PasteEnd = pasted.1
 

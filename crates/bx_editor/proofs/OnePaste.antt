@@ -1,10 +1,10 @@
 -- A paste is one edit.
 use Rattle.std.proofs.Common.{◌≡◌, ℕ, suc, ◌+◌, Bool, true, false, List, [], ◌∷◌, ◌++◌, length, map, refl, sym, ap, ap₂, subst, ◌∙◌, arith, if◌then◌else◌}
 use Rattle.std.specs.Prelude.{◌≢◌, ◌==◌, ◌&&◌, not, Option, Some, None}
+use Rattle.std.proofs.lemmas.Bool.{ne_eqb}
 use Rattle.bx_keys.specs.declared.key.Key.TheVariants.{Insert, PasteEnd}
 use Rattle.bx_text.specs.Edits.{fits}
 use Rattle.bx_ucd.specs.Data.{Data}
-use Rattle.bx_document.specs.FirstSeparator.{has_crlf_first}
 use Rattle.bx_asking.specs.declared.question.Ask.TheVariants as asks
 use Rattle.bx_runs.specs.declared.typing.Typing.TheVariants as typings
 use Rattle.bx_editor.specs.declared.message.Message.TheVariants.{Pasting, TextFull}
@@ -14,7 +14,7 @@ use Rattle.bx_editor.specs.declared.soft.Soft.TheVariants.{Off, Fresh, Old}
 use Rattle.bx_editor.specs.Editor.{Editor, with_insertion, with_typing}
 use Rattle.bx_editor.specs.Keys.{after_keys}
 use Rattle.bx_editor.specs.PasteLaws.{IsOneEdit, IsPaste, PasteIsOneEdit, brought}
-use Rattle.bx_editor.specs.Pasting.{after_paste_end, after_paste_start, longer, paste_begun}
+use Rattle.bx_editor.specs.Pasting.{after_paste_end, after_paste_start, longer, paste_begun, pastes_crlf}
 use Rattle.bx_editor.specs.Putting.{has_room, put_in, with_selection_replaced}
 use Rattle.bx_editor.specs.Region.{is_empty, region}
 use Rattle.bx_editor.specs.Selecting.{aged, is_selection, is_soft}
@@ -36,17 +36,17 @@ aged-soft Old = refl
 
 none-long : (list : List ℕ) → list ≢ [] → (length list == 0) ≡ false
 none-long [] some = absurd (some refl)
-none-long (b ∷ bs) some = refl
+none-long (b ∷ bs) some = ne_eqb (length (b ∷ bs)) 0 (λ none. omega (arith, none))
 
 module _ (d : Data) (e : Editor) where
   letters : (P : List ℕ → Editor → Type 0)
       → ((list : List ℕ) (again : Bool) (goal : Option ℕ) (soft : Soft) → is_soft soft ≡ is_soft e.soft
       → P list (after_paste_end d (in_paste e list again goal soft)))
       → (cs list : List ℕ) (again : Bool) (goal : Option ℕ) (soft : Soft) → is_soft soft ≡ is_soft e.soft
-      → P (brought (has_crlf_first d e.content.text) list cs) (after_keys d None (in_paste e list again goal soft) (map Insert cs ++ PasteEnd ∷ []))
+      → P (brought d e.content.text list cs) (after_keys d None (in_paste e list again goal soft) (map Insert cs ++ PasteEnd ∷ []))
   letters P end [] list again goal soft same = end list again goal soft same
   letters P end (c ∷ cs) list again goal soft same =
-      letters P end cs (longer (has_crlf_first d e.content.text) list c) false None (aged soft) (aged-soft soft ∙ same)
+      letters P end cs (longer (pastes_crlf d e.content.text c) list c) false None (aged soft) (aged-soft soft ∙ same)
 
   module _ (list : List ℕ) (again : Bool) (goal : Option ℕ) (soft : Soft) (same : is_soft soft ≡ is_soft e.soft) where
     abbrev was : Editor
@@ -119,6 +119,6 @@ begun e unasked off none =
 
 pub paste-is-one-edit : PasteIsOneEdit
 paste-is-one-edit d e cs unasked off none =
-    subst (λ (x : Editor). IsPaste d e (brought (has_crlf_first d e.content.text) [] cs) (after_keys d None x (map Insert cs ++ PasteEnd ∷ [])))
+    subst (λ (x : Editor). IsPaste d e (brought d e.content.text [] cs) (after_keys d None x (map Insert cs ++ PasteEnd ∷ [])))
     (sym (begun e unasked off none))
     (letters d e (IsPaste d e) (ended d e) cs [] e.quit_before e.goal e.soft refl)

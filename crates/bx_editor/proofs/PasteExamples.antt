@@ -2,8 +2,6 @@
 use Rattle.std.proofs.Common.{◌≡◌, ℕ, Bool, true, false, List, [], ◌∷◌, ◌++◌, length, refl}
 use Rattle.std.specs.Prelude.{codes, Option, Some, None}
 use Rattle.std.specs.Fmt.{digits}
-use Rattle.ucd_case.proofs.Computing.{ucd_case}
-use Rattle.unicode_normalization.proofs.Computing.{unicode_normalization}
 use Rattle.unicode_segmentation.proofs.Computing.{unicode_segmentation}
 use Rattle.unicode_width.proofs.Computing.{unicode_width}
 use Rattle.bx_keys.specs.declared.key.Key.{Key}
@@ -136,15 +134,7 @@ also_where_that_gives_way : text_at (edited (codes "a\r\n") (Select ∷ Forward 
 unfolding unicode_segmentation unicode_width digits
 also_where_that_gives_way = refl
 
--- ---- in a search and a question
-
-behind_the_end_of_a_search : text_at (edited (codes "ab ab") (Find ∷ paste (codes "b\nx\n"))) ≡ (codes "ax\nb ab", 3)
-unfolding unicode_segmentation unicode_width ucd_case unicode_normalization digits
-behind_the_end_of_a_search = refl
-
-a_query_is_pasted_as_it_was_typed : (edited (codes "ab ab") (Find ∷ PasteStart ∷ letters (codes "b"))).pasted ≡ None
-unfolding unicode_segmentation unicode_width ucd_case unicode_normalization digits
-a_query_is_pasted_as_it_was_typed = refl
+-- ---- in a question
 
 abbrev asked_paste : Editor
 asked_paste = edited (codes "ab\nc") (GoTo ∷ PasteStart ∷ letters (codes "2\n"))

@@ -4,7 +4,7 @@ use Rattle.std.specs.Prelude.{◌==◌, Some, None}
 use Rattle.bx_ucd.specs.Data.{Data}
 use Rattle.bx_editor.specs.declared.message.Message.TheVariants.{TextFull}
 use Rattle.bx_editor.specs.Editor.{Editor, cleared, with_insertion}
-use Rattle.bx_editor.specs.Pasting.{ended_with, with_pasted, without_paste}
+use Rattle.bx_editor.specs.Pasting.{as_before, ended_with, with_pasted, without_paste}
 use Rattle.bx_editor.specs.Putting.{has_room, put_in, with_selection_replaced}
 use Rattle.bx_editor.specs.Selecting.{is_selection}
 
@@ -45,3 +45,19 @@ list-none d e list false =
 pub ended-none : (d : Data) (e : Editor) (pasted : Option (List ℕ)) → e.pasted ≡ pasted → (ended_with d e pasted).pasted ≡ None
 ended-none d e None is = is
 ended-none d e (Some list) is = list-none d e list (length list == 0)
+
+-- ---- a paste that is taken back
+
+back-from : (e : Editor) (room selected : Bool) (new : List ℕ) (d : Data)
+    → as_before e (if room then (if selected then with_selection_replaced d (without_paste e) new else with_insertion d (without_paste e) new false)
+    else record (without_paste e) { message = Some TextFull }) ≡ e
+back-from e true true new d = refl
+back-from e true false new d = refl
+back-from e false selected new d = refl
+
+back-by : (d : Data) (e : Editor) (list : List ℕ) (none : Bool) → as_before e (if none then without_paste e else put_in d (without_paste e) list false) ≡ e
+back-by d e list true = refl
+back-by d e list false = back-from e (has_room (without_paste e) list) (is_selection (without_paste e)) list d
+
+pub taken-back : (d : Data) (e : Editor) (list : List ℕ) → as_before e (with_pasted d e list) ≡ e
+taken-back d e list = back-by d e list (length list == 0)

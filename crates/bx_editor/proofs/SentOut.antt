@@ -39,10 +39,13 @@ held-sent e part key own new with_one held message tells not_told some =
       nothing = λ none. (let no = sym some ∙ none in absurd (cc no));
     }
 
+and-false : (b : Bool) → (b && false) ≡ false
+and-false true = refl
+and-false false = refl
+
 -- nothing was held, and another message is told
 none-sent : (e : Editor) (part : ℕ × ℕ) (key : Key) (new : Editor) → is_clip key new.message ≡ false → is_empty part ≡ true → SendsHeld e part key new
 none-sent e part key new quiet none =
-    let and-false : (b : Bool) → (b && false) ≡ false = λ b. grind arith in
     record {
       sent = λ some. (let no = sym none ∙ some in absurd (cc no));
       too_long = λ some. (let no = sym none ∙ some in absurd (cc no));

@@ -22,7 +22,7 @@ use Rattle.bx_document.specs.Drawing.{with_rows}
 use Rattle.bx_editor.specs.declared.message.Message.{Message}
 use Rattle.bx_editor.specs.declared.message.Message.TheVariants.{Saved, SaveFailed, TextFull, NothingToUndo, NothingToRedo, Unsaved, Direction, MarkSet, MarkOff}
 use Rattle.bx_editor.specs.declared.message.Message.TheVariants.{Copied, LineCopied, NothingToCopy, NothingToPut, FromStart, FromEnd, NotFound, Help}
-use Rattle.bx_editor.specs.declared.message.Message.TheVariants.{MoreHelp, MoreThanOneLine, NoSuchCharacter, Replaced, Told, Notice}
+use Rattle.bx_editor.specs.declared.message.Message.TheVariants.{MoreHelp, MoreThanOneLine, NoSuchCharacter, Pasting, Replaced, Told, TooLongForClipboard, Notice}
 use Rattle.bx_editor.specs.Editor.{Editor}
 use Rattle.bx_editor.specs.Status.{failed_text, letter_glyphs, message_text, notice_text, prompt_glyphs, prompt_text, shown_text, status_line, typed_glyphs}
 
@@ -88,6 +88,8 @@ message-printable Help = refl
 message-printable MoreHelp = refl
 message-printable MoreThanOneLine = refl
 message-printable NoSuchCharacter = refl
+message-printable Pasting = refl
+message-printable TooLongForClipboard = refl
 message-printable (Replaced n) = refl
 message-printable Told = refl
 message-printable (Notice notice) = notice-printable notice

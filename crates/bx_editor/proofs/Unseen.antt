@@ -6,7 +6,6 @@ use Rattle.bx_view.specs.Top.{shown_rows}
 use Rattle.bx_grid.specs.Picture.{PictureState}
 use Rattle.bx_rows.specs.RowPicture.{Glyph}
 use Rattle.bx_ucd.specs.Data.{Data}
-use Rattle.bx_document.specs.FirstSeparator.{has_crlf_first}
 use Rattle.bx_asking.specs.declared.question.Ask.{Ask}
 use Rattle.bx_asking.specs.declared.question.Ask.TheVariants as asks
 use Rattle.bx_runs.specs.declared.typing.Typing.{Typing}
@@ -18,7 +17,7 @@ use Rattle.bx_editor.specs.Editor.{Editor, rows, text_height}
 use Rattle.bx_keys.specs.declared.key.Key.TheVariants.{Insert, PasteStart}
 use Rattle.bx_editor.specs.Keys.{after_press}
 use Rattle.bx_editor.specs.PasteLaws.{PasteIsUnseen}
-use Rattle.bx_editor.specs.Pasting.{after_paste_start, after_pasted_letter, paste_begun, pasted_with}
+use Rattle.bx_editor.specs.Pasting.{after_paste_start, after_pasted_letter, paste_begun, pasted_with, pastes_crlf}
 use Rattle.bx_editor.specs.Picture.{LooksAs, blank_picture, picture, region_rows}
 use Rattle.bx_editor.specs.Replacing.{seen_in}
 use Rattle.bx_editor.specs.Selecting.{aged}
@@ -68,7 +67,7 @@ module _ (d : Data) (e : Editor) (pasted : Option (List ℕ)) (quit_before : Boo
   }
 
 pub letter-unseen : (d : Data) (e : Editor) (c : ℕ) → LooksAs d e (after_pasted_letter d e c)
-letter-unseen d e c = looks-same d e (pasted_with (has_crlf_first d e.content.text) e.pasted c) false None (aged e.soft) e.typing
+letter-unseen d e c = looks-same d e (pasted_with (pastes_crlf d e.content.text c) e.pasted c) false None (aged e.soft) e.typing
 
 begun-unseen : (e : Editor) (ask : Ask) (seek : Seek) (list : List ℕ) → paste_begun ask seek (Some list) e ≡ e
 begun-unseen e asks.Off seeks.Off list = refl

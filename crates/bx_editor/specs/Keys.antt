@@ -6,7 +6,7 @@ use Rattle.bx_keys.specs.declared.key.Key.TheVariants.{Insert, Erase, Delete, Ba
 use Rattle.bx_keys.specs.declared.key.Key.TheVariants.{Save, Quit, Undo, Redo, Repaint, Direction, Size, Mark, Copy, Cut, Put}
 use Rattle.bx_keys.specs.declared.key.Key.TheVariants.{Find, FindBack, WordLeft, WordRight, TextStart, TextEnd, Help, Notice}
 use Rattle.bx_keys.specs.declared.key.Key.TheVariants.{EraseWord, DeleteWord, ErasePoint, NewLine, FindNext, Cancel, LineUp, LineDown, PageBack, PageOn}
-use Rattle.bx_keys.specs.declared.key.Key.TheVariants.{Select, UndoRun, RedoRun, GoTo, Replace, Name, Tell, PasteStart, PasteEnd}
+use Rattle.bx_keys.specs.declared.key.Key.TheVariants.{Select, UndoRun, RedoRun, GoTo, Replace, Name, Tell, PasteStart, PasteEnd, Point}
 use Rattle.bx_store.specs.declared.store.StoreFault.{StoreFault}
 use Rattle.bx_document.specs.declared.history.HistoryStep.TheVariants as steps
 use Rattle.bx_paragraph.specs.declared.moves.Visual.TheVariants as visual
@@ -28,6 +28,7 @@ use Rattle.bx_editor.specs.Effects.{Unmarks, Copies, Cuts, Seeks, SeeksNext, Sav
 use Rattle.bx_editor.specs.Erasing.{point_before}
 use Rattle.bx_editor.specs.Goal.{goal_behind}
 use Rattle.bx_editor.specs.Pasting.{after_paste_end, after_paste_start, after_pasted_letter, paste_ended}
+use Rattle.bx_editor.specs.Pointing.{pointed_place}
 use Rattle.bx_editor.specs.Putting.{only_paste}
 use Rattle.bx_editor.specs.Replacing.{after_asking_other, after_ending, after_match_letter, after_other_letter, after_passing_over}
 use Rattle.bx_editor.specs.Replacing.{after_replacing_all, after_shorter_other, after_showing, after_sought_letter}
@@ -63,6 +64,7 @@ effect_of d e LineUp = GoesByRows ways.Up 1
 effect_of d e LineDown = GoesByRows ways.Down 1
 effect_of d e PageBack = GoesByRows ways.Up (text_height e.height)
 effect_of d e PageOn = GoesByRows ways.Down (text_height e.height)
+effect_of d e (Point row column) = Goes (pointed_place d e row column)
 effect_of d e Undo = Steps steps.Undo
 effect_of d e Redo = Steps steps.Redo
 effect_of d e UndoRun = StepsRun steps.Undo

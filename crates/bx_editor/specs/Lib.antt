@@ -3,6 +3,7 @@ pub mod Region
 pub mod Selecting
 pub mod Search
 pub mod Goal
+pub mod Pointing
 pub mod Erasing
 pub mod Putting
 pub mod Pasting

@@ -1,11 +1,10 @@
 -- Laws of a paste, and of what goes out to a clipboard. `d` is Unicode's data, `e` the editor before, `new` the editor after.
-use Rattle.std.specs.Prelude.{◌≡◌, ◌≢◌, ℕ, ◌<◌, ◌≤◌, ◌⊎◌, Bool, true, false, List, [], ◌∷◌, ◌++◌, length, map, Some, None}
+use Rattle.std.specs.Prelude.{◌≡◌, ◌≢◌, ℕ, ◌<◌, ◌≤◌, ◌⊎◌, true, false, List, [], ◌∷◌, ◌++◌, length, map, Some, None}
 use Rattle.bx_keys.specs.declared.key.Key.{Key}
 use Rattle.bx_keys.specs.declared.key.Key.TheVariants.{Copy, Cut, Insert, PasteEnd, PasteStart}
 use Rattle.bx_runs.specs.Runs.{edited}
 use Rattle.bx_text.specs.Edits.{exchanged, inserted, splice}
 use Rattle.bx_ucd.specs.Data.{Data}
-use Rattle.bx_document.specs.FirstSeparator.{has_crlf_first}
 use Rattle.bx_asking.specs.declared.question.Ask.TheVariants as asks
 use Rattle.bx_editor.specs.declared.message.Message.TheVariants.{TextFull, TooLongForClipboard}
 use Rattle.bx_editor.specs.declared.seek.Seek.TheVariants.{Off}
@@ -13,17 +12,17 @@ use Rattle.bx_editor.specs.Clipboard.{clip_of}
 use Rattle.bx_editor.specs.Editor.{Editor, place_after}
 use Rattle.bx_editor.specs.Keys.{after_key, after_keys, needs_no_painting}
 use Rattle.bx_editor.specs.Picture.{LooksAs}
-use Rattle.bx_editor.specs.Pasting.{longer}
+use Rattle.bx_editor.specs.Pasting.{longer, pastes_crlf}
 use Rattle.bx_editor.specs.Putting.{has_room}
 use Rattle.bx_editor.specs.Region.{bytes_in, is_empty, largest_clip, region, taken}
 use Rattle.bx_editor.specs.Selecting.{is_selection}
 
 -- ---- a paste
 
--- a list with more characters, each in UTF-8, and LF as CR LF if `is_crlf`
-abbrev pub brought : Bool → List ℕ → List ℕ → List ℕ
-brought is_crlf list [] = list
-brought is_crlf list (c ∷ cs) = brought is_crlf (longer is_crlf list c) cs
+-- a list with more characters, each in UTF-8, and LF as the text's line end
+abbrev pub brought : Data → List ℕ → List ℕ → List ℕ → List ℕ
+brought d text list [] = list
+brought d text list (c ∷ cs) = brought d text (longer (pastes_crlf d text c) list c) cs
 
 -- the editor after characters are pasted
 abbrev pub after_paste : Data → Editor → List ℕ → Editor
@@ -56,7 +55,7 @@ pub record IsPaste (d : Data) (e : Editor) (list : List ℕ) (new : Editor) : Ty
 abbrev pub PasteIsOneEdit : Type 0
 PasteIsOneEdit =
     (d : Data) (e : Editor) (cs : List ℕ) → e.ask ≡ asks.Off → e.seek ≡ Off → e.pasted ≡ None
-    → IsPaste d e (brought (has_crlf_first d e.content.text) [] cs) (after_paste d e cs)
+    → IsPaste d e (brought d e.content.text [] cs) (after_paste d e cs)
 
 -- a character that goes into a paste, and PasteStart once more, leave the picture as it is
 abbrev pub PasteIsUnseen : Type 0

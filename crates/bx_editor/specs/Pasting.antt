@@ -29,9 +29,13 @@ after_paste_start e = with_typing (paste_begun e.ask e.seek e.pasted e) Paste
 
 -- ---- what it brings
 
--- a pasted character in UTF-8: LF is CR LF if `is_crlf`, as where the text's first separator is CR LF
+-- the character is pasted as CR LF: it is LF, and the text's first separator is CR LF
+abbrev pub pastes_crlf : Data → List ℕ → ℕ → Bool
+pastes_crlf d text c = (c == 0xA) && has_crlf_first d text
+
+-- a pasted character in UTF-8, or CR LF
 abbrev pub pasted_bytes : Bool → ℕ → List ℕ
-pasted_bytes is_crlf c = if (c == 0xA) && is_crlf then 0xD ∷ 0xA ∷ [] else encode_utf8 c
+pasted_bytes is_crlf c = if is_crlf then 0xD ∷ 0xA ∷ [] else encode_utf8 c
 
 -- a list with one more character; one that is longer than any text stays as it is
 abbrev pub longer : Bool → List ℕ → ℕ → List ℕ
@@ -45,7 +49,7 @@ pasted_with is_crlf (Some list) c = Some (longer is_crlf list c)
 -- a character is pasted: the text, the message and what is typed stay, and for all else it is a key as others are
 abbrev pub after_pasted_letter : Data → Editor → ℕ → Editor
 after_pasted_letter d e c = record e {
-  pasted = pasted_with (has_crlf_first d e.content.text) e.pasted c;
+  pasted = pasted_with (pastes_crlf d e.content.text c) e.pasted c;
   quit_before = false;
   goal = None;
   soft = aged e.soft;
@@ -73,6 +77,22 @@ paste_ended d e = ended_with d e e.pasted
 -- the effect of PasteEnd
 abbrev pub after_paste_end : Data → Editor → Editor
 after_paste_end d e = with_typing (paste_ended d e) Off
+
+-- `new` with all that the end of a paste changes as it was in `e`
+abbrev pub as_before : Editor → Editor → Editor
+as_before e new = record new {
+  content = e.content;
+  place = e.place;
+  mark = e.mark;
+  soft = e.soft;
+  seek = e.seek;
+  runs = e.runs;
+  stored = e.stored;
+  changed = e.changed;
+  pasted = e.pasted;
+  typing = e.typing;
+  message = e.message;
+}
 
 -- ---- what counts as changed
 

@@ -236,6 +236,7 @@ impl<D: BidiData + Drop> Editor<D> {
             Key::LineDown => self.move_by_rows(Vertical::Down, 1),
             Key::PageBack => self.move_by_rows(Vertical::Up, page),
             Key::PageOn => self.move_by_rows(Vertical::Down, page),
+            Key::Point(row, column) => self.point(row, column),
             Key::FindNext => self.go_to_next(),
             Key::Undo => self.step(HistoryStep::Undo),
             Key::Redo => self.step(HistoryStep::Redo),

@@ -18,6 +18,7 @@ mod other;
 mod past;
 mod pasting;
 mod picture;
+mod pointing;
 mod putting;
 mod query;
 mod region;

@@ -1,11 +1,12 @@
 //! A paste: what stands between PasteStart and PasteEnd goes into the text at once.
 ghost use Rattle.std.specs.Prelude.{◌≡◌, None, false, is_some, option_map, string_bytes, IsOk, OnErr, OnOk};
-ghost use Rattle.bx_editor.specs.Pasting.{after_paste_end, after_paste_start, after_pasted_letter, has_changes, has_pasted, longer, paste_begun, paste_ended, pasted_with, with_paste, with_pasted};
+ghost use Rattle.bx_editor.specs.Pasting.{after_paste_end, after_paste_start, after_pasted_letter, has_changes, has_pasted, longer, paste_begun, paste_ended, pasted_with, pastes_crlf, with_paste, with_pasted};
 ghost use Rattle.bx_editor.specs.Keys.{after_user, is_of_paste, is_save, is_told_key, needs_no_painting};
-ghost use Rattle.bx_editor.specs.Pasting.{without_paste};
+ghost use Rattle.bx_editor.specs.Pasting.{as_before, without_paste};
 
 use crate::editor::Editor;
 use crate::message::Message;
+use crate::past::Past;
 use crate::seek::Seek;
 use crate::selecting::aged;
 use bx_asking::Ask;
@@ -14,7 +15,7 @@ use bx_runs::Typing;
 use bx_terms::{LARGEST_TEXT, OutOfMemory};
 use bx_ucd::BidiData;
 
-/// Appends a character to what a paste has brought, LF as CR LF if `is_crlf`. A list that is longer than any text stays as it is.
+/// Appends a character to what a paste has brought, or CR LF in its place. A list that is longer than any text stays as it is.
 ///
 /// Errors: `OutOfMemory`, and nothing is appended.
 fn lengthen(list: &mut String, c: char, is_crlf: bool) -> Result<(), OutOfMemory>
@@ -24,7 +25,7 @@ fn lengthen(list: &mut String, c: char, is_crlf: bool) -> Result<(), OutOfMemory
     if list.len() > LARGEST_TEXT {
         return Ok(());
     }
-    if c == '\n' && is_crlf {
+    if is_crlf {
         list.push_str("\r\n")?;
         return Ok(());
     }
@@ -32,7 +33,7 @@ fn lengthen(list: &mut String, c: char, is_crlf: bool) -> Result<(), OutOfMemory
     Ok(())
 }
 
-/// Appends a character to what a paste has brought, if one is under way.
+/// Appends a character, or CR LF in its place, to what a paste has brought, if one is under way.
 ///
 /// Errors: `OutOfMemory`, and nothing is appended.
 fn lengthen_pasted(pasted: &mut Option<String>, c: char, is_crlf: bool) -> Result<(), OutOfMemory>
@@ -111,6 +112,13 @@ impl<D: BidiData + Drop> Editor<D> {
         self.typing = Typing::Paste;
     }
 
+    /// Whether a character is pasted as CR LF. Allocates nothing.
+    fn pastes_crlf(&self, c: char) -> bool
+        ensures { result ≡ pastes_crlf (D.data self.now.tables) self.now.editor.content.text c }
+    {
+        c == '\n' && self.document.has_crlf_first()
+    }
+
     /// Applies a character while a paste is under way. It takes no memory but the list's.
     pub(crate) fn paste_letter(&mut self, c: char) -> Result<(), OutOfMemory>
         ensures ok { OnOk result (self.new ≡ record self.old {
@@ -118,7 +126,7 @@ impl<D: BidiData + Drop> Editor<D> {
         }) }
         ensures err { OnErr result (self.new ≡ self.old) }
     {
-        let is_crlf = self.document.has_crlf_first();
+        let is_crlf = self.pastes_crlf(c);
         lengthen_pasted(&mut self.pasted, c, is_crlf)?;
         self.quit_before = false;
         self.goal = None;
@@ -186,7 +194,22 @@ impl<D: BidiData + Drop> Editor<D> {
         }
     }
 
-    /// Ends the paste, and applies a key with its usual effect.
+    /// Puts in what a paste has brought, and applies a key with its usual effect.
+    ///
+    /// Errors: `OutOfMemory`. The key has changed nothing, but the text may have what was put in.
+    fn put_and_press(&mut self, list: &str, key: Key) -> Result<(), OutOfMemory>
+        requires no_save { is_save key ≡ false }
+        requires typed { is_told_key key ≡ false }
+        ensures ok { OnOk result (self.new.editor ≡ after_user (D.data self.old.tables) None (with_pasted (D.data self.old.tables) self.old.editor list.now) key) }
+        ensures tables { self.new.tables ≡ self.old.tables }
+        ensures err { OnErr result (as_before self.old.editor self.new.editor ≡ self.old.editor) }
+    {
+        self.put_pasted(list)?;
+        self.press_key(key)
+    }
+
+    /// Ends the paste, and applies a key with its usual effect. A refused key leaves the paste as it was: for that the text is copied
+    /// first, with its history. Only a paste whose end was lost is ended so.
     pub(crate) fn press_behind_paste(&mut self, key: Key) -> Result<(), OutOfMemory>
         requires no_save { is_save key ≡ false }
         requires typed { is_told_key key ≡ false }
@@ -194,7 +217,28 @@ impl<D: BidiData + Drop> Editor<D> {
         ensures tables { self.new.tables ≡ self.old.tables }
         ensures err { OnErr result (self.new ≡ self.old) }
     {
-        self.end_paste()?;
-        self.press_key(key)
+        let document = self.document.backup()?;
+        let runs = self.past.runs.copy()?;
+        let (stored, changed) = (self.past.stored, self.past.changed);
+        let (cursor, typing, message) = (self.cursor, self.typing, self.message);
+        let Some(list) = self.pasted.take() else {
+            return self.press_key(key);
+        };
+        match self.put_and_press(list.as_str(), key) {
+            Ok(()) => Ok(()),
+            Err(refused) => {
+                self.document.restore(document);
+                self.past = Past {
+                    runs,
+                    stored,
+                    changed,
+                };
+                self.cursor = cursor;
+                self.typing = typing;
+                self.message = message;
+                self.pasted = Some(list);
+                Err(refused)
+            }
+        }
     }
 }

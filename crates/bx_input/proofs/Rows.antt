@@ -1,24 +1,18 @@
--- The output for a row of the table.
-use Rattle.std.proofs.Common.{◌≡◌, ℕ, Bool, true, false, List, [], ◌∷◌, ◌++◌, Option, Some, None, refl, not, ◌||◌}
-use Rattle.std.specs.Prelude.{option_map}
+-- The output for a known sequence.
+use Rattle.std.proofs.Common.{◌≡◌, ℕ, Bool, true, false, List, [], ◌∷◌, ◌++◌, Some, refl, ap, ◌∙◌, not, ◌||◌}
 use Rattle.bx_bytes.specs.declared.fate.Fate.TheVariants.{Ends}
-use Rattle.bx_input.specs.Table.{Row, fate, row_of}
+use Rattle.bx_input.specs.Known.{fate, becomes_of}
 use Rattle.bx_input.specs.Filter.{Outside, step_to, step_by, ended, fresh, apart_from, is_empty}
-use Rattle.bx_input.specs.Models.{becomes_of, BeginsByEscape}
-
-ended_by : (is_open : Bool) (r : Option Row) (bs : List ℕ) → option_map (λ (r : Row). r.becomes) r ≡ Some bs
-    → ended is_open r ≡ step_to (Outside [] false) (apart_from is_open bs)
-ended_by is_open None bs h = absurd (cc h)
-ended_by is_open (Some r) bs h = let e : r.becomes ≡ bs = cc h in rw e refl
+use Rattle.bx_input.specs.Models.{BeginsByEscape}
 
 pub row_goes : (by_delete : Bool) (waiting : List ℕ) (is_open : Bool) (b : ℕ) (bs : List ℕ) → fate (waiting ++ b ∷ []) ≡ Ends
     → becomes_of by_delete (waiting ++ b ∷ []) ≡ Some bs
     → step_by by_delete (fate (waiting ++ b ∷ [])) waiting is_open b ≡ step_to (Outside [] false) (apart_from is_open bs)
-row_goes by_delete waiting is_open b bs h g = rw h (ended_by is_open (row_of by_delete (waiting ++ b ∷ [])) bs g)
+row_goes by_delete waiting is_open b bs h g = ap (λ f. step_by by_delete f waiting is_open b) h ∙ ap (ended is_open) g
 
 pub byte_goes : (by_delete : Bool) (is_open : Bool) (b : ℕ) (bs : List ℕ) → fate (b ∷ []) ≡ Ends → becomes_of by_delete (b ∷ []) ≡ Some bs
     → fresh by_delete (fate (b ∷ [])) is_open b ≡ step_to (Outside [] false) (apart_from is_open bs)
-byte_goes by_delete is_open b bs h g = rw h (ended_by is_open (row_of by_delete (b ∷ [])) bs g)
+byte_goes by_delete is_open b bs h g = ap (λ f. fresh by_delete f is_open b) h ∙ ap (ended is_open) g
 
 pub escape_apart : (is_open : Bool) (bs : List ℕ) → BeginsByEscape bs → apart_from is_open bs ≡ bs
 escape_apart is_open [] h = absurd (cc h)

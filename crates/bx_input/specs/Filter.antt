@@ -5,7 +5,8 @@ use Rattle.std.specs.Str.{bytes_eq}
 use Rattle.bx_bytes.specs.Pattern.{is_within}
 use Rattle.bx_bytes.specs.declared.fate.Fate.{Fate}
 use Rattle.bx_bytes.specs.declared.fate.Fate.TheVariants.{Waits, Ends, Breaks}
-use Rattle.bx_input.specs.Table.{Row, csi, fate, row_of, paste_end, start_told, end_told}
+use Rattle.bx_input.specs.Known.{fate, becomes_of}
+use Rattle.bx_input.specs.Table.{csi, paste_end, start_told, end_told}
 use Rattle.bx_input.specs.Paste.{pasted_byte, pasted_part, paste_fate}
 
 -- The waiting bytes begin a sequence that the filter knows. Outside a paste, a sequence that went out unchanged may still be
@@ -40,19 +41,19 @@ step_to state output = record { state = state; output = output }
 abbrev pub with_front : List ℕ → Step → Step
 with_front front s = step_to s.state (front ++ s.output)
 
--- ---- outside a paste; `fate` (`Table.antt`) says whether bytes are a known sequence (Ends), begin one (Waits) or neither
+-- ---- outside a paste; `fate` (`Known.antt`) says whether bytes are a known sequence (Ends), begin one (Waits) or neither
 -- (Breaks)
 
 -- ESC begins a sequence even if one is open. Any other byte would go into the open one, so a CAN, which has no key for the
--- editor, ends it first.
+-- editor, ends it first. Where nothing goes out it ends it too, since what comes next may be no ESC.
 abbrev pub apart_from : Bool → List ℕ → List ℕ
 apart_from is_open [] = if is_open then 0x18 ∷ [] else []
 apart_from is_open (b ∷ bs) = if is_open && not (b == 0x1B) then 0x18 ∷ b ∷ bs else b ∷ bs
 
--- a known sequence is whole: the bytes of its row go out, or without a row, which only a paste's start has not, a paste starts
-abbrev pub ended : Bool → Option Row → Step
+-- a known sequence is whole: what it becomes goes out, or without that, which only a paste's start has not, a paste starts
+abbrev pub ended : Bool → Option (List ℕ) → Step
 ended is_open None = step_to (Within [] false) start_told
-ended is_open (Some r) = step_to (Outside [] false) (apart_from is_open r.becomes)
+ended is_open (Some bs) = step_to (Outside [] false) (apart_from is_open bs)
 
 -- there are no bytes
 abbrev pub is_empty : List ℕ → Bool
@@ -64,7 +65,7 @@ module _ (erases_by_delete : Bool) where
   -- a byte where none waits; an open sequence stays open after a parameter or intermediate byte (20 to 3F: ECMA-48, 5.4)
   abbrev pub fresh : Fate → Bool → ℕ → Step
   fresh Waits is_open b = step_to (Outside (b ∷ []) is_open) []
-  fresh Ends is_open b = ended is_open (row_of erases_by_delete (b ∷ []))
+  fresh Ends is_open b = ended is_open (becomes_of erases_by_delete (b ∷ []))
   fresh Breaks is_open b = step_to (Outside [] (is_open && is_within 0x20 0x3F b)) (b ∷ [])
 
   -- the byte breaks the sequence: the waiting bytes go out unchanged, and the byte is read as if none waited
@@ -74,7 +75,7 @@ module _ (erases_by_delete : Bool) where
   -- a byte after the waiting bytes, by the fate of both
   abbrev pub step_by : Fate → List ℕ → Bool → ℕ → Step
   step_by Waits waiting is_open b = step_to (Outside (waiting ++ b ∷ []) is_open) []
-  step_by Ends waiting is_open b = ended is_open (row_of erases_by_delete (waiting ++ b ∷ []))
+  step_by Ends waiting is_open b = ended is_open (becomes_of erases_by_delete (waiting ++ b ∷ []))
   step_by Breaks waiting is_open b = broken waiting is_open b
 
 -- ---- within a paste; `paste_fate` (`Paste.antt`) says the same of the sequences that are known within one

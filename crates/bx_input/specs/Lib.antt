@@ -1,7 +1,10 @@
 pub mod Filter
 pub mod Frames
 pub mod Heard
+pub mod Known
 pub mod Models
+pub mod Mouse
+pub mod Numbers
 pub mod Paste
 pub mod PasteTail
 pub mod Table

@@ -1,14 +1,20 @@
 -- The models of the filter's types: which bytes their values mean.
-use Rattle.std.specs.Prelude.{◌≡◌, ◌≢◌, ℕ, Bool, true, false, slice_index, List, [], ◌∷◌, ◌++◌, codes, Option, Some, None, option_map, option_to_list}
+use Rattle.std.specs.Prelude.{◌≡◌, ◌≢◌, ℕ, Bool, true, false, slice_index, List, [], ◌∷◌, ◌++◌, codes, Option, Some, None, MatchOption, option_map, option_to_list}
 use Rattle.std.specs.Str.{bytes_eq}
 use Rattle.bx_bytes.specs.declared.fate.Fate.TheVariants.{Waits, Ends, Breaks}
-use Rattle.bx_input.specs.Table.{Row, csi, fate, row_of, paste_end}
+use Rattle.bx_input.specs.Known.{fate, becomes_of}
+use Rattle.bx_input.specs.Table.{csi, paste_end}
 use Rattle.bx_input.specs.Paste.{paste_fate}
 use Rattle.bx_input.specs.PasteTail.{tail_bytes}
 use Rattle.bx_input.specs.Filter as spec
-use Rattle.bx_input.specs.Filter.{State, Step}
+use Rattle.bx_input.specs.Filter.{State, Step, apart_from}
+use Rattle.bx_input.specs.Mouse.{report_fate, report_of, reported}
 use Rattle.bx_input.specs.declared.after.After.{After}
 use Rattle.bx_input.specs.declared.after.After.TheVariants as after
+use Rattle.bx_input.specs.Mouse as mouse
+use Rattle.bx_input.specs.declared.mouse.Report.{Report}
+use Rattle.bx_input.specs.declared.mouse.AfterReport.{AfterReport}
+use Rattle.bx_input.specs.declared.mouse.AfterReport.TheVariants as after_report
 use Rattle.bx_input.specs.declared.in_paste.AfterInPaste.{AfterInPaste}
 use Rattle.bx_input.specs.declared.in_paste.AfterInPaste.TheVariants as after_in_paste
 use Rattle.bx_input.specs.declared.output.Output.{Output}
@@ -44,18 +50,19 @@ begun beginning.ThreeControlled = csi (codes "3;5")
 begun beginning.Five = csi (codes "5")
 begun beginning.Six = csi (codes "6")
 
+-- CSI < and numbers of a mouse report
+abbrev pub begun_report : List ℕ → List ℕ
+begun_report numbers = csi (0x3C ∷ numbers)
+
 -- the state that the filter's state means
 abbrev pub state_of : FilterState → State
 state_of (state.Outside waiting is_open) = spec.Outside (begun waiting) is_open
+state_of (state.Report numbers is_open) = spec.Outside (begun_report numbers) is_open
 state_of (state.Within waiting after_return) = spec.Within (tail_bytes waiting) after_return
 
 -- the bytes of an output
 abbrev pub bytes_of : Output → List ℕ
-bytes_of output = output.before.now ++ (output.key.now ++ option_to_list output.byte)
-
--- what a whole sequence becomes, if the table has it
-abbrev pub becomes_of : Bool → List ℕ → Option (List ℕ)
-becomes_of erases_by_delete read = option_map (λ (r : Row). r.becomes) (row_of erases_by_delete read)
+bytes_of output = output.before.now ++ (output.numbers ++ (output.key.now ++ option_to_list output.byte))
 
 -- the bytes begin with ESC
 abbrev pub BeginsByEscape : List ℕ → Type 0
@@ -67,8 +74,21 @@ Tells erases_by_delete (after.Waits beginning) read = (fate read ≡ Waits) × (
 Tells erases_by_delete (after.Becomes bytes) read =
     (fate read ≡ Ends) × (becomes_of erases_by_delete read ≡ Some bytes.now) × BeginsByEscape bytes.now
 Tells erases_by_delete (after.Digit digit) read = (fate read ≡ Ends) × (becomes_of erases_by_delete read ≡ Some (digit ∷ [])) × (digit ≢ 0x1B)
-Tells erases_by_delete after.Pastes read = (fate read ≡ Ends) × (row_of erases_by_delete read ≡ None)
+Tells erases_by_delete after.Reports read = (fate read ≡ Waits) × (begun_report [] ≡ read)
+Tells erases_by_delete after.Pastes read = (fate read ≡ Ends) × (becomes_of erases_by_delete read ≡ None)
 Tells erases_by_delete after.Breaks read = fate read ≡ Breaks
+
+-- a report that was read, if one was
+abbrev pub IsReport : Option Report → Option mouse.Report → Type 0
+IsReport read o =
+    MatchOption read (o ≡ None) (λ r. o ≡ Some (record { button = r.button; column = r.column.now; row = r.row.now; is_release = r.is_release }))
+
+-- `AfterReport` tells what the bytes `ps` behind CSI < are, where a sequence is open or not
+abbrev pub TellsOfReport : Bool → AfterReport → List ℕ → Type 0
+TellsOfReport is_open (after_report.Waits numbers) ps = (report_fate ps ≡ Waits) × (numbers ≡ ps)
+TellsOfReport is_open (after_report.Becomes output) ps =
+    (report_fate ps ≡ Ends) × (option_map (λ r. apart_from is_open (reported r)) (report_of ps) ≡ Some (bytes_of output))
+TellsOfReport is_open after_report.Breaks ps = report_fate ps ≡ Breaks
 
 -- `AfterInPaste` tells what the bytes `read` are, within a paste
 abbrev pub TellsInPaste : AfterInPaste → List ℕ → Type 0

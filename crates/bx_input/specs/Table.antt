@@ -2,9 +2,7 @@
 -- (specs/Keys.antt) knows the row's key. `r` is a row, `bs` are bytes.
 use Rattle.std.specs.Prelude.{ℕ, Bool, true, false, List, [], ◌∷◌, ◌++◌, map, find, codes, Option, if◌then◌else◌}
 use Rattle.std.specs.Str.{bytes_eq}
-use Rattle.bx_bytes.specs.Fate.{fate_in}
 use Rattle.bx_bytes.specs.Pattern.{Piece, One}
-use Rattle.bx_bytes.specs.declared.fate.Fate.{Fate}
 use Rattle.bx_keys.specs.declared.key.Key.{Key}
 use Rattle.bx_keys.specs.declared.key.Key.TheVariants.{Insert, Delete, Right, Left, RowHome, RowEnd, Direction}
 use Rattle.bx_keys.specs.declared.key.Key.TheVariants.{Mark, Copy, Cut, Put, Find, FindBack, WordLeft, WordRight, TextStart, TextEnd, Help}
@@ -251,13 +249,9 @@ end_told = csi (codes "91~")
 abbrev pub exact : List ℕ → List Piece
 exact bs = map (λ b. One b b) bs
 
--- the sequences known outside a paste, the same for each erase character
+-- the sequences of the table and a paste's start, the same for each erase character
 abbrev pub sequences : List (List Piece)
 sequences = exact paste_start ∷ map (λ (r : Row). exact r.sequence) (rows false)
-
--- whether bytes are a known sequence (Ends), begin one (Waits) or neither (Breaks)
-abbrev pub fate : List ℕ → Fate
-fate bs = fate_in sequences bs
 
 -- the row with this sequence; None if no row has it, as for a paste's start
 abbrev pub row_of : Bool → List ℕ → Option Row

@@ -1,10 +1,10 @@
-//! What the waiting bytes and one more are, outside a paste, by `specs/Table.antt`. Each comment names the keys of its
+//! What the waiting bytes and one more are, outside a paste, by `specs/Known.antt`. Each comment names the keys of its
 //! function's arms, in order.
 
 ghost use Rattle.std.specs.Prelude.{◌≡◌, ◌≢◌, Bool, ◌∷◌, [], ◌++◌, Some, None, IfSome};
 ghost use Rattle.bx_bytes.specs.declared.fate.Fate.TheVariants as fate_is;
-ghost use Rattle.bx_input.specs.Table.{fate};
-ghost use Rattle.bx_input.specs.Models.{becomes_of, begun, BeginsByEscape, Tells};
+ghost use Rattle.bx_input.specs.Known.{becomes_of, fate};
+ghost use Rattle.bx_input.specs.Models.{begun, BeginsByEscape, Tells};
 
 use crate::beginning::Beginning;
 
@@ -20,6 +20,8 @@ pub enum After {
     Becomes(&'static [u8]),
     /// They are a sequence of the table, and become a digit.
     Digit(u8),
+    /// They are CSI <, with which a mouse report begins.
+    Reports,
     /// They are the start of a paste.
     Pastes,
     /// They begin no known sequence.
@@ -142,6 +144,7 @@ fn after_csi(byte: u8) -> After
         b'7' => After::Waits(Beginning::Seven),
         b'8' => After::Waits(Beginning::Eight),
         b'[' => After::Waits(Beginning::Bracket),
+        b'<' => After::Reports,
         b'A' => After::Becomes(b"\x1b[96~"),
         b'B' => After::Becomes(b"\x1b[97~"),
         b'a' => After::Becomes(b"\x1b[81~\x1b[96~"),

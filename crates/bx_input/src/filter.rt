@@ -7,7 +7,7 @@ ghost use Rattle.bx_input.specs.Models.{bytes_of};
 
 use crate::beginning::Beginning;
 use crate::filter_state::FilterState;
-use crate::output::Output;
+use crate::output::{Output, plain};
 use crate::step::step;
 use std::marker::Model;
 
@@ -48,7 +48,7 @@ impl Filter {
         ensures state { self.new ≡ filtering self.old.erases_by_delete (spec.step self.old.erases_by_delete self.old.state byte).state }
         ensures output { bytes_of result ≡ (spec.step self.old.erases_by_delete self.old.state byte).output }
     {
-        let (state, output) = step(self.erases_by_delete, self.state, byte);
+        let (state, output) = step(self.erases_by_delete, &self.state, byte);
         self.state = state;
         output
     }
@@ -79,13 +79,19 @@ impl Filter {
     }
 
     /// Ends the input: returns the output of the bytes that still wait, and resets the filter.
-    pub fn finish(&mut self) -> &'static [u8]
+    pub fn finish(&mut self) -> Output
         ensures state { self.new ≡ filtering self.old.erases_by_delete spec.start }
-        ensures output { result.now ≡ spec.at_end self.old.state }
+        ensures output { bytes_of result ≡ spec.at_end self.old.state }
     {
-        let rest = match self.state {
-            FilterState::Outside { waiting, .. } => waiting.bytes(),
-            FilterState::Within { waiting, .. } => waiting.text(),
+        let rest = match &self.state {
+            FilterState::Outside { waiting, .. } => plain(waiting.bytes(), None),
+            FilterState::Report { numbers, .. } => Output {
+                before: b"\x1b[<",
+                numbers: numbers.copied(),
+                key: b"",
+                byte: None,
+            },
+            FilterState::Within { waiting, .. } => plain(waiting.text(), None),
         };
         *self = Filter::new(self.erases_by_delete);
         rest
@@ -97,7 +103,7 @@ impl Filter {
     {
         Filter {
             erases_by_delete: self.erases_by_delete,
-            state: self.state,
+            state: self.state.copied(),
         }
     }
 }

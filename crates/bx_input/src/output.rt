@@ -1,27 +1,62 @@
 //! The filter's output for a byte.
 
-ghost use Rattle.std.specs.Prelude.{◌≡◌, ◌++◌, OnOk};
+ghost use Rattle.std.specs.Prelude.{◌≡◌, ◌++◌, [], OnOk, option_to_list};
 ghost use Rattle.bx_input.specs.Models.{bytes_of};
 
+use crate::numbers::Numbers;
 use std::alloc::AllocError;
 
-/// The output for one byte of input: first bytes, then the sequences of keys, then one more byte. Each of the three may be
-/// missing.
-#[derive(Clone, Copy)]
+/// The output for one byte of input: first bytes, then numbers of a mouse report, then the bytes of keys, then one more byte. Each of
+/// the four may be missing.
+#[derive(Drop)]
 pub struct Output {
-    /// The waiting bytes that go out unchanged, at most five (CSI 200).
+    /// The waiting bytes that go out unchanged, at most five (CSI 200), or what stands before numbers that go out.
     pub before: &'static [u8],
-    /// The bytes of one or two keys, which go out after `before`: at most ten (Select and one more, each of five).
+    /// The numbers of a mouse report, at most eleven bytes: all of one that broke off, or a cell's row and column.
+    pub numbers: Numbers,
+    /// The bytes of one to three keys, at most fifteen (LineUp three times), or what ends a key with numbers.
     pub key: &'static [u8],
     /// The byte that goes out last, if any.
     pub byte: Option<u8>,
 }
 
+/// No output.
+pub(crate) fn nothing() -> Output
+    ensures { bytes_of result ≡ [] }
+{
+    plain(b"", None)
+}
+
+/// The output of these bytes of keys alone.
+pub(crate) fn keys(key: &'static [u8]) -> Output
+    ensures { bytes_of result ≡ key.now }
+{
+    Output {
+        before: b"",
+        numbers: Numbers::new(),
+        key,
+        byte: None,
+    }
+}
+
+/// The output of these bytes, and perhaps one more.
+pub(crate) fn plain(before: &'static [u8], byte: Option<u8>) -> Output
+    ensures { bytes_of result ≡ before.now ++ option_to_list byte }
+{
+    Output {
+        before,
+        numbers: Numbers::new(),
+        key: b"",
+        byte,
+    }
+}
+
 /// Appends the bytes of an output.
-pub(crate) fn append(out: &mut Vec<u8>, output: Output) -> Result<(), AllocError>
-    ensures { OnOk result (out.new.items ≡ out.old.items ++ bytes_of output) }
+pub(crate) fn append(out: &mut Vec<u8>, output: &Output) -> Result<(), AllocError>
+    ensures { OnOk result (out.new.items ≡ out.old.items ++ bytes_of output.now) }
 {
     out.extend_from_slice(output.before)?;
+    out.extend_from_slice(output.numbers.bytes())?;
     out.extend_from_slice(output.key)?;
     match output.byte {
         Some(byte) => {

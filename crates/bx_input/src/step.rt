@@ -1,9 +1,10 @@
 //! The filter's next state and output for a byte.
 
-ghost use Rattle.std.specs.Prelude.{◌≡◌, ◌≢◌, false, ◌∷◌, [], ◌++◌, Some, option_to_list};
+ghost use Rattle.std.specs.Prelude.{◌≡◌, ◌≢◌, ◌||◌, false, not, ◌∷◌, [], ◌++◌, option_to_list};
 ghost use Rattle.bx_input.specs.Filter as spec;
-ghost use Rattle.bx_input.specs.Filter.{apart_from, broken, fresh_in_paste, paste_step_by, with_front};
-ghost use Rattle.bx_input.specs.Models.{begun, bytes_of, state_of, Goes};
+ghost use Rattle.bx_input.specs.Filter.{apart_from, broken, fresh_in_paste, is_empty, paste_step_by, with_front};
+ghost use Rattle.bx_input.specs.Known.{fate};
+ghost use Rattle.bx_input.specs.Models.{begun, begun_report, bytes_of, state_of, Goes};
 ghost use Rattle.bx_input.specs.PasteTail.{tail_bytes};
 ghost use Rattle.bx_input.specs.Paste.{pasted_byte, pasted_part, paste_fate};
 
@@ -11,15 +12,10 @@ use crate::after::{After, ESC, control_key, sequence_after};
 use crate::beginning::Beginning;
 use crate::filter_state::FilterState;
 use crate::in_paste::{AfterInPaste, paste_after};
-use crate::output::Output;
+use crate::mouse::{AfterReport, report_after};
+use crate::numbers::Numbers;
+use crate::output::{Output, keys, nothing, plain};
 use crate::paste_tail::PasteTail;
-
-/// No output.
-const NOTHING: Output = Output {
-    before: b"",
-    key: b"",
-    byte: None,
-};
 
 /// Outside a paste, with nothing waiting.
 const OUTSIDE: FilterState = FilterState::Outside {
@@ -28,17 +24,20 @@ const OUTSIDE: FilterState = FilterState::Outside {
 };
 
 /// Reads a byte.
-pub fn step(erases_by_delete: bool, state: FilterState, byte: u8) -> (FilterState, Output)
-    ensures { Goes result (spec.step erases_by_delete (state_of state) byte) }
+pub fn step(erases_by_delete: bool, state: &FilterState, byte: u8) -> (FilterState, Output)
+    ensures { Goes result (spec.step erases_by_delete (state_of state.now) byte) }
 {
     match state {
         FilterState::Outside { waiting, is_open } => {
-            outside(erases_by_delete, waiting, is_open, byte)
+            outside(erases_by_delete, *waiting, *is_open, byte)
+        }
+        FilterState::Report { numbers, is_open } => {
+            in_report(erases_by_delete, numbers, *is_open, byte)
         }
         FilterState::Within {
             waiting,
             after_return,
-        } => within(waiting, after_return, byte),
+        } => within(*waiting, *after_return, byte),
     }
 }
 
@@ -52,11 +51,22 @@ fn outside(
     ensures { Goes result (spec.step erases_by_delete (spec.Outside (begun waiting) is_open) byte) }
 {
     match sequence_after(erases_by_delete, waiting, byte) {
-        After::Waits(waiting) => (FilterState::Outside { waiting, is_open }, NOTHING),
+        After::Waits(waiting) => (FilterState::Outside { waiting, is_open }, nothing()),
         After::Becomes(bytes) => (OUTSIDE, keys(bytes)),
         After::Digit(digit) => (OUTSIDE, apart(is_open, digit)),
+        After::Reports => (begin_report(is_open), nothing()),
         After::Pastes => (fresh_paste(false), keys(b"\x1b[90~")),
         After::Breaks => broken_off(erases_by_delete, waiting, is_open, byte),
+    }
+}
+
+/// Behind CSI <, with no byte.
+fn begin_report(is_open: bool) -> FilterState
+    ensures { state_of result ≡ spec.Outside (begun_report []) is_open }
+{
+    FilterState::Report {
+        numbers: Numbers::new(),
+        is_open,
     }
 }
 
@@ -65,7 +75,7 @@ fn apart(is_open: bool, digit: u8) -> Output
     requires { digit ≢ 0x1B }
     ensures { bytes_of result ≡ apart_from is_open (digit ∷ []) }
 {
-    output(if is_open { b"\x18" } else { b"" }, Some(digit))
+    plain(if is_open { b"\x18" } else { b"" }, Some(digit))
 }
 
 /// Reads a byte that does not continue the waiting bytes' sequence.
@@ -77,53 +87,85 @@ fn broken_off(
 ) -> (FilterState, Output)
     ensures { Goes result (broken erases_by_delete (begun waiting) is_open byte) }
 {
-    let was_open = is_open || waiting != Beginning::Nothing;
-    let before = waiting.bytes();
-    if byte == ESC {
-        let state = FilterState::Outside {
-            waiting: Beginning::Escape,
-            is_open: was_open,
-        };
-        return (state, output(before, None));
-    }
-    match control_key(erases_by_delete, byte) {
-        Some(key) => (
-            OUTSIDE,
-            Output {
-                before,
-                key,
-                byte: None,
-            },
-        ),
-        None => {
-            let state = FilterState::Outside {
-                waiting: Beginning::Nothing,
-                is_open: was_open && 0x20 <= byte && byte <= 0x3F,
+    let next = fresh(erases_by_delete, is_open_behind(waiting, is_open), byte);
+    let output = Output {
+        before: waiting.bytes(),
+        numbers: Numbers::new(),
+        key: next.key,
+        byte: next.byte,
+    };
+    (next.state, output)
+}
+
+/// Whether a sequence is open once the waiting bytes went out.
+fn is_open_behind(waiting: Beginning, is_open: bool) -> bool
+    ensures { result ≡ (is_open || not (is_empty (begun waiting))) }
+{
+    is_open || waiting != Beginning::Nothing
+}
+
+/// Reads a byte behind CSI < and numbers.
+fn in_report(
+    erases_by_delete: bool,
+    numbers: &Numbers,
+    is_open: bool,
+    byte: u8,
+) -> (FilterState, Output)
+    ensures { Goes result (spec.step erases_by_delete (spec.Outside (begun_report numbers.now) is_open) byte) }
+{
+    match report_after(is_open, numbers, byte) {
+        AfterReport::Waits(numbers) => (FilterState::Report { numbers, is_open }, nothing()),
+        AfterReport::Becomes(output) => (OUTSIDE, output),
+        AfterReport::Breaks => {
+            let next = fresh(erases_by_delete, true, byte);
+            let output = Output {
+                before: b"\x1b[<",
+                numbers: numbers.copied(),
+                key: next.key,
+                byte: next.byte,
             };
-            (state, output(before, Some(byte)))
+            (next.state, output)
         }
     }
 }
 
-/// The output of these sequences of keys alone.
-fn keys(bytes: &'static [u8]) -> Output
-    ensures { bytes_of result ≡ bytes.now }
-{
-    Output {
-        before: b"",
-        key: bytes,
-        byte: None,
-    }
+/// The state after a byte that is read where none waits, and its output.
+#[derive(Drop)]
+struct AfterFresh {
+    state: FilterState,
+    key: &'static [u8],
+    byte: Option<u8>,
 }
 
-/// The output of these bytes, and perhaps one more.
-fn output(before: &'static [u8], byte: Option<u8>) -> Output
-    ensures { bytes_of result ≡ before.now ++ option_to_list byte }
+/// Reads a byte that begins no sequence, or one with no other byte, where none waits.
+fn fresh(erases_by_delete: bool, is_open: bool, byte: u8) -> AfterFresh
+    ensures state { state_of result.state ≡ (spec.fresh erases_by_delete (fate (byte ∷ [])) is_open byte).state }
+    ensures output { result.key.now ++ option_to_list result.byte ≡ (spec.fresh erases_by_delete (fate (byte ∷ [])) is_open byte).output }
 {
-    Output {
-        before,
-        key: b"",
-        byte,
+    if byte == ESC {
+        return AfterFresh {
+            state: FilterState::Outside {
+                waiting: Beginning::Escape,
+                is_open,
+            },
+            key: b"",
+            byte: None,
+        };
+    }
+    match control_key(erases_by_delete, byte) {
+        Some(key) => AfterFresh {
+            state: OUTSIDE,
+            key,
+            byte: None,
+        },
+        None => AfterFresh {
+            state: FilterState::Outside {
+                waiting: Beginning::Nothing,
+                is_open: is_open && 0x20 <= byte && byte <= 0x3F,
+            },
+            key: b"",
+            byte: Some(byte),
+        },
     }
 }
 
@@ -142,8 +184,8 @@ fn within(waiting: PasteTail, after_return: bool, byte: u8) -> (FilterState, Out
     ensures { Goes result (paste_step_by (paste_fate (tail_bytes waiting ++ byte ∷ [])) (tail_bytes waiting) after_return byte) }
 {
     match paste_after(waiting, byte) {
-        AfterInPaste::Waits(waiting) => (waits(waiting), NOTHING),
-        AfterInPaste::Drops => (fresh_paste(false), NOTHING),
+        AfterInPaste::Waits(waiting) => (waits(waiting), nothing()),
+        AfterInPaste::Drops => (fresh_paste(false), nothing()),
         AfterInPaste::EndsPaste => (OUTSIDE, keys(b"\x1b[91~")),
         AfterInPaste::Breaks => broken_off_in_paste(waiting, after_return, byte),
     }
@@ -165,10 +207,10 @@ fn broken_off_in_paste(waiting: PasteTail, after_return: bool, byte: u8) -> (Fil
 {
     let before = waiting.text();
     match paste_after(PasteTail::Nothing, byte) {
-        AfterInPaste::Waits(tail) => (waits(tail), output(before, None)),
+        AfterInPaste::Waits(tail) => (waits(tail), plain(before, None)),
         _ => {
             let byte_out = pasted(after_return, byte);
-            (fresh_paste(byte == b'\r'), output(before, byte_out))
+            (fresh_paste(byte == b'\r'), plain(before, byte_out))
         }
     }
 }

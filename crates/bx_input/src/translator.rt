@@ -2,11 +2,12 @@
 
 ghost use Rattle.std.specs.Prelude.{◌≡◌, ◌≤◌, ◌++◌, OnOk, drop, length};
 ghost use Rattle.bx_input.specs.Translating as spec;
+ghost use Rattle.bx_input.specs.Models.{bytes_of};
 ghost use Rattle.bx_input.specs.Translating.{begun};
 
 use crate::filter::Filter;
 use crate::frame::{Frame, IDLE, NOTICE, SIZE, TYPED};
-use crate::output::append;
+use crate::output::{Output, append};
 use bx_keys::Decoder;
 use itoa::Buffer;
 use std::alloc::AllocError;
@@ -123,8 +124,8 @@ impl Translator {
         ensures state { OnOk result (self.new ≡ (spec.after_end self.old).state) }
         ensures output { OnOk result (out.new.items ≡ out.old.items ++ (spec.after_end self.old).output) }
     {
-        let rest = self.filter.finish();
-        self.send(rest, out)
+        let output = self.filter.finish();
+        self.send_output(&output, out)
     }
 
     /// Reads ahead what was appended for the session, from `start` on.
@@ -142,6 +143,18 @@ impl Translator {
     {
         self.ahead = read_ahead(self.ahead, bytes);
         out.extend_from_slice(bytes)
+    }
+
+    /// Appends an output of the filter.
+    #[tactic(auto, using(crate::proofs::Behind::behind))]
+    fn send_output(&mut self, output: &Output, out: &mut Vec<u8>) -> Result<(), AllocError>
+        ensures state { OnOk result (self.new ≡ (spec.sent self.old (bytes_of output.now)).state) }
+        ensures output { OnOk result (out.new.items ≡ out.old.items ++ bytes_of output.now) }
+    {
+        let start = out.len();
+        append(out, output)?;
+        self.follow(out.as_slice(), start);
+        Ok(())
     }
 
     /// Sends the size that waits.
@@ -200,15 +213,12 @@ impl Translator {
     }
 
     /// Takes a typed byte.
-    #[tactic(auto, using(crate::proofs::Behind::behind))]
     fn type_byte(&mut self, byte: u8, out: &mut Vec<u8>) -> Result<(), AllocError>
         ensures state { OnOk result (self.new ≡ (spec.after_typed byte self.old).state) }
         ensures output { OnOk result (out.new.items ≡ out.old.items ++ (spec.after_typed byte self.old).output) }
     {
         let output = self.filter.feed(byte);
-        let start = out.len();
-        append(out, output)?;
-        self.follow(out.as_slice(), start);
+        self.send_output(&output, out)?;
         self.settle(out)
     }
 

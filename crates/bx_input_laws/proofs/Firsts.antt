@@ -17,10 +17,10 @@ pub record IsBegun (patterns : List (List Piece)) (bs : List ℕ) : Type 0 where
   pub not_whole : matches_any patterns bs ≡ false
   pub begins : begins_any patterns bs ≡ true
 
-abbrev if_fate : Bool → Bool → Fate
+abbrev pub if_fate : Bool → Bool → Fate
 if_fate m b = cond m Ends (cond b Waits Breaks)
 
-begun_by : (m b : Bool) → (if_fate m b ≡ Waits) → (m ≡ false) × (b ≡ true)
+pub begun_by : (m b : Bool) → (if_fate m b ≡ Waits) → (m ≡ false) × (b ≡ true)
 begun_by true b h = absurd (cc h)
 begun_by false true h = (refl, refl)
 begun_by false false h = absurd (cc h)
@@ -29,7 +29,7 @@ pub waits_says : (patterns : List (List Piece)) (bs : List ℕ) → fate_in patt
 waits_says patterns bs h =
     let parts = begun_by (matches_any patterns bs) (begins_any patterns bs) h in record { not_whole = parts.0; begins = parts.1 }
 
-whole_by : (m b : Bool) → if_fate m b ≡ Ends → m ≡ true
+pub whole_by : (m b : Bool) → if_fate m b ≡ Ends → m ≡ true
 whole_by true b h = refl
 whole_by false true h = absurd (cc h)
 whole_by false false h = absurd (cc h)

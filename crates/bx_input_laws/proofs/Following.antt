@@ -1,6 +1,6 @@
 -- The editor's decoder behind the filter.
-use Rattle.std.proofs.Common.{◌≡◌, ◌≢◌, ℕ, ◌⊎◌, inl, inr, Bool, true, false, not, ◌&&◌, nat_eq, cond, List, [], ◌∷◌, ◌++◌, drop, get_or, Option, Some, None}
-use Rattle.std.proofs.Common.{refl, ap, sym, ◌∙◌, append_assoc, subst, arith}
+use Rattle.std.proofs.Common.{◌≡◌, ◌≢◌, ℕ, ◌⊎◌, inl, inr, Bool, true, false, ◌&&◌, List, [], ◌∷◌, ◌++◌, drop, get_or, Option, Some, None}
+use Rattle.std.proofs.Common.{refl, ap, sym, ◌∙◌, append_assoc, subst}
 use Rattle.std.specs.Prelude.{find}
 use Rattle.std.specs.List.{AllByRecursion, list_all}
 use Rattle.std.specs.Str.{bytes_eq}
@@ -8,31 +8,34 @@ use Rattle.std.proofs.lemmas.Bool.{both_ways, cases_Bool, cases_eq, and_parts, a
 use Rattle.std.proofs.lemmas.List.{append-nil}
 use Rattle.std.proofs.lemmas.Slice.Eq.{bytes_eq-Decides}
 use Rattle.bx_bytes.specs.Pattern.{is_within}
-use Rattle.bx_bytes.specs.Utf8.{characters}
 use Rattle.bx_bytes.specs.declared.fate.Fate.{Fate}
 use Rattle.bx_bytes.specs.declared.fate.Fate.TheVariants.{Waits, Ends, Breaks}
-use Rattle.bx_keys.specs.Items.{items}
 use Rattle.bx_keys.specs.Keys.{Decoding, decoding, rest_after}
 use Rattle.bx_keys.specs.Waiting as editor
 use Rattle.bx_keys.specs.declared.key.Key.{Key}
 use Rattle.bx_keys.specs.declared.key.Key.TheVariants.{PasteStart, PasteEnd}
 use Rattle.bx_keys.proofs.Cuts.{in_pieces, rest_waits}
 use Rattle.bx_keys.proofs.Feeding.{waits_decoding, feeds_waiting, feeds_end, feeds_break, feeds_alone}
-use Rattle.bx_input.specs.Table.{Row, keys_of, sequences, fate, paste_start, paste_end, start_told, end_told, rows, row_of}
+use Rattle.bx_input.specs.Known.{fate, becomes_of}
+use Rattle.bx_input.specs.Mouse.{reported}
+use Rattle.bx_input.specs.Table.{Row, keys_of, paste_start, paste_end, start_told, end_told, rows, row_of}
 use Rattle.bx_input.specs.Paste.{pasted, paste_fate}
 use Rattle.bx_input.specs.Filter.{State, Outside, Within, Step, step_to, ended_in_paste, paste_step_by, fresh_in_paste, ended, start}
 use Rattle.bx_input.specs.Filter.{at_end, apart_from, is_empty, fresh, broken, step_by, step, run, filtered}
 use Rattle.bx_input_laws.specs.Laws.{became, longer_by, longer_row, row_behind, is_text_byte, IsText, HasKeys, AddsKeys, BecomesRow, PastesInsert}
+use Rattle.bx_input_laws.proofs.Anew.{nothing_free, starts_anew, sent_anew}
 use Rattle.bx_input_laws.proofs.Clean.{pastes_clean}
-use Rattle.bx_input_laws.proofs.Decoding.{IsFree, IsOutside, anew, anew_in_text, after_can, alone_free, sequence_over, still_free, text_inserts}
+use Rattle.bx_input_laws.proofs.Decoding.{IsFree, IsOutside, anew, alone_free, sequence_over, still_free, text_inserts}
 use Rattle.bx_input_laws.proofs.Decoding.{text_not_escape}
-use Rattle.bx_input_laws.proofs.Firsts.{lacks_after_first, breaks_at}
 use Rattle.bx_input_laws.proofs.Growth.{found}
 use Rattle.bx_input_laws.proofs.Inserting.{utf8_inserts}
 use Rattle.bx_input_laws.proofs.Keys.{rows_have_keys}
+use Rattle.bx_input_laws.proofs.Known.{IsKnown, ReportIs, RowIs, StartIs, known_ends, known_breaks_at}
 use Rattle.bx_input.proofs.Rows.{is_open_after}
 use Rattle.bx_input_laws.proofs.Passing.{rows_become}
 use Rattle.bx_input_laws.proofs.Pastes.{pastes_text}
+use Rattle.bx_input_laws.proofs.ReportDecoding.{report_sent}
+use Rattle.bx_input_laws.proofs.ReportFields.{has_numbers}
 use Rattle.bx_input_laws.proofs.States.{IsSound, step_sound}
 
 -- the bytes that wait in the decoder after these bytes more
@@ -90,7 +93,7 @@ bare_alone rest x xs w h e = elim (last_of xs) [
   | inr some ↦ elim (cases_eq some.1 0x1B) [
     | inl escape ↦ absurd (
         let same : x ∷ xs ≡ x ∷ (some.0 ++ 0x1B ∷ []) = ap (λ ys. x ∷ ys) (some.2 ∙ ap (λ b. some.0 ++ b ∷ []) escape) in
-        let breaks : Waits ≡ Breaks = sym h ∙ ap fate same ∙ breaks_at sequences x some.0 0x1B refl in
+        let breaks : Waits ≡ Breaks = sym h ∙ ap fate same ∙ known_breaks_at x some.0 0x1B refl refl in
         cc breaks)
     | inr other ↦ absurd (
         let front : List ℕ = x ∷ some.0 in
@@ -110,30 +113,13 @@ abbrev Follows : State → List ℕ → Type 0
 Follows (Outside waiting is_open) rest = FollowsOutside waiting is_open rest
 Follows (Within waiting after_return) rest = IsFree rest
 
-nothing_free : IsFree []
-nothing_free e = omega (arith, e)
-
 nothing_follows : (is_open : Bool) → FollowsOutside [] is_open []
 nothing_follows is_open = record { closed = λ e. nothing_free; not_bare = λ e s. cc s }
 
+free_follows : (rest : List ℕ) → IsFree rest → FollowsOutside [] false rest
+free_follows rest free = record { closed = λ e. free; not_bare = λ e s. free (ap (λ xs. get_or xs 0 0) s) }
+
 -- ---- what begins anew
-
-abbrev starts_anew : List ℕ → Bool
-starts_anew [] = false
-starts_anew (b ∷ bs) = list_all (lacks_after_first b) (cond (nat_eq b 0x1B) items characters)
-
-sent_by : (t is_open : Bool) (rest : List ℕ) (b : ℕ) (bs : List ℕ) → nat_eq b 0x1B ≡ t
-    → list_all (lacks_after_first b) (cond t items characters) ≡ true → editor.fate rest ≡ Waits → (is_open ≡ false → IsFree rest)
-    → decoding (rest ++ cond (is_open && not t) (0x18 ∷ b ∷ bs) (b ∷ bs)) ≡ decoding (b ∷ bs)
-sent_by true true rest b bs e l w free = anew rest b bs l w
-sent_by true false rest b bs e l w free = anew rest b bs l w
-sent_by false true rest b bs e l w free = anew rest 0x18 (b ∷ bs) refl w ∙ after_can (b ∷ bs)
-sent_by false false rest b bs e l w free = anew_in_text rest b bs l w (free refl)
-
-sent_anew : (is_open : Bool) (rest bs : List ℕ) → starts_anew bs ≡ true → editor.fate rest ≡ Waits → (is_open ≡ false → IsFree rest)
-    → decoding (rest ++ apart_from is_open bs) ≡ decoding bs
-sent_anew is_open rest [] s w free = absurd (cc s)
-sent_anew is_open rest (b ∷ bs) s w free = sent_by (nat_eq b 0x1B) is_open rest b bs refl s w free
 
 -- a paste's marks begin anew too, and nothing waits behind them
 start_leaves : (rest : List ℕ) → editor.fate rest ≡ Waits → left rest start_told ≡ []
@@ -169,12 +155,25 @@ all_anew false = refl
 -- ---- whether or not the terminal's own erase character is DELETE
 
 module _ (by_delete : Bool) where
-  ended_follows : (is_open : Bool) (read : List ℕ) (o : Option Row) (rest : List ℕ) → row_of by_delete read ≡ o → editor.fate rest ≡ Waits
+  known_follows : (is_open : Bool) (read : List ℕ) (o : Option (List ℕ)) (rest : List ℕ) → IsKnown by_delete read o → editor.fate rest ≡ Waits
       → (is_open ≡ false → IsFree rest) → Follows (ended is_open o).state (left rest (ended is_open o).output)
-  ended_follows is_open read None rest h w free = subst IsFree (sym (start_leaves rest w)) nothing_free
-  ended_follows is_open read (Some r) rest h w free =
+  known_follows is_open read o rest (ReportIs r opens h e) w free =
+      let is = has_numbers (drop 3 read) r h in
+      let follows : Follows (ended is_open (Some (reported r))).state (left rest (ended is_open (Some (reported r))).output) =
+      free_follows (left rest (apart_from is_open (reported r))) (report_sent is_open rest r is.is_row is.is_column w free).free in
+      subst (λ o. Follows (ended is_open o).state (left rest (ended is_open o).output)) (sym e) follows
+  known_follows is_open read o rest (RowIs r h e) w free =
       let is = found (λ (x : Row). bytes_eq x.sequence read) is_whole (rows by_delete) r (all_whole by_delete) h in
-      subst (FollowsOutside [] false) (sym (row_leaves is_open r rest is.fits w free)) (nothing_follows false)
+      let follows : Follows (ended is_open (Some r.becomes)).state (left rest (ended is_open (Some r.becomes)).output) =
+      subst (FollowsOutside [] false) (sym (row_leaves is_open r rest is.fits w free)) (nothing_follows false) in
+      subst (λ o. Follows (ended is_open o).state (left rest (ended is_open o).output)) (sym e) follows
+  known_follows is_open read o rest (StartIs same e) w free =
+      let follows : Follows (ended is_open None).state (left rest (ended is_open None).output) = subst IsFree (sym (start_leaves rest w)) nothing_free in
+      subst (λ o. Follows (ended is_open o).state (left rest (ended is_open o).output)) (sym e) follows
+
+  ended_follows : (is_open : Bool) (read rest : List ℕ) → fate read ≡ Ends → editor.fate rest ≡ Waits → (is_open ≡ false → IsFree rest)
+      → Follows (ended is_open (becomes_of by_delete read)).state (left rest (ended is_open (becomes_of by_delete read)).output)
+  ended_follows is_open read rest h w free = known_follows is_open read (becomes_of by_delete read) rest (known_ends by_delete read h) w free
 
   -- ---- what breaks off
 
@@ -256,9 +255,9 @@ module _ (by_delete : Bool) where
       (record { closed = λ c. escape_closed waiting is_open rest w f c; not_bare = λ no s. cc no })
   fresh_follows_outside Ends waiting is_open rest b e w h g f =
       let opened : Bool = is_open_after waiting is_open in
-      let went : Step = ended opened (row_of by_delete (b ∷ [])) in
+      let went : Step = ended opened (becomes_of by_delete (b ∷ [])) in
       subst (Follows went.state) (sym (left_append rest waiting went.output))
-      (ended_follows opened (b ∷ []) (row_of by_delete (b ∷ [])) (left rest waiting) refl (rest_waits (rest ++ waiting)) (λ c. escape_closed waiting is_open rest w f c))
+      (ended_follows opened (b ∷ []) (left rest waiting) e (rest_waits (rest ++ waiting)) (λ c. escape_closed waiting is_open rest w f c))
   fresh_follows_outside Breaks waiting is_open rest b e w h g f = other_follows waiting is_open rest b w h g (breaks_no_escape b e) f
 
   broken_follows : (waiting : List ℕ) (is_open : Bool) (rest : List ℕ) (b : ℕ) → editor.fate rest ≡ Waits → fate waiting ≡ Waits
@@ -276,7 +275,7 @@ module _ (by_delete : Bool) where
   outside_follows Waits waiting is_open b rest h s w f =
       subst (FollowsOutside (waiting ++ b ∷ []) is_open) (sym (left_none rest w))
       (record { closed = f.closed; not_bare = λ e. absurd (not_nothing waiting b e) })
-  outside_follows Ends waiting is_open b rest h s w f = ended_follows is_open (waiting ++ b ∷ []) (row_of by_delete (waiting ++ b ∷ [])) rest refl w f.closed
+  outside_follows Ends waiting is_open b rest h s w f = ended_follows is_open (waiting ++ b ∷ []) rest h w f.closed
   outside_follows Breaks waiting is_open b rest h s w f = broken_follows waiting is_open rest b w s h f
 
   -- ---- within a paste
@@ -288,9 +287,6 @@ module _ (by_delete : Bool) where
       let next : List ℕ = rest_after rest b in
       subst IsFree (sym (left_append rest (b ∷ []) bs))
       (text_free next bs (rest_waits (rest ++ b ∷ [])) (still_free rest b w free (text_not_escape b parts.0)) parts.1)
-
-  free_follows : (rest : List ℕ) → IsFree rest → FollowsOutside [] false rest
-  free_follows rest free = record { closed = λ e. free; not_bare = λ e s. free (ap (λ xs. get_or xs 0 0) s) }
 
   after_end_follows : (t : Bool) (rest : List ℕ) → IsFree rest → Follows (ended_in_paste t).state rest
   after_end_follows true rest free = free_follows rest free
@@ -338,7 +334,7 @@ module _ (by_delete : Bool) where
   -- ---- the editor's keys, whatever came before
 
   -- outside a paste nothing is open for the decoder that is not for the filter
-  closed_before : (bs waiting : List ℕ) (is_open : Bool) → (run by_delete start bs).state ≡ Outside waiting is_open
+  pub closed_before : (bs waiting : List ℕ) (is_open : Bool) → (run by_delete start bs).state ≡ Outside waiting is_open
       → is_open_after waiting is_open ≡ false → IsFree (decoding (filtered by_delete bs)).rest
   closed_before bs waiting is_open at c =
       let all : Step = run by_delete start bs in

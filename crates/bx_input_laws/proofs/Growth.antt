@@ -1,21 +1,23 @@
 -- Output is at most five times as long as the input, and at most ten thirds as long without keys of one byte.
 use Rattle.std.proofs.Common.{◌≡◌, ℕ, ◌+◌, ◌*◌, ◌≤◌, inl, inr, Bool, true, false, not, ◌&&◌, nat_le}
-use Rattle.std.proofs.Common.{cond, List, [], ◌∷◌, ◌++◌, length, map, Option, Some, None, refl, ap, sym, ◌∙◌, arith, length-append}
+use Rattle.std.proofs.Common.{cond, List, [], ◌∷◌, ◌++◌, length, drop, Option, Some, None, refl, ap, sym, ◌∙◌, subst, arith, length-append}
 use Rattle.std.specs.Prelude.{find}
 use Rattle.std.specs.List.{list_all}
 use Rattle.std.specs.Str.{bytes_eq}
-use Rattle.std.proofs.lemmas.Bool.{both_ways, cases_Bool, and_parts, or_cases, or_from, not-true, leb-true, cond-true, cond-false}
+use Rattle.std.proofs.lemmas.Bool.{cases_Bool, and_parts, not-true, leb-true, cond-true, cond-false}
 use Rattle.std.proofs.lemmas.Slice.Eq.{bytes_eq-Decides}
 use Rattle.std.proofs.lemmas.Bool.Decides.{nat_tests}
-use Rattle.std.proofs.lemmas.List.{length_push}
-use Rattle.bx_bytes.specs.Pattern.{Piece, is_within, matches, matches_any}
+use Rattle.std.proofs.lemmas.List.{length_push, length-drop}
 use Rattle.bx_bytes.specs.declared.fate.Fate.{Fate}
 use Rattle.bx_bytes.specs.declared.fate.Fate.TheVariants.{Waits, Ends, Breaks}
-use Rattle.bx_input.specs.Table.{Row, sequences, fate, exact, paste_start, paste_end, rows, row_of}
+use Rattle.bx_input.specs.Known.{fate, becomes_of}
+use Rattle.bx_input.specs.Mouse.{reported}
+use Rattle.bx_input.specs.Table.{Row, paste_end, rows, row_of}
 use Rattle.bx_input.specs.Paste.{pasted_byte, pasted_part, paste_fate}
 use Rattle.bx_input.specs.Filter.{State, Outside, Within, Step, ended_in_paste, paste_step_by, fresh_in_paste, ended, start, at_end, apart_from, fresh, broken, step_by, step, run, filtered}
 use Rattle.bx_input_laws.specs.Laws.{waiting_in, is_key_byte, GrowsFiveTimes, GrowsByTenThirds}
-use Rattle.bx_input_laws.proofs.Firsts.{ends_says}
+use Rattle.bx_input_laws.proofs.Known.{IsKnown, ReportIs, RowIs, StartIs, known_ends}
+use Rattle.bx_input_laws.proofs.ReportFields.{has_lengths, report_fits}
 use Rattle.bx_input.proofs.Rows.{is_open_after}
 
 -- Three bytes that go out count for ten thirds of one that came, or waits. A key of one byte counts for half of that more.
@@ -87,52 +89,6 @@ unfolding extra last_extra
 all_fit true = refl
 all_fit false = refl
 
--- ---- the start of a paste
-
-exact_is : (xs ys : List ℕ) → matches (exact xs) ys ≡ true → xs ≡ ys
-exact_is [] [] h = refl
-exact_is [] (y ∷ ys) h = absurd (cc h)
-exact_is (x ∷ xs) [] h = absurd (cc h)
-exact_is (x ∷ xs) (y ∷ ys) h =
-    let tests = and_parts (is_within x x y) (matches (exact xs) ys) h in
-    let first : x ≡ y = grind (arith, nat_tests, tests.0) in
-    ap (λ z. z ∷ xs) first ∙ ap (λ zs. y ∷ zs) (exact_is xs ys tests.1)
-
-abbrev exact_rows : List Row → List (List Piece)
-exact_rows rs = map (λ (r : Row). exact r.sequence) rs
-
--- bytes that no row has match none
-none_matches : (rs : List Row) (read : List ℕ) → find (λ (r : Row). bytes_eq r.sequence read) rs ≡ None → matches_any (exact_rows rs) read ≡ false
-none_matches [] read h = refl
-none_matches (r ∷ rs) read h =
-    let p : Row → Bool = λ x. bytes_eq x.sequence read in
-    elim (cases_Bool (bytes_eq r.sequence read)) [
-      | inl here ↦ absurd (let s : Some r ≡ None = sym (cond-true (p r) (Some r) (find p rs) here) ∙ h in cc s)
-      | inr other ↦ (
-          let rest : find p rs ≡ None = sym (cond-false (p r) (Some r) (find p rs) other) ∙ h in
-          let first : matches (exact r.sequence) read ≡ false = elim (cases_Bool (matches (exact r.sequence) read)) [
-            | inl whole ↦ absurd (
-                let same : r.sequence ≡ read = exact_is r.sequence read whole in
-                both_ways (bytes_eq r.sequence read) other ((bytes_eq-Decides r.sequence read).1 same))
-            | inr other_bytes ↦ other_bytes
-          ] in
-          or_from (matches (exact r.sequence) read) (matches_any (exact_rows rs) read) first (none_matches rs read rest))
-    ]
-
-same_patterns : (by_delete : Bool) → exact_rows (rows by_delete) ≡ exact_rows (rows false)
-same_patterns true = refl
-same_patterns false = refl
-
--- a known sequence that no row has is the start of a paste
-pub is_start : (by_delete : Bool) (read : List ℕ) → fate read ≡ Ends → row_of by_delete read ≡ None → paste_start ≡ read
-is_start by_delete read h none =
-    let others : matches_any (exact_rows (rows false)) read ≡ false =
-    ap (λ ps. matches_any ps read) (sym (same_patterns by_delete)) ∙ none_matches (rows by_delete) read none in
-    elim (or_cases (matches (exact paste_start) read) (matches_any (exact_rows (rows false)) read) (ends_says sequences read h)) [
-      | inl start ↦ exact_is paste_start read start
-      | inr row ↦ absurd (both_ways (matches_any (exact_rows (rows false)) read) others row)
-    ]
-
 -- ---- the output of a paste
 
 pub byte_is_one : (after_return : Bool) (b : ℕ) → length (pasted_byte after_return b) ≤ 1
@@ -152,19 +108,29 @@ module _ (by_delete : Bool) where
   row_of_fits : (read : List ℕ) (r : Row) → row_of by_delete read ≡ Some r → IsFound (λ (x : Row). bytes_eq x.sequence read) fits r
   row_of_fits read r h = found (λ (x : Row). bytes_eq x.sequence read) fits (rows by_delete) r (all_fit by_delete) h
 
-  ended_weighs : (is_open : Bool) (read : List ℕ) (o : Option Row) → fate read ≡ Ends → row_of by_delete read ≡ o
-      → weight (ended is_open o) ≤ 10 * length read + last_extra read
-  ended_weighs is_open read None ends h = let six : 6 ≡ length read = ap length (is_start by_delete read ends h) in omega (arith, six)
-  ended_weighs is_open read (Some r) ends h =
+  ended_by : (is_open : Bool) (read : List ℕ) (o : Option (List ℕ)) → IsKnown by_delete read o → weight (ended is_open o) ≤ 10 * length read + last_extra read
+  ended_by is_open read o (ReportIs r opens h e) =
+      let fits : weight (ended is_open (Some (reported r))) ≤ 10 * length read + last_extra read =
+      omega (arith, report_fits is_open (drop 3 read) r h, (has_lengths (drop 3 read) r h).at_least, length-drop 3 read) in
+      subst (λ o. weight (ended is_open o) ≤ 10 * length read + last_extra read) (sym e) fits
+  ended_by is_open read o (RowIs r h e) =
       let is = row_of_fits read r h in
       let same : r.sequence ≡ read = (bytes_eq-Decides r.sequence read).0 is.passes in
-      omega (arith, row_fits is_open r is.fits, ap length same, ap last_extra same)
+      let fits : weight (ended is_open (Some r.becomes)) ≤ 10 * length read + last_extra read =
+      omega (arith, row_fits is_open r is.fits, ap length same, ap last_extra same) in
+      subst (λ o. weight (ended is_open o) ≤ 10 * length read + last_extra read) (sym e) fits
+  ended_by is_open read o (StartIs same e) =
+      let fits : weight (ended is_open None) ≤ 10 * length read + last_extra read = (let six : 6 ≡ length read = ap length same in omega (arith, six)) in
+      subst (λ o. weight (ended is_open o) ≤ 10 * length read + last_extra read) (sym e) fits
+
+  ended_weighs : (is_open : Bool) (read : List ℕ) → fate read ≡ Ends → weight (ended is_open (becomes_of by_delete read)) ≤ 10 * length read + last_extra read
+  ended_weighs is_open read ends = ended_by is_open read (becomes_of by_delete read) (known_ends by_delete read ends)
 
   -- ---- a byte
 
   fresh_weighs : (f : Fate) (is_open : Bool) (b : ℕ) → fate (b ∷ []) ≡ f → weight (fresh by_delete f is_open b) ≤ 10 + extra b
   fresh_weighs Waits is_open b h = omega arith
-  fresh_weighs Ends is_open b h = omega (arith, ended_weighs is_open (b ∷ []) (row_of by_delete (b ∷ [])) h refl, last_is [] b)
+  fresh_weighs Ends is_open b h = omega (arith, ended_weighs is_open (b ∷ []) h, last_is [] b)
   fresh_weighs Breaks is_open b h = omega arith
 
   broken_weighs : (waiting : List ℕ) (is_open : Bool) (b : ℕ) → weight (broken by_delete waiting is_open b) ≤ 10 * length waiting + 10 + extra b
@@ -177,7 +143,7 @@ module _ (by_delete : Bool) where
   outside_weighs Waits waiting is_open b h = omega (arith, length_push waiting b)
   outside_weighs Ends waiting is_open b h =
       let read : List ℕ = waiting ++ b ∷ [] in
-      omega (arith, length_push waiting b, last_is waiting b, ended_weighs is_open read (row_of by_delete read) h refl)
+      omega (arith, length_push waiting b, last_is waiting b, ended_weighs is_open read h)
   outside_weighs Breaks waiting is_open b h = broken_weighs waiting is_open b
 
   pasted_weighs : (f : Fate) (after_return : Bool) (b : ℕ) → weight (fresh_in_paste f after_return b) ≤ 10

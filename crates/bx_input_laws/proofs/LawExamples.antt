@@ -1,5 +1,5 @@
 -- A row that follows from each law alone, and from the contract of a run.
-use Rattle.std.proofs.Common.{◌≡◌, ◌≢◌, ℕ, ◌≤◌, Bool, true, false, not, ◌&&◌, List, [], ◌∷◌, ◌++◌, length}
+use Rattle.std.proofs.Common.{◌≡◌, ◌≢◌, ℕ, ◌≤◌, Bool, true, false, not, ◌&&◌, nat_eq, List, [], ◌∷◌, ◌++◌, length}
 use Rattle.std.proofs.Common.{refl, ap, sym, ◌∙◌, subst, arith}
 use Rattle.std.specs.Prelude.{codes, unwrap_or}
 use Rattle.std.specs.List.{AllByRecursion, list_all}
@@ -9,12 +9,14 @@ use Rattle.std.proofs.lemmas.List.Folds.{list_all-append}
 use lib.Utf8.{encode}
 use Rattle.bx_bytes.specs.Pattern.{Piece, One, Many, is_within, matches, matches_any}
 use Rattle.bx_keys.specs.Keys.{decoding}
-use Rattle.bx_keys.specs.declared.key.Key.TheVariants.{Insert, EraseWord, ErasePoint, LineUp, Left, Select, PasteStart, PasteEnd}
+use Rattle.bx_keys.specs.declared.key.Key.TheVariants.{Insert, EraseWord, ErasePoint, LineUp, Left, Select, PasteStart, PasteEnd, Point}
 use Rattle.bx_input.specs.Table.{Row, rows, row_of, sequences, exact, paste_start, paste_end}
 use Rattle.bx_input.specs.Paste.{kept_characters, pasted}
 use Rattle.bx_input.specs.Filter as filter
 use Rattle.bx_input.specs.Filter.{State, Outside, Within, Step, step_to, start, at_end}
-use Rattle.bx_input_laws.specs.Laws.{ComesInPieces, WaitsForFive, waiting_in, BecomesRow, HasNone, OthersPass, PastesText, IsText, PastesAreClean}
+use Rattle.bx_input.specs.Mouse.{opens_report}
+use Rattle.bx_input_laws.specs.Laws.{AddsReportKeys, HasNoReport, is_report}
+use Rattle.bx_input_laws.specs.Laws.{ComesInPieces, WaitsForFourteen, waiting_in, BecomesRow, HasNone, OthersPass, PastesText, IsText, PastesAreClean}
 use Rattle.bx_input_laws.specs.Laws.{GrowsFiveTimes, GrowsByTenThirds}
 use Rattle.bx_input_laws.specs.Laws.{HasKeys, AddsKeys, has_short, HasNoShort, GrowsByTwoThirds, PastesInsert, PastesKeepCharacters}
 
@@ -49,6 +51,27 @@ no_sequence ps bs e n front middle back cut =
     let behind = and_parts (list_all test front) (list_all test (middle ++ back)) (sym (list_all-append test front (middle ++ back)) ∙ whole) in
     let within = and_parts (list_all test middle) (list_all test back) (sym (list_all-append test middle back) ∙ behind.1) in
     none_in ps middle e within.0
+
+-- ---- bytes without ESC
+
+abbrev no_escape : ℕ → Bool
+no_escape b = not (nat_eq b 0x1B)
+
+lacks_report : (bs : List ℕ) → list_all no_escape bs ≡ true → is_report bs ≡ false
+lacks_report [] n = refl
+lacks_report (a ∷ []) n = refl
+lacks_report (a ∷ b ∷ []) n = refl
+lacks_report (a ∷ b ∷ c ∷ bs) n =
+    let first : nat_eq a 0x1B ≡ false = not-true (nat_eq a 0x1B) (and_parts (no_escape a) (list_all no_escape (b ∷ c ∷ bs)) n).0 in
+    and_left (opens_report (a ∷ b ∷ c ∷ bs)) _
+    (and_left (nat_eq a 0x1B && nat_eq b 0x5B) (nat_eq c 0x3C) (and_left (nat_eq a 0x1B) (nat_eq b 0x5B) first))
+
+no_report : (bs : List ℕ) → list_all no_escape bs ≡ true → HasNoReport bs
+no_report bs n front middle back cut =
+    let whole : list_all no_escape (front ++ (middle ++ back)) ≡ true = ap (list_all no_escape) (sym cut) ∙ n in
+    let behind = and_parts (list_all no_escape front) (list_all no_escape (middle ++ back)) (sym (list_all-append no_escape front (middle ++ back)) ∙ whole) in
+    let within = and_parts (list_all no_escape middle) (list_all no_escape back) (sym (list_all-append no_escape middle back) ∙ behind.1) in
+    lacks_report middle within.0
 
 -- ---- bytes of which no part is a short row's
 
@@ -97,8 +120,15 @@ of_in_any_pieces law bs e =
     ap (λ (x : Step). x.output) (law start bs (codes "A")) ∙ ap (λ s. (run start bs).output ++ (run s (codes "A")).output) e
 
 -- the whole mark that ends a paste never waits
-pub of_waits_for_five : WaitsForFive false → (bs : List ℕ) → (run start bs).state ≢ Within paste_end false
-of_waits_for_five law bs e = let short : 6 ≤ 5 = subst (λ s. length (waiting_in s) ≤ 5) e (law bs) in omega (arith, short)
+pub of_waits_for_five : WaitsForFourteen false → (bs : List ℕ) → (run start bs).state ≢ Within paste_end false
+of_waits_for_five law bs e =
+    let short : opens_report paste_end ≡ false → 6 ≤ 5 =
+    subst (λ s. opens_report (waiting_in s) ≡ false → length (waiting_in s) ≤ 5) e (law bs).1 in
+    omega (arith, short refl)
+
+-- nor does a mouse report with more than its numbers
+pub of_waits_for_fourteen : WaitsForFourteen false → (bs : List ℕ) → (run start bs).state ≢ Outside (codes "\u{1b}[<000;001;0001") false
+of_waits_for_fourteen law bs e = let short : 15 ≤ 14 = subst (λ s. length (waiting_in s) ≤ 14) e (law bs).0 in omega (arith, short)
 
 -- a paste does not save: CTRL-S does not go out
 pub of_clean_byte : PastesAreClean false → (waiting : List ℕ) (after_return : Bool) (b : ℕ) → waiting ++ b ∷ [] ≢ paste_end
@@ -139,12 +169,12 @@ pub of_rows_become_longer : BecomesRow false (row_at 0x7F) → (bs : List ℕ) �
 of_rows_become_longer law bs e = law bs (0x1B ∷ []) false e
 
 -- input without ESC and the control characters of the table
-pub of_others_pass : OthersPass false → (bs : List ℕ) → list_all (begins_none sequences) bs ≡ true → filtered bs ≡ bs
-of_others_pass law bs n = law bs (no_sequence sequences bs refl n)
+pub of_others_pass : OthersPass false → (bs : List ℕ) → list_all (begins_none sequences) bs ≡ true → list_all no_escape bs ≡ true → filtered bs ≡ bs
+of_others_pass law bs n m = law bs (no_sequence sequences bs refl n) (no_report bs m)
 
 -- a letter, CTRL-Q, CTRL-S and a line feed
 pub of_others_pass_text : OthersPass false → filtered (codes "a\u{11}\u{13}\n") ≡ codes "a\u{11}\u{13}\n"
-of_others_pass_text law = of_others_pass law (codes "a\u{11}\u{13}\n") refl
+of_others_pass_text law = of_others_pass law (codes "a\u{11}\u{13}\n") refl refl
 
 -- CTRL-W
 pub of_grows_five_times : GrowsFiveTimes false → length (filtered (codes "\u{17}")) ≤ 5
@@ -178,6 +208,16 @@ of_rows_add_point law bs e = law bs [] false e
 pub of_rows_add_word : AddsKeys false (row_at 0x7F) → (bs : List ℕ) → (run start bs).state ≡ Outside (0x1B ∷ []) false
     → (decoding (filtered (bs ++ 0x7F ∷ []))).keys ≡ (decoding (filtered bs)).keys ++ EraseWord ∷ []
 of_rows_add_word law bs e = law bs (0x1B ∷ []) false e
+
+-- a press with Shift, which selects, and a button that is let go
+pub of_reports_add_keys : AddsReportKeys false → (bs : List ℕ) → (run start bs).state ≡ start
+    → (decoding (filtered (bs ++ codes "\u{1b}[<4;3;2M"))).keys ≡ (decoding (filtered bs)).keys ++ Select ∷ Point 2 3 ∷ []
+of_reports_add_keys law bs e = law bs [] (codes "4;3;2M") false (record { button = 4; column = codes "3"; row = codes "2"; is_release = false }) e refl
+
+pub of_reports_add_none : AddsReportKeys false → (bs waiting : List ℕ) (is_open : Bool) → (run start bs).state ≡ Outside waiting is_open
+    → (decoding (filtered (bs ++ codes "\u{1b}[<0;3;2m"))).keys ≡ (decoding (filtered bs)).keys ++ []
+of_reports_add_none law bs waiting is_open e =
+    law bs waiting (codes "0;3;2m") is_open (record { button = 0; column = codes "3"; row = codes "2"; is_release = true }) e refl
 
 -- a paste with CR LF, CTRL-S and a control character of C1
 pub of_pastes_become_text : PastesText false → run start (paste_start ++ (codes "a\r\n\u{13}bÂ\u{85}" ++ paste_end)) ≡ step_to start (codes "\u{1b}[90~a\nb\u{1b}[91~")

@@ -1,6 +1,7 @@
 -- Outside a paste: sequences of the table, and all else.
-use Rattle.std.proofs.Common.{◌≡◌, ℕ, Bool, true, false, List, [], ◌∷◌, ◌++◌, drop, cond, Option, Some, None, refl, ap, sym, ◌∙◌, append_assoc, subst}
+use Rattle.std.proofs.Common.{◌≡◌, ℕ, inl, inr, Bool, true, false, List, [], ◌∷◌, ◌++◌, drop, cond, Option, Some, None, refl, ap, sym, ◌∙◌, append_assoc, subst}
 use Rattle.std.proofs.Common.{rules}
+use Rattle.std.specs.Prelude.{option_map}
 use Rattle.std.specs.List.{AllByRecursion, list_all}
 use Rattle.std.specs.Str.{bytes_eq}
 use Rattle.std.proofs.lemmas.Bool.{both_ways}
@@ -11,10 +12,12 @@ use Rattle.bx_bytes.specs.declared.fate.Fate.{Fate}
 use Rattle.bx_bytes.specs.declared.fate.Fate.TheVariants.{Waits, Ends, Breaks}
 use Rattle.bx_input.specs.Filter as filter
 use Rattle.bx_input.specs.Table as table
-use Rattle.bx_input.specs.Table.{Row, escape_rows, control_rows, erase_rows, byte_rows, sequences, fate}
+use Rattle.bx_input.specs.Known.{fate}
+use Rattle.bx_input.specs.Table.{Row, escape_rows, control_rows, erase_rows, byte_rows, sequences}
 use Rattle.bx_input.specs.Filter.{State, Outside, Step, step_to, with_front, ended, start, at_end, apart_from}
-use Rattle.bx_input_laws.specs.Laws.{became, longer_by, BecomesRow, HasNone, OthersPass}
-use Rattle.bx_input_laws.proofs.Firsts.{breaks_at, breaks_behind, ends_says, lacks_after_first, lacks_behind}
+use Rattle.bx_input_laws.specs.Laws.{became, longer_by, BecomesRow, HasNone, HasNoReport, is_report, OthersPass}
+use Rattle.bx_input_laws.proofs.Firsts.{lacks_after_first, lacks_behind}
+use Rattle.bx_input_laws.proofs.Known.{is_report_byte, known_breaks_at, known_breaks_behind, whole_says}
 use Rattle.bx_input.proofs.Runs.{in_pieces, one_more}
 use Rattle.bx_input_laws.proofs.States.{IsSound, run_sound}
 use Rattle.bx_input.proofs.Rows.{is_open_after}
@@ -27,6 +30,24 @@ same_open false = refl
 
 pub none_behind : (patterns : List (List Piece)) (xs ys : List ℕ) → HasNone patterns (xs ++ ys) → HasNone patterns ys
 none_behind patterns xs ys h front middle back e = h (xs ++ front) middle back (ap (λ zs. xs ++ zs) e ∙ sym (append_assoc xs front (middle ++ back)))
+
+-- nothing that is known
+pub record IsPlain (bs : List ℕ) : Type 0 where
+  pub no_sequence : HasNone sequences bs
+  pub no_report : HasNoReport bs
+
+plain_behind : (xs ys : List ℕ) → IsPlain (xs ++ ys) → IsPlain ys
+plain_behind xs ys h = record {
+  no_sequence = none_behind sequences xs ys h.no_sequence;
+  no_report = λ front middle back e. h.no_report (xs ++ front) middle back (ap (λ zs. xs ++ zs) e ∙ sym (append_assoc xs front (middle ++ back)));
+}
+
+-- no part of them is whole
+not_whole : (bs front middle back : List ℕ) → IsPlain bs → bs ≡ front ++ (middle ++ back) → fate middle ≡ Ends → ⊥
+not_whole bs front middle back plain e h = elim (whole_says middle h) [
+  | inl sequence ↦ both_ways (matches_any sequences middle) (plain.no_sequence front middle back e) sequence
+  | inr report ↦ both_ways (is_report middle) (plain.no_report front middle back e) report
+]
 
 -- ---- whether or not the terminal's own erase character is DELETE
 
@@ -56,7 +77,7 @@ module _ (by_delete : Bool) where
       → step (Outside waiting is_open) 0x1B ≡ step_to (Outside (0x1B ∷ []) (is_open_after waiting is_open)) waiting
   at_escape [] is_open h = ap (λ o. step_to (Outside (0x1B ∷ []) o) []) (sym (same_open is_open))
   at_escape (x ∷ xs) is_open h =
-      let breaks : fate (x ∷ (xs ++ 0x1B ∷ [])) ≡ Breaks = breaks_at sequences x xs 0x1B refl in
+      let breaks : fate (x ∷ (xs ++ 0x1B ∷ [])) ≡ Breaks = known_breaks_at x xs 0x1B refl refl in
       ap (λ f. step_by f (x ∷ xs) is_open 0x1B) breaks ∙ ap (step_to (Outside (0x1B ∷ []) (is_open_after (x ∷ xs) is_open))) (append-nil (x ∷ xs))
 
   -- ---- a sequence that comes whole
@@ -117,6 +138,9 @@ module _ (by_delete : Bool) where
 
   -- ---- the rows of one byte
 
+  abbrev becoming : Option Row → Option (List ℕ)
+  becoming o = option_map (λ (r : Row). r.becomes) o
+
   pub record IsByteRow (r : Row) : Type 0 where
     pub byte : ℕ
     pub is_byte : r.sequence ≡ byte ∷ []
@@ -132,13 +156,13 @@ module _ (by_delete : Bool) where
       → step (Outside waiting is_open) h.byte ≡ with_front waiting (becomes_row r (is_open_after waiting is_open))
   at_byte r h [] is_open breaks =
       ap (λ f. step_by f [] is_open h.byte) h.ends
-      ∙ ap (ended is_open) h.is_row
+      ∙ ap (λ o. ended is_open (becoming o)) h.is_row
       ∙ ap (becomes_row r) (sym (same_open is_open))
   at_byte r h (x ∷ xs) is_open breaks =
       let opened : Bool = is_open_after (x ∷ xs) is_open in
       ap (λ f. step_by f (x ∷ xs) is_open h.byte) breaks
       ∙ ap (λ f. with_front (x ∷ xs) (fresh f opened h.byte)) h.ends
-      ∙ ap (λ o. with_front (x ∷ xs) (ended opened o)) h.is_row
+      ∙ ap (λ o. with_front (x ∷ xs) (ended opened (becoming o))) h.is_row
 
   byte_apart : (r : Row) (h : IsByteRow r) (bs waiting : List ℕ) (is_open : Bool) → IsApart waiting h.byte → (run start bs).state ≡ Outside waiting is_open
       → run start (bs ++ r.sequence) ≡ step_to start (became by_delete bs waiting is_open r None)
@@ -153,47 +177,53 @@ module _ (by_delete : Bool) where
   pub record IsControlRow (r : Row) : Type 0 where
     pub is : IsByteRow r
     pub not_within : list_all (lacks_after_first is.byte) sequences ≡ true
+    pub no_report : is_report_byte is.byte ≡ false
     pub alone : row_of (0x1B ∷ r.sequence) ≡ None
 
-  control_apart : (b : ℕ) (waiting : List ℕ) → list_all (lacks_after_first b) sequences ≡ true → IsApart waiting b
-  control_apart b [] n = tt
-  control_apart b (x ∷ xs) n = breaks_at sequences x xs b n
+  control_apart : (b : ℕ) (waiting : List ℕ) → list_all (lacks_after_first b) sequences ≡ true → is_report_byte b ≡ false → IsApart waiting b
+  control_apart b [] n r = tt
+  control_apart b (x ∷ xs) n r = known_breaks_at x xs b n r
 
   control_becomes : (r : Row) → IsControlRow r → BecomesRow by_delete r
   control_becomes r h bs waiting is_open at =
-      byte_apart r h.is bs waiting is_open (control_apart h.is.byte waiting h.not_within) at
+      byte_apart r h.is bs waiting is_open (control_apart h.is.byte waiting h.not_within h.no_report) at
       ∙ ap (λ o. step_to start (became by_delete bs waiting is_open r (longer_by waiting o))) (sym h.alone)
 
   all_control_rows : (rs : List Row) → AllByRecursion IsControlRow rs → AllByRecursion (BecomesRow by_delete) rs
   all_control_rows [] h = tt
   all_control_rows (r ∷ rs) h = (control_becomes r h.0, all_control_rows rs h.1)
 
-  control_row : (r : Row) (b : ℕ) → r.sequence ≡ b ∷ [] → list_all (lacks_after_first b) sequences ≡ true → fate (b ∷ []) ≡ Ends → row_of (b ∷ []) ≡ Some r
-      → row_of (0x1B ∷ r.sequence) ≡ None → IsControlRow r
-  control_row r b e n f is alone = record { is = record { byte = b; is_byte = e; ends = f; is_row = is }; not_within = n; alone = alone }
+  control_row : (r : Row) (b : ℕ) → r.sequence ≡ b ∷ [] → list_all (lacks_after_first b) sequences ≡ true → is_report_byte b ≡ false → fate (b ∷ []) ≡ Ends
+      → row_of (b ∷ []) ≡ Some r → row_of (0x1B ∷ r.sequence) ≡ None → IsControlRow r
+  control_row r b e n other f is alone = record {
+    is = record { byte = b; is_byte = e; ends = f; is_row = is };
+    not_within = n;
+    no_report = other;
+    alone = alone;
+  }
 
   are_control_rows : AllByRecursion IsControlRow control_rows
   are_control_rows = (
-    control_row _ 0x00 refl refl refl refl refl,
+    control_row _ 0x00 refl refl refl refl refl refl,
     (
-      control_row _ 0x03 refl refl refl refl refl,
+      control_row _ 0x03 refl refl refl refl refl refl,
       (
-        control_row _ 0x07 refl refl refl refl refl,
+        control_row _ 0x07 refl refl refl refl refl refl,
         (
-          control_row _ 0x0B refl refl refl refl refl,
+          control_row _ 0x0B refl refl refl refl refl refl,
           (
-            control_row _ 0x12 refl refl refl refl refl,
+            control_row _ 0x12 refl refl refl refl refl refl,
             (
-              control_row _ 0x14 refl refl refl refl refl,
+              control_row _ 0x14 refl refl refl refl refl refl,
               (
-                control_row _ 0x16 refl refl refl refl refl,
+                control_row _ 0x16 refl refl refl refl refl refl,
                 (
-                  control_row _ 0x17 refl refl refl refl refl,
+                  control_row _ 0x17 refl refl refl refl refl refl,
                   (
-                    control_row _ 0x18 refl refl refl refl refl,
+                    control_row _ 0x18 refl refl refl refl refl refl,
                     (
-                      control_row _ 0x19 refl refl refl refl refl,
-                      (control_row _ 0x1A refl refl refl refl refl, (control_row _ 0x1C refl refl refl refl refl, (control_row _ 0x0D refl refl refl refl refl, tt))),
+                      control_row _ 0x19 refl refl refl refl refl refl,
+                      (control_row _ 0x1A refl refl refl refl refl refl, (control_row _ 0x1C refl refl refl refl refl refl, (control_row _ 0x0D refl refl refl refl refl refl, tt))),
                     ),
                   ),
                 ),
@@ -209,24 +239,26 @@ module _ (by_delete : Bool) where
   pub record IsEraseRow (r : Row) : Type 0 where
     pub is : IsByteRow r
     pub not_within : list_all (lacks_behind 0x1B is.byte) sequences ≡ true
+    pub no_report : is_report_byte is.byte ≡ false
     pub longer : Row
     pub longer_ends : fate (0x1B ∷ is.byte ∷ []) ≡ Ends
     pub is_longer : row_of (0x1B ∷ is.byte ∷ []) ≡ Some longer
 
-  erase_apart : (b : ℕ) (waiting : List ℕ) → list_all (lacks_behind 0x1B b) sequences ≡ true → bytes_eq waiting (0x1B ∷ []) ≡ false → IsApart waiting b
-  erase_apart b [] n other = tt
-  erase_apart b (x ∷ xs) n other = breaks_behind sequences 0x1B x xs b n other
+  erase_apart : (b : ℕ) (waiting : List ℕ) → list_all (lacks_behind 0x1B b) sequences ≡ true → is_report_byte b ≡ false
+      → bytes_eq waiting (0x1B ∷ []) ≡ false → IsApart waiting b
+  erase_apart b [] n r other = tt
+  erase_apart b (x ∷ xs) n r other = known_breaks_behind 0x1B x xs b n r other
 
   erase_by : (t : Bool) (r : Row) (h : IsEraseRow r) (bs waiting : List ℕ) (is_open : Bool) → bytes_eq waiting (0x1B ∷ []) ≡ t
       → (run start bs).state ≡ Outside waiting is_open
       → run start (bs ++ r.sequence) ≡ step_to start (became by_delete bs waiting is_open r (cond t (Some h.longer) None))
-  erase_by false r h bs waiting is_open other at = byte_apart r h.is bs waiting is_open (erase_apart h.is.byte waiting h.not_within other) at
+  erase_by false r h bs waiting is_open other at = byte_apart r h.is bs waiting is_open (erase_apart h.is.byte waiting h.not_within h.no_report other) at
   erase_by true r h bs waiting is_open same at =
       let before : Step = run start bs in
       let b : ℕ = h.is.byte in
       let escape : before.state ≡ Outside (0x1B ∷ []) is_open = at ∙ ap (λ w. Outside w is_open) ((bytes_eq-Decides waiting (0x1B ∷ [])).0 same) in
       let here : step (Outside (0x1B ∷ []) is_open) b ≡ becomes_row h.longer is_open =
-      ap (λ f. step_by f (0x1B ∷ []) is_open b) h.longer_ends ∙ ap (ended is_open) h.is_longer in
+      ap (λ f. step_by f (0x1B ∷ []) is_open b) h.longer_ends ∙ ap (λ o. ended is_open (becoming o)) h.is_longer in
       ap (λ xs. run start (bs ++ xs)) h.is.is_byte
       ∙ one_more by_delete start bs b
       ∙ ap (λ s. step_to (step s b).state (before.output ++ (step s b).output)) escape
@@ -239,10 +271,12 @@ module _ (by_delete : Bool) where
       ∙ ap (λ o. step_to start (became by_delete bs waiting is_open r (longer_by waiting o))) (sym longer)
 
   erase_row : (r longer : Row) (b : ℕ) → r.sequence ≡ b ∷ [] → fate (b ∷ []) ≡ Ends → row_of (b ∷ []) ≡ Some r
-      → list_all (lacks_behind 0x1B b) sequences ≡ true → fate (0x1B ∷ b ∷ []) ≡ Ends → row_of (0x1B ∷ b ∷ []) ≡ Some longer → IsEraseRow r
-  erase_row r longer b e f is n g is_longer = record {
+      → list_all (lacks_behind 0x1B b) sequences ≡ true → is_report_byte b ≡ false → fate (0x1B ∷ b ∷ []) ≡ Ends → row_of (0x1B ∷ b ∷ []) ≡ Some longer
+      → IsEraseRow r
+  erase_row r longer b e f is n other g is_longer = record {
     is = record { byte = b; is_byte = e; ends = f; is_row = is };
     not_within = n;
+    no_report = other;
     longer = longer;
     longer_ends = g;
     is_longer = is_longer;
@@ -250,8 +284,8 @@ module _ (by_delete : Bool) where
 
   are_erase_rows : AllByRecursion (BecomesRow by_delete) (erase_rows by_delete)
   are_erase_rows = (
-    erase_becomes _ (erase_row _ _ 0x7F refl refl refl refl refl refl),
-    (erase_becomes _ (erase_row _ _ 0x08 refl refl refl refl refl refl), tt),
+    erase_becomes _ (erase_row _ _ 0x7F refl refl refl refl refl refl refl),
+    (erase_becomes _ (erase_row _ _ 0x08 refl refl refl refl refl refl refl), tt),
   )
 
   all_joined : (P : Row → Type 0) (rs more : List Row) → AllByRecursion P rs → AllByRecursion P more → AllByRecursion P (rs ++ more)
@@ -266,37 +300,35 @@ module _ (by_delete : Bool) where
   -- ---- all else
 
   -- the bytes that wait and one that is read afresh
-  fresh_passes : (f : Fate) (waiting : List ℕ) (opened : Bool) (b : ℕ) (bs : List ℕ) → fate (b ∷ []) ≡ f → HasNone sequences (waiting ++ b ∷ bs)
-      → ((w : List ℕ) (o : Bool) → HasNone sequences (w ++ bs) → (run (Outside w o) bs).output ++ at_end (run (Outside w o) bs).state ≡ w ++ bs)
+  fresh_passes : (f : Fate) (waiting : List ℕ) (opened : Bool) (b : ℕ) (bs : List ℕ) → fate (b ∷ []) ≡ f → IsPlain (waiting ++ b ∷ bs)
+      → ((w : List ℕ) (o : Bool) → IsPlain (w ++ bs) → (run (Outside w o) bs).output ++ at_end (run (Outside w o) bs).state ≡ w ++ bs)
       → (waiting ++ (fresh f opened b).output) ++ ((run (fresh f opened b).state bs).output ++ at_end (run (fresh f opened b).state bs).state) ≡ waiting ++ b ∷ bs
-  fresh_passes Waits waiting opened b bs h none rest =
+  fresh_passes Waits waiting opened b bs h plain rest =
       ap (λ xs. xs ++ ((run (Outside (b ∷ []) opened) bs).output ++ at_end (run (Outside (b ∷ []) opened) bs).state)) (append-nil waiting)
-      ∙ ap (λ xs. waiting ++ xs) (rest (b ∷ []) opened (none_behind sequences waiting (b ∷ bs) none))
-  fresh_passes Ends waiting opened b bs h none rest =
-      absurd (both_ways (matches_any sequences (b ∷ [])) (none waiting (b ∷ []) bs refl) (ends_says sequences (b ∷ []) h))
-  fresh_passes Breaks waiting opened b bs h none rest =
-      let behind : HasNone sequences bs = none_behind sequences (b ∷ []) bs (none_behind sequences waiting (b ∷ bs) none) in
+      ∙ ap (λ xs. waiting ++ xs) (rest (b ∷ []) opened (plain_behind waiting (b ∷ bs) plain))
+  fresh_passes Ends waiting opened b bs h plain rest = absurd (not_whole (waiting ++ b ∷ bs) waiting (b ∷ []) bs plain refl h)
+  fresh_passes Breaks waiting opened b bs h plain rest =
+      let behind : IsPlain bs = plain_behind (b ∷ []) bs (plain_behind waiting (b ∷ bs) plain) in
       ap (λ xs. (waiting ++ b ∷ []) ++ xs) (rest [] _ behind) ∙ append_assoc waiting (b ∷ []) bs
 
-  pub pass_by : (f : Fate) (waiting : List ℕ) (is_open : Bool) (b : ℕ) (bs : List ℕ) → fate (waiting ++ b ∷ []) ≡ f → HasNone sequences (waiting ++ b ∷ bs)
-      → ((w : List ℕ) (o : Bool) → HasNone sequences (w ++ bs) → (run (Outside w o) bs).output ++ at_end (run (Outside w o) bs).state ≡ w ++ bs)
+  pub pass_by : (f : Fate) (waiting : List ℕ) (is_open : Bool) (b : ℕ) (bs : List ℕ) → fate (waiting ++ b ∷ []) ≡ f → IsPlain (waiting ++ b ∷ bs)
+      → ((w : List ℕ) (o : Bool) → IsPlain (w ++ bs) → (run (Outside w o) bs).output ++ at_end (run (Outside w o) bs).state ≡ w ++ bs)
       → (step_by f waiting is_open b).output ++ ((run (step_by f waiting is_open b).state bs).output ++ at_end (run (step_by f waiting is_open b).state bs).state)
       ≡ waiting ++ b ∷ bs
-  pass_by Waits waiting is_open b bs h none rest =
+  pass_by Waits waiting is_open b bs h plain rest =
       let joined : (waiting ++ b ∷ []) ++ bs ≡ waiting ++ b ∷ bs = append_assoc waiting (b ∷ []) bs in
-      rest (waiting ++ b ∷ []) is_open (subst (HasNone sequences) (sym joined) none) ∙ joined
-  pass_by Ends waiting is_open b bs h none rest =
-      absurd (both_ways (matches_any sequences (waiting ++ b ∷ [])) (none [] (waiting ++ b ∷ []) bs (sym (append_assoc waiting (b ∷ []) bs)))
-      (ends_says sequences (waiting ++ b ∷ []) h))
-  pass_by Breaks waiting is_open b bs h none rest = fresh_passes (fate (b ∷ [])) waiting (is_open_after waiting is_open) b bs refl none rest
+      rest (waiting ++ b ∷ []) is_open (subst IsPlain (sym joined) plain) ∙ joined
+  pass_by Ends waiting is_open b bs h plain rest =
+      absurd (not_whole (waiting ++ b ∷ bs) [] (waiting ++ b ∷ []) bs plain (sym (append_assoc waiting (b ∷ []) bs)) h)
+  pass_by Breaks waiting is_open b bs h plain rest = fresh_passes (fate (b ∷ [])) waiting (is_open_after waiting is_open) b bs refl plain rest
 
-  pass_all : (waiting : List ℕ) (is_open : Bool) (bs : List ℕ) → HasNone sequences (waiting ++ bs)
+  pass_all : (waiting : List ℕ) (is_open : Bool) (bs : List ℕ) → IsPlain (waiting ++ bs)
       → (run (Outside waiting is_open) bs).output ++ at_end (run (Outside waiting is_open) bs).state ≡ waiting ++ bs
-  pass_all waiting is_open [] none = sym (append-nil waiting)
-  pass_all waiting is_open (b ∷ bs) none =
+  pass_all waiting is_open [] plain = sym (append-nil waiting)
+  pass_all waiting is_open (b ∷ bs) plain =
       let first : Step = step (Outside waiting is_open) b in
       append_assoc first.output (run first.state bs).output (at_end (run first.state bs).state)
-      ∙ pass_by (fate (waiting ++ b ∷ [])) waiting is_open b bs refl none (λ w o h. pass_all w o bs h)
+      ∙ pass_by (fate (waiting ++ b ∷ [])) waiting is_open b bs refl plain (λ w o h. pass_all w o bs h)
 
   pub others_pass : OthersPass by_delete
-  others_pass bs none = pass_all [] false bs none
+  others_pass bs none no_report = pass_all [] false bs (record { no_sequence = none; no_report = no_report })

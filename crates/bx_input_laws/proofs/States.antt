@@ -1,30 +1,34 @@
 -- The waiting bytes, in any state of the filter.
-use Rattle.std.proofs.Common.{◌≡◌, ℕ, ◌≤◌, Bool, true, false, List, [], ◌∷◌, ◌++◌, length, Option, Some, None, refl, arith}
+use Rattle.std.proofs.Common.{◌≡◌, ℕ, ◌≤◌, inl, inr, Bool, true, false, List, [], ◌∷◌, ◌++◌, length, Option, Some, None, refl, arith}
 use Rattle.std.specs.Str.{bytes_eq}
-use Rattle.std.proofs.lemmas.Bool.{false≢true}
+use Rattle.std.proofs.lemmas.Bool.{both_ways, false≢true}
+use Rattle.std.proofs.lemmas.List.{length-drop}
 use Rattle.bx_bytes.specs.declared.fate.Fate.{Fate}
 use Rattle.bx_bytes.specs.declared.fate.Fate.TheVariants.{Waits, Ends, Breaks}
-use Rattle.bx_input.specs.Table.{Row, sequences, fate, paste_end, row_of}
+use Rattle.bx_input.specs.Known.{fate, becomes_of}
+use Rattle.bx_input.specs.Mouse.{opens_report}
+use Rattle.bx_input.specs.Table.{sequences, paste_end}
 use Rattle.bx_input.specs.Paste.{paste_fate, paste_sequences}
 use Rattle.bx_input.specs.Filter.{State, Outside, Within, ended_in_paste, paste_step_by, fresh_in_paste, ended, start, fresh, broken, step_by, step, run}
-use Rattle.bx_input_laws.specs.Laws.{waiting_in, WaitsForFive}
+use Rattle.bx_input_laws.specs.Laws.{waiting_in, WaitsForFourteen}
 use Rattle.bx_input_laws.proofs.Firsts.{waits_says, any_fewer}
+use Rattle.bx_input_laws.proofs.Known.{known_waits}
 
 -- the waiting bytes begin a sequence, and none wait after a CR
 abbrev pub IsSound : State → Type 0
 IsSound (Outside waiting is_open) = fate waiting ≡ Waits
 IsSound (Within waiting after_return) = (paste_fate waiting ≡ Waits) × (after_return ≡ true → waiting ≡ [])
 
-ended_sound : (is_open : Bool) (r : Option Row) → IsSound (ended is_open r).state
+ended_sound : (is_open : Bool) (o : Option (List ℕ)) → IsSound (ended is_open o).state
 ended_sound is_open None = (refl, λ e. refl)
-ended_sound is_open (Some r) = refl
+ended_sound is_open (Some bs) = refl
 
 -- ---- whether or not the terminal's own erase character is DELETE
 
 module _ (by_delete : Bool) where
   fresh_outside_sound : (f : Fate) (is_open : Bool) (b : ℕ) → fate (b ∷ []) ≡ f → IsSound (fresh by_delete f is_open b).state
   fresh_outside_sound Waits is_open b h = h
-  fresh_outside_sound Ends is_open b h = ended_sound is_open (row_of by_delete (b ∷ []))
+  fresh_outside_sound Ends is_open b h = ended_sound is_open (becomes_of by_delete (b ∷ []))
   fresh_outside_sound Breaks is_open b h = refl
 
   broken_sound : (waiting : List ℕ) (is_open : Bool) (b : ℕ) → IsSound (broken by_delete waiting is_open b).state
@@ -32,7 +36,7 @@ module _ (by_delete : Bool) where
 
   outside_sound : (f : Fate) (waiting : List ℕ) (is_open : Bool) (b : ℕ) → fate (waiting ++ b ∷ []) ≡ f → IsSound (step_by by_delete f waiting is_open b).state
   outside_sound Waits waiting is_open b h = h
-  outside_sound Ends waiting is_open b h = ended_sound is_open (row_of by_delete (waiting ++ b ∷ []))
+  outside_sound Ends waiting is_open b h = ended_sound is_open (becomes_of by_delete (waiting ++ b ∷ []))
   outside_sound Breaks waiting is_open b h = broken_sound waiting is_open b
 
   after_end_sound : (t : Bool) → IsSound (ended_in_paste t).state
@@ -58,11 +62,20 @@ module _ (by_delete : Bool) where
   run_sound s [] h = h
   run_sound s (b ∷ bs) h = run_sound (step by_delete s b).state bs (step_sound s b)
 
-  five : (s : State) → IsSound s → length (waiting_in s) ≤ 5
-  five (Outside waiting is_open) h =
-      let says = waits_says sequences waiting h in omega (arith, any_fewer sequences 6 waiting refl says.begins says.not_whole)
-  five (Within waiting after_return) h =
-      let says = waits_says paste_sequences waiting h.0 in omega (arith, any_fewer paste_sequences 6 waiting refl says.begins says.not_whole)
+  abbrev IsFew : List ℕ → Type 0
+  IsFew waiting = (length waiting ≤ 14) × (opens_report waiting ≡ false → length waiting ≤ 5)
 
-  pub waits_for_five : WaitsForFive by_delete
-  waits_for_five bs = five (run by_delete start bs).state (run_sound start bs refl)
+  fourteen : (s : State) → IsSound s → IsFew (waiting_in s)
+  fourteen (Outside waiting is_open) h = elim (known_waits waiting h) [
+    | inl report ↦ (omega (arith, report.few, length-drop 3 waiting), λ e. absurd (both_ways (opens_report waiting) e report.opens))
+    | inr other ↦ (
+        let five = any_fewer sequences 6 waiting refl other.1.begins other.1.not_whole in
+        (omega (arith, five), λ e. omega (arith, five)))
+  ]
+  fourteen (Within waiting after_return) h =
+      let says = waits_says paste_sequences waiting h.0 in
+      let five = any_fewer paste_sequences 6 waiting refl says.begins says.not_whole in
+      (omega (arith, five), λ e. omega (arith, five))
+
+  pub waits_for_fourteen : WaitsForFourteen by_delete
+  waits_for_fourteen bs = fourteen (run by_delete start bs).state (run_sound start bs refl)

@@ -1,18 +1,22 @@
 -- Output is at most two thirds longer than the input, where no sequence of a short row comes.
-use Rattle.std.proofs.Common.{◌≡◌, ℕ, ◌+◌, ◌*◌, ◌≤◌, inl, inr, Bool, true, false, ◌&&◌, ◌||◌, nat_le, List, [], ◌∷◌, ◌++◌, length, Option, Some, None}
+use Rattle.std.proofs.Common.{◌≡◌, ℕ, ◌+◌, ◌*◌, ◌≤◌, inl, inr, Bool, true, false, ◌&&◌, ◌||◌, nat_le, List, [], ◌∷◌, ◌++◌, length, drop, Option, Some, None}
 use Rattle.std.proofs.Common.{refl, ap, sym, ◌∙◌, append_assoc, subst, arith, length-append}
 use Rattle.std.specs.List.{list_all}
 use Rattle.std.specs.Str.{bytes_eq}
 use Rattle.std.proofs.lemmas.Bool.{both_ways, and_parts, or_cases, leb-true}
 use Rattle.std.proofs.lemmas.Slice.Eq.{bytes_eq-Decides}
-use Rattle.std.proofs.lemmas.List.{append-nil, length_push}
+use Rattle.std.proofs.lemmas.List.{append-nil, length_push, length-drop}
 use Rattle.bx_bytes.specs.declared.fate.Fate.{Fate}
 use Rattle.bx_bytes.specs.declared.fate.Fate.TheVariants.{Waits, Ends, Breaks}
-use Rattle.bx_input.specs.Table.{Row, fate, paste_end, row_of, rows}
+use Rattle.bx_input.specs.Known.{fate, becomes_of}
+use Rattle.bx_input.specs.Mouse.{reported}
+use Rattle.bx_input.specs.Table.{Row, paste_end, row_of, rows}
 use Rattle.bx_input.specs.Paste.{pasted_part, paste_fate}
 use Rattle.bx_input.specs.Filter.{State, Outside, Within, Step, ended_in_paste, paste_step_by, fresh_in_paste, ended, start, at_end, apart_from, fresh, step_by, step, run}
 use Rattle.bx_input_laws.specs.Laws.{waiting_in, is_short, has_short, HasNoShort, GrowsByTwoThirds}
-use Rattle.bx_input_laws.proofs.Growth.{found, is_start, byte_is_one, part_is_shorter, end_is_shorter}
+use Rattle.bx_input_laws.proofs.Growth.{found, byte_is_one, part_is_shorter, end_is_shorter}
+use Rattle.bx_input_laws.proofs.Known.{IsKnown, ReportIs, RowIs, StartIs, known_ends}
+use Rattle.bx_input_laws.proofs.ReportFields.{has_lengths, report_fits}
 use Rattle.bx_input.proofs.Rows.{is_open_after}
 
 -- Three bytes that go out count for five thirds of one that came, or waits.
@@ -55,9 +59,9 @@ all_left all = ([], refl)
 behind : (more all rest : List ℕ) → EndsBy all rest → EndsBy (more ++ all) rest
 behind more all rest h = (more ++ h.0, append_assoc more h.0 rest ∙ ap (λ xs. more ++ xs) h.1)
 
-ended_left : (is_open : Bool) (o : Option Row) (read : List ℕ) → EndsBy read (waiting_in (ended is_open o).state)
+ended_left : (is_open : Bool) (o : Option (List ℕ)) (read : List ℕ) → EndsBy read (waiting_in (ended is_open o).state)
 ended_left is_open None read = none_left read
-ended_left is_open (Some r) read = none_left read
+ended_left is_open (Some bs) read = none_left read
 
 ended_paste_left : (is_end : Bool) (read : List ℕ) → EndsBy read (waiting_in (ended_in_paste is_end).state)
 ended_paste_left true read = none_left read
@@ -116,24 +120,40 @@ module _ (by_delete : Bool) where
 
   -- ---- a byte
 
-  ended_weighs : (is_open : Bool) (read : List ℕ) (o : Option Row) → fate read ≡ Ends → row_of by_delete read ≡ o → has_short o ≡ false
-      → weight (ended is_open o) ≤ 5 * length read
-  ended_weighs is_open read None ends h long = let six : 6 ≡ length read = ap length (is_start by_delete read ends h) in omega (arith, six)
-  ended_weighs is_open read (Some r) ends h long =
+  row_weighs : (is_open : Bool) (read : List ℕ) (r : Row) → row_of by_delete read ≡ Some r → has_short (row_of by_delete read) ≡ false
+      → 3 * length (apart_from is_open r.becomes) ≤ 5 * length read
+  row_weighs is_open read r h long =
       let is = found (λ (x : Row). bytes_eq x.sequence read) fits (rows by_delete) r (all_fit by_delete) h in
       let same : r.sequence ≡ read = (bytes_eq-Decides r.sequence read).0 is.passes in
-      omega (arith, row_fits is_open r is.fits long, ap length same)
+      omega (arith, row_fits is_open r is.fits (ap has_short (sym h) ∙ long), ap length same)
+
+  ended_by : (is_open : Bool) (read : List ℕ) (o : Option (List ℕ)) → IsKnown by_delete read o → has_short (row_of by_delete read) ≡ false
+      → weight (ended is_open o) ≤ 5 * length read
+  ended_by is_open read o (ReportIs r opens h e) long =
+      let fits : weight (ended is_open (Some (reported r))) ≤ 5 * length read =
+      omega (arith, report_fits is_open (drop 3 read) r h, (has_lengths (drop 3 read) r h).at_least, length-drop 3 read) in
+      subst (λ o. weight (ended is_open o) ≤ 5 * length read) (sym e) fits
+  ended_by is_open read o (RowIs r h e) long =
+      let fits : weight (ended is_open (Some r.becomes)) ≤ 5 * length read = omega (arith, row_weighs is_open read r h long) in
+      subst (λ o. weight (ended is_open o) ≤ 5 * length read) (sym e) fits
+  ended_by is_open read o (StartIs same e) long =
+      let fits : weight (ended is_open None) ≤ 5 * length read = (let six : 6 ≡ length read = ap length same in omega (arith, six)) in
+      subst (λ o. weight (ended is_open o) ≤ 5 * length read) (sym e) fits
+
+  ended_weighs : (is_open : Bool) (read : List ℕ) → fate read ≡ Ends → has_short (row_of by_delete read) ≡ false
+      → weight (ended is_open (becomes_of by_delete read)) ≤ 5 * length read
+  ended_weighs is_open read ends long = ended_by is_open read (becomes_of by_delete read) (known_ends by_delete read ends) long
 
   fresh_weighs : (f : Fate) (is_open : Bool) (b : ℕ) → fate (b ∷ []) ≡ f → NoShort (b ∷ []) → weight (fresh by_delete f is_open b) ≤ 5
   fresh_weighs Waits is_open b h none = omega arith
-  fresh_weighs Ends is_open b h none = ended_weighs is_open (b ∷ []) (row_of by_delete (b ∷ [])) h refl (none_whole (b ∷ []) none)
+  fresh_weighs Ends is_open b h none = ended_weighs is_open (b ∷ []) h (none_whole (b ∷ []) none)
   fresh_weighs Breaks is_open b h none = omega arith
 
   outside_weighs : (f : Fate) (waiting : List ℕ) (is_open : Bool) (b : ℕ) → fate (waiting ++ b ∷ []) ≡ f → NoShort (waiting ++ b ∷ [])
       → weight (step_by by_delete f waiting is_open b) ≤ 5 * length (waiting ++ b ∷ [])
   outside_weighs Waits waiting is_open b h none = omega arith
   outside_weighs Ends waiting is_open b h none =
-      let read : List ℕ = waiting ++ b ∷ [] in ended_weighs is_open read (row_of by_delete read) h refl (none_whole read none)
+      let read : List ℕ = waiting ++ b ∷ [] in ended_weighs is_open read h (none_whole read none)
   outside_weighs Breaks waiting is_open b h none =
       let opened : Bool = is_open_after waiting is_open in
       let after : Step = fresh by_delete (fate (b ∷ [])) opened b in
@@ -150,12 +170,12 @@ module _ (by_delete : Bool) where
 
   fresh_left : (f : Fate) (is_open : Bool) (b : ℕ) → EndsBy (b ∷ []) (waiting_in (fresh by_delete f is_open b).state)
   fresh_left Waits is_open b = all_left (b ∷ [])
-  fresh_left Ends is_open b = ended_left is_open (row_of by_delete (b ∷ [])) (b ∷ [])
+  fresh_left Ends is_open b = ended_left is_open (becomes_of by_delete (b ∷ [])) (b ∷ [])
   fresh_left Breaks is_open b = none_left (b ∷ [])
 
   outside_left : (f : Fate) (waiting : List ℕ) (is_open : Bool) (b : ℕ) → EndsBy (waiting ++ b ∷ []) (waiting_in (step_by by_delete f waiting is_open b).state)
   outside_left Waits waiting is_open b = all_left (waiting ++ b ∷ [])
-  outside_left Ends waiting is_open b = ended_left is_open (row_of by_delete (waiting ++ b ∷ [])) (waiting ++ b ∷ [])
+  outside_left Ends waiting is_open b = ended_left is_open (becomes_of by_delete (waiting ++ b ∷ [])) (waiting ++ b ∷ [])
   outside_left Breaks waiting is_open b = behind waiting (b ∷ []) _ (fresh_left (fate (b ∷ [])) (is_open_after waiting is_open) b)
 
   step_left : (s : State) (b : ℕ) → EndsBy (waiting_in s ++ b ∷ []) (waiting_in (step by_delete s b).state)

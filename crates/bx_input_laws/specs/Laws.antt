@@ -1,12 +1,14 @@
 -- Laws of the filter, for any input. `b` is a byte, `bs` are bytes, `s` is a state of the filter, `r` a row of its table.
-use Rattle.std.specs.Prelude.{◌≡◌, ◌≢◌, ◌≤◌, ℕ, ◌*◌, Bool, true, false, not, ◌&&◌, ◌||◌, ◌==◌, nat_le, List, [], ◌∷◌, ◌++◌, length, map, Option, Some, None, if◌then◌else◌}
+use Rattle.std.specs.Prelude.{◌≡◌, ◌≢◌, ◌≤◌, ℕ, ◌*◌, Bool, true, false, not, ◌&&◌, ◌||◌, ◌==◌, nat_le, List, [], ◌∷◌, ◌++◌, length, map, drop, is_some, Option, Some, None, if◌then◌else◌}
 use Rattle.std.specs.List.{list_all, list_any}
 use Rattle.std.specs.Str.{bytes_eq, chars, IsUtf8}
+use Rattle.std.specs.Str.Parse.{digits_value}
 use Rattle.bx_bytes.specs.Pattern.{Piece, matches_any}
 use Rattle.bx_keys.specs.Keys.{decoding}
 use Rattle.bx_keys.specs.declared.key.Key.{Key}
-use Rattle.bx_keys.specs.declared.key.Key.TheVariants.{Insert, PasteStart, PasteEnd}
-use Rattle.bx_input.specs.Table.{Row, keys_of, byte_rows, row_of, sequences, exact, paste_start, paste_end, start_told, end_told}
+use Rattle.bx_keys.specs.declared.key.Key.TheVariants.{Insert, LineUp, LineDown, PasteStart, PasteEnd, Point, Select}
+use Rattle.bx_input.specs.Mouse.{Report, opens_report, report_of}
+use Rattle.bx_input.specs.Table.{Row, csi, keys_of, byte_rows, row_of, sequences, exact, paste_start, paste_end, start_told, end_told}
 use Rattle.bx_input.specs.Paste.{is_control_byte, kept_characters, pasted}
 use Rattle.bx_input.specs.Filter as filter
 use Rattle.bx_input.specs.Filter.{State, Outside, Within, Step, step_to, with_front, start, at_end, apart_from, is_empty}
@@ -15,6 +17,27 @@ use Rattle.bx_input.specs.Filter.{State, Outside, Within, Step, step_to, with_fr
 abbrev pub waiting_in : State → List ℕ
 waiting_in (Outside waiting is_open) = waiting
 waiting_in (Within waiting after_return) = waiting
+
+-- the bytes are a mouse report
+abbrev pub is_report : List ℕ → Bool
+is_report bs = opens_report bs && is_some (report_of (drop 3 bs))
+
+-- no part of these bytes is one
+abbrev pub HasNoReport : List ℕ → Type 0
+HasNoReport bs = (front middle back : List ℕ) → bs ≡ front ++ (middle ++ back) → is_report middle ≡ false
+
+-- the editor's keys for a press of a button, where `point` is the key of its cell
+abbrev pub pressed_keys : ℕ → Key → List Key
+pressed_keys button point =
+    if button == 0 then point ∷ []
+    else if (button == 4 || button == 32) || button == 36 then Select ∷ point ∷ []
+    else if button == 64 then LineUp ∷ LineUp ∷ LineUp ∷ []
+    else if button == 65 then LineDown ∷ LineDown ∷ LineDown ∷ []
+    else []
+
+-- the editor's keys for a mouse report
+abbrev pub keys_of_report : Report → List Key
+keys_of_report r = if r.is_release then [] else pressed_keys r.button (Point (digits_value 10 r.row) (digits_value 10 r.column))
 
 -- no part of these bytes matches one of the patterns
 abbrev pub HasNone : List (List Piece) → List ℕ → Type 0
@@ -78,9 +101,12 @@ module _ (erases_by_delete : Bool) where
       let first : Step = run s bs in
       run s (bs ++ more) ≡ with_front first.output (run first.state more)
 
-  -- at most five bytes wait (CSI 200, the longest beginning of a sequence or of a paste's start)
-  abbrev pub WaitsForFive : Type 0
-  WaitsForFive = (bs : List ℕ) → length (waiting_in (run start bs).state) ≤ 5
+  -- at most fourteen bytes wait: CSI < and the numbers of a mouse report. Of all else at most five do (CSI 200, the longest beginning
+  -- of a sequence of the table or of a paste's start).
+  abbrev pub WaitsForFourteen : Type 0
+  WaitsForFourteen = (bs : List ℕ) →
+      let waiting : List ℕ = waiting_in (run start bs).state in
+      (length waiting ≤ 14) × (opens_report waiting ≡ false → length waiting ≤ 5)
 
   -- the row that the bytes of `r` complete where an ESC waits before them, if the table has one: of ESC and DELETE
   abbrev pub longer_row : List ℕ → Row → Option Row
@@ -98,9 +124,9 @@ module _ (erases_by_delete : Bool) where
   BecomesRow r = (bs waiting : List ℕ) (is_open : Bool) → (run start bs).state ≡ Outside waiting is_open
       → run start (bs ++ r.sequence) ≡ step_to start (became bs waiting is_open r (longer_row waiting r))
 
-  -- input with no sequence of the table and no start of a paste goes out unchanged
+  -- input with no sequence of the table, no start of a paste and no mouse report goes out unchanged
   abbrev pub OthersPass : Type 0
-  OthersPass = (bs : List ℕ) → HasNone sequences bs → filtered bs ≡ bs
+  OthersPass = (bs : List ℕ) → HasNone sequences bs → HasNoReport bs → filtered bs ≡ bs
 
   -- a paste after input that ends outside one, up to the first end of a paste: PasteStart, the text and PasteEnd
   abbrev pub PastesText : Type 0
@@ -139,6 +165,12 @@ module _ (erases_by_delete : Bool) where
   abbrev pub AddsKeys : Row → Type 0
   AddsKeys r = (bs waiting : List ℕ) (is_open : Bool) → (run start bs).state ≡ Outside waiting is_open
       → (decoding (filtered (bs ++ r.sequence))).keys ≡ (decoding (filtered bs)).keys ++ keys_of (row_behind r (longer_row waiting r))
+
+  -- After any input that ends outside a paste, a mouse report gives the editor the keys that it means and no other.
+  abbrev pub AddsReportKeys : Type 0
+  AddsReportKeys = (bs waiting ps : List ℕ) (is_open : Bool) (r : Report) → (run start bs).state ≡ Outside waiting is_open
+      → report_of ps ≡ Some r
+      → (decoding (filtered (bs ++ csi (0x3C ∷ ps)))).keys ≡ (decoding (filtered bs)).keys ++ keys_of_report r
 
   -- The editor's keys for a paste are PasteStart, those of its text, and PasteEnd, whatever bytes wait. Each of the text inserts
   -- a character, and does nothing else. If the text is UTF-8, these are its characters in order.

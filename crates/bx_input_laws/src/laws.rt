@@ -4,8 +4,8 @@
 ghost use Rattle.std.specs.Prelude.{Bool};
 ghost use Rattle.std.specs.List.{AllByRecursion};
 ghost use Rattle.bx_input_laws.specs.Hearing.{AreHeardInOrder};
-ghost use Rattle.bx_input_laws.specs.Laws.{AddsKeys, BecomesRow, ComesInPieces, GrowsByTenThirds, GrowsByTwoThirds, GrowsFiveTimes, HasKeys, OthersPass};
-ghost use Rattle.bx_input_laws.specs.Laws.{PastesAreClean, WaitsForFive};
+ghost use Rattle.bx_input_laws.specs.Laws.{AddsKeys, AddsReportKeys, BecomesRow, ComesInPieces, GrowsByTenThirds, GrowsByTwoThirds, GrowsFiveTimes, HasKeys, OthersPass};
+ghost use Rattle.bx_input_laws.specs.Laws.{PastesAreClean, WaitsForFourteen};
 ghost use Rattle.bx_input_laws.specs.Laws.{PastesInsert, PastesKeepCharacters, PastesText};
 ghost use Rattle.bx_input.specs.Table.{rows};
 
@@ -14,9 +14,9 @@ pub fn in_any_pieces()
     ensures { (erases_by_delete : Bool) → ComesInPieces erases_by_delete }
 {}
 
-/// At most five bytes wait.
-pub fn waits_for_five()
-    ensures { (erases_by_delete : Bool) → WaitsForFive erases_by_delete }
+/// At most fourteen bytes wait, and at most five that begin no mouse report.
+pub fn waits_for_fourteen()
+    ensures { (erases_by_delete : Bool) → WaitsForFourteen erases_by_delete }
 {}
 
 /// The output of a paste has no control byte except TAB and LF, up to the PasteEnd that its end gives.
@@ -30,7 +30,7 @@ pub fn rows_become()
     ensures { (erases_by_delete : Bool) → AllByRecursion (BecomesRow erases_by_delete) (rows erases_by_delete) }
 {}
 
-/// Input with no sequence of the table and no paste goes out unchanged.
+/// Input with no sequence of the table, no paste and no mouse report goes out unchanged.
 pub fn others_pass()
     ensures { (erases_by_delete : Bool) → OthersPass erases_by_delete }
 {}
@@ -62,6 +62,12 @@ pub fn pastes_keep_characters()
 /// other: those of its row, or of the longer row that an ESC before it makes.
 pub fn rows_add_keys()
     ensures { (erases_by_delete : Bool) → AllByRecursion (AddsKeys erases_by_delete) (rows erases_by_delete) }
+{}
+
+/// After any input that ends outside a paste, a mouse report gives the editor the keys that it means, and no other: none, the
+/// cell that is pointed at, Select and that cell, or three lines up or down.
+pub fn reports_add_keys()
+    ensures { (erases_by_delete : Bool) → AddsReportKeys erases_by_delete }
 {}
 
 /// After any input that ends outside a paste, a paste only inserts, between PasteStart and PasteEnd: the characters of its text

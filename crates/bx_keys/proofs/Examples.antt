@@ -12,7 +12,7 @@ use Rattle.bx_keys.specs.Laws.{RestsWait, ComesInPieces, HasParts, keys_of_items
 use Rattle.bx_keys.specs.Waiting.{fate}
 use Rattle.bx_keys.specs.declared.key.Key.{Key}
 use Rattle.bx_keys.specs.declared.key.Key.TheVariants.{Insert, Erase, Delete, Up, Down, Right, Left, RowHome, RowEnd, PageUp, PageDown, Quit, Undo, Redo}
-use Rattle.bx_keys.specs.declared.key.Key.TheVariants.{Direction, Size, Notice}
+use Rattle.bx_keys.specs.declared.key.Key.TheVariants.{Direction, Size, Point, Notice}
 use Rattle.bx_keys.specs.declared.key.Key.TheVariants.{Mark, Copy, Cut, Put, Find, FindBack, WordLeft, WordRight, TextStart, TextEnd, Help}
 use Rattle.bx_keys.specs.declared.key.Key.TheVariants.{EraseWord, DeleteWord, FindNext, Cancel, ErasePoint, NewLine, LineUp, LineDown, PageBack, PageOn}
 use Rattle.bx_keys.specs.declared.key.Key.TheVariants.{Select, UndoRun, RedoRun, GoTo, Replace, Name, Tell, PasteStart, PasteEnd}
@@ -88,6 +88,24 @@ a_size = refl
 
 pub no_size : keys (codes "\u{1b}[8;0;5t\u{1b}[8;501;5t\u{1b}[8;0002;5t\u{1b}[8;2t\u{1b}[8;;2t\u{1b}[8;2;2;2t\u{1b}[ 8;2;2t") ≡ []
 no_size = refl
+
+-- a cell that is pointed at: its row comes first, and zeros may lead
+pub cells : keys (codes "\u{1b}[7;1;1t\u{1b}[7;500;500t\u{1b}[7;01;001t\u{1b}[7;2;3t") ≡ Point 1 1 ∷ Point 500 500 ∷ Point 1 1 ∷ Point 2 3 ∷ []
+cells = refl
+
+pub a_size_is_no_cell : keys (codes "\u{1b}[8;2;3t\u{1b}[7;2;3t") ≡ Size 2 3 ∷ Point 2 3 ∷ []
+a_size_is_no_cell = refl
+
+-- numbers that are no side, in rows and in columns
+pub no_cell_of_these_sides : keys (codes "\u{1b}[7;0;1t\u{1b}[7;1;0t\u{1b}[7;501;1t\u{1b}[7;1;501t\u{1b}[7;0001;1t\u{1b}[7; 1;1t\u{1b}[7;1;1 t") ≡ []
+no_cell_of_these_sides = refl
+
+pub no_cell_of_other_fields : keys (codes "\u{1b}[7;1t\u{1b}[7t\u{1b}[7;1;1;1t\u{1b}[7;;1t") ≡ []
+no_cell_of_other_fields = refl
+
+-- other first numbers and finals
+pub no_cell_of_other_kinds : keys (codes "\u{1b}[07;1;1t\u{1b}[?7;1;1t\u{1b}[7;1;1~\u{1b}[7;1;1T\u{1b}[6;1;1t") ≡ []
+no_cell_of_other_kinds = refl
 
 pub padded_size : keys (codes "\u{1b}[8;002;010t") ≡ Size 2 10 ∷ []
 padded_size = refl

@@ -1,21 +1,20 @@
 -- The first twelve waiting bytes give the same keys as all of them.
 use Rattle.std.proofs.Common.{◌≡◌, ℕ, ◌+◌, ◌-◌, ◌≤◌, ◌⊎◌, inl, inr, Bool, true, false, ◌&&◌, nat_eq, nat_le, List, [], ◌∷◌, ◌++◌, length, take, None, refl, ap}
 use Rattle.std.proofs.Common.{sym, ◌∙◌, zero, suc, arith, length-append}
-use Rattle.std.specs.Prelude.{codes}
 use Rattle.std.specs.List.{slice_split, join_with_byte}
 use Rattle.std.specs.Option.{option_map}
-use Rattle.std.specs.Str.{bytes_eq}
 use Rattle.std.proofs.lemmas.List.{take_all, length-take-le}
 use Rattle.std.proofs.lemmas.List.Splits.{join_with_byte-slice_split}
-use Rattle.std.proofs.lemmas.Bool.{cases_lt, cases_eq, cases_Bool, and_parts, and_right, leb-true, cond-true, cond-false}
+use Rattle.std.proofs.lemmas.Bool.{cases_lt, cases_eq, cases_Bool, and_parts, leb-true, cond-true, cond-false}
 use Rattle.bx_bytes.specs.Pattern.{One, is_within, past}
 use Rattle.bx_bytes.specs.Fate.{fate_in}
 use Rattle.bx_bytes.specs.declared.fate.Fate.TheVariants.{Waits, Breaks}
 use Rattle.bx_bytes.proofs.Codes.{too_long}
-use Rattle.bx_keys.specs.Keys.{is_side_in_digits, size_key, final_byte, before_final, sequence_key, key_of}
+use Rattle.bx_keys.specs.Keys.{is_number, is_side_in_digits, sides_key, final_byte, before_final, sequence_key, key_of}
 use Rattle.bx_keys.specs.Waiting.{fate, head_of}
 use Rattle.bx_keys.proofs.Characters.{no_escape}
 use Rattle.bx_keys.proofs.OtherFinals.{longer_no_key}
+use Rattle.bx_keys.proofs.Sides.{no_long_kind}
 use Rattle.bx_keys.proofs.Sequences.{past_by, only_waits, after_escape, after_intermediate, control_more, shift_more, long_more}
 
 -- ---- the rest that is kept waits too
@@ -112,43 +111,36 @@ head_fate rest b h = elim (whole_or_cut rest h) [
 
 -- ---- a sequence this long has no key
 
-bytes_of_field : (kind : List ℕ) → bytes_eq kind (codes "8") ≡ true → length kind ≤ 1
-bytes_of_field [] h = omega arith
-bytes_of_field (k ∷ []) h = omega arith
-bytes_of_field (k ∷ l ∷ kind) h = absurd (let e = and_right (nat_eq k 0x38) false refl in cc (e, h))
-
 side_len : (ds : List ℕ) → is_side_in_digits ds ≡ true → length ds ≤ 3
 side_len ds h =
-    let lens = and_parts (nat_le 1 (length ds) && nat_le (length ds) 3) _ h in
+    let number = and_parts (is_number ds) _ h in
+    let lens = and_parts (nat_le 1 (length ds) && nat_le (length ds) 3) _ number.0 in
     leb-true (length ds) 3 (and_parts (nat_le 1 (length ds)) (nat_le (length ds) 3) lens.0).1
 
-three_fields : (t : Bool) (kind h w : List ℕ) → (bytes_eq kind (codes "8") && (is_side_in_digits h && is_side_in_digits w)) ≡ t
-    → 8 ≤ length kind + length h + length w
-    → size_key (kind ∷ h ∷ w ∷ []) ≡ None
+three_fields : (t : Bool) (kind h w : List ℕ) → is_side_in_digits h && is_side_in_digits w ≡ t → 8 ≤ length kind + length h + length w
+    → sides_key (kind ∷ h ∷ w ∷ []) ≡ None
 three_fields true kind h w e long =
-    let parts = and_parts (bytes_eq kind (codes "8")) (is_side_in_digits h && is_side_in_digits w) e in
-    let sides = and_parts (is_side_in_digits h) (is_side_in_digits w) parts.1 in
-    absurd (omega (arith, bytes_of_field kind parts.0, side_len h sides.0, side_len w sides.1))
+    let sides = and_parts (is_side_in_digits h) (is_side_in_digits w) e in
+    no_long_kind kind (h ∷ w ∷ []) (omega (arith, long, side_len h sides.0, side_len w sides.1))
 three_fields false kind h w e long = rw e refl
 
 joined_three : (kind h w : List ℕ) → length (join_with_byte 0x3B (kind ∷ h ∷ w ∷ [])) ≡ length kind + length h + length w + 2
 joined_three kind h w = omega (arith, length-append kind (0x3B ∷ (h ++ 0x3B ∷ w)), length-append h (0x3B ∷ w))
 
-long_fields : (fields : List (List ℕ)) → 10 ≤ length (join_with_byte 0x3B fields) → size_key fields ≡ None
+long_fields : (fields : List (List ℕ)) → 10 ≤ length (join_with_byte 0x3B fields) → sides_key fields ≡ None
 long_fields [] l = refl
 long_fields (kind ∷ []) l = refl
 long_fields (kind ∷ h ∷ []) l = refl
-long_fields (kind ∷ h ∷ w ∷ []) l = three_fields (bytes_eq kind (codes "8") && (is_side_in_digits h && is_side_in_digits w)) kind h w refl
-    (omega (arith, joined_three kind h w, l))
+long_fields (kind ∷ h ∷ w ∷ []) l = three_fields (is_side_in_digits h && is_side_in_digits w) kind h w refl (omega (arith, joined_three kind h w, l))
 long_fields (kind ∷ h ∷ w ∷ x ∷ fields) l = refl
 
-long_size : (between : List ℕ) → 10 ≤ length between → size_key (slice_split (λ b. nat_eq b 0x3B) between) ≡ None
-long_size between l = long_fields (slice_split (λ b. nat_eq b 0x3B) between) (omega (arith, ap length (join_with_byte-slice_split 0x3B between), l))
+long_sides : (between : List ℕ) → 10 ≤ length between → sides_key (slice_split (λ b. nat_eq b 0x3B) between) ≡ None
+long_sides between l = long_fields (slice_split (λ b. nat_eq b 0x3B) between) (omega (arith, ap length (join_with_byte-slice_split 0x3B between), l))
 
 by_final : (t : Bool) (body : List ℕ) → nat_eq (final_byte body) 0x74 ≡ t → 11 ≤ length body → sequence_key body ≡ None
 by_final true body e l =
     cond-true (nat_eq (final_byte body) 0x74) _ _ e
-    ∙ long_size (before_final body) (omega (arith, length-take-le (length body - 1) body (omega arith), l))
+    ∙ long_sides (before_final body) (omega (arith, length-take-le (length body - 1) body (omega arith), l))
 by_final false body e l = cond-false (nat_eq (final_byte body) 0x74) _ _ e ∙ ap (option_map (λ k. k.1)) (longer_no_key body (omega (arith, l)))
 
 long_no_key : (body : List ℕ) → 11 ≤ length body → sequence_key body ≡ None

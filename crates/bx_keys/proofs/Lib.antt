@@ -7,6 +7,6 @@ pub mod Heads
 pub mod Feeding
 pub mod Characters
 pub mod Sequences
-pub mod Sizes
+pub mod Sides
 pub mod PartsOfInput
 mod Examples

@@ -38,15 +38,15 @@ longer_no_key bs long =
 final_of : (between : List ℕ) (last : ℕ) → final_byte (between ++ last ∷ []) ≡ last
 final_of between last = get_or_push between last 0 (length (between ++ last ∷ []) - 1) (omega (arith, length_push between last))
 
-not_size : (between : List ℕ) (last : ℕ) → last ≢ 0x74 → find (λ key. bytes_eq key.0 (between ++ last ∷ [])) sequence_keys ≡ None
+not_sides : (between : List ℕ) (last : ℕ) → last ≢ 0x74 → find (λ key. bytes_eq key.0 (between ++ last ∷ [])) sequence_keys ≡ None
     → sequence_key (between ++ last ∷ []) ≡ None
-not_size between last n none =
+not_sides between last n none =
     cond-false (nat_eq (final_byte (between ++ last ∷ [])) 0x74) _ _ (ap (λ b. nat_eq b 0x74) (final_of between last) ∙ ne_eqb last 0x74 n)
     ∙ ap (option_map (λ key. key.1)) none
 
 pub long_no_key : (between : List ℕ) (last : ℕ) → 3 ≤ length between → last ≢ 0x74 → sequence_key (between ++ last ∷ []) ≡ None
 long_no_key between last long n =
-    not_size between last n (longer_no_key (between ++ last ∷ []) (omega (arith, length_push between last, long)))
+    not_sides between last n (longer_no_key (between ++ last ∷ []) (omega (arith, length_push between last, long)))
 
 -- one byte, or a tilde at the end
 abbrev is_simple : List ℕ → Bool
@@ -57,4 +57,4 @@ other_final_no_key between last some n m =
     let body : List ℕ = between ++ last ∷ [] in
     let more : nat_eq (length body) 1 ≡ false = ne_eqb (length body) 1 (λ e. omega (arith, length_push between last, some, e)) in
     let other : nat_eq (final_byte body) 0x7E ≡ false = ap (λ b. nat_eq b 0x7E) (final_of between last) ∙ ne_eqb last 0x7E m in
-    not_size between last n (not_found is_simple sequence_keys body refl (or_from (nat_eq (length body) 1) (nat_eq (final_byte body) 0x7E) more other))
+    not_sides between last n (not_found is_simple sequence_keys body refl (or_from (nat_eq (length body) 1) (nat_eq (final_byte body) 0x7E) more other))

@@ -1,5 +1,5 @@
 -- The key of each item, and the keys of input: what a decoder gives. `b` is a byte, `bs` are bytes, `rest` bytes that wait; of a
--- size, `h` are the rows, `w` the columns.
+-- size, `h` are the rows, `w` the columns; of a cell, `h` is the row, `w` the column.
 use Rattle.bx_terms.specs.Sizes.{is_side, largest_side}
 use Rattle.std.specs.Prelude.{ℕ, zero, suc, ◌-◌, ◌≤◌, max, Bool, ◌&&◌, nat_le, ◌==◌, List, [], ◌∷◌, ◌++◌, length, slice_index, take, drop, Option, Some, None}
 use Rattle.std.specs.Prelude.{find, option_map, option_to_list, codes, if◌then◌else◌}
@@ -10,7 +10,7 @@ use Rattle.bx_bytes.specs.Utf8.{is_ascii_printable}
 use Rattle.bx_keys.specs.Items.{is_item, begins_item}
 use Rattle.bx_keys.specs.declared.key.Key.{Key}
 use Rattle.bx_keys.specs.declared.key.Key.TheVariants.{Insert, Erase, Delete, Back, Forward, Up, Down, Right, Left, RowHome, RowEnd, PageUp, PageDown, Save}
-use Rattle.bx_keys.specs.declared.key.Key.TheVariants.{Quit, Undo, Redo, Repaint, Direction, Size, Notice}
+use Rattle.bx_keys.specs.declared.key.Key.TheVariants.{Quit, Undo, Redo, Repaint, Direction, Size, Point, Notice}
 use Rattle.bx_keys.specs.declared.key.Key.TheVariants.{Mark, Copy, Cut, Put, Find, FindBack, WordLeft, WordRight, TextStart, TextEnd, Help}
 use Rattle.bx_keys.specs.declared.key.Key.TheVariants.{EraseWord, DeleteWord, FindNext, Cancel, ErasePoint, NewLine, LineUp, LineDown, PageBack, PageOn}
 use Rattle.bx_keys.specs.declared.key.Key.TheVariants.{Select, UndoRun, RedoRun, GoTo, Replace, Name, Tell, PasteStart, PasteEnd}
@@ -77,15 +77,24 @@ sequence_keys =
     ∷ (codes ">9~", Notice notices.InPlace)
     ∷ []
 
--- a side of a window, in one to three digits
-abbrev pub is_side_in_digits : List ℕ → Bool
-is_side_in_digits ds = (nat_le 1 (length ds) && nat_le (length ds) 3) && (all_ascii_digits ds && is_side (digits_value 10 ds))
+-- a number in one to three digits
+abbrev pub is_number : List ℕ → Bool
+is_number ds = (nat_le 1 (length ds) && nat_le (length ds) 3) && all_ascii_digits ds
 
--- what the host tells of a window: CSI 8 ; rows ; columns t
-abbrev pub size_key : List (List ℕ) → Option Key
-size_key (kind ∷ h ∷ w ∷ []) =
-    if bytes_eq kind (codes "8") && (is_side_in_digits h && is_side_in_digits w) then Some (Size (digits_value 10 h) (digits_value 10 w)) else None
-size_key _ = None
+-- a side of a window in one to three digits, which may also be a row or a column in it
+abbrev pub is_side_in_digits : List ℕ → Bool
+is_side_in_digits ds = is_number ds && is_side (digits_value 10 ds)
+
+-- what the first number says that the two after it are: 8 a window's size, 7 a cell that is pointed at
+abbrev pub key_by_kind : List ℕ → ℕ → ℕ → Option Key
+key_by_kind kind h w =
+    if bytes_eq kind (codes "8") then Some (Size h w) else if bytes_eq kind (codes "7") then Some (Point h w) else None
+
+-- what the host tells of a window, and what is told of a mouse: CSI 8 ; rows ; columns t, and CSI 7 ; row ; column t
+abbrev pub sides_key : List (List ℕ) → Option Key
+sides_key (kind ∷ h ∷ w ∷ []) =
+    if is_side_in_digits h && is_side_in_digits w then key_by_kind kind (digits_value 10 h) (digits_value 10 w) else None
+sides_key _ = None
 
 -- the last of the bytes after CSI
 abbrev pub final_byte : List ℕ → ℕ
@@ -98,7 +107,7 @@ before_final body = take (length body - 1) body
 -- the key of the bytes after CSI
 abbrev pub sequence_key : List ℕ → Option Key
 sequence_key body =
-    if final_byte body == 0x74 then size_key (slice_split (λ b. b == 0x3B) (before_final body))
+    if final_byte body == 0x74 then sides_key (slice_split (λ b. b == 0x3B) (before_final body))
     else option_map (λ k. k.1) (find (λ k. bytes_eq k.0 body) sequence_keys)
 
 -- the key of a character of more than one byte
@@ -114,9 +123,14 @@ key_of (b ∷ c ∷ rest) =
     if b == 0x1B then (if c == 0x5B then sequence_key rest else None)
     else character_key (chars (b ∷ c ∷ rest))
 
--- a size that a window may have: each side is from 1 to 500
+-- a row or a column, or their number, is from 1 to 500
+abbrev pub IsSide : ℕ → Type 0
+IsSide n = (1 ≤ n) × (n ≤ largest_side)
+
+-- a size that a window may have, and a cell that may be in it
 abbrev pub HasSides : Key → Type 0
-HasSides (Size h w) = ((1 ≤ h) × (h ≤ largest_side)) × ((1 ≤ w) × (w ≤ largest_side))
+HasSides (Size h w) = IsSide h × IsSide w
+HasSides (Point h w) = IsSide h × IsSide w
 HasSides _ = Unit {0}
 
 -- ---- the keys of input

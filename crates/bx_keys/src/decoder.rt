@@ -12,8 +12,8 @@ use bx_bytes::Fate;
 use std::alloc::{AllocError, Global};
 use std::marker::Model;
 
-/// Capacity for waiting bytes. The longest sequence with a key has 12 bytes (CSI 8;500;500t): 11 of them wait, and a twelfth
-/// that waits shows that there is no key.
+/// Capacity for waiting bytes. The longest sequences with a key have 12 bytes (CSI 8;500;500t and CSI 7;500;500t): 11 of them
+/// wait, and a twelfth that waits shows that there is no key.
 const HEAD_LEN: usize = 12;
 
 /// The bytes of an unfinished item, or the first 12 of a longer one, which gives no key.

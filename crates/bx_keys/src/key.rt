@@ -106,6 +106,8 @@ pub enum Key {
     PasteEnd,
     /// The window's size in rows and columns, each from 1 to 500.
     Size(u16, u16),
+    /// Goes to the cell of the window in this row and column, each from 1 to 500.
+    Point(u16, u16),
     /// Shows a notice of the host in the status row.
     Notice(Notice),
 }

@@ -11,9 +11,11 @@ mod key;
 mod laws;
 mod meaning;
 mod notice;
+mod numbers;
 mod sequence;
 
 pub use decoder::Decoder;
 pub use key::Key;
 pub use laws::{in_any_pieces, input_has_parts, items_are_apart, rests_wait};
 pub use notice::Notice;
+pub use numbers::{first_semicolon, number, side};

@@ -1,19 +1,17 @@
 //! The keys of whole items, by the tables of `specs/Keys.antt`.
 
-ghost use Rattle.std.specs.Prelude.{◌≡◌, ℕ, ◌<◌, ◌≤◌, ◌-◌, ◌==◌, ◌∷◌, [], ◌++◌, IfSome, SomeIff, codes, position, true, if◌then◌else◌};
+ghost use Rattle.std.specs.Prelude.{◌≡◌, ◌<◌, ◌==◌, ◌∷◌, [], ◌++◌, IfSome};
 ghost use Rattle.std.specs.List.{slice_split};
-ghost use Rattle.std.specs.Char.{is_ascii_digit};
-ghost use Rattle.std.specs.Str.Parse.{digits_value};
 ghost use Rattle.bx_keys.specs.Keys as spec;
-ghost use Rattle.bx_keys.specs.Keys.{HasSides, is_side_in_digits};
+ghost use Rattle.bx_keys.specs.Keys.{HasSides, IsSide};
 ghost use Rattle.bx_keys.specs.Waiting.{fate};
-ghost use Rattle.bx_terms.specs.Sizes.{largest_side};
 
 use crate::key::Key;
 use crate::notice::Notice;
+use crate::numbers::{first_semicolon, side};
 use crate::sequence::ESC;
 use bx_bytes::{Fate, character};
-use bx_terms::{is_ascii_printable, is_side};
+use bx_terms::is_ascii_printable;
 
 /// The key of the item that `byte` completes, if it has one.
 pub fn key_of(waiting: &[u8], byte: u8) -> Option<Key>
@@ -67,7 +65,7 @@ fn control_sequence_key(between: &[u8], last: u8) -> Option<Key>
     ensures sides { IfSome result HasSides }
 {
     match between {
-        _ if last == b't' => size_key(between),
+        _ if last == b't' => sides_key(between),
         [] => plain_key(last),
         [number] if last == b'~' => numbered_key(*number),
         [first, second] if last == b'~' => two_byte_key(*first, *second),
@@ -200,54 +198,36 @@ fn nineties_key(ones: u8) -> Option<Key>
     }
 }
 
-/// The key of a size, by what is between CSI and `t`: 8;ROWS;COLUMNS.
-fn size_key(between: &[u8]) -> Option<Key>
-    ensures value { result ≡ spec.size_key (slice_split (λ b. b == 0x3B) between.now) }
+/// The key of two sides, by what is between CSI and `t`: 8;ROWS;COLUMNS or 7;ROW;COLUMN.
+fn sides_key(between: &[u8]) -> Option<Key>
+    ensures value { result ≡ spec.sides_key (slice_split (λ b. b == 0x3B) between.now) }
     ensures sides { IfSome result HasSides }
 {
     match between {
-        [b'8', b';', sides @ ..] => sides_key(sides),
+        [kind, b';', sides @ ..] => key_after_kind(*kind, sides),
         _ => None,
     }
 }
 
-/// The key of a size, by ROWS;COLUMNS.
-fn sides_key(sides: &[u8]) -> Option<Key>
-    ensures value { result ≡ spec.size_key (codes "8" ∷ slice_split (λ b. b == 0x3B) sides.now) }
+/// The key of two sides, by the byte before them and what follows its semicolon.
+fn key_after_kind(kind: u8, sides: &[u8]) -> Option<Key>
+    ensures value { result ≡ spec.sides_key ((kind ∷ []) ∷ slice_split (λ b. b == 0x3B) sides.now) }
     ensures sides { IfSome result HasSides }
 {
-    let rows = first_semicolon(sides)?;
-    Some(Key::Size(side(&sides[..rows])?, side(&sides[rows + 1..])?))
+    let first = first_semicolon(sides)?;
+    key_by_kind(kind, side(&sides[..first])?, side(&sides[first + 1..])?)
 }
 
-/// The index of the first semicolon; None without one.
-fn first_semicolon(bytes: &[u8]) -> Option<usize>
-    ensures { result ≡ position (λ b. b == 0x3B) bytes.now }
+/// The key of two sides, by the byte before them: a window's rows and columns, or a cell's row and column.
+fn key_by_kind(kind: u8, first: u16, second: u16) -> Option<Key>
+    requires first { IsSide first }
+    requires second { IsSide second }
+    ensures value { result ≡ spec.key_by_kind (kind ∷ []) first second }
+    ensures sides { IfSome result HasSides }
 {
-    bytes.iter().position(|b| *b == b';')
-}
-
-/// A window's side, from 1 to 500, in one to three digits.
-fn side(digits: &[u8]) -> Option<u16>
-    ensures value { result ≡ (if is_side_in_digits digits.now then Some (digits_value 10 digits.now) else None) }
-    ensures fits { IfSome result (λ side. (1 ≤ side) × (side ≤ largest_side)) }
-{
-    let side = match digits {
-        [a] => digit(*a)?,
-        [a, b] => digit(*a)? * 10 + digit(*b)?,
-        [a, b, c] => (digit(*a)? * 10 + digit(*b)?) * 10 + digit(*c)?,
-        _ => return None,
-    };
-    if is_side(side) { Some(side) } else { None }
-}
-
-/// The value of a digit; None of any other byte.
-fn digit(byte: u8) -> Option<u16>
-    ensures value { SomeIff result (is_ascii_digit byte ≡ true) (byte - 0x30) }
-    ensures small { (n : ℕ) → result ≡ Some n → n < 10 }
-{
-    match byte {
-        b'0'..=b'9' => Some(u16::from(byte - b'0')),
+    match kind {
+        b'7' => Some(Key::Point(first, second)),
+        b'8' => Some(Key::Size(first, second)),
         _ => None,
     }
 }

@@ -33,7 +33,7 @@ pub(crate) fn rows_up<D: BidiData>(
 }
 
 /// The row `count` rows below `at`, or the text's last row if there are fewer.
-fn rows_down<D: BidiData>(
+pub(crate) fn rows_down<D: BidiData>(
     view: &mut View,
     source: &Source<'_, D>,
     at: RowAt,

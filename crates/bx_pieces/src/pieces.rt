@@ -1,13 +1,15 @@
 //! A sequence of pieces, which is a text: searched, split and joined at offsets in bytes of the text.
 
-ghost use Rattle.std.specs.Prelude.{◌≡◌, [], ◌++◌, ◌+◌, ◌/◌, ◌<◌, ◌≤◌, ◌^◌, length};
+ghost use Rattle.std.specs.Prelude.{◌≡◌, [], ◌++◌, ◌+◌, ◌/◌, ◌<◌, ◌≤◌, ◌^◌, IfOk, length};
 ghost use Rattle.bx_pieces.specs.Pieces.{total, front, back, holding, pushed, IsAddressable};
 
+use crate::copying::copy;
 use crate::cutting;
 use crate::joining::{join, join_links};
 use crate::piece::Piece;
 use crate::spares::Spares;
 use crate::tree::{self, Link};
+use std::alloc::{AllocError, Global};
 use std::marker::Model;
 
 /// Pieces in order, each of at least one byte. A search, a split or a join takes time logarithmic in the
@@ -44,6 +46,16 @@ impl Pieces {
         let mut pieces = Pieces::new();
         pieces.push(piece, spares);
         pieces
+    }
+
+    /// A copy.
+    ///
+    /// Errors: `AllocError`.
+    pub fn copy(&self, alloc: Global) -> Result<Pieces, AllocError>
+        ensures { IfOk result (λ p. p ≡ self.now) }
+    {
+        let tree = copy(alloc, &self.tree)?;
+        Ok(Pieces { tree })
     }
 
     /// Length of all pieces in bytes. Allocates nothing.

@@ -61,6 +61,20 @@ impl Tree {
         }
     }
 
+    /// The left side, the piece and the right side. Allocates nothing.
+    #[tactic(auto, using(crate::proofs::Cuts::total_append))]
+    pub fn parts(&self) -> (&Link, Piece, &Link)
+        ensures shape { self.now ≡ fork result.0.now result.1 result.2.now }
+        ensures balanced { DifferByAtMost 1 (depth_of result.0.now) (depth_of result.2.now) }
+        ensures some { 0 < result.1.len }
+        ensures fits { total (sequence result.0.now) + (result.1.len + total (sequence result.2.now)) < 2 ^ 64 }
+        ensures shallower { (depth_of result.0.now < self.now.depth) × (depth_of result.2.now < self.now.depth) }
+    {
+        // For the proof: the length in bytes is a `usize`.
+        let _len = self.len;
+        (&self.left, self.piece, &self.right)
+    }
+
     /// A placeholder, whose piece is never read; it has one byte, as the invariant wants.
     pub fn unused() -> Tree {
         let piece = Piece {

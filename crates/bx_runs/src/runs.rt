@@ -1,6 +1,6 @@
 //! The lengths of the past at which runs of edits begin: an undo or a redo of a run ends at one, or where no edit is left.
 
-ghost use Rattle.std.specs.Prelude.{◌≡◌, ◌+◌, ◌-◌, ◌≤◌, [], true, false, take, drop, length, OnOk, OnErr};
+ghost use Rattle.std.specs.Prelude.{◌≡◌, ◌+◌, ◌-◌, ◌≤◌, [], true, false, take, drop, length, IfOk, OnOk, OnErr};
 ghost use Rattle.bx_runs.specs.Runs.{above, below, edited, run_end, run_start, Rise};
 
 use bx_terms::OutOfMemory;
@@ -56,6 +56,19 @@ impl Runs {
             numbers: Vec::new(alloc),
             room: false,
         }
+    }
+
+    /// A copy, in which no room is made.
+    ///
+    /// Errors: `OutOfMemory`.
+    pub fn copy(&self) -> Result<Runs, OutOfMemory>
+        ensures { IfOk result (λ r. r.numbers ≡ self.now.numbers) }
+    {
+        let numbers = self.numbers.clone()?;
+        Ok(Runs {
+            numbers,
+            room: false,
+        })
     }
 
     /// Makes room: after Ok the next `edited` allocates nothing.

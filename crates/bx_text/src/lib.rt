@@ -5,6 +5,7 @@
 
 mod buffers;
 mod change;
+mod copying;
 mod error;
 mod pairs;
 mod slices;

@@ -1,10 +1,11 @@
 //! A step: an edit to undo or redo, as the past and the future keep it.
 
-ghost use Rattle.std.specs.Prelude.{◌≡◌};
+ghost use Rattle.std.specs.Prelude.{◌≡◌, IfOk};
 ghost use Rattle.bx_text.specs.Steps.{step_change};
 
 use crate::change::Change;
 use bx_pieces::Pieces;
+use std::alloc::{AllocError, Global};
 
 /// Where a step leads: back to the text before an edit, or again to the text after it.
 #[derive(Clone, Copy)]
@@ -29,6 +30,22 @@ pub struct Step {
 }
 
 impl Step {
+    /// A copy.
+    ///
+    /// Errors: `AllocError`.
+    pub fn copy(&self, alloc: Global) -> Result<Step, AllocError>
+        ensures { IfOk result (λ s. s ≡ self.now) }
+    {
+        let span = self.span.copy(alloc)?;
+        Ok(Step {
+            start: self.start,
+            span,
+            len: self.len,
+            before: self.before,
+            after: self.after,
+        })
+    }
+
     /// The change that the step makes. Allocates nothing.
     pub fn change(&self, way: Way) -> Change
         ensures { result ≡ step_change way self.now }

@@ -124,7 +124,7 @@ Lie w (s ∷ ss) = (1 ≤ s.column) × (s.column ≤ w) × Lie w ss
 abbrev pub total : List (ℕ × ℕ) → ℕ
 total us = sum_by (λ u. u.1) us
 
-abbrev Wide : List (ℕ × ℕ) → Type 0
+abbrev pub Wide : List (ℕ × ℕ) → Type 0
 Wide [] = ⊤
 Wide (u ∷ us) = (1 ≤ u.1) × Wide us
 
@@ -146,7 +146,7 @@ module _ (w : ℕ) (us : List Unit) where
   abbrev columns : List ℕ
   columns = unit_columns w 0 us
 
-  extents-wide : AllSome columns → (order : List ℕ) → All (λ k. k < length us) order → Wide (map (extent_of us columns) order)
+  pub extents-wide : AllSome columns → (order : List ℕ) → All (λ k. k < length us) order → Wide (map (extent_of us columns) order)
   extents-wide some [] below = tt
   extents-wide some (k ∷ ks) below =
       let here : k < length us = below 0 k (omega arith) in
@@ -174,7 +174,7 @@ lie-append w (s ∷ ss) ts h k = (h.0, h.1, lie-append w ss ts h.2 k)
 abbrev pub left_of : ℕ → ℕ → ℕ → ℕ
 left_of n w used = elim n [ zero ↦ 1 | suc _ ↦ w - used + 1 ]
 
-left-by : (n w used : ℕ) → used ≤ w → (1 ≤ left_of n w used) × (left_of n w used + used ≤ w + 1)
+pub left-by : (n w used : ℕ) → used ≤ w → (1 ≤ left_of n w used) × (left_of n w used + used ≤ w + 1)
 left-by zero w used h = (omega arith, omega (arith, h))
 left-by (suc n) w used h = (omega arith, omega (arith, h))
 

@@ -90,7 +90,7 @@ piece-sum says w c body each (u ∷ us) (l ∷ ls) (suc n) a e h =
 
 -- ---- slots side by side, and the glyphs of their units
 
-one-is : {X : Type 0} (x y : X) → Contains (x ∷ []) y → x ≡ y
+pub one-is : {X : Type 0} (x y : X) → Contains (x ∷ []) y → x ≡ y
 one-is x y (zero, h, e) = e
 one-is x y (suc k, h, e) = absurd (omega (arith, h))
 
@@ -142,11 +142,11 @@ module _ (glyphs : ℕ → List Glyph) (extent : ℕ → ℕ × ℕ) where
 -- ---- a row
 
 -- the slot that is found at an offset
-record IsFound (ss : List Slot) (offset : ℕ) : Type 0 where
-  one : Slot
-  among : Contains ss one
-  offset_is : one.offset ≡ offset
-  column_is : column_in ss offset ≡ one.column
+pub record IsFound (ss : List Slot) (offset : ℕ) : Type 0 where
+  pub one : Slot
+  pub among : Contains ss one
+  pub offset_is : one.offset ≡ offset
+  pub column_is : column_in ss offset ≡ one.column
 
 abbrev column-or : Option Slot → ℕ
 column-or o = unwrap_or (option_map (λ (x : Slot). x.column) o) 1
@@ -169,16 +169,24 @@ found-at s ss offset false e h rest =
       column_is = ap (λ t. column-or (cond t (Some s) (find (λ (x : Slot). x.offset == offset) ss))) e ∙ f.column_is;
     }
 
-found : (ss : List Slot) (offset : ℕ) → 0 < times offset (map (λ s. s.offset) ss) → IsFound ss offset
+pub found : (ss : List Slot) (offset : ℕ) → 0 < times offset (map (λ s. s.offset) ss) → IsFound ss offset
 found [] offset h = absurd (omega (arith, h))
 found (s ∷ ss) offset h = found-at s ss offset (s.offset == offset) refl h (λ more. found ss offset more)
 
 -- a slot of a row is one of its units', or the end's
-either-slot : (n : ℕ) (b : Bool) (end : Slot) (ss : List Slot) (s : Slot)
+pub either-slot : (n : ℕ) (b : Bool) (end : Slot) (ss : List Slot) (s : Slot)
     → Contains (elim b [ true ↦ elim n [ zero ↦ ss ++ end ∷ [] | suc _ ↦ end ∷ ss ] | false ↦ ss ]) s → Contains ss s ⊎ ((b ≡ true) × (end ≡ s))
 either-slot zero true end ss s c = ⊎_elim (λ a. inl a) (λ e. inr (refl, one-is end s e)) (Contains-append_cases ss (end ∷ []) s c)
 either-slot (suc n) true end ss s c = ⊎_elim (λ e. inr (refl, one-is end s e)) (λ a. inl a) (Contains-append_cases (end ∷ []) ss s c)
 either-slot n false end ss s c = inl c
+
+-- the columns of a row's blanks and glyphs left of a unit
+pub padded-columns : (odd n : ℕ) (left : List Glyph)
+    → columns_of_glyphs (elim odd [ zero ↦ [] | suc _ ↦ replicate n blank ] ++ left) + 1 ≡ elim odd [ zero ↦ 1 | suc _ ↦ n + 1 ] + columns_of_glyphs left
+padded-columns zero n left = omega arith
+padded-columns (suc k) n left =
+    let sum = sum_by-append (λ (g : Glyph). g.columns) (replicate n blank) left in
+    let blanks : columns_of_glyphs (replicate n blank) ≡ n = sum_by-replicate (λ g. g.columns) n blank ∙ omega arith in omega (arith, sum, blanks)
 
 -- the blanks of a row are before its glyphs or after them
 record ArePadded (odd n : ℕ) (glyphs left own : List Glyph) : Type 0 where
@@ -193,15 +201,13 @@ padded zero n glyphs left own right e = record {
   rest = right ++ replicate n blank;
   shown = ap (λ gs. gs ++ replicate n blank) e ∙ append_assoc left (own ++ right) (replicate n blank)
       ∙ ap (λ gs. left ++ gs) (append_assoc own right (replicate n blank));
-  columns_are = omega arith;
+  columns_are = padded-columns zero n left;
 }
-padded (suc k) n glyphs left own right e =
-    let sum = sum_by-append (λ (g : Glyph). g.columns) (replicate n blank) left in
-    let blanks : columns_of_glyphs (replicate n blank) ≡ n = sum_by-replicate (λ g. g.columns) n blank ∙ omega arith in record {
-      rest = right;
-      shown = ap (λ gs. replicate n blank ++ gs) e ∙ sym (append_assoc (replicate n blank) left (own ++ right));
-      columns_are = omega (arith, sum, blanks);
-    }
+padded (suc k) n glyphs left own right e = record {
+  rest = right;
+  shown = ap (λ gs. replicate n blank ++ gs) e ∙ sym (append_assoc (replicate n blank) left (own ++ right));
+  columns_are = padded-columns (suc k) n left;
+}
 
 no_unit : Unit
 no_unit = record { start = 0; stop = 0; face = Tab }
@@ -275,7 +281,7 @@ module _ (says : Data) (w : ℕ) (r : TextRow) (levels : HasLevels r.row) (faces
       subst (λ column. IsUnitCell says w r place column ⊎ IsEndCell w r place column) (sym f.column_is) (slot-cell f.one place f.among at)
 
 -- an offset of the text among a body's offsets
-unmoved : (start : ℕ) (os : List ℕ) (p : ℕ) → Contains (map (λ o. start + o) os) p → (start ≤ p) × Contains os (p - start)
+pub unmoved : (start : ℕ) (os : List ℕ) (p : ℕ) → Contains (map (λ o. start + o) os) p → (start ≤ p) × Contains os (p - start)
 unmoved start os p (k, h, e) =
     let within : k < length os = omega (arith, h, length-map os (λ o. start + o)) in
     let at : start + get_or os k 0 ≡ p = sym (get_or-map (λ o. start + o) os k 0 p within) ∙ e in

@@ -15,9 +15,11 @@ use Rattle.bx_view.specs.declared.moves.Logical.TheVariants.{Back, Forward}
 use Rattle.bx_view.specs.declared.moves.Move.{Move}
 use Rattle.bx_view.specs.declared.moves.Move.TheVariants as moves
 use Rattle.bx_view.specs.declared.moves.Vertical.{Vertical}
+use Rattle.bx_view.specs.declared.moves.Vertical.TheVariants.{Down}
 use Rattle.bx_view.specs.Moves.{end_of, entry_in, is_to_row_end, moved, past, place_at, place_from, place_in, row_after, row_away}
 use Rattle.bx_view.specs.Moves.{row_before, row_end, row_home, rows_away, start_of, step_logical, step_visual, word_way}
 use Rattle.bx_view.specs.Laws.{MovesKeep}
+use Rattle.bx_view.specs.Pointing.{pointed_at, pointed_row}
 use Rattle.bx_view.specs.TextRows.{TextRow, cell_of, first, no_text_row, places, row_at, row_of}
 use Rattle.bx_view.specs.Top.{follow, nearest_top}
 use Rattle.bx_view.specs.Words.{step_word, text_stops}
@@ -168,6 +170,12 @@ module _ (says : Data) (text : List ℕ) (w : ℕ) (rows : List TextRow) (P : �
       let below = own-row place in
       first-kept (nearest_top (row_of rows top) (row_of rows place) t) (omega (arith, above, below, shown))
 
+  kept-pointed_at : (top r column : ℕ) → P (pointed_at w rows top r column)
+  kept-pointed_at top r column =
+      let k = pointed_row rows top r in
+      let within = away-within (length rows) Down (r - 1) (row_of rows top) (own-row top) in
+      else-lies (entry_in w (row_at rows k) column) 0 (kept-entry k column within) ends.begin
+
   -- each move
   pub moves-keep : MovesKeep says text w rows P
   moves-keep = record {
@@ -183,6 +191,7 @@ module _ (says : Data) (text : List ℕ) (w : ℕ) (rows : List TextRow) (P : �
     home = kept-row_home;
     end = kept-row_end;
     top = kept-follow;
+    pointed = kept-pointed_at;
   }
 
 -- ---- where a move leads to

@@ -102,7 +102,7 @@ module _ (says : Data) (base : Base) (w : ℕ) where
 
 -- ---- properties of the places of rows hold for their slots
 
-in-places : (rows : List TextRow) (k : ℕ) (d : TextRow) → k < length rows → (o : ℕ) → Contains (places_of (get_or rows k d)) o → Contains (places rows) o
+pub in-places : (rows : List TextRow) (k : ℕ) (d : TextRow) → k < length rows → (o : ℕ) → Contains (places_of (get_or rows k d)) o → Contains (places rows) o
 in-places [] k d h o c = absurd (omega (arith, h))
 in-places (r ∷ rs) zero d h o c =
     subst (λ os. Contains os o) (sym (flat_map-cons places_of r rs)) (Contains-append_left (places_of r) (places rs) o c)

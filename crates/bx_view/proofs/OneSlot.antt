@@ -152,7 +152,7 @@ module _ (says : Data) (base : Base) (w : ℕ) (some : 1 ≤ w) (text : List ℕ
   pub row-slots : (k : ℕ) → k < length rows → IsPermutation (places_of (row_at rows k)) (slots w (row_at rows k))
   row-slots k within = slots-reordered w (row_at rows k) (rows-leveled says base w text k no_text_row within)
 
-  same-times : (p k : ℕ) → k < length rows → times p (slots w (row_at rows k)) ≡ times p (places_of (row_at rows k))
+  pub same-times : (p k : ℕ) → k < length rows → times p (slots w (row_at rows k)) ≡ times p (places_of (row_at rows k))
   same-times p k within = sum_by-IsPermutation (one-at p) (places_of (row_at rows k)) (slots w (row_at rows k)) (row-slots k within)
 
   abbrev own : ℕ → ℕ

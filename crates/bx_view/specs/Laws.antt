@@ -10,6 +10,7 @@ use Rattle.bx_view.specs.declared.moves.Logical.TheVariants.{Back, Forward}
 use Rattle.bx_view.specs.declared.moves.Move.{Move}
 use Rattle.bx_view.specs.declared.moves.Vertical.{Vertical}
 use Rattle.bx_view.specs.Moves.{entry_in, moved, page, place_at, place_from, row_end, row_home, step_logical, step_visual, vertical}
+use Rattle.bx_view.specs.Pointing.{pointed_at}
 use Rattle.bx_view.specs.Places.{pieces, text_places, IsTextPlace}
 use Rattle.bx_view.specs.TextRows.{TextRow, row_at, row_of}
 use Rattle.bx_view.specs.Top.{follow}
@@ -35,7 +36,8 @@ pub record FindsLeastPlace (says : Data) (text : List ℕ) (from : ℕ → ℕ) 
   pub inside : (offset : ℕ) → offset ≤ length text → IsLeastPlace says text offset (from offset)
   pub past : (offset : ℕ) → length text < offset → from offset ≡ length text
 
--- each move leads from a place with the property `P` to one with it, and what finds a place from any offset finds one with it
+-- each move leads from a place with the property `P` to one with it, and what finds a place from any offset, or by pointing, finds
+-- one with it
 pub record MovesKeep (says : Data) (text : List ℕ) (w : ℕ) (rows : List TextRow) (P : ℕ → Type 0) : Type 0 where
   pub from : (offset : ℕ) → P (place_from rows offset)
   pub at : (offset : ℕ) → P (place_at rows offset)
@@ -49,6 +51,7 @@ pub record MovesKeep (says : Data) (text : List ℕ) (w : ℕ) (rows : List Text
   pub home : (offset : ℕ) → P (row_home rows offset)
   pub end : (offset : ℕ) → P (row_end rows offset)
   pub top : (top place t : ℕ) → 0 < t → P (follow rows top place t)
+  pub pointed : (top r column : ℕ) → P (pointed_at w rows top r column)
 
 -- the least stop after a place
 pub record IsLeastBehind (stops : List ℕ) (place stop : ℕ) : Type 0 where

@@ -5,8 +5,13 @@ pub mod LawExamples
 pub mod EntryExamples
 pub mod ColumnExamples
 pub mod GoingExamples
+pub mod PointedExamples
 pub mod GreatestPlace
 pub mod SlotEntry
 pub mod RowsOn
 pub mod PlaceRows
 pub mod Counted
+pub mod UnitColumns
+pub mod SideColumns
+pub mod PointedUnits
+pub mod PointedTop

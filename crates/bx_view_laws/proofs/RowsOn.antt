@@ -62,7 +62,7 @@ module _ (says : Data) (base : Base) (w : ℕ) (side : 1 ≤ w) (text : List ℕ
   some-row : 0 < length rows
   some-row = omega (arith, text-rank says base w side text utf8 0, rank-few 0 (map first rows), length-map rows first)
 
-  entered : (column place k : ℕ) → 1 ≤ column → column ≤ w → k < length rows
+  pub entered : (column place k : ℕ) → 1 ≤ column → column ≤ w → k < length rows
       → IsEntry w (row_at rows k) column (unwrap_or (entry_in w (row_at rows k) column) place)
   entered column place k some inside h =
       let r = row_at rows k in

@@ -47,7 +47,7 @@ found p (s ∷ ss) t is = found-by p s ss t (p s) refl is (found p ss t)
 
 -- ---- columns
 
-covered-in : (column : ℕ) (s : Slot) → covers column s ≡ true → (s.column ≤ column) × (column < s.column + s.columns)
+pub covered-in : (column : ℕ) (s : Slot) → covers column s ≡ true → (s.column ≤ column) × (column < s.column + s.columns)
 covered-in column s e =
     let p = and_parts (nat_le s.column column) (nat_lt column (s.column + s.columns)) e in
     let low : nat_le s.column column ≡ true = p.0 in
@@ -55,7 +55,7 @@ covered-in column s e =
     let from : s.column ≤ column = grind (arith, nat_tests) in
     let upto : column < s.column + s.columns = grind (arith, nat_tests) in (from, upto)
 
-both-hold : (a b : Bool) → a ≡ true → b ≡ true → (a && b) ≡ true
+pub both-hold : (a b : Bool) → a ≡ true → b ≡ true → (a && b) ≡ true
 both-hold a b e f = rw (e, f) refl
 
 -- a slot that begins at or before a column and does not cover it ends at or before it
@@ -183,7 +183,7 @@ all-with-end P zero true end ss h a = All-append P ss (end ∷ []) a (All-cons P
 all-with-end P (suc n) true end ss h a = All-cons P end ss h a
 all-with-end P n false end ss h a = a
 
-contains-with-end : (n : ℕ) (b : Bool) (end : Slot) (ss : List Slot) (t : Slot) → Contains ss t → Contains (with-end n b end ss) t
+pub contains-with-end : (n : ℕ) (b : Bool) (end : Slot) (ss : List Slot) (t : Slot) → Contains ss t → Contains (with-end n b end ss) t
 contains-with-end zero true end ss t c = Contains-append_left ss (end ∷ []) t c
 contains-with-end (suc n) true end ss t c = there end ss t c
 contains-with-end n false end ss t c = c

@@ -1,6 +1,6 @@
-//! Laws of places, moves and scrolling, for any text in any window. The functions are empty: their contracts are the laws.
+//! Laws of places, moves, pointing and scrolling, for any text in any window. The functions are empty: their contracts are the laws.
 
-ghost use Rattle.std.specs.Prelude.{◌≡◌, ℕ, List, IsUtf8};
+ghost use Rattle.std.specs.Prelude.{◌≡◌, ℕ, ◌<◌, List, IsUtf8};
 ghost use Rattle.bx_ucd.specs.Data.{Data};
 ghost use Rattle.bx_ucd.specs.declared.class.Class.{Class};
 ghost use Rattle.bx_view.specs.Cells.{HasCells};
@@ -8,6 +8,7 @@ ghost use Rattle.bx_view_laws.specs.Entry.{RowsGoOn};
 ghost use Rattle.bx_view.specs.Going.{LeadBack, LeadToPlaces};
 ghost use Rattle.bx_view.specs.Laws.{FindsLeastPlace, MovesKeep, MovesLeast, PlacesGoOn, SpansText, WordsGoOn};
 ghost use Rattle.bx_view_laws.specs.Laws.{InEachWindow, IsGreatestPlace};
+ghost use Rattle.bx_view_laws.specs.Pointed.{OwnCellsStay, TopStays, UnitsAreTaken};
 ghost use Rattle.bx_view.specs.Moves.{place_at, place_from, step_logical};
 ghost use Rattle.bx_view.specs.Places.{text_places, IsTextPlace};
 ghost use Rattle.bx_view.specs.TextRows.{places};
@@ -67,4 +68,21 @@ pub fn places_have_cells()
 /// Scrolling to a place moves the top by the fewest rows that make the place's row visible; a second time changes nothing.
 pub fn follow_is_least()
     ensures { InEachWindow (λ says text w rows. MovesLeast rows) }
+{}
+
+/// Pointing at any column of a unit that is shown leads to the unit's place, and the cursor then has the unit's leftmost column,
+/// in the same row.
+pub fn pointing_takes_units()
+    ensures { InEachWindow (λ says text w rows. UnitsAreTaken says w rows) }
+{}
+
+/// Pointing at the cell of a place leads to the place, unless the place is a paragraph's end in a row that is full. Its column
+/// there is a unit's too, and the unit is taken.
+pub fn pointing_at_own_cell_stays()
+    ensures { InEachWindow (λ says text w rows. OwnCellsStay w rows) }
+{}
+
+/// Pointing at a row that is shown leaves the top, so pointing twice at one cell is pointing once.
+pub fn pointing_twice_is_once()
+    ensures { InEachWindow (λ says text w rows. (t : ℕ) → 0 < t → TopStays w rows t) }
 {}

@@ -1,0 +1,31 @@
+-- The filter's step behind CSI < and numbers.
+use Rattle.std.proofs.Common.{◌≡◌, ℕ, Bool, true, false, ◌||◌, List, [], ◌∷◌, ◌++◌, Option, Some, None, refl, ap, ◌∙◌}
+use Rattle.std.specs.Prelude.{option_map}
+use Rattle.bx_bytes.specs.declared.fate.Fate.TheVariants.{Waits, Ends, Breaks}
+use Rattle.bx_input.specs.Filter.{Outside, step_to, step_by, step, with_front, ended, fresh, apart_from}
+use Rattle.bx_input.specs.Known.{fate}
+use Rattle.bx_input.specs.Models.{begun_report}
+use Rattle.bx_input.specs.Mouse.{Report, report_of, report_fate, reported}
+
+ended_report : (is_open : Bool) (o : Option Report) (out : List ℕ) → option_map (λ r. apart_from is_open (reported r)) o ≡ Some out
+    → ended is_open (option_map reported o) ≡ step_to (Outside [] false) out
+ended_report is_open None out h = absurd (cc h)
+ended_report is_open (Some r) out h = let same : apart_from is_open (reported r) ≡ out = cc h in ap (step_to (Outside [] false)) same
+
+or_true : (t : Bool) → t || true ≡ true
+or_true true = refl
+or_true false = refl
+
+module _ (by_delete : Bool) (ns : List ℕ) (is_open : Bool) (b : ℕ) where
+  pub goes_on : report_fate (ns ++ b ∷ []) ≡ Waits → step by_delete (Outside (begun_report ns) is_open) b ≡ step_to (Outside (begun_report (ns ++ b ∷ [])) is_open) []
+  goes_on h = ap (λ f. step_by by_delete f (begun_report ns) is_open b) h
+
+  pub ends : (out : List ℕ) → report_fate (ns ++ b ∷ []) ≡ Ends → option_map (λ r. apart_from is_open (reported r)) (report_of (ns ++ b ∷ [])) ≡ Some out
+      → step by_delete (Outside (begun_report ns) is_open) b ≡ step_to (Outside [] false) out
+  ends out h g = ap (λ f. step_by by_delete f (begun_report ns) is_open b) h ∙ ended_report is_open (report_of (ns ++ b ∷ [])) out g
+
+  pub breaks : report_fate (ns ++ b ∷ []) ≡ Breaks
+      → step by_delete (Outside (begun_report ns) is_open) b ≡ with_front (begun_report ns) (fresh by_delete (fate (b ∷ [])) true b)
+  breaks h =
+      ap (λ f. step_by by_delete f (begun_report ns) is_open b) h
+      ∙ ap (λ opened. with_front (begun_report ns) (fresh by_delete (fate (b ∷ [])) opened b)) (or_true is_open)

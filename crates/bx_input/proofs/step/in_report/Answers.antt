@@ -1,0 +1,30 @@
+use Rattle.std.proofs.Common.{◌++◌, ap, sym, ◌∙◌}
+use Rattle.std.specs.Prelude.{option_to_list}
+use Rattle.bx_input.specs.Filter.{Outside, Step}
+use Rattle.bx_input.specs.Models.{begun_report, bytes_of}
+use Rattle.bx_input.proofs.ReportSteps.{goes_on, ends, breaks}
+use Rattle.bx_input.proofs.step.in_report.Goals as goal
+
+pub returns-in-Waits : goal.returns-in-Waits
+returns-in-Waits c =
+    let says = c.in-Waits.ensures in
+    let goes = goes_on c.args.erases_by_delete c.args.numbers.now c.args.is_open c.args.byte says.0 in (
+      ap (λ ns. Outside (begun_report ns) c.args.is_open) says.1 ∙ sym (ap (λ (s : Step). s.state) goes),
+      c.nothing.ensures ∙ sym (ap (λ (s : Step). s.output) goes),
+    )
+
+pub returns-in-Becomes : goal.returns-in-Becomes
+returns-in-Becomes c =
+    let says = c.in-Becomes.ensures in
+    let goes = ends c.args.erases_by_delete c.args.numbers.now c.args.is_open c.args.byte (bytes_of c.in-Becomes.output) says.0 says.1 in
+    (sym (ap (λ (s : Step). s.state) goes), sym (ap (λ (s : Step). s.output) goes))
+
+pub returns-in-Breaks : goal.returns-in-Breaks
+returns-in-Breaks c =
+    let goes = breaks c.args.erases_by_delete c.args.numbers.now c.args.is_open c.args.byte c.in-Breaks.ensures in
+    let more = c.fresh-next.result.key.now ++ option_to_list c.fresh-next.result.byte in (
+      c.fresh-next.ensures.state ∙ sym (ap (λ (s : Step). s.state) goes),
+      ap (λ ns. begun_report ns ++ more) c.copied.ensures
+          ∙ ap (λ xs. begun_report c.args.numbers.now ++ xs) c.fresh-next.ensures.output
+          ∙ sym (ap (λ (s : Step). s.output) goes),
+    )
