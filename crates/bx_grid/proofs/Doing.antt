@@ -26,7 +26,7 @@ run_is t log (b ∷ bs) =
     ∙ ap (λ l. (reads (byte_read t b) bs, l)) (append_assoc log (byte_effects t b) (effects (byte_read t b) bs))
 
 -- an escape ends a run, which then takes effect
-escape_does : (t : Terminal) (log : List Effect) → t.half_read ≡ [] → run (t, log) (0x1B ∷ []) ≡ (at (run_ended t) (0x1B ∷ []), log ++ pending_effects t)
+pub escape_does : (t : Terminal) (log : List Effect) → t.half_read ≡ [] → run (t, log) (0x1B ∷ []) ≡ (at (run_ended t) (0x1B ∷ []), log ++ pending_effects t)
 escape_does t log h =
     ap (λ half_read. run_step (read_after t 0x1B half_read) (log ++ effects_after t 0x1B half_read)) h
 

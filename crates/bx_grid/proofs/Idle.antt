@@ -3,7 +3,7 @@ use Rattle.std.proofs.Common.{◌≡◌, ℕ, ◌&&◌, Bool, true, false, nat_l
 use Rattle.bx_grid.specs.Picture.{IsIdle}
 use Rattle.bx_grid.specs.Terminal.{Terminal, after_clear, after_command, after_erase}
 use Rattle.bx_grid.specs.declared.command.Command.{Command}
-use Rattle.bx_grid.specs.declared.command.Command.TheVariants.{Move, Clear, Erase, Render, Other as Unread}
+use Rattle.bx_grid.specs.declared.command.Command.TheVariants.{Move, Clear, Erase, Render, Clip, Other as Unread}
 
 idle_move : (b : Bool) (t : Terminal) (line column : ℕ) → IsIdle t
     → nat_le 1 line && nat_le line t.height && nat_le 1 column && nat_le column t.width ≡ b → IsIdle (after_command t (Move line column))
@@ -27,4 +27,5 @@ idle_command t (Move line column) i =
 idle_command t Clear i = idle_clear t t.negative i
 idle_command t Erase i = idle_erase t t.position t.negative i
 idle_command t (Render negative) i = record { no_run = i.no_run; no_token = i.no_token }
+idle_command t Clip i = i
 idle_command t Unread i = record { no_run = refl; no_token = refl }

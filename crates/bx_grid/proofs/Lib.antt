@@ -18,3 +18,6 @@ pub mod RowsPut
 pub mod CutColumns
 pub mod Single
 pub mod Idle
+pub mod Strings
+pub mod Encodings
+pub mod Clips

@@ -1,14 +1,14 @@
 -- The effects of reading on the columns of a terminal `t`: each glyph that it puts, and each erasure. `bx_paint` says by them
 -- what a painting sends. A position `p` is a row and a column, from 0.
-use Rattle.std.specs.Prelude.{ℕ, drop, ◌+◌, ◌*◌, Bool, true, false, ◌&&◌, nat_le, ◌==◌, List, [], ◌∷◌, ◌++◌, length, Option, Some, None, if◌then◌else◌}
+use Rattle.std.specs.Prelude.{ℕ, ◌+◌, ◌*◌, Bool, true, false, ◌&&◌, nat_le, ◌==◌, List, [], ◌∷◌, ◌++◌, length, Option, Some, None, if◌then◌else◌}
 use Rattle.bx_grid.specs.Columns.{Col, Unknown, Glyph, run_columns}
-use Rattle.bx_grid.specs.Tokens.{fate, command}
+use Rattle.bx_grid.specs.Tokens.{fate, escape_command}
 use Rattle.bx_grid.specs.Terminal.{Terminal, all_unknown, byte_read}
 use Rattle.bx_bytes.specs.Utf8.{are_printable}
 use Rattle.bx_bytes.specs.declared.fate.Fate.{Fate}
 use Rattle.bx_bytes.specs.declared.fate.Fate.TheVariants.{Waits, Ends, Breaks}
 use Rattle.bx_grid.specs.declared.command.Command.{Command}
-use Rattle.bx_grid.specs.declared.command.Command.TheVariants.{Move, Clear, Erase, Render, Other}
+use Rattle.bx_grid.specs.declared.command.Command.TheVariants.{Move, Clear, Erase, Render, Clip, Other}
 
 -- what reading makes of the columns; indices count them row by row, from 0
 pub data Effect : Type 0 where
@@ -69,13 +69,14 @@ command_effects t (Move line column) = move_effects t line column
 command_effects t Clear = clear_effects t.negative
 command_effects t Erase = erase_effects t t.position t.negative
 command_effects t (Render negative) = []
+command_effects t Clip = []
 command_effects t Other = Forgets ∷ []
 
--- a whole character or sequence: a printable character only extends the run
+-- a whole character, sequence or string: a printable character only extends the run
 abbrev pub token_effects : Terminal → List ℕ → List Effect
 token_effects t [] = []
 token_effects t (b ∷ rest) =
-    if b == 0x1B then command_effects t (command (drop 1 rest))
+    if b == 0x1B then command_effects t (escape_command rest)
     else if are_printable (b ∷ rest) then [] else Forgets ∷ []
 
 -- a byte other than ESC where no token is half read, by the fate of the byte alone

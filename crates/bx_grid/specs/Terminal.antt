@@ -1,14 +1,14 @@
 -- The terminal `t`: its state, the state after a token, and the state after reading bytes. A position `p` is a row and a column,
 -- from 0.
-use Rattle.std.specs.Prelude.{ℕ, ◌+◌, ◌-◌, ◌*◌, Bool, true, false, ◌&&◌, nat_le, nat_lt, ◌==◌, List, [], ◌∷◌, ◌++◌, length, drop, replicate, Option, Some, None}
+use Rattle.std.specs.Prelude.{ℕ, ◌+◌, ◌-◌, ◌*◌, Bool, true, false, ◌&&◌, nat_le, nat_lt, ◌==◌, List, [], ◌∷◌, ◌++◌, length, replicate, Option, Some, None}
 use Rattle.std.specs.Prelude.{if◌then◌else◌}
 use Rattle.bx_bytes.specs.Utf8.{are_printable}
 use Rattle.bx_bytes.specs.declared.fate.Fate.{Fate}
 use Rattle.bx_bytes.specs.declared.fate.Fate.TheVariants.{Waits, Ends, Breaks}
 use Rattle.bx_grid.specs.Columns.{Col, Unknown, blank, put, run_columns}
 use Rattle.bx_grid.specs.declared.command.Command.{Command}
-use Rattle.bx_grid.specs.declared.command.Command.TheVariants.{Move, Clear, Erase, Render, Other}
-use Rattle.bx_grid.specs.Tokens.{fate, command}
+use Rattle.bx_grid.specs.declared.command.Command.TheVariants.{Move, Clear, Erase, Render, Clip, Other}
+use Rattle.bx_grid.specs.Tokens.{fate, escape_command}
 
 -- the state of a terminal, as far as it is known
 pub record Terminal : Type 0 where
@@ -24,7 +24,7 @@ pub record Terminal : Type 0 where
   pub negative : Option Bool
   -- the characters of a printable run that later characters may extend
   pub run : List ℕ
-  -- the bytes of a character or a sequence that is half read
+  -- the bytes of a character, a sequence or a string that is half read
   pub half_read : List ℕ
 
 -- nothing is known of the terminal, and nothing is half read
@@ -39,7 +39,7 @@ all_unknown t = record {
   half_read = [];
 }
 
--- ---- sequences: where the model does not say what a terminal does, all becomes unknown
+-- ---- sequences and strings: where the model does not say what a terminal does, all becomes unknown
 
 -- CSI H: to a line and a column, counted from 1
 abbrev pub after_move : Terminal → ℕ → ℕ → Terminal
@@ -65,12 +65,13 @@ after_erase t None negative = all_unknown t
 abbrev pub after_rendition : Terminal → Bool → Terminal
 after_rendition t negative = record t { negative = Some negative }
 
--- after any command of a sequence
+-- after any command; a clip changes nothing that is seen
 abbrev pub after_command : Terminal → Command → Terminal
 after_command t (Move line column) = after_move t line column
 after_command t Clear = after_clear t t.negative
 after_command t Erase = after_erase t t.position t.negative
 after_command t (Render negative) = after_rendition t negative
+after_command t Clip = t
 after_command t Other = all_unknown t
 
 -- ---- printable runs
@@ -103,10 +104,10 @@ run_ended t = run_put t t.position t.negative t.run
 abbrev pub character_read : Terminal → List ℕ → Terminal
 character_read t bs = if are_printable bs then record t { run = t.run ++ bs; half_read = [] } else all_unknown t
 
--- a whole character, or a whole sequence
+-- a whole character, a whole sequence or a whole string
 abbrev pub token_read : Terminal → List ℕ → Terminal
 token_read t [] = t
-token_read t (b ∷ rest) = if b == 0x1B then after_command (record t { half_read = [] }) (command (drop 1 rest)) else character_read t (b ∷ rest)
+token_read t (b ∷ rest) = if b == 0x1B then after_command (record t { half_read = [] }) (escape_command rest) else character_read t (b ∷ rest)
 
 -- a byte other than ESC where no token is half read, by the fate of the byte alone
 abbrev pub after_first_byte_as : Terminal → ℕ → Fate → Terminal

@@ -1,12 +1,14 @@
--- The tokens of a terminal's input that a list of bytes may begin, and the commands of sequences.
+-- The tokens of a terminal's input that a list of bytes may begin, and the commands of sequences and strings.
 use Rattle.std.specs.Prelude.{ℕ, Bool, true, false, ◌&&◌, nat_le, ◌==◌, List, [], ◌∷◌, Option, Some, None, if◌then◌else◌}
 use Rattle.std.specs.Str.{all_ascii_digits}
+use Rattle.bx_terms.specs.Characters.{is_ascii_printable}
+use Rattle.bx_grid.specs.Clip.{is_clip}
 use Rattle.bx_bytes.specs.Fate.{fate_in}
 use Rattle.bx_bytes.specs.Utf8.{characters}
 use Rattle.bx_bytes.specs.declared.fate.Fate.{Fate}
 use Rattle.bx_bytes.specs.declared.fate.Fate.TheVariants.{Waits, Ends, Breaks}
 use Rattle.bx_grid.specs.declared.command.Command.{Command}
-use Rattle.bx_grid.specs.declared.command.Command.TheVariants.{Move, Clear, Erase, Render, Other}
+use Rattle.bx_grid.specs.declared.command.Command.TheVariants.{Move, Clear, Erase, Render, Clip, Other}
 use Rattle.std.specs.Str.Parse.{digits_value}
 
 -- the bytes of a control sequence after CSI, ESC and `[` (ECMA-48, 5.4): parameter bytes, intermediate bytes, a final byte
@@ -39,13 +41,32 @@ final_fate [] = Waits
 final_fate (b ∷ []) = if is_final b then Ends else Breaks
 final_fate (b ∷ c ∷ rest) = Breaks
 
--- the state of a sequence, by its bytes after ESC
+-- the text of a string and the bytes after it, by its bytes after OSC, ESC and `]`: the text is printable ASCII, and BEL, byte 07,
+-- ends the string (so in xterm; ECMA-48, 5.6, lets a string have more bytes, and another end)
+abbrev pub string_text : List ℕ → List ℕ
+string_text [] = []
+string_text (b ∷ rest) = if is_ascii_printable b then b ∷ string_text rest else []
+
+abbrev pub after_text : List ℕ → List ℕ
+after_text [] = []
+after_text (b ∷ rest) = if is_ascii_printable b then after_text rest else b ∷ rest
+
+-- the state of a string, by its bytes after the text
+abbrev pub bell_fate : List ℕ → Fate
+bell_fate [] = Waits
+bell_fate (b ∷ []) = if b == 0x07 then Ends else Breaks
+bell_fate (b ∷ c ∷ rest) = Breaks
+
+-- the state of a sequence or a string, by its bytes after ESC
 abbrev pub escape_fate : List ℕ → Fate
 escape_fate [] = Waits
-escape_fate (b ∷ body) = if b == 0x5B then final_fate (after_intermediates (after_params body)) else Breaks
+escape_fate (b ∷ body) =
+    if b == 0x5B then final_fate (after_intermediates (after_params body))
+    else if b == 0x5D then bell_fate (after_text body)
+    else Breaks
 
 -- the state of a token after some bytes: a control sequence (ECMA-48: CSI, parameter bytes, intermediate bytes, a final
--- byte) or a character in UTF-8
+-- byte), a string or a character in UTF-8
 abbrev pub fate : List ℕ → Fate
 fate [] = Waits
 fate (b ∷ rest) = if b == 0x1B then escape_fate rest else fate_in characters (b ∷ rest)
@@ -103,3 +124,12 @@ command_at ps (b ∷ c ∷ rest) = Other
 -- the command of the bytes after CSI
 abbrev pub command : List ℕ → Command
 command body = command_at (params body) (after_params body)
+
+-- the command of a string's text
+abbrev pub string_command : List ℕ → Command
+string_command text = if is_clip text then Clip else Other
+
+-- the command of a sequence or a string, by its bytes after ESC
+abbrev pub escape_command : List ℕ → Command
+escape_command [] = Other
+escape_command (b ∷ body) = if b == 0x5B then command body else string_command (string_text body)

@@ -1,6 +1,6 @@
-//! The commands of a terminal's control sequences that the painter writes, and all else as one.
+//! The commands of a terminal's control sequences and strings that the editor writes, and all else as one.
 
-/// The command of a sequence.
+/// The command of a sequence or a string.
 #[derive(Clone, Copy)]
 pub enum Command {
     /// To a line and a column, counted from 1 (CSI H).
@@ -11,6 +11,8 @@ pub enum Command {
     Erase,
     /// Sets the rendition: negative or normal (CSI 7 m, CSI m).
     Render(bool),
-    /// Any other sequence: the model says nothing of what it does.
+    /// Hands bytes to the system's clipboard, and changes nothing that is seen (OSC 52;c; and base64).
+    Clip,
+    /// Any other sequence or string: the model says nothing of what it does.
     Other,
 }

@@ -2,9 +2,13 @@
 //! them.
 #![tactic(auto)]
 
-ghost use Rattle.std.specs.Prelude.{◌≡◌};
+ghost use Rattle.std.specs.Prelude.{◌≡◌, ℕ, List, [], ◌++◌, Ok};
+ghost use Rattle.base64.specs.Engines.{standard};
+ghost use Rattle.bx_grid.specs.Clip.{AreBase64, IsBytes, clip_bytes, decode_of, encode_of};
+ghost use Rattle.bx_grid.specs.Effects.{effects};
 ghost use Rattle.bx_grid.specs.Glyphs.{ShareWholeGlyphs, DifferInWholeGlyphs};
-ghost use Rattle.bx_grid.specs.Picture.{PictureState, IsPicture};
+ghost use Rattle.bx_grid.specs.Picture.{AreWholeTokens, IsIdle, IsPicture, PictureState};
+ghost use Rattle.bx_grid.specs.Terminal.{Terminal, reads, run_ended};
 
 mod borrowed_row;
 mod cell;
@@ -38,4 +42,16 @@ pub fn pictures_differ_in_whole_glyphs()
         → ShareWholeGlyphs p.columns q.columns }
     ensures differing { (p q : PictureState) → IsPicture p → IsPicture q → p.height ≡ q.height → p.width ≡ q.width
         → DifferInWholeGlyphs p.columns q.columns × DifferInWholeGlyphs q.columns p.columns }
+{}
+
+/// A clip of any bytes changes nothing that is seen: a terminal with nothing half read is as before, with no effect on its
+/// columns, and a pending run only ends. A text is base64 exactly if it is the encoding of some bytes, and decoding gives
+/// these bytes back.
+pub fn clips_change_nothing()
+    ensures same { (t : Terminal) (held : List ℕ) → IsIdle t → IsBytes held → reads t (clip_bytes held) ≡ t }
+    ensures effects { (t : Terminal) (held : List ℕ) → IsIdle t → IsBytes held → effects t (clip_bytes held) ≡ [] }
+    ensures run { (t : Terminal) (held : List ℕ) → t.half_read ≡ [] → IsBytes held → reads t (clip_bytes held) ≡ record (run_ended t) { half_read = [] } }
+    ensures tokens { (held : List ℕ) → IsBytes held → AreWholeTokens (clip_bytes held) }
+    ensures gives { (held : List ℕ) → IsBytes held → decode_of standard (encode_of standard held) ≡ Ok held }
+    ensures base64 { AreBase64 }
 {}

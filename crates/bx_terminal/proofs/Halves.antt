@@ -5,7 +5,7 @@ use Rattle.std.proofs.lemmas.Bool.Decides.{nat_tests}
 use Rattle.bx_grid.proofs.Reading.{at}
 use Rattle.std.proofs.Math.Bool.{and-false}
 use Rattle.bx_terminal.specs.Capped.{capped}
-use Rattle.bx_grid.specs.Tokens.{command}
+use Rattle.bx_grid.specs.Tokens.{escape_command}
 use Rattle.bx_grid.specs.Terminal.{Terminal, after_move, after_command, token_read}
 use Rattle.bx_terms.specs.Sizes.{largest_side}
 use Rattle.bx_bytes.specs.declared.fate.Fate.TheVariants.{Ends}
@@ -15,7 +15,7 @@ use Rattle.bx_bytes.proofs.Encoded.{are_encodings, is_whole}
 use Rattle.std.specs.Char.{encode_utf8}
 use Rattle.std.specs.Str.{chars}
 use Rattle.bx_grid.specs.declared.command.Command.{Command}
-use Rattle.bx_grid.specs.declared.command.Command.TheVariants.{Move, Clear, Erase, Render, Other}
+use Rattle.bx_grid.specs.declared.command.Command.TheVariants.{Move, Clear, Erase, Render, Clip, Other}
 use Rattle.bx_grid.proofs.Single.{chars_of, head_is}
 
 -- ---- commands
@@ -53,16 +53,17 @@ obeyed_capped t (Move line column) h w = moved_capped t line column h w
 obeyed_capped t Clear h w = refl
 obeyed_capped t Erase h w = refl
 obeyed_capped t (Render negative) h w = refl
+obeyed_capped t Clip h w = refl
 obeyed_capped t Other h w = refl
 
--- the last byte of a sequence
-pub end_read : (t : Terminal) (b : ℕ) (rest : List ℕ) → t.half_read ++ b ∷ [] ≡ 0x1B ∷ 0x5B ∷ drop 2 (t.half_read ++ b ∷ [])
-    → rest ≡ drop 2 (t.half_read ++ b ∷ [])
+-- the last byte of a sequence or a string
+pub end_read : (t : Terminal) (b : ℕ) (rest : List ℕ) → t.half_read ++ b ∷ [] ≡ 0x1B ∷ drop 1 (t.half_read ++ b ∷ [])
+    → rest ≡ drop 1 (t.half_read ++ b ∷ [])
     → t.height ≤ largest_side → t.width ≤ largest_side
-    → after_command (at t []) (capped (command rest)) ≡ token_read t (t.half_read ++ b ∷ [])
+    → after_command (at t []) (capped (escape_command rest)) ≡ token_read t (t.half_read ++ b ∷ [])
 end_read t b rest h e hh ww =
-    obeyed_capped (at t []) (command rest) hh ww
-    ∙ ap (λ r. after_command (at t []) (command r)) e
+    obeyed_capped (at t []) (escape_command rest) hh ww
+    ∙ ap (λ r. after_command (at t []) (escape_command r)) e
     ∙ ap (token_read t) (sym h)
 
 -- ---- characters

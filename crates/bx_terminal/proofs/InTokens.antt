@@ -11,7 +11,7 @@ use Rattle.bx_terminal.specs.Cutting.{last_run, joined, cutting}
 use Rattle.bx_terminal.specs.Laws.{token_done, tokens_done}
 use Rattle.bx_grid.specs.Picture.{IsIdle}
 use Rattle.bx_grid.specs.Terminal.{Terminal, all_unknown, after_command, glyphs_put, read_after, reads, run_ended, run_put}
-use Rattle.bx_grid.specs.Tokens.{command, fate}
+use Rattle.bx_grid.specs.Tokens.{escape_command, fate}
 use Rattle.bx_terminal.proofs.Items.{waits_if, ends_if, long_begins, long_le, next_breaks, item_some}
 use Rattle.bx_terminal.proofs.ItemsRead.{IsSame, all_waits, begun, break_read, first_breaks, item_read, same_run, token_met, unknown_same}
 use Rattle.bx_grid.proofs.Reading.{reads-append}
@@ -100,7 +100,7 @@ met_done : (t : Terminal) (run : List ℕ) (tokens : List Token) (rest : List �
 met_done t run [] rest i = last_is t run rest i
 met_done t run (Run text ∷ tokens) rest i = met_done t (run ++ text) tokens rest i
 met_done t run (Sequence bytes ∷ tokens) rest i =
-    let c = command (drop 2 bytes) in
+    let c = escape_command (drop 1 bytes) in
     let done = tokens_done t (run_token run) in
     let u = after_command done c in
     let idle : IsIdle u = idle_command done c (idle_done t run i) in
@@ -122,7 +122,7 @@ idle_ended t h = record { no_run = no_run t t.position t.negative t.run refl; no
 
 half_met : (t : Terminal) (token : Token) → t.half_read ≡ [] → (token_met t token).half_read ≡ []
 half_met t (Run text) h = h
-half_met t (Sequence bytes) h = (idle_command (run_ended t) (command (drop 2 bytes)) (idle_ended t h)).no_token
+half_met t (Sequence bytes) h = (idle_command (run_ended t) (escape_command (drop 1 bytes)) (idle_ended t h)).no_token
 half_met t (Other bytes) h = refl
 
 broken_read : (t : Terminal) (b : ℕ) (bs : List ℕ) → t.half_read ≡ [] → is_item (take (beginning (b ∷ bs)) (b ∷ bs)) ≡ false

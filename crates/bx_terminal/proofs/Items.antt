@@ -9,10 +9,11 @@ use Rattle.bx_bytes.specs.Pattern.{past, One}
 use Rattle.bx_bytes.specs.Grammar.{is_grammar}
 use Rattle.bx_bytes.specs.declared.fate.Fate.{Fate}
 use Rattle.bx_bytes.specs.declared.fate.Fate.TheVariants.{Waits, Ends, Breaks}
+use Rattle.bx_terms.specs.Characters.{is_ascii_printable}
 use Rattle.bx_bytes.proofs.Patterns.{begins_any_front, matches_any_begins, none_begins_longer}
 use Rattle.bx_bytes.proofs.Encoded.{ends_by}
 use Rattle.bx_terminal.specs.Cutting.{items, is_item, begins_item, beginning_up_to, beginning}
-use Rattle.bx_grid.specs.Tokens.{fate, final_fate, after_params, after_intermediates, is_param, is_intermediate}
+use Rattle.bx_grid.specs.Tokens.{fate, final_fate, after_params, after_intermediates, is_param, is_intermediate, bell_fate, after_text}
 
 items_are_grammar : is_grammar items ≡ true
 items_are_grammar = refl
@@ -40,10 +41,28 @@ sequence_is bs =
     final_is (after_intermediates (after_params bs))
     ∙ ap final (intermediates_past (after_params bs) ∙ ap (past 0x20 0x2F) (params_past bs))
 
+text_past : (bs : List ℕ) → after_text bs ≡ past 0x20 0x7E bs
+text_past [] = refl
+text_past (b ∷ bs) = ap (λ r. cond (is_ascii_printable b) r (b ∷ bs)) (text_past bs)
+
+abbrev bell : List ℕ → Fate
+bell bs = fate_in ((One 0x07 0x07 ∷ []) ∷ []) bs
+
+bell_is : (bs : List ℕ) → bell_fate bs ≡ bell bs
+bell_is [] = refl
+bell_is (b ∷ []) = grind (arith, nat_tests)
+bell_is (b ∷ c ∷ bs) = grind (arith, nat_tests)
+
+string_is : (bs : List ℕ) → fate (0x1B ∷ 0x5D ∷ bs) ≡ fate_in items (0x1B ∷ 0x5D ∷ bs)
+string_is bs = bell_is (after_text bs) ∙ ap bell (text_past bs)
+
 escape_is : (x : ℕ) (bs : List ℕ) → fate (0x1B ∷ x ∷ bs) ≡ fate_in items (0x1B ∷ x ∷ bs)
 escape_is x bs = elim (cases_eq x 0x5B) [
   | inl csi ↦ subst (λ y. fate (0x1B ∷ y ∷ bs) ≡ fate_in items (0x1B ∷ y ∷ bs)) (sym csi) (sequence_is bs)
-  | inr other ↦ grind (arith, nat_tests)
+  | inr no_csi ↦ elim (cases_eq x 0x5D) [
+    | inl osc ↦ subst (λ y. fate (0x1B ∷ y ∷ bs) ≡ fate_in items (0x1B ∷ y ∷ bs)) (sym osc) (string_is bs)
+    | inr other ↦ grind (arith, nat_tests)
+  ]
 ]
 
 character_is : (b : ℕ) (bs : List ℕ) → (b ≡ 0x1B → ⊥) → fate (b ∷ bs) ≡ fate_in items (b ∷ bs)

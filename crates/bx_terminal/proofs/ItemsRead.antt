@@ -9,7 +9,7 @@ use Rattle.bx_grid.specs.Columns.{Col, Unknown, run_columns}
 use Rattle.bx_terminal.specs.Cutting.{Token, Run, Sequence, Other, token_of}
 use Rattle.bx_grid.specs.Terminal.{Terminal, all_unknown, after_command, glyphs_put, run_put, run_ended, character_read, token_read, after_first_byte}
 use Rattle.bx_grid.specs.Terminal.{after_first_byte_as, after_next_byte, read_after, byte_read, reads}
-use Rattle.bx_grid.specs.Tokens.{command, fate}
+use Rattle.bx_grid.specs.Tokens.{escape_command, fate}
 use Rattle.bx_terminal.proofs.Items.{waits_before, waits_before_end}
 use Rattle.bx_grid.proofs.Reading.{reads-append}
 use Rattle.bx_terminal.proofs.RunEnds.{half_ended}
@@ -70,7 +70,7 @@ all_waits t b bs idle w =
 -- the effect of a token that is read after a run
 abbrev pub token_met : Terminal → Token → Terminal
 token_met t (Run text) = record t { run = t.run ++ text }
-token_met t (Sequence bytes) = after_command (run_ended t) (command (drop 2 bytes))
+token_met t (Sequence bytes) = after_command (run_ended t) (escape_command (drop 1 bytes))
 token_met t (Other bytes) = all_unknown t
 
 unread : (u : Terminal) (k bs : List ℕ) → 0 < length bs → token_read (record u { half_read = k }) bs ≡ token_read u bs
@@ -102,12 +102,12 @@ token_by : (e : Bool) (t : Terminal) (b : ℕ) (bs : List ℕ) → t.half_read �
     → token_read (begun e t (b ∷ [])) (b ∷ bs) ≡ token_met t (token_of (b ∷ bs))
 token_by true t b bs idle e =
     let all : List ℕ = b ∷ bs in
-    cond-true (nat_eq b 0x1B) (after_command (record (run_ended t) { half_read = [] }) (command (drop 1 bs))) (character_read (run_ended t) all) e
-    ∙ ap (λ k. after_command (record (run_ended t) { half_read = k }) (command (drop 1 bs))) (sym (half_ended t idle))
+    cond-true (nat_eq b 0x1B) (after_command (record (run_ended t) { half_read = [] }) (escape_command bs)) (character_read (run_ended t) all) e
+    ∙ ap (λ k. after_command (record (run_ended t) { half_read = k }) (escape_command bs)) (sym (half_ended t idle))
     ∙ ap (token_met t) (sym (cond-true (nat_eq b 0x1B) (Sequence all) (cond (are_printable all) (Run all) (Other all)) e))
 token_by false t b bs idle e =
     let all : List ℕ = b ∷ bs in
-    cond-false (nat_eq b 0x1B) (after_command (record t { half_read = [] }) (command (drop 1 bs))) (character_read t all) e
+    cond-false (nat_eq b 0x1B) (after_command (record t { half_read = [] }) (escape_command bs)) (character_read t all) e
     ∙ met_by (are_printable all) t all idle refl
     ∙ ap (token_met t) (sym (cond-false (nat_eq b 0x1B) (Sequence all) (cond (are_printable all) (Run all) (Other all)) e))
 
@@ -121,7 +121,7 @@ alone_by false t b idle e w =
     let all : List ℕ = b ∷ [] in
     cond-false (nat_eq b 0x1B) (record (run_ended t) { half_read = all }) (after_first_byte_as t b (fate all)) e
     ∙ ap (after_first_byte_as t b) w
-    ∙ cond-false (nat_eq b 0x1B) (after_command (record t { half_read = [] }) (command (drop 1 []))) (character_read t all) e
+    ∙ cond-false (nat_eq b 0x1B) (after_command (record t { half_read = [] }) (escape_command [])) (character_read t all) e
     ∙ met_by (are_printable all) t all idle refl
     ∙ ap (token_met t) (sym (cond-false (nat_eq b 0x1B) (Sequence all) (cond (are_printable all) (Run all) (Other all)) e))
 

@@ -16,3 +16,5 @@ pub mod TokenBytes
 pub mod RunEnds
 pub mod TextRead
 pub mod PutAll
+pub mod ClipExamples
+pub mod StringBytes

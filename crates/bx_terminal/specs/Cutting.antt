@@ -1,18 +1,22 @@
--- A terminal's input, cut into tokens: printable runs as long as possible, whole control sequences, and all else.
+-- A terminal's input, cut into tokens: printable runs as long as possible, whole control sequences and strings, and all else.
 use Rattle.std.specs.Prelude.{ℕ, zero, suc, max, Bool, ◌==◌, List, [], ◌∷◌, ◌++◌, length, take, drop, if◌then◌else◌}
 use Rattle.bx_bytes.specs.Pattern.{Piece, One, Many, matches_any, begins_any}
 use Rattle.bx_bytes.specs.Utf8.{long_characters, are_printable}
 
--- ---- items: characters in UTF-8 except ESC (1B), and control sequences
+-- ---- items: characters in UTF-8 except ESC (1B), control sequences and strings
 
 -- ECMA-48, 5.4: CSI (ESC and `[`), parameter bytes, intermediate bytes, and one final byte, in this order. (What `bx_keys`
 -- reads as a sequence of the input may mix the first two.)
 abbrev pub control_sequence : List Piece
 control_sequence = One 0x1B 0x1B ∷ One 0x5B 0x5B ∷ Many 0x30 0x3F ∷ Many 0x20 0x2F ∷ One 0x40 0x7E ∷ []
 
--- ASCII without ESC, sequences, and the characters of two to four bytes
+-- ECMA-48, 5.6, with fewer bytes and xterm's end: OSC (ESC and `]`), printable ASCII, and BEL
+abbrev pub control_string : List Piece
+control_string = One 0x1B 0x1B ∷ One 0x5D 0x5D ∷ Many 0x20 0x7E ∷ One 0x07 0x07 ∷ []
+
+-- ASCII without ESC, sequences, strings, and the characters of two to four bytes
 abbrev pub items : List (List Piece)
-items = (One 0x00 0x1A ∷ []) ∷ (One 0x1C 0x7F ∷ []) ∷ control_sequence ∷ long_characters
+items = (One 0x00 0x1A ∷ []) ∷ (One 0x1C 0x7F ∷ []) ∷ control_sequence ∷ control_string ∷ long_characters
 
 -- the bytes are one whole item
 abbrev pub is_item : List ℕ → Bool
@@ -37,7 +41,7 @@ beginning bs = beginning_up_to (length bs) bs
 pub data Token : Type 0 where
   -- printable characters
   Run : (text : List ℕ) → Token
-  -- a control sequence
+  -- a control sequence or a string
   Sequence : (bytes : List ℕ) → Token
   -- a character that is not printable, or the beginning of an item that the next byte breaks
   Other : (bytes : List ℕ) → Token

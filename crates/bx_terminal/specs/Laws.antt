@@ -3,12 +3,13 @@ use Rattle.std.specs.Prelude.{◌≡◌, ℕ, Bool, true, false, not, ◌&&◌, 
 use Rattle.bx_terminal.specs.Cutting.{Cutting, Token, Run, Sequence, Other, cutting, run_token}
 use Rattle.bx_grid.specs.Picture.{IsIdle}
 use Rattle.bx_grid.specs.Terminal.{Terminal, all_unknown, after_command, reads, run_put}
-use Rattle.bx_grid.specs.Tokens.{command}
+use Rattle.bx_grid.specs.Tokens.{escape_command}
 
--- the terminal `t` after a token: a run puts its glyphs, and a sequence has its command obeyed, which the bytes after CSI tell
+-- the terminal `t` after a token: a run puts its glyphs, and a sequence or a string has its command obeyed, which the bytes after
+-- ESC tell
 abbrev pub token_done : Terminal → Token → Terminal
 token_done t (Run text) = run_put t t.position t.negative text
-token_done t (Sequence bytes) = after_command t (command (drop 2 bytes))
+token_done t (Sequence bytes) = after_command t (escape_command (drop 1 bytes))
 token_done t (Other bytes) = all_unknown t
 
 -- the terminal after tokens, in order

@@ -11,6 +11,7 @@ mod laws;
 mod live;
 mod screen;
 mod sequence;
+mod strings;
 mod text;
 mod token;
 mod width;

@@ -12,7 +12,8 @@ ghost use Rattle.bx_grid.specs.Terminal.{character_read, token_read, after_first
 ghost use Rattle.bx_terms.specs.Sizes.{largest_side};
 
 use crate::columns::{erase_at, fill_unknown, show_at, unknown_columns};
-use crate::token::{ESCAPE, command_in, fate_of};
+use crate::strings::escape_command;
+use crate::token::{ESCAPE, fate_of};
 use crate::width::text_width;
 use bx_bytes::{Fate, character};
 use bx_grid::{Column, Command, GlyphRun, Picture, all_same, fill_blank};
@@ -38,7 +39,7 @@ pub struct Live {
     negative: Option<bool>,
     /// Printable characters that are not shown yet, since later ones may extend them.
     run: String,
-    /// The bytes of a character or a control sequence whose last byte is not read yet.
+    /// The bytes of a character, a control sequence or a string whose last byte is not read yet.
     half_read: Vec<u8>,
 }
 
@@ -145,7 +146,7 @@ impl Live {
         }
     }
 
-    /// Obeys the command of a control sequence.
+    /// Obeys the command of a control sequence or a string.
     #[inline(always)]
     fn obey(&mut self, command: Command)
         ensures { self.new ≡ after_command self.old command }
@@ -155,6 +156,7 @@ impl Live {
             Command::Clear => self.clear(),
             Command::Erase => self.erase(),
             Command::Render(negative) => self.render(negative),
+            Command::Clip => {}
             Command::Other => self.forget(),
         }
     }
@@ -260,15 +262,16 @@ impl Live {
         Ok(())
     }
 
-    /// Reads the last byte of a sequence, and obeys it.
+    /// Reads the last byte of a sequence or a string, and obeys it.
     fn end_sequence(&mut self, byte: u8) -> Result<(), AllocError>
-        requires { self.old.half_read ++ byte ∷ [] ≡ 0x1B ∷ 0x5B ∷ drop 2 (self.old.half_read ++ byte ∷ []) }
+        requires { self.old.half_read ++ byte ∷ [] ≡ 0x1B ∷ drop 1 (self.old.half_read ++ byte ∷ []) }
         ensures { OnOk result (self.new ≡ token_read self.old (self.old.half_read ++ byte ∷ [])) }
     {
+        let alloc = *self.columns.allocator();
         self.half_read.push(byte)?;
-        let command = command_in(&self.half_read[2..]);
+        let command = escape_command(alloc, &self.half_read[1..]);
         self.half_read.clear();
-        self.obey(command);
+        self.obey(command?);
         Ok(())
     }
 

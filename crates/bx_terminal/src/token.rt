@@ -1,11 +1,11 @@
 //! Tokens: whether one more byte ends, continues or breaks a token, and the command of a control sequence. `body` is the
-//! bytes of a sequence after CSI (ESC and `[`).
+//! bytes of a sequence after CSI (ESC and `[`). `strings.rt` has the command of a string.
 
 ghost use Rattle.std.specs.Prelude.{◌≡◌, ℕ, ◌+◌, ◌*◌, ◌<◌, ◌≤◌, Bool, true, false, ◌&&◌, ◌∷◌, [], ◌++◌, length, min, nat_le, option_map, take, drop, None};
 ghost use Rattle.std.specs.List.{list_all};
 ghost use Rattle.std.specs.Str.{all_ascii_digits};
 ghost use Rattle.std.specs.Str.Parse.{digits_value};
-ghost use Rattle.bx_grid.specs.Tokens.{is_param, is_intermediate, is_final, fate, escape_fate, final_fate, after_params, after_intermediates, number, command};
+ghost use Rattle.bx_grid.specs.Tokens.{is_param, is_intermediate, is_final, fate, escape_fate, final_fate, bell_fate, after_text, after_params, after_intermediates, number, command};
 ghost use Rattle.bx_grid.specs.Tokens.{params, is_absent_or_zero, is_only, before_semicolon, after_semicolon, command_of};
 ghost use Rattle.bx_terminal.specs.Capped.{capped};
 
@@ -14,6 +14,9 @@ use bx_grid::Command;
 
 /// The byte ESC.
 pub const ESCAPE: u8 = 0x1B;
+
+/// The byte BEL.
+const BELL: u8 = 0x07;
 
 /// Whether the byte is a parameter byte of a control sequence (ECMA-48, 5.4).
 fn param(byte: u8) -> bool
@@ -86,6 +89,19 @@ pub fn fate_of(half_read: &[u8], byte: u8) -> Fate
     }
 }
 
+/// The state of a string after one more byte (`bx_grid`, `specs/Tokens.antt`).
+fn fate_in_string(byte: u8) -> Fate
+    ensures { result ≡ bell_fate (after_text (byte ∷ [])) }
+{
+    if b' ' <= byte && byte <= b'~' {
+        Fate::Waits
+    } else if byte == BELL {
+        Fate::Ends
+    } else {
+        Fate::Breaks
+    }
+}
+
 /// The state after ESC, the bytes `rest` after it, and one more byte.
 fn fate_after_escape(rest: &[u8], byte: u8) -> Fate
     requires { escape_fate rest.now ≡ Fate.Waits }
@@ -93,13 +109,19 @@ fn fate_after_escape(rest: &[u8], byte: u8) -> Fate
 {
     match rest {
         [] => {
-            if byte == b'[' {
+            if byte == b'[' || byte == b']' {
                 Fate::Waits
             } else {
                 Fate::Breaks
             }
         }
-        [_, body @ ..] => fate_in_sequence(body, byte),
+        [kind, body @ ..] => {
+            if *kind == b'[' {
+                fate_in_sequence(body, byte)
+            } else {
+                fate_in_string(byte)
+            }
+        }
     }
 }
 
