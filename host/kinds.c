@@ -152,6 +152,22 @@ static bool keeps_title(enum kind kind) {
     return is_set("XTERM_VERSION") || is_set("VTE_VERSION");
 }
 
+/* Whether the terminal, asked for reports of the mouse in numbers, sends no others. rxvt, xterm before the version 277 and GNU screen
+ * before 4.7 know the older form alone, and nothing tells which version of screen it is. The Linux console has no reports. */
+static bool reports_in_numbers(void) {
+    static const char before_number[] = "XTerm(";
+    enum { FIRST_XTERM = 277, DECIMAL = 10 };
+    const char *term = value_of("TERM"), *xterm = value_of("XTERM_VERSION");
+    if (is_set("STY")) return false;
+    /* it has them in its own form */
+    if (is_set("TMUX")) return true;
+    if (begins(term, "linux") || begins(term, "screen")) return false;
+    if (begins(term, "rxvt") && !begins(term, "rxvt-unicode")) return false;
+    if (!begins(xterm, before_number)) return true;
+    long number = strtol(xterm + sizeof before_number - 1, NULL, DECIMAL);
+    return number <= 0 || number >= FIRST_XTERM;
+}
+
 /* The path of a file or folder of the user's: below the folder that a variable names, else below one of the home. */
 static const char *own_path(char path[PATH_MAX], const char *name, const char *home_folder, const char *rest) {
     int count = is_set(name) ? snprintf(path, PATH_MAX, "%s/%s", value_of(name), rest)
@@ -263,6 +279,7 @@ void find_terminal_kind(struct terminal_kind *found) {
     found->is_in_tmux = is_set("TMUX");
     found->kind = find_kind(found->is_in_tmux ? find_outer(found, answer, sizeof answer) : "");
     found->keeps_title = keeps_title(found->kind);
+    found->reports_in_numbers = reports_in_numbers();
     find_reordering(found);
     tell_mirroring(found->kind);
 }

@@ -73,10 +73,11 @@ static _Noreturn void become(char *const *words, mode_t mask) {
     _exit(127);
 }
 
-/* Becomes the program, which ends at its input's end, ignores a closed terminal's HUP, and fails at a write beyond the limit of
- * a file's size in place of being killed. */
+/* Becomes the program, which ends at its input's end, ignores a closed terminal's HUP, leaves stops of the job to the host, and fails
+ * at a write beyond the limit of a file's size in place of being killed. */
 static _Noreturn void become_program(const struct run *run, const struct pipes *ends, char *const *words) {
     signal(SIGHUP, SIG_IGN);
+    signal(SIGTSTP, SIG_IGN);
     signal(SIGXFSZ, SIG_IGN);
     watched->program = getpid();
     if (dup2(ends->keys, STDIN_FILENO) < 0 || dup2(terminal_screen, STDOUT_FILENO) < 0 || dup2(ends->words, STDERR_FILENO) < 0) _exit(126);

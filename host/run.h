@@ -29,6 +29,8 @@ struct run {
     const char *program;
     char *const *words;
     const char *title;
+    /* The terminal is asked to report the mouse. */
+    bool has_mouse;
     /* The window of the session's beginning, where it is recovered; else 0. */
     unsigned rows, columns;
     /* What the program opens as /proc/self/fd/N. */
