@@ -150,6 +150,10 @@ const char *first_sequences(void) {
     return before;
 }
 
+bool bears_clips(void) {
+    return kind.bears_clips;
+}
+
 bool begin_screen(void) {
     if (!set(&raw)) return false;
     tell_outer(&kind, true, false);

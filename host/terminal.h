@@ -38,6 +38,9 @@ void prepare_screen(const char *title, bool has_mouse);
 /* What the program writes in front of its first painting. */
 const char *first_sequences(void);
 
+/* Whether the terminal may be sent copies for the system's clipboard. */
+bool bears_clips(void);
+
 /* Changes the settings, and sends what changes nothing that is seen. In the background the host is stopped here, until it has the
  * terminal. */
 bool begin_screen(void);
@@ -105,11 +108,11 @@ void end_watcher(void);
 enum kind { OTHER_KIND, VTE, KONSOLE, KITTY, QTERMINAL, MLTERM, TERMINOLOGY };
 
 /* What is known of the terminal. `off` keeps it from reordering beside the modes, `on` has it reorder again where it did: both may
- * be empty. `outer` is the device of the terminal around tmux; empty without one. One that is not known to report the mouse in
- * another form than numbers reports it in numbers, or not at all. */
+ * be empty. `outer` is the device of the terminal around tmux; empty without one. `reports_in_numbers`: asked for reports of the mouse
+ * in numbers, it is not known to send others. `bears_clips`: it is not known to be harmed by copies for the system's clipboard. */
 struct terminal_kind {
     enum kind kind;
-    bool keeps_title, is_in_tmux, reports_in_numbers;
+    bool keeps_title, is_in_tmux, reports_in_numbers, bears_clips;
     const char *off, *on;
     char outer[256];
 };

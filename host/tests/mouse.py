@@ -73,7 +73,7 @@ def mouse_kinds(tree):
             ({'TERM': 'st-256color'}, ['on', 'off']), ({'TERM': 'mlterm'}, ['on', 'off']), ({'TERM': 'konsole'}, ['on', 'off']),
             ({'TERM': 'tmux-256color'}, ['on', 'off']), ({'TERM': 'rxvt-unicode-256color'}, ['on', 'off']),
             ({'TERM': 'linux'}, []), ({'TERM': 'linux-16color'}, []), ({'TERM': 'rxvt'}, []), ({'TERM': 'rxvt-16color'}, []),
-            ({'TERM': 'screen'}, []), ({'TERM': 'screen.xterm-256color'}, []), ({'TERM': 'xterm-256color', 'STY': '1.pts'}, [])):
+            ({'TERM': 'screen-256color', 'TMUX': '/no/such/socket,1,0'}, ['on', 'off']), ({'TERM': 'screen'}, []), ({'TERM': 'screen.xterm-256color'}, []), ({'TERM': 'xterm-256color', 'STY': '1.pts'}, [])):
         yield same(f'mouse: {variables}', reports(see(tree, **variables)), told)
 
 
