@@ -172,11 +172,12 @@ static bool reports_in_numbers(void) {
     return number <= 0 || number >= FIRST_XTERM;
 }
 
-/* Whether copies for the system's clipboard do it no harm. Others that do not know them pass over them, but GNU screen and rxvt show
- * the end of a long one as text, and terminology ends by it. */
+/* Whether copies for the system's clipboard do it no harm. Most terminals that do not know them pass over them, but GNU screen, rxvt,
+ * dvtm and zutty show the end of a long one as text, and terminology ends by it. tmux passes over them for the terminal around it. */
 static bool bears_long_clips(enum kind kind) {
-    bool is_rxvt = !is_set("TMUX") && begins(value_of("TERM"), "rxvt");
-    return !is_screen() && !is_rxvt && kind != TERMINOLOGY;
+    const char *term = value_of("TERM");
+    bool is_shown = is_screen() || begins(term, "rxvt") || begins(term, "dvtm") || (is_set("ZUTTY_VERSION") && !is_set("TMUX"));
+    return !is_shown && kind != TERMINOLOGY;
 }
 
 /* The path of a file or folder of the user's: below the folder that a variable names, else below one of the home. */

@@ -213,9 +213,9 @@ void enter_screen(void) {
     set(&raw);
     watched->is_changed = true;
     tell_outer(&kind, true, false);
-    show(saving);
-    show(entering);
-    show(titled);
+    /* before the program may paint again */
+    const char *const texts[] = {saving, entering, titled};
+    for (size_t i = 0; i < sizeof texts / sizeof *texts; i++) write_within(terminal_line, texts[i], strlen(texts[i]), FIRST_MS, false);
 }
 
 void follow_paste(struct paste *paste, const unsigned char *bytes, size_t length) {
