@@ -113,7 +113,7 @@ def take_up(run):
 
 def suspended(tree):
     """SIGTSTP gives the terminal back before the stop, also in the midst of output, and takes it again after it."""
-    for name, ways, group in (('the host', '', False), ('the job', '', True), ('in output', 'chatty', True)):
+    for name, ways, group in (('the host', 'notes', False), ('the job', 'notes', True), ('in output', 'notes,chatty', True)):
         run = start(tree, ways)
         run.pump(5, b'hello')
         for turn in range(3):
@@ -126,6 +126,7 @@ def suspended(tree):
         yield holds(f'suspended, {name}: no key is lost', run.pump(5, b'> 180 '), run.output[-100:])
         run.type(QUIT)
         yield from finish(run, f'suspended, {name}', 0)
+        yield same(f'suspended, {name}: the size is told after each', [body for letter, body in frames(run) if letter == 'z'], [b'\0\x18\0\x50'] * 3)
 
 
 def suspended_ends(tree):
