@@ -200,14 +200,14 @@ static bool is_program_waiting(void) {
     return at && strncmp(at, ") S", 3) == 0;
 }
 
-/* Stops the program, within HOLD_MS once it has painted all, since a shell has the whole job go on before the host has the screen. */
+/* Stops the program, once it has painted all or after HOLD_MS, since a shell has the whole job go on before the host has the screen. */
 static void hold_program(void) {
     siginfo_t info = {.si_pid = 0};
     int64_t end = now() + HOLD_MS;
     if (now_running.program <= 0) return;
     while (!is_program_waiting() && now() < end) poll(NULL, 0, LOOK_MS);
     if (kill(now_running.program, SIGSTOP) != 0) return;
-    while (info.si_pid == 0 && now() < end) {
+    for (end = now() + HOLD_MS; info.si_pid == 0 && now() < end;) {
         if (waitid(P_PID, (id_t)now_running.program, &info, WSTOPPED | WNOHANG) != 0) return;
         if (info.si_pid == 0) poll(NULL, 0, LOOK_MS);
     }
