@@ -329,6 +329,7 @@ int run_session(struct edit *edit) {
     *program = (struct run){.program = edit->programs->editor, .saver = &edit->saver, .whose = edit, .on_opened = on_opened,
                             .on_journal = on_journal, .on_second = on_second, .on_saved = on_saved,
                             .has_mouse = !edit->call->has_no_mouse};
+    program->has_clipboard = !edit->call->has_no_clipboard;
     make_words(edit, &words);
     program->words = words.words;
     make_titles(edit);

@@ -77,6 +77,33 @@ def mouse_kinds(tree):
         yield same(f'mouse: {variables}', reports(see(tree, **variables)), told)
 
 
+def words_of(run):
+    """The words of the program, once it paints."""
+    run.pump(5, b'hello')
+    with open(f"/proc/{run.child('bidi_edit')}/cmdline", 'rb') as file:
+        return file.read().split(b'\0')
+
+
+def clipboard(tree):
+    """The program is told to copy to the system's clipboard, unless the command line says otherwise or a long copy harms the
+    terminal."""
+    for words, variables, is_told in (
+            ([], {}, True), (['--no-clipboard'], {}, False), (['--no-mouse'], {}, True), (['--no-clipboard', '--no-mouse'], {}, False),
+            ([], {'TERM': 'xterm-kitty', 'KITTY_CONFIG_DIRECTORY': '/none'}, True), ([], {'TERM': 'tmux-256color'}, True),
+            ([], {'TERM': 'screen-256color', 'TMUX': '/no/such/socket,1,0'}, True), ([], {'TERM': 'linux'}, True), ([], {'TERM': 'st-256color'}, True),
+            ([], {'TERM': 'screen'}, False), ([], {'STY': '1.pts'}, False), ([], {'TERM': 'rxvt-unicode-256color'}, False), ([], {'TERM': 'rxvt'}, False),
+            ([], {'TERM': 'dvtm-256color'}, False), ([], {'TERM': 'xterm-256color', 'ZUTTY_VERSION': '0.14'}, False),
+            ([], {'TERM': 'xterm-256color', 'XTERM_VERSION': '', 'TERM_PROGRAM': 'terminology'}, False)):
+        run = start(tree, words=words, **variables)
+        found = words_of(run)
+        yield same(f'clipboard: {words} {variables}', found.count(b'--clipboard'), int(is_told))
+        yield holds(f'clipboard: {words} {variables}: the last word is FILE', found[-2] == run.file.encode() and b'--erase' in found, found)
+        run.type(QUIT)
+        run.pump(5)
+        yield same(f'clipboard: {words} {variables}: status', run.status, 0)
+        run.close()
+
+
 def mouse_after_stops(tree):
     """After a SIGSTOP, which leaves the terminal as it was, reports are asked for again."""
     run = start(tree)
@@ -179,4 +206,4 @@ def ignored_stops(tree):
     yield from finish(run, 'a stop that the caller ignores', 0)
 
 
-ALL = [mouse_ends, unwanted_mouse, mouse_kinds, mouse_after_stops, suspended, suspended_ends, suspended_pastes, ignored_stops]
+ALL = [mouse_ends, unwanted_mouse, mouse_kinds, clipboard, mouse_after_stops, suspended, suspended_ends, suspended_pastes, ignored_stops]
