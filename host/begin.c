@@ -327,7 +327,9 @@ int run_session(struct edit *edit) {
                                 .is_aside = edit->aside_of != NULL, .is_resumed = edit->is_resumed,
                                 .is_in_place = edit->is_in_place || edit->is_itself};
     *program = (struct run){.program = edit->programs->editor, .saver = &edit->saver, .whose = edit, .on_opened = on_opened,
-                            .on_journal = on_journal, .on_second = on_second, .on_saved = on_saved};
+                            .on_journal = on_journal, .on_second = on_second, .on_saved = on_saved,
+                            .has_mouse = !edit->call->has_no_mouse};
+    program->has_clipboard = !edit->call->has_no_clipboard;
     make_words(edit, &words);
     program->words = words.words;
     make_titles(edit);

@@ -152,6 +152,34 @@ static bool keeps_title(enum kind kind) {
     return is_set("XTERM_VERSION") || is_set("VTE_VERSION");
 }
 
+/* Whether it may be GNU screen: over ssh TERM alone tells, which some set so for tmux too. */
+static bool is_screen(void) {
+    return is_set("STY") || (!is_set("TMUX") && begins(value_of("TERM"), "screen"));
+}
+
+/* Whether the terminal, asked for reports of the mouse in numbers, sends no others. rxvt, xterm before the version 277 and GNU screen
+ * before 4.7 know the older form alone, and nothing tells which version of screen it is. The Linux console has no reports. */
+static bool reports_in_numbers(void) {
+    static const char before_number[] = "XTerm(";
+    enum { FIRST_XTERM = 277, DECIMAL = 10 };
+    const char *term = value_of("TERM"), *xterm = value_of("XTERM_VERSION");
+    if (is_screen() || begins(term, "linux")) return false;
+    /* which makes them itself */
+    if (is_set("TMUX")) return true;
+    if (begins(term, "rxvt") && !begins(term, "rxvt-unicode")) return false;
+    if (!begins(xterm, before_number)) return true;
+    long number = strtol(xterm + sizeof before_number - 1, NULL, DECIMAL);
+    return number <= 0 || number >= FIRST_XTERM;
+}
+
+/* Whether copies for the system's clipboard do it no harm. Most terminals that do not know them pass over them, but GNU screen, rxvt,
+ * dvtm and zutty show the end of a long one as text, and terminology ends by it. tmux passes over them for the terminal around it. */
+static bool bears_long_clips(enum kind kind) {
+    const char *term = value_of("TERM");
+    bool is_shown = is_screen() || begins(term, "rxvt") || begins(term, "dvtm") || (is_set("ZUTTY_VERSION") && !is_set("TMUX"));
+    return !is_shown && kind != TERMINOLOGY;
+}
+
 /* The path of a file or folder of the user's: below the folder that a variable names, else below one of the home. */
 static const char *own_path(char path[PATH_MAX], const char *name, const char *home_folder, const char *rest) {
     int count = is_set(name) ? snprintf(path, PATH_MAX, "%s/%s", value_of(name), rest)
@@ -263,6 +291,8 @@ void find_terminal_kind(struct terminal_kind *found) {
     found->is_in_tmux = is_set("TMUX");
     found->kind = find_kind(found->is_in_tmux ? find_outer(found, answer, sizeof answer) : "");
     found->keeps_title = keeps_title(found->kind);
+    found->reports_in_numbers = reports_in_numbers();
+    found->bears_clips = bears_long_clips(found->kind);
     find_reordering(found);
     tell_mirroring(found->kind);
 }

@@ -19,7 +19,7 @@ enum { INPUT_ROOM = 16384 };
 /* Milliseconds for standard error to take what is no word, without and with a signal. */
 enum { FOREIGN_MS = 1000, FOREIGN_BY_SIGNAL_MS = 200 };
 /* The words that are put before those of a run. */
-enum { OWN_WORDS = 12 };
+enum { OWN_WORDS = 13 };
 
 void close_pipes(struct pipes *pipes) {
     close_one(&pipes->keys);
@@ -73,10 +73,11 @@ static _Noreturn void become(char *const *words, mode_t mask) {
     _exit(127);
 }
 
-/* Becomes the program, which ends at its input's end, ignores a closed terminal's HUP, and fails at a write beyond the limit of
- * a file's size in place of being killed. */
+/* Becomes the program, which ends at its input's end, ignores a closed terminal's HUP, leaves stops of the job to the host, and fails
+ * at a write beyond the limit of a file's size in place of being killed. */
 static _Noreturn void become_program(const struct run *run, const struct pipes *ends, char *const *words) {
     signal(SIGHUP, SIG_IGN);
+    signal(SIGTSTP, SIG_IGN);
     signal(SIGXFSZ, SIG_IGN);
     watched->program = getpid();
     if (dup2(ends->keys, STDIN_FILENO) < 0 || dup2(terminal_screen, STDOUT_FILENO) < 0 || dup2(ends->words, STDERR_FILENO) < 0) _exit(126);
@@ -93,10 +94,13 @@ pid_t start_program(const struct run *run, const struct pipes *ends, unsigned ro
     snprintf(side[1], sizeof side[1], "%u", columns);
     snprintf(erase, sizeof erase, "%02x", (unsigned)erase_character());
     char *const own[] = {(char *)run->program, "--frames", "--saves", saves, "--before", (char *)first_sequences(),
-                         "--rows", side[0], "--cols", side[1], "--erase", erase};
+                         "--rows", side[0], "--cols", side[1], "--erase", erase, "--clipboard"};
+    size_t count = sizeof own / sizeof *own;
     memcpy(words, own, sizeof own);
+    /* without the last one */
+    if (!run->has_clipboard || !bears_clips()) count--;
     errno = E2BIG;
-    if (!add_words(words, sizeof own / sizeof *own, run->words)) return -1;
+    if (!add_words(words, count, run->words)) return -1;
     pid_t program = fork();
     if (program == 0) become_program(run, ends, words);
     return program;

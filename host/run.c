@@ -1,7 +1,9 @@
 #include "run.h"
 
 #include <errno.h>
+#include <fcntl.h>
 #include <signal.h>
+#include <stdio.h>
 #include <string.h>
 #include <sys/ioctl.h>
 #include <sys/wait.h>
@@ -14,7 +16,8 @@
 
 /* Milliseconds. GRACE_MS: the program's for its end, of which the first HAND_ON_MS are for what was typed to be handed on;
  * DEATH_MS: a killed one's. RESTORE_MS: the terminal's to take what restores it, or RESTORE_BY_SIGNAL_MS after a signal. IDLE_MS:
- * typed bytes that nothing follows for so long are all. SILENCE_MS: a program that asks for nothing so long waits for an answer. */
+ * typed bytes that nothing follows for so long are all. SILENCE_MS: a program that asks for nothing so long waits for an answer.
+ * HOLD_MS: the program's to be stopped, looked at each LOOK_MS; STOP_MS: the terminal's to be restored before a stop. */
 enum {
     GRACE_MS = 3000,
     HAND_ON_MS = 500,
@@ -23,7 +26,10 @@ enum {
     RESTORE_BY_SIGNAL_MS = 1000,
     IDLE_MS = 50,
     SECOND_MS = 1000,
-    SILENCE_MS = 1000
+    SILENCE_MS = 1000,
+    HOLD_MS = 200,
+    STOP_MS = 1000,
+    LOOK_MS = 5
 };
 
 /* The bytes of one read of the terminal, and the most that wait here: few, since a kill of the host loses them. */
@@ -43,9 +49,9 @@ static struct {
     /* The program is to get the window's size; the terminal says no more; what did not end in time was killed; bytes were typed
      * since was_typed was called last. */
     bool is_size_owed, is_hung_up, is_killed, is_typed;
-    /* When IDLE is due, and the next second; when the rest of a save whose child was killed is dropped; when what was typed has to
-     * be handed on, and the program to have ended. 0 for never. */
-    int64_t idle, second, dropped, handed_on, end;
+    /* When IDLE is due, and the next second; when the rest of a save whose child was killed is dropped; when a stop is due; when what
+     * was typed has to be handed on, and the program to have ended. 0 for never. */
+    int64_t idle, second, dropped, stop, handed_on, end;
 } now_running = {.pipes = {-1, -1, -1, -1}};
 
 void give_notice(enum notice notice) {
@@ -179,6 +185,58 @@ static void mind_terminal(void) {
     mind_size();
 }
 
+/* Whether the program has read all that it was given, and sleeps: it waits for more then, and has painted all. */
+static bool is_program_waiting(void) {
+    char path[64], look[512];
+    int given = 0;
+    if (now_running.pipes.keys < 0 || ioctl(now_running.pipes.keys, FIONREAD, &given) != 0 || given > 0) return false;
+    snprintf(path, sizeof path, "/proc/%ld/stat", (long)now_running.program);
+    int file = open(path, O_RDONLY | O_CLOEXEC);
+    ssize_t length = file < 0 ? 0 : read(file, look, sizeof look - 1);
+    if (file >= 0) close(file);
+    look[length > 0 ? length : 0] = 0;
+    /* after its name, which may have any letters */
+    const char *at = strrchr(look, ')');
+    return at && strncmp(at, ") S", 3) == 0;
+}
+
+/* Stops the program, once it has painted all or after HOLD_MS, since a shell has the whole job go on before the host has the screen. */
+static void hold_program(void) {
+    siginfo_t info = {.si_pid = 0};
+    int64_t end = now() + HOLD_MS;
+    if (now_running.program <= 0) return;
+    while (!is_program_waiting() && now() < end) poll(NULL, 0, LOOK_MS);
+    if (kill(now_running.program, SIGSTOP) != 0) return;
+    for (end = now() + HOLD_MS; info.si_pid == 0 && now() < end;) {
+        if (waitid(P_PID, (id_t)now_running.program, &info, WSTOPPED | WNOHANG) != 0) return;
+        if (info.si_pid == 0) poll(NULL, 0, LOOK_MS);
+    }
+}
+
+/* Stops the host, while others have the terminal. A host that is told to end meanwhile leaves it to them. */
+static void stop(void) {
+    hold_program();
+    leave_screen(STOP_MS);
+    stop_here();
+    listen_once();
+    is_continued = 0;
+    if (end_signal) {
+        now_running.is_hung_up = true;
+    } else {
+        enter_screen();
+        now_running.is_size_owed = now_running.pipes.keys >= 0;
+    }
+    if (now_running.program > 0) kill(now_running.program, SIGCONT);
+}
+
+/* Stops the host where that is asked for. A marked paste may end before, so that no shell runs the rest of it. */
+static void mind_stop(void) {
+    if (is_stop_asked && now_running.stop == 0) now_running.stop = now() + PASTE_MS;
+    if (now_running.stop == 0 || now_running.end != 0 || (watched->paste.is_under_way && now() < now_running.stop)) return;
+    now_running.stop = 0;
+    stop();
+}
+
 /* Bytes that came while the host was stopped follow what was typed before. */
 static void mind_idle(void) {
     struct pollfd wanted = {.fd = terminal_line, .events = POLLIN};
@@ -228,8 +286,8 @@ static bool mind_end(const struct run *run) {
 
 /* When the next thing is to be done without being woken. */
 static int64_t next_moment(void) {
-    int64_t moments[] = {now_running.end, now_running.dropped, now_running.pipes.keys >= 0 ? now_running.handed_on : 0,
-                         takes_typing() ? now_running.idle : 0};
+    int64_t moments[] = {now_running.end, now_running.dropped, now_running.end == 0 ? now_running.stop : 0,
+                         now_running.pipes.keys >= 0 ? now_running.handed_on : 0, takes_typing() ? now_running.idle : 0};
     int64_t next = now_running.second;
     for (size_t i = 0; i < sizeof moments / sizeof *moments; i++)
         if (moments[i] != 0 && moments[i] < next) next = moments[i];
@@ -239,6 +297,7 @@ static int64_t next_moment(void) {
 /* Goes on until the program and a save have ended, or cannot be ended. */
 static void go_on(struct run *run) {
     for (reap(run); now_running.program > 0 || now_running.saver > 0; reap(run)) {
+        mind_stop();
         mind_terminal();
         mind_second(run);
         mind_dropped(run);
@@ -254,6 +313,8 @@ static void restore(struct run *run) {
     close_input();
     hear_words(run);
     end_words(&now_running.reader);
+    /* told to end in a stop, the host has left the terminal */
+    if (!watched->is_changed) return;
     drain_paste(&watched->paste, within(PASTE_MS));
     restore_screen(within(end_signal ? RESTORE_BY_SIGNAL_MS : RESTORE_MS));
     restore_settings();
@@ -284,7 +345,7 @@ static bool start(struct run *run, struct pipes *ends) {
 static bool prepare(struct run *run, struct pipes *ends) {
     run->cause = "the terminal tells no settings";
     if (!note_settings()) return false;
-    prepare_screen(run->title);
+    prepare_screen(run->title, run->has_mouse);
     run->cause = "no pipe can be made";
     if (!open_words(&now_running.pipes, ends)) return false;
     run->cause = "no process can be started";
@@ -304,6 +365,7 @@ enum run_end run_program(struct run *run) {
     /* a signal to the whole job ends the program too */
     listen_once();
     if (is_prepared) restore(run);
+    let_stops_in();
     close_pipes(&now_running.pipes);
     end_watcher();
     tell_foreign(&now_running.reader);

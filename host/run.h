@@ -25,10 +25,12 @@ struct said {
 
 struct run {
     /* Given. The program's file, and its words behind its own name and those that run_program adds (--frames, --saves, --before,
-     * --rows and --cols); a NULL ends them. The last one is FILE. */
+     * --rows, --cols, --erase, --clipboard); a NULL ends them. The last one is FILE. */
     const char *program;
     char *const *words;
     const char *title;
+    /* The terminal is asked to report the mouse; what is copied goes to the system's clipboard too. */
+    bool has_mouse, has_clipboard;
     /* The window of the session's beginning, where it is recovered; else 0. */
     unsigned rows, columns;
     /* What the program opens as /proc/self/fd/N. */

@@ -12,7 +12,7 @@ enum { PIECE_MS = 100, RING_MS = 20, LOOK_MS = 50 };
 /* A pipe that has room takes WRITE_PIECE bytes at once. A write or wait that fails is tried WRITE_TRIES times in all. */
 enum { WRITE_PIECE = 4096, WRITE_TRIES = 3 };
 
-volatile sig_atomic_t end_signal, is_resized, is_continued;
+volatile sig_atomic_t end_signal, is_resized, is_continued, is_stop_asked;
 volatile int64_t end_time;
 
 /* What is blocked as the host was started, and in its waits. */
@@ -22,6 +22,8 @@ static sigset_t first_mask, waiting_mask;
 static const int ending[] = {SIGHUP, SIGINT, SIGQUIT, SIGTERM, SIGUSR1, SIGUSR2, SIGALRM, SIGPIPE,
                              SIGXCPU, SIGXFSZ, SIGVTALRM, SIGPROF, SIGIO, SIGPWR, SIGSTKFLT};
 static const int waking[] = {SIGWINCH, SIGCONT, SIGCHLD};
+/* What asks for a stop, before which the terminal is restored. */
+static const int stopping[] = {SIGTSTP};
 
 enum { ENDING = sizeof ending / sizeof *ending, WAKING = sizeof waking / sizeof *waking };
 
@@ -40,6 +42,7 @@ void note_end(int number) {
 static void note_waking(int number) {
     if (number == SIGWINCH) is_resized = 1;
     if (number == SIGCONT) is_continued = 1;
+    if (number == SIGTSTP) is_stop_asked = 1;
 }
 
 /* Whether a write of the host's own is the cause, or its timer. */
@@ -59,11 +62,15 @@ static void die_unless_own(int number, siginfo_t *info, void *context) {
     if (!is_own_signal(number, info)) die_from(number);
 }
 
+static bool is_ignored(int number) {
+    struct sigaction before;
+    return sigaction(number, NULL, &before) != 0 || (!(before.sa_flags & SA_SIGINFO) && before.sa_handler == SIG_IGN);
+}
+
 /* Has a signal of the end handled, but not one that the caller has ignored. */
 static void handle_ending(int number, void (*handler)(int, siginfo_t *, void *)) {
-    struct sigaction action = {0}, before;
-    if (sigaction(number, NULL, &before) != 0) return;
-    if (!(before.sa_flags & SA_SIGINFO) && before.sa_handler == SIG_IGN && number != SIGALRM) return;
+    struct sigaction action = {0};
+    if (number != SIGALRM && is_ignored(number)) return;
     sigemptyset(&action.sa_mask);
     action.sa_flags = SA_SIGINFO;
     action.sa_sigaction = handler;
@@ -102,6 +109,31 @@ void catch_signals(void) {
     block(waking, WAKING);
     for (size_t i = 0; i < ENDING; i++) handle_ending(ending[i], note_ending);
     for (size_t i = 0; i < WAKING; i++) handle_waking(waking[i]);
+    if (is_ignored(SIGTSTP)) return;
+    block(stopping, 1);
+    handle_waking(SIGTSTP);
+}
+
+static void let_signal_in(int number, bool is_let) {
+    sigset_t mask;
+    sigemptyset(&mask);
+    sigaddset(&mask, number);
+    sigprocmask(is_let ? SIG_UNBLOCK : SIG_BLOCK, &mask, NULL);
+}
+
+void let_stops_in(void) {
+    if (is_ignored(SIGTSTP)) return;
+    signal(SIGTSTP, SIG_DFL);
+    if (is_stop_asked) kill(getpid(), SIGTSTP);
+    is_stop_asked = 0;
+    let_signal_in(SIGTSTP, true);
+}
+
+void stop_here(void) {
+    is_stop_asked = 1;
+    let_stops_in();
+    let_signal_in(SIGTSTP, false);
+    handle_waking(SIGTSTP);
 }
 
 void give_back_signals(void) {
@@ -154,22 +186,15 @@ static bool is_ready(int file, int64_t end, bool is_last) {
     return false;
 }
 
-static void let_timer_in(bool is_let) {
-    sigset_t mask;
-    sigemptyset(&mask);
-    sigaddset(&mask, SIGALRM);
-    sigprocmask(is_let ? SIG_UNBLOCK : SIG_BLOCK, &mask, NULL);
-}
-
 /* Writes once. The timer rings again and again, since it may ring before the write begins. */
 static ssize_t write_piece(int file, const char *text, size_t length) {
     struct itimerval timer = {{0, RING_MS * 1000L}, {0, PIECE_MS * 1000L}}, none = {{0, 0}, {0, 0}};
-    let_timer_in(true);
+    let_signal_in(SIGALRM, true);
     setitimer(ITIMER_REAL, &timer, NULL);
     ssize_t count = write(file, text, length);
     int error = errno;
     setitimer(ITIMER_REAL, &none, NULL);
-    let_timer_in(false);
+    let_signal_in(SIGALRM, false);
     errno = error;
     return count;
 }

@@ -16,8 +16,9 @@
  * that is killed has ended within DYING_MS, if at all. */
 enum { END_MS = 4300, LEAST_MS = 100, DYING_MS = 300 };
 
-/* The first signal that asked for the end, or 0, and when it came; whether the window changed; whether a stop has ended. */
-extern volatile sig_atomic_t end_signal, is_resized, is_continued;
+/* The first signal that asked for the end, or 0, and when it came; whether the window changed; whether a stop has ended; whether one
+ * is asked for. */
+extern volatile sig_atomic_t end_signal, is_resized, is_continued, is_stop_asked;
 extern volatile int64_t end_time;
 
 /* At the start: a write to a pipe without a reader, or beyond a limit, fails and ends nothing; ends of children wake waits. */
@@ -28,6 +29,12 @@ void catch_signals(void);
 
 /* Takes a signal for one that came. */
 void note_end(int number);
+
+/* Stops the host as SIGTSTP does that nobody catches, and returns when it goes on: at once in a job that nobody could continue. */
+void stop_here(void);
+
+/* Has SIGTSTP stop the host at once from now on. */
+void let_stops_in(void);
 
 /* Gives a child the signals that the host was started with. */
 void give_back_signals(void);

@@ -31,6 +31,11 @@ enum { FIRST_MS = 3000, PASTE_SILENCE_MS = 1000 };
 #define MODES "\033[?1l\033(B\017\033[4l\033[?6l\033[r\033[?7h\033[?25h\033[8l\033[1 k\033[?1036h"
 #define PASTE "\033[?2004h"
 
+/* Presses, drags and the wheel are reported (1002), in numbers (1006): the older form ends in three bytes that would be keys. So the
+ * form comes first, and goes last. */
+#define MOUSE "\033[?1006h\033[?1002h"
+#define END_MOUSE "\033[?1002l\033[?1006l"
+
 /* Modes that shells expect: reordering is on again, and the modes of arrows and Alt are restored where the terminal could save
  * them. */
 #define END_MODES "\033[?2004l\033[0m\033[?1r\033[?1036r\033[?25h\033[0 k\033[8h"
@@ -45,8 +50,10 @@ int terminal_line = -1, terminal_screen = -1;
 /* The settings from before, and the host's own. */
 static struct termios cooked, raw;
 static struct terminal_kind kind;
-/* Sent first; written by the program before its first painting; sent after a stop; sent at the end. */
-static char saving[MOST_SEQUENCES], before[MOST_SEQUENCES + MOST_TITLE], again[MOST_SEQUENCES], ending[MOST_SEQUENCES];
+/* Sent first; what changes the screen, and the title, which the program writes before its first painting; sent after a stop that left
+ * the screen as it was; sent at the end. */
+static char saving[MOST_SEQUENCES], entering[MOST_SEQUENCES], titled[MOST_TITLE], before[MOST_SEQUENCES + MOST_TITLE];
+static char again[MOST_SEQUENCES], ending[MOST_SEQUENCES];
 /* What waits for the terminal. */
 static char waiting[MOST_SHOWN];
 static size_t waiting_length;
@@ -124,21 +131,27 @@ static void make_title(char text[MOST_TITLE], const char *title) {
     text[length] = 0;
 }
 
-void prepare_screen(const char *title) {
-    char text[MOST_TITLE] = "";
+void prepare_screen(const char *title, bool has_mouse) {
     find_terminal_kind(&kind);
+    bool is_reported = has_mouse && kind.reports_in_numbers;
+    const char *mouse = is_reported ? MOUSE : "", *end_mouse = is_reported ? END_MOUSE : "";
     /* tmux would drop them */
     const char *off = kind.is_in_tmux ? "" : kind.off, *on = kind.is_in_tmux ? "" : kind.on;
-    if (kind.keeps_title) make_title(text, title);
+    if (kind.keeps_title) make_title(titled, title);
     snprintf(saving, sizeof saving, "%s%s", SAVED, kind.keeps_title ? SAVED_TITLE : "");
-    snprintf(before, sizeof before, "\033[?1049h%s%s%s%s", MODES, off, PASTE, text);
+    snprintf(entering, sizeof entering, "\033[?1049h%s%s%s%s", MODES, off, PASTE, mouse);
+    snprintf(before, sizeof before, "%s%s", entering, titled);
     /* 1049 saves the cursor, 1047 keeps the saved one */
-    snprintf(again, sizeof again, "\033[?1047h%s%s%s", MODES, off, PASTE);
-    snprintf(ending, sizeof ending, "%s%s%s\033[?1049l", END_MODES, on, kind.keeps_title ? END_TITLE : "");
+    snprintf(again, sizeof again, "\033[?1047h%s%s%s%s", MODES, off, PASTE, mouse);
+    snprintf(ending, sizeof ending, "%s%s%s%s\033[?1049l", end_mouse, END_MODES, on, kind.keeps_title ? END_TITLE : "");
 }
 
 const char *first_sequences(void) {
     return before;
+}
+
+bool bears_clips(void) {
+    return kind.bears_clips;
 }
 
 bool begin_screen(void) {
@@ -160,10 +173,9 @@ void take_up_screen(void) {
 }
 
 void show_title(const char *title) {
-    char text[MOST_TITLE];
     if (!kind.keeps_title) return;
-    make_title(text, title);
-    show(text);
+    make_title(titled, title);
+    show(titled);
 }
 
 void ring(void) {
@@ -189,6 +201,21 @@ void restore_screen(int64_t limit) {
     write_within(terminal_line, waiting, waiting_length, limit, true);
     waiting_length = 0;
     tell_outer(&kind, false, true);
+}
+
+void leave_screen(int64_t limit) {
+    restore_screen(limit);
+    set(&cooked);
+    watched->is_changed = false;
+}
+
+void enter_screen(void) {
+    set(&raw);
+    watched->is_changed = true;
+    tell_outer(&kind, true, false);
+    /* before the program may paint again */
+    const char *const texts[] = {saving, entering, titled};
+    for (size_t i = 0; i < sizeof texts / sizeof *texts; i++) write_within(terminal_line, texts[i], strlen(texts[i]), FIRST_MS, false);
 }
 
 void follow_paste(struct paste *paste, const unsigned char *bytes, size_t length) {

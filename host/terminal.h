@@ -31,21 +31,31 @@ unsigned char erase_character(void);
 /* Restores the settings at once, not after the output, which may never go out. A job in the background may do this. */
 void restore_settings(void);
 
-/* Finds the terminal's kind, and makes what it is sent, with this title where it keeps its own. */
-void prepare_screen(const char *title);
+/* Finds the terminal's kind, and makes what it is sent, with this title where it keeps its own. It is asked to report the mouse if
+ * `has_mouse`, unless its reports would be keys. */
+void prepare_screen(const char *title, bool has_mouse);
 
 /* What the program writes in front of its first painting. */
 const char *first_sequences(void);
+
+/* Whether the terminal may be sent copies for the system's clipboard. */
+bool bears_clips(void);
 
 /* Changes the settings, and sends what changes nothing that is seen. In the background the host is stopped here, until it has the
  * terminal. */
 bool begin_screen(void);
 
-/* After a stop, in which another program may have changed the terminal. In the background the host is stopped here again. */
+/* After a stop that left the terminal as it was, and in which another program may have changed it. In the background the host is
+ * stopped here again. */
 void take_up_screen(void);
 
 /* Restores what the terminal showed within this many milliseconds, as far as it takes it. */
 void restore_screen(int64_t limit);
+
+/* Restores screen and settings for a stop, within this many milliseconds; changes both again after it. In the background the host is
+ * stopped here. */
+void leave_screen(int64_t limit);
+void enter_screen(void);
 
 /* Whether texts wait for the terminal; what it takes of them. A text that finds no room is dropped whole. */
 bool is_showing(void);
@@ -98,10 +108,11 @@ void end_watcher(void);
 enum kind { OTHER_KIND, VTE, KONSOLE, KITTY, QTERMINAL, MLTERM, TERMINOLOGY };
 
 /* What is known of the terminal. `off` keeps it from reordering beside the modes, `on` has it reorder again where it did: both may
- * be empty. `outer` is the device of the terminal around tmux; empty without one. */
+ * be empty. `outer` is the device of the terminal around tmux; empty without one. `reports_in_numbers`: asked for reports of the mouse
+ * in numbers, it is not known to send others. `bears_clips`: it is not known to be harmed by copies for the system's clipboard. */
 struct terminal_kind {
     enum kind kind;
-    bool keeps_title, is_in_tmux;
+    bool keeps_title, is_in_tmux, reports_in_numbers, bears_clips;
     const char *off, *on;
     char outer[256];
 };

@@ -29,20 +29,20 @@ static const char print_usage[] =
 const char help_text[] = USAGE "\n"
     "       bidi-edit --print FILE [--cols N] [--marks]: its rows to standard output\n"
     "Edits text of any scripts, each paragraph in its direction, from line N. --force\n"
-    "opens what cannot be saved, -n keeps no session, --no-joining joins no letters.\n"
+    "opens what cannot be saved, -n keeps no session, --no-joining joins no letters,\n"
+    "--no-mouse and --no-clipboard leave these to the terminal. More: man bidi_edit\n"
     "--recover has back or lists what was typed, --to stores it, --forget deletes it.\n"
     "\n"
     "  Left Right Up Down    move as the screen shows; Left, Right with Ctrl by words\n"
     "  Ctrl-B Ctrl-F Ctrl-G  go back, on as the text is stored; to a line, 12 or 12:5\n"
     "  Home End Page Up/Down to the row's start, end, with Ctrl the text's; a window\n"
     "  Backspace Delete      erase before (a point at a time), at; with Ctrl by words\n"
-    "  Ctrl-S Ctrl-Q         save; quit, twice where not all is saved\n"
+    "  Ctrl-S Ctrl-Q F1 F2   save; quit, twice if unsaved; show keys; turn direction\n"
     "  Ctrl-Z Ctrl-Y Ctrl-L  undo, redo a typed word, a paste; paint the screen anew\n"
-    "  Ctrl-Space or Ctrl-@  mark where a region begins, or select: Shift with a move\n"
+    "  Ctrl-Space or Ctrl-@  mark a region; or select: Shift with a move, the mouse\n"
     "  Ctrl-X Ctrl-C Ctrl-V  cut, copy the region, or else the line; put it in\n"
     "  Ctrl-W Ctrl-R F3 F4   find forward, back, next; replace; Escape gives it up\n"
     "  Ctrl-K Ctrl-T         insert by a mark's letter; tell what is at the cursor\n"
-    "  F1, F2                show keys; turn: auto, ltr, rtl. More: man bidi_edit\n"
     "\n"
     "The last row: * where changes are not saved, else -; paragraph:place; a message.\n"
     "Marks, in negative image, of what has no look. Ctrl-K and the letter insert it:\n"
@@ -159,6 +159,8 @@ static bool take_option(struct reading *reading, const char *word) {
     if (strcmp(word, "--force") == 0) reading->call->is_forced = true;
     else if (strcmp(word, "-n") == 0) reading->call->is_unkept = true;
     else if (strcmp(word, "--no-joining") == 0) reading->call->is_unjoined = true;
+    else if (strcmp(word, "--no-mouse") == 0) reading->call->has_no_mouse = true;
+    else if (strcmp(word, "--no-clipboard") == 0) reading->call->has_no_clipboard = true;
     else if (strcmp(word, "--recover") == 0) reading->is_recovery = true;
     else if (strcmp(word, "--forget") == 0) reading->is_forgetting = true;
     else if (*word == '+') take_plus(reading, word + 1);

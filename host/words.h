@@ -30,6 +30,8 @@ struct call {
     unsigned long line;
     /* FILE is opened also where it could not be saved; no session is kept; letters are not joined. */
     bool is_forced, is_unkept, is_unjoined;
+    /* The mouse is the terminal's alone; copied text goes to no clipboard of the system. */
+    bool has_no_mouse, has_no_clipboard;
     /* Of printing: the columns of a row, 0 for the terminal's; marks are printed. */
     unsigned columns;
     bool has_marks;

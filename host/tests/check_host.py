@@ -1,13 +1,13 @@
 """check_host.py HOST [--runs N] [NAME..]: checks the host with programs for tests around it; see scripts/check-host.sh."""
 import json, os, random, shutil, signal, subprocess, sys, tempfile, time
 sys.path.insert(0, os.path.dirname(os.path.abspath(__file__)))
-import cases, ends, faults, kinds, saves, shells
+import cases, ends, faults, kinds, mouse, saves, shells
 from terminals import become_reaper
 from tree import Tree
 
 # Processes that check side by side: more than there may be processors, since a check mostly waits.
 JOBS = 6
-CASES = {case.__name__: case for case in cases.ALL + saves.ALL + kinds.ALL + shells.ALL + faults.ALL}
+CASES = {case.__name__: case for case in cases.ALL + saves.ALL + kinds.ALL + mouse.ALL + shells.ALL + faults.ALL}
 
 
 def check_ends(tree, kind, runs):

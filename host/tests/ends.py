@@ -1,5 +1,5 @@
 """Ends at random moments. After each no process is left within five seconds, the terminal's settings are back, and where it takes
-output the alternate screen, pastes, reordering and the modes of Alt and of arrows are as before, with nothing after that."""
+output the alternate screen, pastes, the mouse, reordering and the modes of Alt and of arrows are as before, with nothing after that."""
 import os, random, re, signal, termios, time
 from terminals import Run
 
@@ -28,7 +28,8 @@ def restored(output):
     pairs = [(b'\x1b[8l', b'\x1b[8h', 'reordering'), (b'\x1b[?1036s', b'\x1b[?1036r', 'Alt'), (b'\x1b[?1s', b'\x1b[?1r', 'arrows'),
              (b'\x1b[?1047h', TAIL, 'screen after a stop')]
     if b'\x1b[?2004h' in output:
-        pairs.append((b'\x1b[?2004h', b'\x1b[?2004l', 'pastes'))
+        pairs += [(b'\x1b[?2004h', b'\x1b[?2004l', 'pastes'), (b'\x1b[?1002h', b'\x1b[?1002l', 'reports of the mouse'),
+                  (b'\x1b[?1006h', b'\x1b[?1006l', 'their form')]
     return wrong + [name for on, off, name in pairs if output.rfind(off) < output.rfind(on)]
 
 
@@ -79,18 +80,38 @@ def block(run):
     run.rest(random.uniform(0, 0.3))
 
 
+def state(process):
+    """The state of a process: T is stopped; empty where it is gone."""
+    try:
+        with open(f'/proc/{process}/stat', 'rb') as file:
+            return file.read().rpartition(b')')[2].split()[0].decode()
+    except OSError:
+        return ''
+
+
 def stop_and_go_on(run):
-    """Stops the host or its job, and has it go on, one to three times. Returns how much was written before it last went on."""
+    """Stops the host or its job, by a signal that it cannot catch or one before which it restores the terminal, and has it go on, one
+    to three times. Returns how much was written before it last went on."""
     for _ in range(random.randint(1, 3)):
         send_this = random.choice((lambda number: send_job(run, number), lambda number: send(run.job, number)))
-        send_this(signal.SIGSTOP)
+        number = random.choice((signal.SIGSTOP, signal.SIGTSTP))
+        send_this(number)
         run.rest(random.uniform(0, 0.03))
+        end = time.perf_counter() + LIMIT
+        while number == signal.SIGTSTP and state(run.job) != 'T' and time.perf_counter() < end:
+            run.rest(0.001)
         if random.random() < 0.5:  # as a shell does
             termios.tcsetattr(run.slave, termios.TCSANOW, run.settings)
         seen = len(run.output)
         send_this(signal.SIGCONT)
         run.rest(random.uniform(0, 0.02))
     return seen
+
+
+def is_painted(run, seen):
+    """Whether the screen is painted since it was last begun, if that was after so much output."""
+    begun = max(run.output.rfind(screen) for screen in (b'\x1b[?1047h', b'\x1b[?1049h'))
+    return begun < seen or b'hello' in run.output[begun:]
 
 
 def is_cooked(run):
@@ -104,9 +125,9 @@ def try_stop(run, wrong):
     if not run.pump(LIMIT, b'hello'):
         wrong.append('no screen')
     end = time.perf_counter() + LIMIT
-    while b'1047h' in run.output[seen:] and b'hello' not in run.output.rpartition(b'\x1b[?1047h')[2] and time.perf_counter() < end:
+    while not is_painted(run, seen) and time.perf_counter() < end:
         run.rest(0.01)
-    if b'1047h' in run.output[seen:] and b'hello' not in run.output.rpartition(b'\x1b[?1047h')[2]:
+    if not is_painted(run, seen):
         wrong.append('not painted after the stop')
     while is_cooked(run) and time.perf_counter() < end:
         run.rest(0.01)

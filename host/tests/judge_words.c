@@ -34,6 +34,10 @@ static void same(const char *name, const char *found, const char *wanted) {
 static const char *const calls[][2] = {
     {"note", "edit note auto"},
     {"--direction rtl --line=12 --force -n --no-joining note", "edit note rtl 12 forced unkept unjoined"},
+    {"--no-mouse note", "edit note auto no-mouse"},
+    {"--no-clipboard note", "edit note auto no-clipboard"},
+    {"-n --no-clipboard --no-mouse +7 note", "edit note auto 7 unkept no-mouse no-clipboard"},
+    {"--no-mouse --recover --no-clipboard note", "recover note auto no-mouse no-clipboard"},
     {"+007 note", "edit note auto 7"},
     {"+1 note", "edit note auto"},
     {"+0 note", "edit note auto"},
@@ -80,6 +84,13 @@ static const char *const calls[][2] = {
     {"--line -1 note", "2 --line wants a number, not -1"},
     {"--direction=up note", "2 --direction wants auto, ltr or rtl, not up"},
     {"--bad note", "2 there is no option --bad"},
+    {"--no-mouse=yes note", "2 there is no option --no-mouse=yes"},
+    {"--no-mous note", "2 there is no option --no-mous"},
+    {"--mouse note", "2 there is no option --mouse"},
+    {"--clipboard note", "2 there is no option --clipboard"},
+    {"--no-clipboards note", "2 there is no option --no-clipboards"},
+    {"--print --no-mouse note", "2 there is no option --no-mouse with --print"},
+    {"--print --no-clipboard note", "2 there is no option --no-clipboard with --print"},
     {"--linen note", "2 there is no option --linen"},
     {"--rows 5 note", "2 there is no option --rows"},
     {"--to= note", "2 OTHER has no name"},
@@ -107,8 +118,9 @@ static const char *const calls[][2] = {
 
 static const char *options_of(const struct call *call) {
     const char *line = call->line ? text_of(" %lu", call->line) : "";
-    return text_of("%s%s%s%s%s", direction_word(call->direction), line, call->is_forced ? " forced" : "",
-                   call->is_unkept ? " unkept" : "", call->is_unjoined ? " unjoined" : "");
+    return text_of("%s%s%s%s%s%s%s", direction_word(call->direction), line, call->is_forced ? " forced" : "",
+                   call->is_unkept ? " unkept" : "", call->is_unjoined ? " unjoined" : "", call->has_no_mouse ? " no-mouse" : "",
+                   call->has_no_clipboard ? " no-clipboard" : "");
 }
 
 static const char *text_of_call(const struct call *call) {

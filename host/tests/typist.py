@@ -8,7 +8,7 @@ import os, signal, sys, time
 
 QUIT, SAVE = 0x11, 0x13
 WAYS = set(os.environ.get('TYPIST', '').split(','))
-SWITCHES = {'--frames', '--new', '--unsaved'}
+SWITCHES = {'--frames', '--new', '--unsaved', '--clipboard'}
 
 
 def put(file, bytes_):

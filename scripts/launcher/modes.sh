@@ -18,6 +18,35 @@ check_modes() {
     has 'modes, told at the end' "$(written)" '^[[0m^[[?1r^[[?1036r^[[?25h^[[0 k^[[8h^[[23;0t^[[?1049l'
 }
 
+# Whether the terminal reports presses and drags, and reports in numbers; 1 is on.
+reports() {
+    terminal display-message -p -t person '#{mouse_button_flag} #{mouse_sgr_flag}'
+}
+
+# Reports of the mouse are asked for, unless --no-mouse is said, and taken back.
+check_mouse_modes() {
+    start 8 50 "$recorder" f
+    wait_for 50 test -e "$folder/record"
+    same 'modes, the mouse is reported' "$(reports)" '1 1'
+    type_keys C-q
+    wait_for 50 has_ended
+    same 'modes, and no more at the end' "$(reports)" '0 0'
+    finish 'modes, the mouse' 7 50
+    has 'modes, the mouse: told at the start' "$(written)" '^[[?2004h^[[?1006h^[[?1002h'
+    has 'modes, the mouse: told at the end' "$(written)" '^[[?1002l^[[?1006l^[[?2004l'
+    start 8 50 "$recorder" f
+    wait_for 50 test -e "$folder/record"
+    send_signal KILL ".*bin/bidi-edit"
+    wait_for 50 is_over
+    same 'modes, no reports after a kill' "$(reports)" '0 0'
+    finish 'modes, the host killed' 137 50
+    start 8 50 "$recorder" --no-mouse f
+    wait_for 50 test -e "$folder/record"
+    same 'modes, --no-mouse' "$(reports)" '0 0'
+    type_keys C-q
+    finish 'modes, --no-mouse' 7 50
+}
+
 # Kills the program after it turned on negative image and hid the cursor.
 check_killed_program() {
     start 8 50 "$recorder" still
@@ -159,6 +188,7 @@ outer_has() { # BYTES
 check_terminal_modes() {
     if asked modes; then
         check_modes
+        check_mouse_modes
         check_killed_program
         check_bad_modes
         check_last_column

@@ -42,8 +42,15 @@ check_terminal() { # KIND
     qterminal)
         check_note "$1" enabledBidiSupport=false .config/qterminal.org/qterminal.ini
         check_changes "$1"
+        # which has 60 columns and 10 rows
+        xdotool windowsize "$window" 618 268
+        sleep 0.5
+        check_mouse "$1"
         ;;
+    alacritty_tmux) check_mouse_in_tmux "$1" ;;
+    alacritty_screen) check_mouse_in_screen "$1" ;;
     *_tmux) check_in_tmux "$1" ;;
+    foot | *_set) check_mouse "$1" ;;
     *)
         check_rows "$1"
         check_joined "$1"
@@ -55,6 +62,7 @@ check_terminal() { # KIND
         ! sends_control "$1" || check_control_keys "$1"
         ! sends_words "$1" || check_erased_words "$1"
         check_title "$1"
+        check_mouse "$1"
         ;;
     esac
     close_terminal

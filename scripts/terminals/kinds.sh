@@ -42,8 +42,30 @@ exec_kitty() {
     exec kitty -o font_family=FreeMono -o font_size=12 -o remember_window_size=no -o initial_window_width=60c \
         -o initial_window_height=10c -o cursor_blink_interval=0 -o update_check_interval=0 sh "$room/shell"
 }
+# it wants Wayland: weston is its display, in a window of its size with borders
+start_foot() {
+    weston --backend=x11-backend.so --use-pixman --shell=kiosk-shell.so --width=604 --height=184 --no-config --socket=bx --idle-time=0 &
+    compositor=$!
+    wait_for 50 test -S "$XDG_RUNTIME_DIR/bx"
+    WAYLAND_DISPLAY=bx foot --font=FreeMono:size=12 sh "$room/shell" &
+    foot=$!
+    trap 'kill $foot $compositor' TERM
+    wait "$foot"
+    kill "$compositor"
+}
+# which lets programs copy to the system's clipboard
+start_xterm_set() {
+    exec xterm -fa FreeMono -fs 12 -geometry 60x10+0+0 -xrm 'XTerm*disallowedWindowOps: 20,21,SetXprop' -e sh "$room/shell"
+}
+start_mlterm_set() {
+    mkdir -p "$HOME/.mlterm"
+    echo 'allow_osc52=true' >"$HOME/.mlterm/main"
+    start_mlterm
+}
 start_vte_tmux() { start_vte; }
 start_konsole_tmux() { start_konsole; }
+start_alacritty_tmux() { start_alacritty; }
+start_alacritty_screen() { start_alacritty; }
 
 # Prints the name of the terminal's program.
 program_of() { # KIND
@@ -51,6 +73,9 @@ program_of() { # KIND
     vte*) echo xfce4-terminal ;;
     konsole*) echo konsole ;;
     kitty*) echo kitty ;;
+    alacritty*) echo alacritty ;;
+    xterm*) echo xterm ;;
+    mlterm*) echo mlterm ;;
     *) echo "$1" ;;
     esac
 }
@@ -139,6 +164,35 @@ sends_control() { # KIND
 sends_words() { # KIND
     case $1 in xterm | urxvt) return 0 ;; esac
     return 1
+}
+
+# Whether the right half of a cell is reported as this cell. qterminal reports the next one.
+takes_right_half() { # KIND
+    [ "$1" != qterminal ]
+}
+
+# How many reports one turn of the wheel gives. alacritty takes the display's two ways to tell of it for two.
+turns_of() { # KIND
+    case $1 in
+    alacritty*) echo 2 ;;
+    *) echo 1 ;;
+    esac
+}
+
+# Whether it puts what a program copies (OSC 52) into the system's clipboard, as it is set here.
+takes_clips() { # KIND
+    case $1 in alacritty* | foot | kitty | mlterm_set | xterm_set) return 0 ;; esac
+    return 1
+}
+
+# Prints what a long copy does to a terminal that does not know it: urxvt shows its end as text, and terminology ends by it. The host
+# has no copies made in these.
+harm_of_clips() { # KIND
+    case $1 in
+    urxvt) echo shown ;;
+    terminology) echo ended ;;
+    *) echo none ;;
+    esac
 }
 
 # Whether it gives an old title back.
