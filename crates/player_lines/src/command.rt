@@ -2,7 +2,7 @@
 
 use crate::words::WordFault;
 use bx_cli::UnicodePaths;
-use bx_command::{Options, command_line};
+use bx_command::Options;
 use bx_terms::Base;
 use std::alloc::{AllocError, Global};
 
@@ -68,13 +68,13 @@ fn add_options(line: &mut String, options: &Options<'_>) -> Result<(), AllocErro
 }
 
 /// Answers a `command` line.
-pub fn command_answer(alloc: Global, fields: &[&str]) -> Result<String, WordFault> {
+pub fn command_line(alloc: Global, fields: &[&str]) -> Result<String, WordFault> {
     let words = match fields {
         ["-"] => &[],
         words => words,
     };
     let mut line = String::new(alloc);
-    match command_line(alloc, words) {
+    match bx_command::command_line(alloc, words) {
         Ok(options) => add_options(&mut line, &options)?,
         Err(error) => {
             let kind = error.kind();
