@@ -67,12 +67,8 @@ fn add_options(line: &mut String, options: &Options<'_>) -> Result<(), AllocErro
     Ok(())
 }
 
-/// Answers a `command` line.
-pub fn command_line(alloc: Global, fields: &[&str]) -> Result<String, WordFault> {
-    let words = match fields {
-        ["-"] => &[],
-        words => words,
-    };
+/// Answers the words of a command line.
+fn answer(alloc: Global, words: &[&str]) -> Result<String, WordFault> {
     let mut line = String::new(alloc);
     match bx_command::command_line(alloc, words) {
         Ok(options) => add_options(&mut line, &options)?,
@@ -82,4 +78,12 @@ pub fn command_line(alloc: Global, fields: &[&str]) -> Result<String, WordFault>
         }
     }
     Ok(line)
+}
+
+/// Answers a `command` line.
+pub fn command_line(alloc: Global, fields: &[&str]) -> Result<String, WordFault> {
+    match fields {
+        ["-"] => answer(alloc, &[]),
+        words => answer(alloc, words),
+    }
 }
