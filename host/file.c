@@ -22,6 +22,15 @@ bool look_at(int folder, const char *name, struct look *look) {
     return look->is_there || errno == ENOENT;
 }
 
+bool look_and_open(int folder, const char *name, struct look *look, int *itself) {
+    memset(look, 0, sizeof *look);
+    *itself = open_itself(folder, name);
+    if (*itself < 0) return errno == ENOENT;
+    look->is_there = fstat(*itself, &look->found) == 0;
+    if (!look->is_there) close_one(itself);
+    return look->is_there;
+}
+
 bool look_again(const struct file *file, struct look *look) {
     return look_at(file->folder, file->name, look);
 }
@@ -111,9 +120,7 @@ static const char *take_step(struct file *file, const char *path) {
     if (!file->is_linked) put_path(file->folder_name, "%s", folder_part);
     close_one(&file->folder);
     file->folder = folder;
-    file->itself = open_itself(folder, file->name);
-    memset(&file->look, 0, sizeof file->look);
-    file->look.is_there = file->itself >= 0 && fstat(file->itself, &file->look.found) == 0;
+    look_and_open(folder, file->name, &file->look, &file->itself);
     return NULL;
 }
 

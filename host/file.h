@@ -109,6 +109,9 @@ const char *too_long_message(const struct file *file);
 /* Looks at a name in a folder. Returns false at a fault other than that nothing is there. */
 bool look_at(int folder, const char *name, struct look *look);
 
+/* The same, and opens what is there (O_PATH), so that all that is asked is of one file; -1 where nothing is there, or at a fault. */
+bool look_and_open(int folder, const char *name, struct look *look, int *itself);
+
 /* Looks at FILE's name now. */
 bool look_again(const struct file *file, struct look *look);
 

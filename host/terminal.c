@@ -308,12 +308,12 @@ static _Noreturn void become_watcher(int words, int words_end, pid_t host) {
 
 /* Makes what is shared, with a lock that the host holds as long as it lives. */
 static bool share(void) {
-    pthread_mutexattr_t kind;
+    pthread_mutexattr_t sharing;
     void *shared = mmap(NULL, sizeof *watched, PROT_READ | PROT_WRITE, MAP_SHARED | MAP_ANONYMOUS, -1, 0);
     if (shared == MAP_FAILED) return false;
     watched = shared;
-    return pthread_mutexattr_init(&kind) == 0 && pthread_mutexattr_setpshared(&kind, PTHREAD_PROCESS_SHARED) == 0 &&
-           pthread_mutexattr_setrobust(&kind, PTHREAD_MUTEX_ROBUST) == 0 && pthread_mutex_init(&watched->life, &kind) == 0 &&
+    return pthread_mutexattr_init(&sharing) == 0 && pthread_mutexattr_setpshared(&sharing, PTHREAD_PROCESS_SHARED) == 0 &&
+           pthread_mutexattr_setrobust(&sharing, PTHREAD_MUTEX_ROBUST) == 0 && pthread_mutex_init(&watched->life, &sharing) == 0 &&
            pthread_mutex_lock(&watched->life) == 0;
 }
 

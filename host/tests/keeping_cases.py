@@ -280,7 +280,7 @@ def two_at_once(place):
     for _ in range(5):
         both = [place.start('a.txt', is_plain=True) for _ in range(2)]
         for started in both:
-            started.run.rest(0.4)
+            assert started.run.pump_any(20, (b'Edit it all the same', b'text <')), started.run.output
         told = [b'Edit it all the same' in started.run.output for started in both]
         assert any(told), [started.run.output for started in both]
         for started, is_told in zip(both, told):

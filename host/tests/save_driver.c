@@ -68,7 +68,7 @@ static void serve(void) {
         child = 0;
         is_killed = !saver_finish(&saver);
     }
-    while (is_killed && poll(&asked, 1, 0) > 0 && read(request, dropped, sizeof dropped) > 0) continue;
+    while (is_killed && poll(&asked, 1, 0) > 0 && read(request, dropped, sizeof dropped) > 0) {}
     if (child == 0 && !is_killed && poll(&asked, 1, 0) > 0) child = saver_start(&saver, request, answer);
 }
 
