@@ -38,14 +38,14 @@ has_tool() { # NAME TOOL
 # Refuses programs that are built in crates/ without a proof, and else the lack of ready ones. install.sh takes the latter where the
 # editor is not built.
 need_proved() {
-    for name in bidi_edit bidi_print; do
-        built=$top/crates/$name/out/$name
-        if [ "$name" != bidi_print ] && ! [ -x "$built" ]; then
-            find_start thoroughly || refuse "${cause:-there is no dist/ to take it from}; launcher/proving/prove.sh . $name builds $name"
+    for crate in bidi_edit bidi_print; do
+        built=$top/crates/$crate/out/$crate
+        if [ "$crate" != bidi_print ] && ! [ -x "$built" ]; then
+            find_start thoroughly || refuse "${cause:-there is no dist/ to take it from}; launcher/proving/prove.sh . $crate builds $crate"
             return
         fi
-        if ! [ -x "$built" ] || ! [ -f "$built.stamp" ]; then refuse "$built is not built and proved: launcher/proving/prove.sh . $name does it"; fi
-        is_proved "$built" || refuse "$built is not what its stamp tells: rt run in crates/$name builds it anew"
+        if ! [ -x "$built" ] || ! [ -f "$built.stamp" ]; then refuse "$built is not built and proved: launcher/proving/prove.sh . $crate does it"; fi
+        is_proved "$built" || refuse "$built is not what its stamp tells: rt run in crates/$crate builds it anew"
     done
 }
 
