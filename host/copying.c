@@ -19,9 +19,9 @@
  * child that says nothing keeps nothing. */
 enum { COPIED_AT_ONCE = 1 << 20, CALM = 2, BESIDE_TEXT = 65536, LATE = 5 };
 
-/* What a child that writes reports. */
+/* What a child that writes reports: the faults of the parts and of the journal. */
 struct report {
-    int error;
+    int error, journal_error;
     /* FILE was changed before it was copied; the disk refused the copy's bytes, and may have lost them. */
     bool is_changed, is_refused;
 };
@@ -50,6 +50,7 @@ int choose_source(struct session *session, int file) {
     uint64_t size = file >= 0 ? (uint64_t)session->look.st_size : 0;
     bool is_early = size <= COPIED_AT_ONCE || (is_being_written(&session->look) && size <= LARGEST_TEXT);
     session->is_waiting = !open_copy(session) || free_room(session->folder) < size + BESIDE_TEXT;
+    if (session->is_waiting && !session->error) session->error = ENOSPC;
     if (file < 0) {
         session->has_text = session->text >= 0;
         return 0;
@@ -100,10 +101,15 @@ static int write_part(const struct session *session, enum part part) {
     return lacks_part(session, part) ? put_part(session, part, kept->bytes, kept->size) : 0;
 }
 
-/* Writes what is to be there and is not, the path last. */
+/* The journal as the session's folder names it. */
+static int named_journal(const struct session *session) {
+    return session->mirror >= 0 ? session->mirror : session->journal;
+}
+
+/* Writes what is to be there and is not, the path last, and puts the journal on the disk. */
 static struct report write_missing(struct session *session) {
     struct report said = {.error = 0};
-    if (session->mirror >= 0 && fdatasync(session->mirror) != 0) said.error = errno;
+    if (session->syncing != session->synced) said.journal_error = sync_file(named_journal(session));
     for (enum part part = 0; part < PARTS && !said.error; part++) {
         if (part != PART_PATH) said.error = write_part(session, part);
     }
@@ -118,7 +124,7 @@ static struct report write_missing(struct session *session) {
 /* ---- the child */
 
 _Noreturn static void work(struct session *session, int report) {
-    const int kept[] = {session->parent, session->folder, session->lock, session->text, session->source, session->mirror, report};
+    const int kept[] = {session->parent, session->folder, session->lock, session->text, session->source, named_journal(session), report};
     close_others(kept, sizeof kept / sizeof *kept);
     struct report said = write_missing(session);
     /* whoever hears of the end may unlock the session */
@@ -172,7 +178,9 @@ static void renew_text(struct session *session) {
 }
 
 static void take_report(struct session *session, const struct report *said) {
-    session->error = said->error;
+    session->error = said->error ? said->error : said->journal_error;
+    session->is_journal_refused = said->journal_error != 0;
+    if (!session->is_journal_refused) session->synced = session->syncing;
     if (said->is_changed) session->is_changed = true;
     session->is_waiting = said->error == ENOSPC || said->error == EDQUOT;
     if (said->is_refused) renew_text(session);
@@ -181,7 +189,6 @@ static void take_report(struct session *session, const struct report *said) {
     close_one(&session->source);
     session->is_source_file = false;
     session->is_filled = session->has_text = true;
-    session->is_mirror_new = false;
     for (enum part part = 0; part < PARTS; part++) {
         if (session->parts[part].is_sent) session->parts[part].is_written = true;
     }
@@ -189,6 +196,7 @@ static void take_report(struct session *session, const struct report *said) {
 
 int write_session(struct session *session) {
     for (enum part part = 0; part < PARTS; part++) session->parts[part].is_sent = true;
+    session->syncing = session_journal_size(session);
     struct report said = write_missing(session);
     take_report(session, &said);
     return said.error;
@@ -230,9 +238,11 @@ static bool is_whole(const struct session *session) {
 
 /* Has a child write, if something is to be written and no child runs. Returns false where none can be started. */
 static bool write_behind(struct session *session) {
-    bool has_work = !is_whole(session) || session->is_mirror_new;
+    off_t size = session_journal_size(session);
+    bool has_work = !is_whole(session) || size != session->synced;
     if (session->child > 0 || session->is_changed || !has_work || !open_copy(session)) return true;
     for (enum part part = 0; part < PARTS; part++) session->parts[part].is_sent = lacks_part(session, part);
+    session->syncing = size;
     return start_child(session);
 }
 
@@ -285,7 +295,7 @@ static void mirror_journal(struct session *session) {
     int mirror = part_open(session->folder, draft, O_RDWR | O_CREAT | O_EXCL);
     int error = mirror < 0 ? errno : copy_file(session->journal, 0, mirror);
     if (!error && renameat(session->folder, draft, session->folder, part_name(PART_JOURNAL)) != 0) error = errno;
-    session->is_mirror_behind = error != 0;
+    session->is_journal_behind = error != 0;
     if (error) {
         session->error = error;
         unlinkat(session->folder, draft, 0);
@@ -295,7 +305,7 @@ static void mirror_journal(struct session *session) {
     close_one(&session->mirror);
     session->mirror = mirror;
     session->mirrored = found;
-    session->is_mirror_new = true;
+    session->synced = session->syncing = -1;
 }
 
 static void look_after(struct session *session) {
@@ -315,7 +325,7 @@ enum keeping session_mind(struct session *session) {
     facts.is_copying = session->report >= 0 && session->error == 0 && seconds_now() - session->since < LATE;
     facts.is_filled = is_whole(session);
     facts.is_changed = session->is_changed;
-    facts.is_behind = session->is_mirror_behind;
+    facts.is_behind = session->is_journal_behind || session->is_journal_refused;
     return judge_keeping(&facts);
 }
 
@@ -334,7 +344,7 @@ bool session_settle(struct session *session, int milliseconds) {
         write_session(session);
     }
     look_for_lost(session);
-    return is_whole(session) && !session->is_mirror_behind;
+    return is_whole(session) && !session->is_journal_behind;
 }
 
 void session_note_file(struct session *session, const struct target *target) {

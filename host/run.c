@@ -186,14 +186,14 @@ static void mind_idle(void) {
     if (put_frame(&now_running.queue, FRAME_IDLE, NULL, 0)) now_running.idle = 0;
 }
 
-/* Tells each second, the program only if it has read all before. */
+/* Does what is due each second. Any input has the program try its journal again, so it is sent none while it has some to read. */
 static void mind_second(struct run *run) {
     int waiting = 0;
     if (now() < now_running.second) return;
     now_running.second = now() + SECOND_MS;
-    if (run->on_second) run->on_second(run->whose);
+    if (!run->on_second || !run->on_second(run->whose)) return;
     bool is_read = ioctl(now_running.pipes.keys, FIONREAD, &waiting) == 0 && waiting == 0;
-    if (is_read && queue_length(&now_running.queue) == 0) put_frame(&now_running.queue, FRAME_SECOND, NULL, 0);
+    if (is_read && queue_length(&now_running.queue) == 0) give_notice(NOTICE_NONE);
 }
 
 static void mind_queue(void) {

@@ -268,7 +268,7 @@ int session_renew(struct session *renewed, const struct sessions *sessions, cons
     int snapshot = error ? -1 : session_open(old, PART_SNAPSHOT);
     if (!error) error = snapshot < 0 || !renewed->parts[PART_PATH].is_kept ? ENOENT : 0;
     if (!error) error = choose_source(renewed, snapshot);
-    if (!error && renewed->is_waiting) error = renewed->error ? renewed->error : ENOSPC;
+    if (!error && renewed->is_waiting) error = renewed->error;
     if (!error) error = write_session(renewed);
     if (snapshot >= 0) close(snapshot);
     if (error) {

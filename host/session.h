@@ -155,9 +155,11 @@ struct session {
     pid_t child;
     int report;
     time_t since;
-    /* The journal, as the mirror has it; the mirror has less than the journal; it is not on the disk yet. */
+    /* The journal, as the mirror has it; what `journal` names in the folder has less than the journal, or the disk refuses it. */
     struct stat mirrored;
-    bool is_mirror_behind, is_mirror_new;
+    bool is_journal_behind, is_journal_refused;
+    /* The size of the journal as it is on the disk, and as a child puts it there; -1 for a new mirror. */
+    off_t synced, syncing;
     struct kept_part parts[PARTS];
 };
 
@@ -295,7 +297,7 @@ void walk_end(struct walk *walk);
 
 enum session_state session_state(const struct session *session);
 
-/* Removes folders that killed starts left, after an hour. */
+/* Removes the user's folders that killed starts left, after an hour. */
 void sessions_sweep(const struct sessions *sessions);
 /* Removes all sessions with dropped changes except this one, of whatever file. */
 void sessions_forget_dropped(const struct sessions *sessions, const struct session *except);

@@ -55,12 +55,10 @@ def edits(tree):
     run.resize(30, 90)
     yield holds('edits: size', run.pump(5, b'- 30 x 90'))
     yield holds('edits: title', f'\x1b]2;{os.path.basename(run.file)} - ^S save ^Q quit\x07'.encode() in run.output, run.output)
-    run.rest(2.2)  # two seconds are told, and three or one on a busy machine
+    run.rest(2.2)  # nothing is told while time passes
     run.type(SAVE + QUIT)
     yield from finish(run, 'edits', 0)
-    got = [frame for frame in frames(run) if frame[0] != 's']
-    yield same('edits: frames', got, [('b', b'abc'), ('i', b''), ('z', b'\0\x1e\0\x5a'), ('b', SAVE + QUIT)])
-    yield holds('edits: seconds', 1 <= len(frames(run)) - len(got) <= 3, frames(run))
+    yield same('edits: frames', frames(run), [('b', b'abc'), ('i', b''), ('z', b'\0\x1e\0\x5a'), ('b', SAVE + QUIT)])
     with open(run.file, 'rb') as file:
         yield same('edits: saved', file.read(), b'abc')
 
@@ -113,7 +111,6 @@ def waiting_sizes(tree):
     got = frames(run)
     yield same('waiting sizes: typed', [body for letter, body in got if letter == 'b'], [b'ab\xd7', b'\x90c', QUIT])
     yield same('waiting sizes: the last one stands between', [body[1] for letter, body in got[:got.index(('b', b'\x90c'))] if letter == 'z'][-1], 39)
-    yield holds('waiting sizes: seconds do not pile up', sum(letter == 's' for letter, _ in got) <= 2, got)
 
 
 def idles(tree):

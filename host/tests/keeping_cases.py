@@ -189,7 +189,7 @@ def questions(place):
     started = place.start('a.txt').answers(CHOICE, 'L').sees(b'text <text|>').type(QUIT).ends(0)
     assert len(place.sessions()) == 1
     started = place.start('a.txt').answers(CHOICE, ' R ').sees(b'text <abctext|> *').sees(b'notice 7')
-    assert '--replay' in started.words() and place.part('journal') == b'abc\x13\x1b[8;24;80t', place.part('journal')
+    assert '--replay' in started.words() and place.part('journal') == b'abc\x13\x1b[8;24;80t\x1b[>7~', place.part('journal')
     os.kill(started.run.job, signal.SIGHUP)
     started.ends(-signal.SIGHUP)
     place.start('a.txt').answers(CHOICE, 'delete').sees(b'text <text|>').type(QUIT).ends(0)

@@ -85,16 +85,18 @@ def remove_at_once(folder, place):
 def folder_gone(place):
     """The session's folder is removed meanwhile: told by title, bell and notice, and at the end."""
     place.put('a.txt', b'text\n')
-    for keys, status, told in ((b'', -signal.SIGTERM, 'what was typed is not kept, since its folder {} is gone'),
+    for keys, status, line in ((b'', -signal.SIGTERM, 'what was typed is not kept, since its folder {} is gone'),
                                (QUIT, 0, 'only what was saved is kept, since its folder {} is gone')):
         started = place.edit('a.txt').type(b'abc').sees(b'*')
         time.sleep(0.3)
         folder = place.sessions()[0]
         remove_at_once(folder, place)
-        started.sees(b'(what is typed is not kept now: save it)').sees(b'notice 2')
+        # host and program write to the terminal in any order
+        for told in b'(what is typed is not kept now: save it)', b'notice 2':
+            assert started.run.pump(15, told), (told, started.run.output)
         started.type(keys) if keys else os.kill(started.run.job, signal.SIGTERM)
         started.ends(status)
-        assert told.format(folder) in started.err(), started.err()
+        assert line.format(folder) in started.err(), started.err()
     started = place.edit('a.txt').type(b'abc').sees(b'*').type(SAVE).sees(b'saved')
     remove_at_once(place.sessions()[0], place)
     started.type(QUIT).ends(0)
