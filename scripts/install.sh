@@ -1,6 +1,6 @@
 #!/bin/sh
 # install.sh [--uninstall] [PREFIX]: installs the host, the programs, the tables and the manual page under PREFIX, by default
-# $HOME/.local, or removes them. It takes the programs that are built in crates/, or, where the editor is not, all of dist/, if they
+# $HOME/.local, or removes them. It takes the programs that are built in crates/, or, where the editor is not, those of dist/, if they
 # belong to the sources. It compiles the host where a source is newer, and proves nothing. Exit status 1: neither is there, or there
 # is no C compiler for the host. The installation is independent of this repository.
 #
