@@ -288,7 +288,7 @@ static bool prepare(struct run *run, struct pipes *ends) {
     run->cause = "no pipe can be made";
     if (!open_words(&now_running.pipes, ends)) return false;
     run->cause = "no process can be started";
-    if (!start_watcher(now_running.pipes.words, ends->words)) return false;
+    if (!start_watcher(now_running.pipes.words, run->held)) return false;
     run->cause = "no pipe can be made";
     return open_pipes(&now_running.pipes, ends);
 }

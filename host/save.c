@@ -360,10 +360,6 @@ bool saver_open(struct saver *saver, struct file *file) {
     return true;
 }
 
-void saver_distrust(struct saver *saver) {
-    current(saver)->is_distrusted = true;
-}
-
 pid_t saver_start(struct saver *saver, int request, int answer) {
     current(saver)->is_over = false;
     saver->answer = answer;

@@ -154,7 +154,7 @@ struct session {
     /* The child that writes: its number, the pipe of what it reports, and when it began; -1 if there is none. */
     pid_t child;
     int report;
-    time_t since;
+    int64_t since;
     /* The journal, as the mirror has it; what `journal` names in the folder has less than the journal, or the disk refuses it. */
     struct stat mirrored;
     bool is_journal_behind, is_journal_refused;

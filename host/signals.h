@@ -16,9 +16,8 @@
  * that is killed has ended within DYING_MS, if at all. */
 enum { END_MS = 4300, LEAST_MS = 100, DYING_MS = 300 };
 
-/* The first signal that asked for the end, or 0, and when it came; whether the window changed; whether a stop has ended. */
+/* The first signal that asked for the end, or 0; whether the window changed; whether a stop has ended. */
 extern volatile sig_atomic_t end_signal, is_resized, is_continued;
-extern volatile int64_t end_time;
 
 /* At the start: a write to a pipe without a reader, or beyond a limit, fails and ends nothing; ends of children wake waits. */
 void set_first_signals(void);

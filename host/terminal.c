@@ -17,6 +17,7 @@
 
 #include "run.h"
 #include "signals.h"
+#include "util.h"
 #include "words.h"
 
 /* Bytes that wait for the terminal at most, of a title, and of other sequences;
@@ -293,16 +294,16 @@ static _Noreturn void watch(int words, pid_t host) {
     _exit(0);
 }
 
-/* Closes what would keep others waiting, and lets no signal but SIGKILL end the watcher. */
-static _Noreturn void become_watcher(int words, int words_end, pid_t host) {
+/* Closes all but what it needs: FILE and the ends of pipes would keep others waiting. Lets no signal but SIGKILL end the watcher. */
+static _Noreturn void become_watcher(int words, const int held[2], pid_t host) {
+    const int kept[] = {words, terminal_line, held[0], held[1]};
     sigset_t mask;
     sigfillset(&mask);
     sigprocmask(SIG_SETMASK, &mask, NULL);
     setpgid(0, 0);
     /* who has no terminal is never in the background of one */
     ioctl(terminal_line, TIOCNOTTY);
-    const int others[] = {words_end, terminal_screen, STDIN_FILENO, STDOUT_FILENO, STDERR_FILENO};
-    for (size_t i = 0; i < sizeof others / sizeof *others; i++) close(others[i]);
+    close_others(kept, sizeof kept / sizeof *kept);
     watch(words, host);
 }
 
@@ -317,11 +318,11 @@ static bool share(void) {
            pthread_mutex_lock(&watched->life) == 0;
 }
 
-bool start_watcher(int words, int words_end) {
+bool start_watcher(int words, const int held[2]) {
     if (!share()) return false;
     pid_t host = getpid();
     watcher = fork_under_name();
-    if (watcher == 0) become_watcher(words, words_end, host);
+    if (watcher == 0) become_watcher(words, held, host);
     if (watcher < 0) watcher = 0;
     /* before the terminal changes: a kill of the whole job spares it */
     return watcher > 0 && (setpgid(watcher, watcher) == 0 || errno == EACCES);
