@@ -43,7 +43,7 @@ int find_file(struct edit *edit, const char *typed, bool is_lost) {
     return GO_ON;
 }
 
-bool find_versions(const struct edit *edit, char words[MOST_WORDS]) {
+const char *find_versions(const struct edit *edit, char words[MOST_WORDS]) {
     const char *files[] = {edit->programs->editor, edit->tables.classes, edit->tables.brackets, edit->tables.mirroring};
     return versions_look(EDITOR_VERSION, files, sizeof files / sizeof *files, words);
 }

@@ -265,8 +265,8 @@ bool read_line_ends(int file, struct line_ends *ends);
 const struct process *this_process(void);
 /* As users read it: date, hour and minute. */
 void time_words(const struct timespec *time, char words[32]);
-/* The version and the sizes and times of these files. Returns false where one cannot be looked at. */
-bool versions_look(const char *version, const char *const *files, size_t count, char words[MOST_WORDS]);
+/* The version and the sizes and times of these files. Returns NULL, or the one that cannot be looked at, and errno. */
+const char *versions_look(const char *version, const char *const *files, size_t count, char words[MOST_WORDS]);
 
 /* ---- the sessions of a file (find.c) */
 
