@@ -43,7 +43,7 @@ int find_file(struct edit *edit, const char *typed, bool is_lost) {
     return GO_ON;
 }
 
-bool find_versions(const struct edit *edit, char words[MOST_WORDS]) {
+const char *find_versions(const struct edit *edit, char words[MOST_WORDS]) {
     const char *files[] = {edit->programs->editor, edit->tables.classes, edit->tables.brackets, edit->tables.mirroring};
     return versions_look(EDITOR_VERSION, files, sizeof files / sizeof *files, words);
 }
@@ -330,7 +330,8 @@ int run_session(struct edit *edit) {
     struct first_facts first = {.unkept = edit->unkept ? edit->unkept_notice : NOTICE_NONE, .is_unwanted = edit->call->is_unkept,
                                 .is_aside = edit->aside_of != NULL, .is_resumed = edit->is_resumed,
                                 .is_in_place = edit->is_in_place || edit->is_itself};
-    *program = (struct run){.program = edit->programs->editor, .saver = &edit->saver, .whose = edit, .on_opened = on_opened,
+    *program = (struct run){.program = edit->programs->editor, .held = {edit->session.folder, edit->session.lock},
+                            .saver = &edit->saver, .whose = edit, .on_opened = on_opened,
                             .on_journal = on_journal, .on_second = on_second, .on_saved = on_saved};
     make_words(edit, &words);
     program->words = words.words;

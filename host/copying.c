@@ -12,12 +12,13 @@
 
 #include "file.h"
 #include "parts.h"
+#include "signals.h"
 
 /* COPIED_AT_ONCE: the largest text that is copied before the program reads it, in bytes; LARGEST_TEXT: the largest that it edits.
  * CALM: a FILE that was not written for this long, in seconds, is copied behind the first picture. BESIDE_TEXT: the
- * room that a session takes beside its text, for its short files and the first keys. LATE: seconds from which on a
+ * room that a session takes beside its text, for its short files and the first keys. LATE_MS: milliseconds from which on a
  * child that says nothing keeps nothing. */
-enum { COPIED_AT_ONCE = 1 << 20, CALM = 2, BESIDE_TEXT = 65536, LATE = 5 };
+enum { COPIED_AT_ONCE = 1 << 20, CALM = 2, BESIDE_TEXT = 65536, LATE_MS = 5000 };
 
 /* What a child that writes reports: the faults of the parts and of the journal. */
 struct report {
@@ -134,12 +135,6 @@ _Noreturn static void work(struct session *session, int report) {
     _exit(error ? 1 : 0);
 }
 
-static time_t seconds_now(void) {
-    struct timespec now = {0};
-    clock_gettime(CLOCK_MONOTONIC, &now);
-    return now.tv_sec;
-}
-
 /* Starts a child that writes. No signal reaches it, so that it runs none of the host's handlers. */
 static bool start_child(struct session *session) {
     int ends[2];
@@ -152,7 +147,7 @@ static bool start_child(struct session *session) {
     sigprocmask(SIG_SETMASK, &before, NULL);
     close(ends[1]);
     session->report = ends[0];
-    session->since = seconds_now();
+    session->since = now();
     if (session->child > 0) return true;
     session->error = EAGAIN;
     close(ends[0]);
@@ -219,11 +214,8 @@ static void hear_child(struct session *session, int milliseconds) {
 }
 
 void end_child(struct session *session) {
-    enum { LIMIT_MS = 200 };
     if (session->child <= 0) return;
-    kill(session->child, SIGKILL);
-    /* a child whose disk is stalled ends when it can */
-    for (int waited = 0; waited < LIMIT_MS && waitpid(session->child, NULL, WNOHANG) == 0; waited++) poll(NULL, 0, 1);
+    kill_child(&session->child);
     close_one(&session->report);
     session->child = -1;
 }
@@ -322,7 +314,7 @@ enum keeping session_mind(struct session *session) {
         session_fill(session);
     }
     /* a child that tries again after a fault is not known to succeed */
-    facts.is_copying = session->report >= 0 && session->error == 0 && seconds_now() - session->since < LATE;
+    facts.is_copying = session->report >= 0 && session->error == 0 && now() - session->since < LATE_MS;
     facts.is_filled = is_whole(session);
     facts.is_changed = session->is_changed;
     facts.is_behind = session->is_journal_behind || session->is_journal_refused;

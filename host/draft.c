@@ -21,9 +21,8 @@ static unsigned char buffer[BUFFER];
 /* ---- names */
 
 static bool make_draft_name(const struct file *file, char name[NAME_MAX + 1]) {
-    static const char letters[] = "abcdefghijklmnopqrstuvwxyz0123456789";
     char random[DRAFT_LETTERS + 1];
-    if (!make_letters(random, DRAFT_LETTERS, letters)) return false;
+    if (!make_letters(random, DRAFT_LETTERS, DRAFT_ALPHABET)) return false;
     snprintf(name, NAME_MAX + 1, "%.*s.%s%s", (int)draft_stem(file), file->name, random, DRAFT_END);
     return true;
 }
@@ -219,8 +218,8 @@ void save_drop_mark(struct save *save) {
 static int name_mark(struct save *save) {
     char name[PATH_MAX + 8];
     int error = EEXIST;
-    for (int number = 0; error == EEXIST && number < 10; number++) {
-        snprintf(name, sizeof name, number ? "%s.bx%d" : "%s.bx", save->file->name, number);
+    for (int number = 0; error == EEXIST && number < MARK_NAMES; number++) {
+        mark_name(save->file, number, name);
         error = strlen(name) > NAME_MAX ? ENAMETOOLONG : draft_name_as(&save->draft, name);
     }
     return error == EEXIST || error == ENAMETOOLONG ? draft_name(&save->draft, save->file) : error;

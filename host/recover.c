@@ -11,7 +11,7 @@
 #include "util.h"
 
 static const char unsure[] =
-    "an editor of another version, or with other tables, kept that session, and not its text: the keys may make another one now";
+    "another version of the editor, or of Unicode's tables, kept that session without its text, and the keys may make another text now";
 
 /* What becomes of a session that is to go on. OUTCOME_MISSED: another start has it by now. */
 enum outcome { OUTCOME_TAKEN, OUTCOME_OPENED, OUTCOME_MISSED, OUTCOME_END };
@@ -81,7 +81,7 @@ static int tell_unwritable(const struct edit *edit, int error) {
 
 static void tell_cut(const struct session *session) {
     if (!session_has(session, PART_CUT)) return;
-    tell("the session is cut behind its key %zu, where its journal could not be written", session_count_keys(session));
+    tell("the session is cut off after its key %zu: what followed could not be written", session_count_keys(session));
 }
 
 /* Settles the file with which a session goes on: FILE, or where it has another's text, a new file beside it. */
@@ -160,7 +160,7 @@ static enum outcome take_by_text(struct edit *edit, struct session *session, int
     struct session renewed;
     enum replayed found = compare_text(edit, session);
     if (found == REPLAY_SAME) return end_where_same(edit, session);
-    tell("an editor of another version, or with other tables, kept that session: its text is had back, and its undo history is not");
+    tell("another version of the editor, or of Unicode's tables, kept that session: its text is recovered, and its undo history is not");
     session_clear(&renewed);
     int error = session_renew(&renewed, &edit->sessions, session, edit->versions);
     if (error != 0) {
@@ -280,7 +280,7 @@ enum met meet_sessions(struct edit *edit, int *status) {
 static int tell_no_session(const struct edit *edit, bool is_live) {
     enum notice notice;
     const char *file = shown(edit->file.typed), *unkept = unkept_by(&edit->sessions, &notice);
-    if (is_live) warn("the session of %s goes on", file);
+    if (is_live) warn("the session of %s is open in another window", file);
     else if (unkept) warn("there is no session of %s to recover (%s)", file, unkept);
     else warn("there is no session of %s to recover", file);
     return STATUS_FAULT;
@@ -303,7 +303,7 @@ static bool ask_of_elsewhere(const struct edit *edit, const struct session *sess
 
 static int find_sessions(struct edit *edit, struct found *found) {
     int error = sessions_of(found, &edit->sessions, &edit->target);
-    if (error != 0) warn("nothing can be written in %s", shown(edit->sessions.path));
+    if (error != 0) warn("%s cannot be read: %s", shown(edit->sessions.path), strerror(error));
     return error != 0 ? STATUS_FAULT : GO_ON;
 }
 

@@ -36,6 +36,8 @@ struct run {
     size_t handed_count;
     /* Permissions that no new file of the program gets. */
     unsigned mask;
+    /* The session's folder and its lock, which the watcher holds until the program has ended; -1 without a session. */
+    int held[2];
     /* Who serves saves; NULL for nobody. */
     struct saver *saver;
     /* Called with `whose`, while the program runs, each if not NULL. None may wait. `on_second` returns whether the program is to

@@ -5,10 +5,8 @@
 #include <signal.h>
 #include <stdatomic.h>
 #include <string.h>
-#include <sys/file.h>
 #include <sys/mman.h>
 #include <sys/prctl.h>
-#include <time.h>
 #include <unistd.h>
 
 #include "frames.h"
@@ -170,12 +168,8 @@ static int save_begin(struct save *save) {
 
 /* Opens the folder to be synced, and keeps other saves of the editor out of it for as long as the child lives. */
 static void lock_folder(struct save *save) {
-    const struct timespec pause = {.tv_nsec = LOCK_MS * 1000000L};
     save->folder_to_sync = openat(save->folder, ".", O_RDONLY | O_DIRECTORY | O_CLOEXEC);
-    for (int tries = 0; save->folder_to_sync >= 0 && tries < FOLDER_LOCK_TRIES; tries++) {
-        if (flock(save->folder_to_sync, LOCK_EX | LOCK_NB) == 0 || errno != EWOULDBLOCK) return;
-        nanosleep(&pause, NULL);
-    }
+    if (save->folder_to_sync >= 0) lock_file(save->folder_to_sync, FOLDER_LOCK_TRIES, LOCK_MS);
 }
 
 int save_sync_folder(const struct save *save) {
@@ -355,10 +349,6 @@ bool saver_open(struct saver *saver, struct file *file) {
     state->old = file->look;
     state->is_old_plain = !file->facts.has_access_list && !file->facts.is_unsure;
     return true;
-}
-
-void saver_distrust(struct saver *saver) {
-    current(saver)->is_distrusted = true;
 }
 
 pid_t saver_start(struct saver *saver, int request, int answer) {

@@ -154,7 +154,7 @@ struct session {
     /* The child that writes: its number, the pipe of what it reports, and when it began; -1 if there is none. */
     pid_t child;
     int report;
-    time_t since;
+    int64_t since;
     /* The journal, as the mirror has it; what `journal` names in the folder has less than the journal, or the disk refuses it. */
     struct stat mirrored;
     bool is_journal_behind, is_journal_refused;
@@ -265,8 +265,8 @@ bool read_line_ends(int file, struct line_ends *ends);
 const struct process *this_process(void);
 /* As users read it: date, hour and minute. */
 void time_words(const struct timespec *time, char words[32]);
-/* The version and the sizes and times of these files. Returns false where one cannot be looked at. */
-bool versions_look(const char *version, const char *const *files, size_t count, char words[MOST_WORDS]);
+/* The version and the sizes and times of these files. Returns NULL, or the one that cannot be looked at, and errno. */
+const char *versions_look(const char *version, const char *const *files, size_t count, char words[MOST_WORDS]);
 
 /* ---- the sessions of a file (find.c) */
 

@@ -13,7 +13,8 @@ enum { PIECE_MS = 100, RING_MS = 20, LOOK_MS = 50 };
 enum { WRITE_PIECE = 4096, WRITE_TRIES = 3 };
 
 volatile sig_atomic_t end_signal, is_resized, is_continued;
-volatile int64_t end_time;
+/* When it came. */
+static volatile int64_t end_time;
 
 /* What is blocked as the host was started, and in its waits. */
 static sigset_t first_mask, waiting_mask;

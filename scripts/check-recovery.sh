@@ -312,7 +312,7 @@ scene_changed_by_another() {
 scene_dropped() {
     open_shell
     say bidi-edit text
-    wait_for 150 has_row shell '- 1:1' && end_by_keys y C-q C-q && expect "$scene" 'what was dropped can be had back' &&
+    wait_for 150 has_row shell '- 1:1' && end_by_keys y C-q C-q && expect "$scene" 'what was dropped can be recovered' &&
         say clear && say bidi-edit --recover text && wait_for 150 has_row shell '* 1:2 recovered' && end_by_keys C-s C-q &&
         say 'grep -c y text; ls state/bidi_edit | wc -l' && expect "$scene" 1 && expect "$scene" 0
 }

@@ -225,7 +225,7 @@ def deletion(place):
 def dropped(place):
     """Keys that the user dropped are not asked about, but can be recovered or removed."""
     started = place.edit('a.txt').type(b'abc').sees(b'*').type(QUIT).ends(0)
-    assert started.err() == 'bidi-edit: what was dropped can be had back: bidi-edit --recover a.txt\n', started.err()
+    assert started.err() == 'bidi-edit: what was dropped can be recovered: bidi-edit --recover a.txt\n', started.err()
     place.edit('a.txt').type(QUIT).ends(0)
     assert '(dropped)' in place.tells('--recover')[1]
     place.start('--recover', 'a.txt').sees(b'text <abc>').type(QUIT).ends(0)
@@ -256,7 +256,7 @@ def live(place):
         second = place.start(name).answers(question, 'maybe').answers(question, 'no').ends(2)
         told = f'bidi-edit: {name} is open in another window of yours, process {first.run.job}. What one of them saves the other may overwrite.\n'
         assert second.out() == told, (second.out(), told)
-    assert place.tells('--recover', '--to', 'x', 'a.txt') == (1, '', 'bidi-edit: the session of a.txt goes on\n')
+    assert place.tells('--recover', '--to', 'x', 'a.txt') == (1, '', 'bidi-edit: the session of a.txt is open in another window\n')
     place.start('a.txt').answers(question, 'y').sees(b'text <').type(QUIT).ends(0)
     first.type(QUIT).ends(0)
 
@@ -383,7 +383,7 @@ def another_version(place):
     place.put_part('versions', b'bidi-edit 0.0.0\n')
     before = place.sessions()
     started = place.start('a.txt').answers(CHOICE, 'r').sees(b'text <abctext|> *')
-    assert 'its text is had back, and its undo history is not' in started.out() and '--unsaved' in started.words(), started.out()
+    assert 'its text is recovered, and its undo history is not' in started.out() and '--unsaved' in started.words(), started.out()
     assert place.sessions() != before and len(place.sessions()) == 1
     os.kill(started.run.job, signal.SIGHUP)
     started.ends(-signal.SIGHUP)

@@ -11,7 +11,7 @@ def saved(place):
     started = place.edit('a.txt', TYPIST='late').type(b'abc').sees(b'*').type(SAVE).sees(b'saved').type(QUIT).ends(0)
     assert place.sessions() == [], started.err()
     started = place.edit('a.txt', TYPIST='replay-hangs').type(b'abc').sees(b'*').type(QUIT).ends(0)
-    assert 'what was dropped can be had back' in started.err(), started.err()
+    assert 'what was dropped can be recovered' in started.err(), started.err()
 
 
 def killed(place):
@@ -135,7 +135,7 @@ def journal_lost(place):
     started.ends(-signal.SIGTERM)
     assert 'what was typed is kept up to where its journal could not be written: ' in started.err(), started.err()
     found = place.tells('--recover', '--to', 'o', 'a.txt')
-    assert found[0] == 0 and found[1].startswith('bidi-edit: the session is cut behind its key 3, where its journal could not be written\n'), found
+    assert found[0] == 0 and found[1].startswith('bidi-edit: the session is cut off after its key 3: what followed could not be written\n'), found
 
 
 def folder_renamed(place):

@@ -179,4 +179,16 @@ def read_only_disk(place):
         subprocess.run(['umount', disk])
 
 
-CASES = [forgets, foreign_names, closed_files, renamed, torn, full_disk, read_only_disk, large]
+def watched_files(place):
+    """The watcher holds the session alone, so that nobody waits for it to close FILE or a pipe."""
+    place.put('a.txt', b'text\n')
+    started = place.edit('a.txt')
+    folder = f'/proc/{started.run.child("bidi-watcher")}/fd'
+    files = {os.readlink(f'{folder}/{number}') for number in os.listdir(folder)}
+    session = place.sessions()[0]
+    assert {session, f'{session}/lock'} <= files, files
+    assert all(name.startswith(('/dev/', 'pipe:')) for name in files - {session, f'{session}/lock'}), files
+    started.type(QUIT).ends(0)
+
+
+CASES = [forgets, foreign_names, closed_files, renamed, torn, full_disk, read_only_disk, large, watched_files]

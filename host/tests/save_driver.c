@@ -140,7 +140,6 @@ static void obey(char *line) {
     else if (strncmp(line, "put ", 4) == 0) put(line + 4), said = "put";
     else if (strcmp(line, "commit") == 0) said = commit();
     else if (strcmp(line, "torn") == 0) said = torn();
-    else if (strcmp(line, "distrust") == 0) saver_distrust(&saver), said = "distrusted";
     else if (strcmp(line, "facts") == 0) said = reason_text(find_in_place(&file.facts, &file.look, &file.folder_facts));
     else if (strcmp(line, "look") == 0) {
         struct look look;

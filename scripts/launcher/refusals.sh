@@ -74,7 +74,7 @@ check_refused_places() {
     kind='is no plain file but a device, pipe or socket: put what it gives into a file, and edit that'
     refused 'checks, a pipe' "1 bidi-edit: pipe $kind" pipe
     refused 'checks, a device' "1 bidi-edit: /dev/null $kind" /dev/null
-    handed='is what the caller handed over and no file: put it into a file, and edit that'
+    handed='is an open file of the caller: write it to a file, and edit that'
     for name in /dev/stdin /dev/fd/0 /proc/self/fd/0; do
         refused "checks, $name" "1 bidi-edit: $name $handed" "$name"
     done

@@ -85,7 +85,7 @@ check_other_tables() {
     printf 'ab\n' | as_user tee note >/dev/null
     leave_session note
     open_editor first "BIDI_EDIT_DATA='$folder/tables'" --recover note
-    expect_in first 'versions, with other tables' 'an editor of another version, or with other tables'
+    expect_in first 'versions, with other tables' "another version of the editor, or of Unicode's tables"
     close_editors first
     rm -rf "$folder/tables"
 }
