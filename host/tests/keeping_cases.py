@@ -283,9 +283,10 @@ def two_at_once(place):
             assert started.run.pump_any(20, (b'Edit it all the same', b'text <')), started.run.output
         told = [b'Edit it all the same' in started.run.output for started in both]
         assert any(told), [started.run.output for started in both]
+        time.sleep(0.05)  # as in Started.answers
         for started, is_told in zip(both, told):
             started.type(b'no\n' if is_told else QUIT)
-            assert started.run.pump(5), started.run.output
+            assert started.run.pump(15), started.run.output
             started.run.drain()
         # the last one has the pipes of the first
         for started in reversed(both):
