@@ -1,5 +1,5 @@
 /* Frames, the messages between the host and the program: a letter, a length in two bytes, the higher one first, and that many
- * bytes. The crate bx_frames has the same table. */
+ * bytes. The crates bx_input and bx_store have the same letters. */
 #ifndef FRAMES_H
 #define FRAMES_H
 
