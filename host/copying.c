@@ -31,8 +31,8 @@ struct report {
 
 /* Whether a file was written a moment ago, so that it may change while it is read. */
 static bool is_being_written(const struct stat *look) {
-    struct timespec now;
-    return clock_gettime(CLOCK_REALTIME, &now) == 0 && now.tv_sec - look->st_mtim.tv_sec <= CALM;
+    struct timespec today;
+    return clock_gettime(CLOCK_REALTIME, &today) == 0 && today.tv_sec - look->st_mtim.tv_sec <= CALM;
 }
 
 static int copy_over(struct session *session, int file) {
@@ -70,8 +70,8 @@ int choose_source(struct session *session, int file) {
 
 /* Whether FILE is still as it was before the program read it. A save that replaces FILE leaves the old bytes and their time. */
 static bool is_as_read(const struct session *session) {
-    struct stat now;
-    return fstat(session->source, &now) == 0 && has_same_text(&now, &session->look);
+    struct stat found;
+    return fstat(session->source, &found) == 0 && has_same_text(&found, &session->look);
 }
 
 /* Copies the text from its source, and puts it on the disk. */

@@ -1,5 +1,5 @@
 /* One start that edits FILE: what is known of it, from FILE's checks to the end of its session. For the files that are named
- * below, and keep.c, which calls them in order. */
+ * below, and main.c, which calls them in order. */
 #ifndef EDIT_H
 #define EDIT_H
 

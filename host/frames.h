@@ -1,5 +1,5 @@
 /* Frames, the messages between the host and the program: a letter, a length in two bytes, the higher one first, and that many
- * bytes. The crates bx_input and bx_store name the letters alike. */
+ * bytes. The crates bx_input and bx_store have the same letters. */
 #ifndef FRAMES_H
 #define FRAMES_H
 

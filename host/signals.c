@@ -38,7 +38,9 @@ void note_end(int number) {
     end_time = now();
 }
 
-static void note_waking(int number) {
+static void note_waking(int number, siginfo_t *info, void *context) {
+    (void)info;
+    (void)context;
     if (number == SIGWINCH) is_resized = 1;
     if (number == SIGCONT) is_continued = 1;
 }
@@ -60,22 +62,19 @@ static void die_unless_own(int number, siginfo_t *info, void *context) {
     if (!is_own_signal(number, info)) die_from(number);
 }
 
-/* Has a signal of the end handled, but not one that the caller has ignored. */
-static void handle_ending(int number, void (*handler)(int, siginfo_t *, void *)) {
-    struct sigaction action = {0}, before;
-    if (sigaction(number, NULL, &before) != 0) return;
-    if (!(before.sa_flags & SA_SIGINFO) && before.sa_handler == SIG_IGN && number != SIGALRM) return;
+static void handle(int number, void (*handler)(int, siginfo_t *, void *)) {
+    struct sigaction action = {.sa_flags = SA_SIGINFO};
     sigemptyset(&action.sa_mask);
-    action.sa_flags = SA_SIGINFO;
     action.sa_sigaction = handler;
     sigaction(number, &action, NULL);
 }
 
-static void handle_waking(int number) {
-    struct sigaction action = {0};
-    sigemptyset(&action.sa_mask);
-    action.sa_handler = note_waking;
-    sigaction(number, &action, NULL);
+/* Has a signal of the end handled, but not one that the caller has ignored. */
+static void handle_ending(int number, void (*handler)(int, siginfo_t *, void *)) {
+    struct sigaction before;
+    if (sigaction(number, NULL, &before) != 0) return;
+    bool is_ignored = !(before.sa_flags & SA_SIGINFO) && before.sa_handler == SIG_IGN;
+    if (!is_ignored || number == SIGALRM) handle(number, handler);
 }
 
 static void block(const int *numbers, size_t count) {
@@ -93,7 +92,7 @@ void set_first_signals(void) {
     sigprocmask(SIG_SETMASK, NULL, &first_mask);
     waiting_mask = first_mask;
     block(child, 1);
-    handle_waking(SIGCHLD);
+    handle(SIGCHLD, note_waking);
     handle_ending(SIGPIPE, die_unless_own);
     handle_ending(SIGXFSZ, die_unless_own);
 }
@@ -102,7 +101,7 @@ void catch_signals(void) {
     block(ending, ENDING);
     block(waking, WAKING);
     for (size_t i = 0; i < ENDING; i++) handle_ending(ending[i], note_ending);
-    for (size_t i = 0; i < WAKING; i++) handle_waking(waking[i]);
+    for (size_t i = 0; i < WAKING; i++) handle(waking[i], note_waking);
 }
 
 void give_back_signals(void) {

@@ -136,6 +136,7 @@ check_refused_texts() {
     # lines of 17 bytes, cut after a whole letter; with six bytes more it is one byte too long
     awk 'BEGIN { for (n = 0; n < 16777216; n += 17) print "\327\251\327\234\327\225\327\235 \327\234\327\232 ab" }' | head -c 16777211 >bytes
     start 8 50 "$top/bidi-edit" bytes
+    wait_for 100 shows '- 1:1'
     has 'opening, 16 MB of Hebrew' "$(settled_screen person)" '- 1:1'
     type_keys C-q
     finish 'opening, 16 MB of Hebrew' 0 50

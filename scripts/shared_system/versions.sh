@@ -68,7 +68,7 @@ check_no_snapshot() {
     open_editor first '' note
     wait_for 60 shows_in first '[d]elete for good'
     say_in first recover
-    expect_in first 'versions, nothing is sure' 'the keys may make another one now'
+    expect_in first 'versions, nothing is sure' 'the keys may make another text now'
     say_in first yes
     expect_in first 'versions, recovered all the same' '* 1:3'
     close_editors first
