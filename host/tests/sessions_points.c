@@ -46,7 +46,6 @@ WRAP(ssize_t, write, -1, (int file, const void *bytes, size_t size), (file, byte
 WRAP(ssize_t, read, -1, (int file, void *bytes, size_t size), (file, bytes, size))
 WRAP(ssize_t, pread, -1, (int file, void *bytes, size_t size, off_t place), (file, bytes, size, place))
 WRAP(int, fsync, -1, (int file), (file))
-WRAP(int, fdatasync, -1, (int file), (file))
 WRAP(int, ftruncate, -1, (int file, off_t size), (file, size))
 WRAP(off_t, lseek, -1, (int file, off_t place, int from), (file, place, from))
 WRAP(int, flock, -1, (int file, int how), (file, how))
