@@ -12,9 +12,9 @@ export LC_ALL=C.UTF-8
 top=$(cd "$(dirname "$0")/.." && pwd)
 # shellcheck source=scripts/built.sh
 . "$top/scripts/built.sh"
-quick='' more=long
+quick='' longer=long
 if [ "${1:-}" = --quick ]; then
-    quick=1 more=''
+    quick=1 longer=''
     shift
 fi
 if [ $# -gt 0 ]; then
@@ -86,7 +86,7 @@ fi
     check_errors 'an error at a call' $scenes
     way=in_place
     check_kills 'killed at a call, in place' $scenes_in_place
-    check_errors 'an error at a call, in place' plain $more
+    check_errors 'an error at a call, in place' plain $longer
     way=itself
     check_kills 'killed at a call, with the mark beside FILE' $scenes_itself
     check_errors 'an error at a call, with the mark beside FILE' plain
