@@ -12,7 +12,7 @@
 
 # the only list of them; the last plays schedules for the tests
 dist_player=player
-dist_programs="bidi_edit bidi_input bidi_keep bidi_print $dist_player"
+dist_programs="bidi_edit bidi_input bidi_keep bidi_print"
 dist_archive=bidi-edit-x86_64-linux.tar.gz
 
 # ---- digests

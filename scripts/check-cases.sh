@@ -9,6 +9,10 @@ top=$(CDPATH='' cd -- "$(dirname "$0")/.." && pwd)
 data=$top/tests/data
 # shellcheck source=scripts/built.sh
 . "$top/scripts/built.sh"
+(find_built "$dist_player" 2>/dev/null) || {
+    echo "skipped: $dist_player is not built, and dist/ does not have it"
+    exit 77
+}
 find_built "$dist_player"
 room=$(mktemp -d) || exit 1
 trap 'rm -rf "$room"' EXIT

@@ -36,6 +36,10 @@ gather() {
 # Builds the program, unless one is given.
 build() {
     [ -z "$program" ] || return 0
+    (find_built "$dist_player" 2>/dev/null) || {
+        echo "skipped: $dist_player is not built, and dist/ does not have it"
+        exit 77
+    }
     find_built "$dist_player"
 }
 
