@@ -10,7 +10,7 @@
 # shellcheck source=launcher/unpack.sh
 . "$top/launcher/unpack.sh"
 
-# the only list of them; the last plays schedules for the tests
+# `dist_programs` is the only list of the programs in dist/; `dist_player` plays cases for the tests, where it is built
 dist_player=player
 dist_programs="bidi_edit bidi_input bidi_keep bidi_print"
 dist_archive=bidi-edit-x86_64-linux.tar.gz

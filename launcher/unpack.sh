@@ -39,7 +39,7 @@ copy_host() { # FOLDER
     return 1
 }
 
-# Puts the host into the folder: compiled, or that of dist/ where it cannot be compiled, if its sources are still the same.
+# Compiles the host into the folder. Without a compiler it takes the host in dist/, if that was compiled from these sources.
 make_host() { # FOLDER
     if told=$(sh "$top/host/build.sh" into "$1/bin" 2>&1); then return; fi
     if [ "$(host_digest)" = "$(noted host)" ]; then
@@ -119,7 +119,7 @@ make_room() {
         is_own_place && { [ "$place" = "$top/out/start" ] || chmod 700 -- "${place%/*}"; } && : >>"$place.lock"
 }
 
-# Makes the place ready and sets `start`; the statuses are those of find_start.
+# Makes the place ready and sets `start`. It returns the same statuses as find_start.
 prepare() {
     told=$(in_english make_room) || {
         [ -n "$told" ] || told=': it belongs to another user'

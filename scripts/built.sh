@@ -17,8 +17,9 @@ has_newer_source() { # CRATE STAMP
     [ -n "$(cd "$top/crates" && find ../crates.txt $(crates_below "$1" | sed 's|.*|&/src &/specs &/proofs|') -newer "$2" 2>/dev/null)" ]
 }
 
-# Sets `program` to the crate's program, proved and built of these sources: by an earlier `rt run` if nothing has changed since, else
-# that of dist/ if it is of these sources, which needs no toolchain, else by a new `rt run`, which may take minutes.
+# Sets `program` to the crate's program, proved and built from these sources. It takes what an earlier `rt run` built, if nothing has
+# changed since. Otherwise it takes the program in dist/, if dist/ was made from these sources. The last resort is a new `rt run`, which
+# needs the toolchain and may take minutes.
 find_built() { # CRATE
     program=$top/crates/$1/out/$1 cause=''
     if is_proved "$program" && ! has_newer_source "$1" "$program.stamp"; then return; fi

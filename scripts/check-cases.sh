@@ -1,7 +1,7 @@
 #!/bin/sh
-# check-cases.sh [KIND..]: has the player answer lines of tests/data and compares each answer with that of the independent model.
+# check-cases.sh [KIND..]: plays lines of tests/data with the crate `player`, and compares each answer with the independent model's.
 # KIND is levels (the embedding levels of 1,500 paragraphs), rows (2,131 rows: levels, order, glyphs and places) or keys (500 inputs
-# and the keys that they make); by default all. The last line has the totals. Exit status 1: an answer differs, or the program is
+# and the keys that they make); by default all. The last line has the totals. Exit status 1: an answer differs; 77: the player is
 # not built.
 set -u
 

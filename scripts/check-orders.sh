@@ -1,8 +1,7 @@
 #!/bin/sh
 # check-orders.sh [FOLDER]: types letters at offsets whose order would make an unbalanced tree deep, in an empty text and in one of
-# 16,000,000 bytes. FOLDER, by default tests/data/edit-orders, has a packed file for each, with an
-# offset a line. Each offset is that of a line, since the text is line feeds alone, and the letter a line feed too: the key that
-# goes to a line by its number leads there. The last line has the totals. Exit status 1: a run ends wrongly, or the text is not as
+# 16,000,000 bytes. FOLDER, by default tests/data/edit-orders, has a packed file for each text, with one offset in each line. The texts
+# and what is typed are line feeds alone. So each offset is the start of a line, and the key that goes to a line by number reaches it. The last line has the totals. Exit status 1: a run ends wrongly, or the text is not as
 # long as it should be, or the program is not built.
 set -u
 
@@ -18,7 +17,7 @@ trap 'exit 1' HUP INT TERM
 cd "$folder" || exit 1
 passed=0 failed=0
 
-# Writes the keys: those of all offsets, and a Save. \033[84~ asks for a line.
+# Writes the keys that type at each offset, and then a Save. \033[84~ is the key that asks for a line number.
 keys_of() { # FILE
     gzip -dc "$1" | awk '{ printf "\033[84~%d\n\r", $1 + 1 }' && printf '\023\021'
 }
