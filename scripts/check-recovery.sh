@@ -263,6 +263,8 @@ break_off() { # ROW WORDS KEY..
     wait_for 150 has_row shell '- 1:1'
     terminal send-keys -t shell "$@"
     wait_for 150 has_row shell "$row"
+    # a start that has not kept all of it yet leaves no session
+    wait_for 150 has_session
     process=$(terminal list-panes -t shell -F '#{pane_pid}')
     if [ -n "$words" ]; then
         kill -s KILL "$(program_under "$process")"
