@@ -270,8 +270,10 @@ break_off() { # ROW WORDS KEY..
         kill -s KILL "$(program_under "$process")"
         expect "$scene" "$words"
     else
-        # the host first, which else sees how the program ended, and tells it
-        kill -s KILL "$(ps -o pid= --ppid "$process" | tr -d ' ')" "$(program_under "$process")"
+        # the host first, which else sees how the program ended, and tells it; a stopped program does not see its input end
+        program=$(program_under "$process")
+        kill -s STOP "$program"
+        kill -s KILL "$(ps -o pid= --ppid "$process" | tr -d ' ')" "$program"
         # the watcher gives the terminal back
         wait_for 150 shows_shell
     fi
