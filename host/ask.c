@@ -100,7 +100,7 @@ static int own = -1;
 static struct sockaddr_un own_name;
 
 /* A number for a name (FNV-1a), which has no room in the name of a socket. */
-static uint64_t number_of(const char *name) {
+static uint64_t hash_of(const char *name) {
     uint64_t number = 14695981039346656037u;
     for (; *name; name++) number = (number ^ (unsigned char)*name) * 1099511628211u;
     return number;
@@ -123,7 +123,7 @@ pid_t note_open_file(const struct file *file) {
     struct sockaddr_un address = {.sun_family = AF_UNIX};
     /* a NUL in front: a name that is no path. A folder keeps its number when it is renamed, and FILE's name when it is saved. */
     int length = snprintf(address.sun_path + 1, sizeof address.sun_path - 1, "bidi-edit.%u.%ju.%ju.%ju", (unsigned)geteuid(),
-                          (uintmax_t)file->folder_id.device, (uintmax_t)file->folder_id.inode, (uintmax_t)number_of(file->name));
+                          (uintmax_t)file->folder_id.device, (uintmax_t)file->folder_id.inode, (uintmax_t)hash_of(file->name));
     socklen_t size = (socklen_t)(offsetof(struct sockaddr_un, sun_path) + 1 + (size_t)length);
     if (own >= 0 && memcmp(&own_name, &address, sizeof address) == 0) return 0;
     if (own >= 0) close(own);

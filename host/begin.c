@@ -43,7 +43,7 @@ int find_file(struct edit *edit, const char *typed, bool is_lost) {
     return GO_ON;
 }
 
-bool find_versions(const struct edit *edit, char words[MOST_WORDS]) {
+const char *find_versions(const struct edit *edit, char words[MOST_WORDS]) {
     const char *files[] = {edit->programs->editor, edit->tables.classes, edit->tables.brackets, edit->tables.mirroring};
     return versions_look(EDITOR_VERSION, files, sizeof files / sizeof *files, words);
 }
@@ -118,11 +118,11 @@ static void try_session(struct edit *edit) {
     if (edit->unkept) return;
     sessions_sweep(&edit->sessions);
     int error = session_begin(&edit->session, &edit->sessions, &opening);
+    if (error == 0 && edit->session.is_waiting) error = edit->session.error;
+    if (error == 0) return;
     const char *path = shown(edit->sessions.path);
-    if (error == 0 && !edit->session.is_waiting) return;
-    edit->unkept = error == 0 ? text_of("%s has no room for it", path) : text_of("nothing can be written in %s", path);
-    edit->unkept_notice = error == 0 ? NOTICE_NO_SPACE : notice_of(error);
-    if (error != 0) session_clear(&edit->session);
+    edit->unkept_notice = notice_of(error);
+    edit->unkept = edit->unkept_notice == NOTICE_NO_SPACE ? text_of("%s has no room for it", path) : text_of("nothing can be written in %s", path);
 }
 
 /* Notes in the session that its saves are written into FILE itself. A session that waits for room is given up: such a save needs
@@ -276,11 +276,9 @@ static enum notice cause_of_loss(const struct session *session) {
 
 /* Shows in the title and the last row why no copy is kept, or that one is kept again, and rings the bell with a new cause. A
  * notice that a key has hidden comes again. */
-static void on_second(void *whose) {
-    struct edit *edit = whose;
+static void tell_trouble(struct edit *edit) {
     struct session *session = &edit->session;
     struct now_facts *facts = &edit->facts;
-    if (!facts->has_session) return;
     facts->keeping = session_mind(session);
     facts->error = session->error;
     facts->is_filled = session->is_filled;
@@ -301,13 +299,19 @@ static void on_second(void *whose) {
     edit->notice = (struct notice_facts){0};
 }
 
+static bool on_second(void *whose) {
+    struct edit *edit = whose;
+    if (edit->facts.has_session) tell_trouble(edit);
+    return edit->facts.is_journal_lost;
+}
+
 static void begin_facts(struct edit *edit) {
     struct session *session = &edit->session;
     bool has_session = !session_is_none(session), is_waiting = has_session && session->is_waiting;
     edit->facts = (struct now_facts){.has_session = has_session,
                                      .is_unwanted = !edit->is_resumed && edit->call->is_unkept,
                                      .keeping = is_waiting ? KEEPS_NOT_YET : edit->is_resumed ? KEEPS : KEEPS_SOON,
-                                     .error = is_waiting ? ENOSPC : 0,
+                                     .error = session->error,
                                      .is_filled = edit->is_resumed};
     if (edit->unkept && !edit->facts.is_unwanted) edit->facts.told = edit->unkept_notice;
 }
@@ -326,10 +330,10 @@ int run_session(struct edit *edit) {
     struct first_facts first = {.unkept = edit->unkept ? edit->unkept_notice : NOTICE_NONE, .is_unwanted = edit->call->is_unkept,
                                 .is_aside = edit->aside_of != NULL, .is_resumed = edit->is_resumed,
                                 .is_in_place = edit->is_in_place || edit->is_itself};
-    *program = (struct run){.program = edit->programs->editor, .saver = &edit->saver, .whose = edit, .on_opened = on_opened,
+    *program = (struct run){.program = edit->programs->editor, .held = {edit->session.folder, edit->session.lock},
+                            .saver = &edit->saver, .whose = edit, .on_opened = on_opened,
                             .on_journal = on_journal, .on_second = on_second, .on_saved = on_saved,
-                            .has_mouse = !edit->call->has_no_mouse};
-    program->has_clipboard = !edit->call->has_no_clipboard;
+                            .has_mouse = !edit->call->has_no_mouse, .has_clipboard = !edit->call->has_no_clipboard};
     make_words(edit, &words);
     program->words = words.words;
     make_titles(edit);

@@ -12,16 +12,17 @@
 
 #include "file.h"
 #include "parts.h"
+#include "signals.h"
 
 /* COPIED_AT_ONCE: the largest text that is copied before the program reads it, in bytes; LARGEST_TEXT: the largest that it edits.
  * CALM: a FILE that was not written for this long, in seconds, is copied behind the first picture. BESIDE_TEXT: the
- * room that a session takes beside its text, for its short files and the first keys. LATE: seconds from which on a
+ * room that a session takes beside its text, for its short files and the first keys. LATE_MS: milliseconds from which on a
  * child that says nothing keeps nothing. */
-enum { COPIED_AT_ONCE = 1 << 20, CALM = 2, BESIDE_TEXT = 65536, LATE = 5 };
+enum { COPIED_AT_ONCE = 1 << 20, CALM = 2, BESIDE_TEXT = 65536, LATE_MS = 5000 };
 
-/* What a child that writes reports. */
+/* What a child that writes reports: the faults of the parts and of the journal. */
 struct report {
-    int error;
+    int error, journal_error;
     /* FILE was changed before it was copied; the disk refused the copy's bytes, and may have lost them. */
     bool is_changed, is_refused;
 };
@@ -30,8 +31,8 @@ struct report {
 
 /* Whether a file was written a moment ago, so that it may change while it is read. */
 static bool is_being_written(const struct stat *look) {
-    struct timespec now;
-    return clock_gettime(CLOCK_REALTIME, &now) == 0 && now.tv_sec - look->st_mtim.tv_sec <= CALM;
+    struct timespec today;
+    return clock_gettime(CLOCK_REALTIME, &today) == 0 && today.tv_sec - look->st_mtim.tv_sec <= CALM;
 }
 
 static int copy_over(struct session *session, int file) {
@@ -50,6 +51,7 @@ int choose_source(struct session *session, int file) {
     uint64_t size = file >= 0 ? (uint64_t)session->look.st_size : 0;
     bool is_early = size <= COPIED_AT_ONCE || (is_being_written(&session->look) && size <= LARGEST_TEXT);
     session->is_waiting = !open_copy(session) || free_room(session->folder) < size + BESIDE_TEXT;
+    if (session->is_waiting && !session->error) session->error = ENOSPC;
     if (file < 0) {
         session->has_text = session->text >= 0;
         return 0;
@@ -68,8 +70,8 @@ int choose_source(struct session *session, int file) {
 
 /* Whether FILE is still as it was before the program read it. A save that replaces FILE leaves the old bytes and their time. */
 static bool is_as_read(const struct session *session) {
-    struct stat now;
-    return fstat(session->source, &now) == 0 && has_same_text(&now, &session->look);
+    struct stat found;
+    return fstat(session->source, &found) == 0 && has_same_text(&found, &session->look);
 }
 
 /* Copies the text from its source, and puts it on the disk. */
@@ -100,10 +102,15 @@ static int write_part(const struct session *session, enum part part) {
     return lacks_part(session, part) ? put_part(session, part, kept->bytes, kept->size) : 0;
 }
 
-/* Writes what is to be there and is not, the path last. */
+/* The journal as the session's folder names it. */
+static int named_journal(const struct session *session) {
+    return session->mirror >= 0 ? session->mirror : session->journal;
+}
+
+/* Writes what is to be there and is not, the path last, and puts the journal on the disk. */
 static struct report write_missing(struct session *session) {
     struct report said = {.error = 0};
-    if (session->mirror >= 0 && fdatasync(session->mirror) != 0) said.error = errno;
+    if (session->syncing != session->synced) said.journal_error = sync_file(named_journal(session));
     for (enum part part = 0; part < PARTS && !said.error; part++) {
         if (part != PART_PATH) said.error = write_part(session, part);
     }
@@ -118,7 +125,7 @@ static struct report write_missing(struct session *session) {
 /* ---- the child */
 
 _Noreturn static void work(struct session *session, int report) {
-    const int kept[] = {session->parent, session->folder, session->lock, session->text, session->source, session->mirror, report};
+    const int kept[] = {session->parent, session->folder, session->lock, session->text, session->source, named_journal(session), report};
     close_others(kept, sizeof kept / sizeof *kept);
     struct report said = write_missing(session);
     /* whoever hears of the end may unlock the session */
@@ -126,12 +133,6 @@ _Noreturn static void work(struct session *session, int report) {
     close(session->folder);
     int error = write_bytes(report, &said, sizeof said);
     _exit(error ? 1 : 0);
-}
-
-static time_t seconds_now(void) {
-    struct timespec now = {0};
-    clock_gettime(CLOCK_MONOTONIC, &now);
-    return now.tv_sec;
 }
 
 /* Starts a child that writes. No signal reaches it, so that it runs none of the host's handlers. */
@@ -146,7 +147,7 @@ static bool start_child(struct session *session) {
     sigprocmask(SIG_SETMASK, &before, NULL);
     close(ends[1]);
     session->report = ends[0];
-    session->since = seconds_now();
+    session->since = now();
     if (session->child > 0) return true;
     session->error = EAGAIN;
     close(ends[0]);
@@ -172,7 +173,9 @@ static void renew_text(struct session *session) {
 }
 
 static void take_report(struct session *session, const struct report *said) {
-    session->error = said->error;
+    session->error = said->error ? said->error : said->journal_error;
+    session->is_journal_refused = said->journal_error != 0;
+    if (!session->is_journal_refused) session->synced = session->syncing;
     if (said->is_changed) session->is_changed = true;
     session->is_waiting = said->error == ENOSPC || said->error == EDQUOT;
     if (said->is_refused) renew_text(session);
@@ -181,7 +184,6 @@ static void take_report(struct session *session, const struct report *said) {
     close_one(&session->source);
     session->is_source_file = false;
     session->is_filled = session->has_text = true;
-    session->is_mirror_new = false;
     for (enum part part = 0; part < PARTS; part++) {
         if (session->parts[part].is_sent) session->parts[part].is_written = true;
     }
@@ -189,6 +191,7 @@ static void take_report(struct session *session, const struct report *said) {
 
 int write_session(struct session *session) {
     for (enum part part = 0; part < PARTS; part++) session->parts[part].is_sent = true;
+    session->syncing = session_journal_size(session);
     struct report said = write_missing(session);
     take_report(session, &said);
     return said.error;
@@ -211,11 +214,8 @@ static void hear_child(struct session *session, int milliseconds) {
 }
 
 void end_child(struct session *session) {
-    enum { LIMIT_MS = 200 };
     if (session->child <= 0) return;
-    kill(session->child, SIGKILL);
-    /* a child whose disk is stalled ends when it can */
-    for (int waited = 0; waited < LIMIT_MS && waitpid(session->child, NULL, WNOHANG) == 0; waited++) poll(NULL, 0, 1);
+    kill_child(&session->child);
     close_one(&session->report);
     session->child = -1;
 }
@@ -230,9 +230,11 @@ static bool is_whole(const struct session *session) {
 
 /* Has a child write, if something is to be written and no child runs. Returns false where none can be started. */
 static bool write_behind(struct session *session) {
-    bool has_work = !is_whole(session) || session->is_mirror_new;
+    off_t size = session_journal_size(session);
+    bool has_work = !is_whole(session) || size != session->synced;
     if (session->child > 0 || session->is_changed || !has_work || !open_copy(session)) return true;
     for (enum part part = 0; part < PARTS; part++) session->parts[part].is_sent = lacks_part(session, part);
+    session->syncing = size;
     return start_child(session);
 }
 
@@ -285,7 +287,7 @@ static void mirror_journal(struct session *session) {
     int mirror = part_open(session->folder, draft, O_RDWR | O_CREAT | O_EXCL);
     int error = mirror < 0 ? errno : copy_file(session->journal, 0, mirror);
     if (!error && renameat(session->folder, draft, session->folder, part_name(PART_JOURNAL)) != 0) error = errno;
-    session->is_mirror_behind = error != 0;
+    session->is_journal_behind = error != 0;
     if (error) {
         session->error = error;
         unlinkat(session->folder, draft, 0);
@@ -295,7 +297,7 @@ static void mirror_journal(struct session *session) {
     close_one(&session->mirror);
     session->mirror = mirror;
     session->mirrored = found;
-    session->is_mirror_new = true;
+    session->synced = session->syncing = -1;
 }
 
 static void look_after(struct session *session) {
@@ -312,10 +314,10 @@ enum keeping session_mind(struct session *session) {
         session_fill(session);
     }
     /* a child that tries again after a fault is not known to succeed */
-    facts.is_copying = session->report >= 0 && session->error == 0 && seconds_now() - session->since < LATE;
+    facts.is_copying = session->report >= 0 && session->error == 0 && now() - session->since < LATE_MS;
     facts.is_filled = is_whole(session);
     facts.is_changed = session->is_changed;
-    facts.is_behind = session->is_mirror_behind;
+    facts.is_behind = session->is_journal_behind || session->is_journal_refused;
     return judge_keeping(&facts);
 }
 
@@ -334,7 +336,7 @@ bool session_settle(struct session *session, int milliseconds) {
         write_session(session);
     }
     look_for_lost(session);
-    return is_whole(session) && !session->is_mirror_behind;
+    return is_whole(session) && !session->is_journal_behind;
 }
 
 void session_note_file(struct session *session, const struct target *target) {

@@ -21,9 +21,8 @@ static unsigned char buffer[BUFFER];
 /* ---- names */
 
 static bool make_draft_name(const struct file *file, char name[NAME_MAX + 1]) {
-    static const char letters[] = "abcdefghijklmnopqrstuvwxyz0123456789";
     char random[DRAFT_LETTERS + 1];
-    if (!make_letters(random, DRAFT_LETTERS, letters)) return false;
+    if (!make_letters(random, DRAFT_LETTERS, DRAFT_ALPHABET)) return false;
     snprintf(name, NAME_MAX + 1, "%.*s.%s%s", (int)draft_stem(file), file->name, random, DRAFT_END);
     return true;
 }
@@ -78,7 +77,9 @@ int draft_open(struct draft *draft, const struct file *file, int folder, mode_t 
     int error = EEXIST;
     *draft = (struct draft){.folder = folder, .file = -1};
     if (may_be_nameless) draft->file = openat(folder, ".", O_TMPFILE | O_RDWR | O_CLOEXEC, mode);
-    if (draft->file >= 0) return 0;
+    /* its name comes by way of /proc, which may be gone by now */
+    if (draft->file >= 0 && faccessat(AT_FDCWD, link_of(draft->file).path, F_OK, 0) == 0) return 0;
+    draft_close(draft);
     for (int tries = 0; error == EEXIST && tries < DRAFT_TRIES; tries++) error = make_draft_name(file, name) ? open_at(draft, folder, name, mode) : EIO;
     return error;
 }
@@ -132,12 +133,14 @@ int draft_take_over(const struct draft *draft, const struct stat *old, bool is_p
 
 /* ---- FILE's place */
 
-static bool has_list(const struct draft *draft) {
-    int at = open_itself(draft->folder, draft->name);
-    if (at < 0) return false;
-    enum answer list = has_access_list(at);
-    close(at);
-    return list == YES;
+/* Whether what came out of FILE's place is what was seen there. `is_listless`: it has got no access list since. */
+static bool came_out(const struct draft *draft, const struct look *seen, bool is_listless) {
+    struct look out;
+    int itself;
+    bool is_right = look_and_open(draft->folder, draft->name, &out, &itself) && is_taken_out(seen, &out) &&
+                    (!is_listless || has_access_list(itself) != YES);
+    close_one(&itself);
+    return is_right;
 }
 
 /* Undoes an exchange: puts what came out of FILE's place back. What took the place of that meanwhile, and comes out now, is newer,
@@ -163,14 +166,13 @@ static enum placed replace_by_rename(struct draft *draft, const char *name) {
 
 enum placed draft_exchange(struct draft *draft, const char *name, const struct look *seen, bool is_listless) {
     struct stat own;
-    struct look out;
     if (fstat(draft->file, &own) != 0) return PLACE_FAILED;
     int error = rename_by(draft->folder, draft->name, name, RENAME_EXCHANGE);
     if (is_lacking(error)) return replace_by_rename(draft, name);
     errno = error;
     if (error == ENOENT) return PLACE_OTHER;
     if (error != 0) return error == EBUSY ? PLACE_MOUNTED : PLACE_FAILED;
-    if (look_at(draft->folder, draft->name, &out) && is_taken_out(seen, &out) && (!is_listless || !has_list(draft))) return PLACED;
+    if (came_out(draft, seen, is_listless)) return PLACED;
     if (exchange_back(draft, name, own)) unlinkat(draft->folder, draft->name, 0);
     draft->name[0] = 0;
     return PLACE_CHANGED;
@@ -216,8 +218,8 @@ void save_drop_mark(struct save *save) {
 static int name_mark(struct save *save) {
     char name[PATH_MAX + 8];
     int error = EEXIST;
-    for (int number = 0; error == EEXIST && number < 10; number++) {
-        snprintf(name, sizeof name, number ? "%s.bx%d" : "%s.bx", save->file->name, number);
+    for (int number = 0; error == EEXIST && number < MARK_NAMES; number++) {
+        mark_name(save->file, number, name);
         error = strlen(name) > NAME_MAX ? ENAMETOOLONG : draft_name_as(&save->draft, name);
     }
     return error == EEXIST || error == ENAMETOOLONG ? draft_name(&save->draft, save->file) : error;

@@ -1,5 +1,5 @@
 /* One start that edits FILE: what is known of it, from FILE's checks to the end of its session. For the files that are named
- * below, and keep.c, which calls them in order. */
+ * below, and main.c, which calls them in order. */
 #ifndef EDIT_H
 #define EDIT_H
 
@@ -16,9 +16,6 @@
 
 /* What a step of a start returns where the start goes on; else it is the exit status, and the cause is told. */
 enum { GO_ON = -1 };
-
-/* Exit statuses: of a fault or a refusal; after a no, or no answer. */
-enum { STATUS_FAULT = 1, STATUS_NO = 2 };
 
 struct edit {
     const struct programs *programs;
@@ -62,8 +59,8 @@ struct edit {
 
 /* ---- begin.c */
 
-/* Tells what a replay depends on; false where a program or table cannot be looked at. */
-bool find_versions(const struct edit *edit, char words[MOST_WORDS]);
+/* Tells what a replay depends on. Returns NULL, or the program or table that cannot be looked at, and errno. */
+const char *find_versions(const struct edit *edit, char words[MOST_WORDS]);
 
 /* Opens and judges FILE, puts its text back after saves that were cut off, and refuses what cannot be edited, unless it is forced.
  * `typed` is FILE's name. */

@@ -14,6 +14,7 @@
 #include "parts.h"
 #include "say.h"
 #include "signals.h"
+#include "util.h"
 
 /* ---- replays of a session's keys by the program, and comparisons with FILE */
 
@@ -211,7 +212,7 @@ static const char *cause_of_lost(const struct edit *edit) {
 /* Whether the tables and programs are those with which the session began. */
 static bool has_same_versions(const struct edit *edit) {
     char versions[MOST_WORDS];
-    return find_versions(edit, versions) && strcmp(versions, edit->versions) == 0;
+    return !find_versions(edit, versions) && strcmp(versions, edit->versions) == 0;
 }
 
 /* Puts an open text into the session. If this fails, another version of the editor recovers it by the keys. */
@@ -254,7 +255,7 @@ static void note_moved(struct edit *edit) {
     const struct file *file = &edit->file;
     if (is_folder_gone(file) || !path_of(file->folder, folder)) return;
     bool has_moved = strcmp(folder, file->folder_path) != 0;
-    if (has_moved) edit->moved = text_of("%s/%s", strcmp(folder, "/") == 0 ? "" : folder, file->name);
+    if (has_moved) edit->moved = text_of("%s/%s", before_slash(folder), file->name);
     if (has_moved && edit->aside_of) session_put(&edit->session, PART_BESIDE, edit->moved, strlen(edit->moved));
     target_look(&edit->target, has_moved ? edit->moved : file->path, file->folder, file->name);
     session_note_file(&edit->session, &edit->target);
@@ -309,7 +310,7 @@ static void drop_changes(struct edit *edit) {
     sessions_forget_dropped(&edit->sessions, &edit->session);
     /* if this fails, the next start asks about the session */
     session_put_empty(&edit->session, PART_DROPPED);
-    tell_kept(edit, "what was dropped can be had back", "");
+    tell_kept(edit, "what was dropped can be recovered", "");
 }
 
 static void wipe_changes(struct edit *edit) {
@@ -344,13 +345,10 @@ static void end_kept(struct edit *edit, enum left_how how) {
 
 /* Tells of a signal that ended the program, unless one ended the host. */
 static void tell_signal(int status) {
-    static const char *const signals[] = {"HUP",  "INT",  "QUIT", "ILL",    "TRAP", "ABRT", "BUS",  "FPE",  "KILL", "USR1", "SEGV",
-                                          "USR2", "PIPE", "ALRM", "TERM",   "STKFLT", "CHLD", "CONT", "STOP", "TSTP", "TTIN", "TTOU",
-                                          "URG",  "XCPU", "XFSZ", "VTALRM", "PROF", "WINCH", "POLL", "PWR",  "SYS"};
-    int number = status - 128, count = (int)(sizeof signals / sizeof *signals);
-    if (end_signal || number < 1) return;
-    if (number <= count) warn("the editor was ended by the signal %s", signals[number - 1]);
-    else warn("the editor was ended by the signal %d", number);
+    const char *name = sigabbrev_np(status - 128);
+    if (end_signal || status <= 128) return;
+    if (name) warn("the editor was ended by the signal %s", name);
+    else warn("the editor was ended by the signal %d", status - 128);
 }
 
 int end_session(struct edit *edit) {

@@ -10,9 +10,9 @@
 #include "util.h"
 
 /* MOST_LINKS: as in Linux. OPEN_TRIES: openings of a FILE that other programs replace meanwhile. FRONT: more bytes than marks and headers
- * of files take. MOST_NAMES: so many names of a folder are looked at for drafts; MOST_DRAFTS of them are told. MARK_BYTES: those of
- * the end .bx. */
-enum { MOST_LINKS = 40, OPEN_TRIES = 10, FRONT = 512, MOST_NAMES = 20000, MOST_DRAFTS = 10, MARK_BYTES = 3 };
+ * of files take. MOST_NAMES: so many names of a folder are looked at for drafts; MOST_DRAFTS of them are told. END_BYTES: those of
+ * DRAFT_END. */
+enum { MOST_LINKS = 40, OPEN_TRIES = 10, FRONT = 512, MOST_NAMES = 20000, MOST_DRAFTS = 10, END_BYTES = sizeof DRAFT_END - 1 };
 
 /* ---- looks */
 
@@ -20,6 +20,15 @@ bool look_at(int folder, const char *name, struct look *look) {
     memset(look, 0, sizeof *look);
     look->is_there = fstatat(folder, name, &look->found, AT_SYMLINK_NOFOLLOW) == 0;
     return look->is_there || errno == ENOENT;
+}
+
+bool look_and_open(int folder, const char *name, struct look *look, int *itself) {
+    memset(look, 0, sizeof *look);
+    *itself = open_itself(folder, name);
+    if (*itself < 0) return errno == ENOENT;
+    look->is_there = fstat(*itself, &look->found) == 0;
+    if (!look->is_there) close_one(itself);
+    return look->is_there;
 }
 
 bool look_again(const struct file *file, struct look *look) {
@@ -52,7 +61,7 @@ bool path_of(int at, char path[PATH_MAX]) {
     return true;
 }
 
-static const char handed_over[] = "is what the caller handed over and no file: put it into a file, and edit that";
+static const char handed_over[] = "is an open file of the caller: write it to a file, and edit that";
 static const char leads_nowhere[] = "is a link that leads nowhere: ls -l shows where to";
 
 /* ---- the walk to FILE */
@@ -111,9 +120,7 @@ static const char *take_step(struct file *file, const char *path) {
     if (!file->is_linked) put_path(file->folder_name, "%s", folder_part);
     close_one(&file->folder);
     file->folder = folder;
-    file->itself = open_itself(folder, file->name);
-    memset(&file->look, 0, sizeof file->look);
-    file->look.is_there = file->itself >= 0 && fstat(file->itself, &file->look.found) == 0;
+    look_and_open(folder, file->name, &file->look, &file->itself);
     return NULL;
 }
 
@@ -151,8 +158,7 @@ static void name_paths(struct file *file) {
     struct stat folder, there;
     if (!path_of(file->folder, file->folder_path)) put_path(file->folder_path, "%s", file->folder_name);
     if (file->is_linked) put_path(file->folder_name, "%s", file->folder_path);
-    const char *between = strcmp(file->folder_path, "/") == 0 ? "" : "/";
-    snprintf(file->path, sizeof file->path, "%s%s%s", file->folder_path, between, file->name);
+    snprintf(file->path, sizeof file->path, "%s/%s", before_slash(file->folder_path), file->name);
     file->is_at_path = fstat(file->folder, &folder) == 0 && stat(file->folder_path, &there) == 0 && is_same_file(&folder, &there);
 }
 
@@ -246,11 +252,11 @@ bool is_closed(const struct file *file) {
 }
 
 static const char *refuse_long_name(const struct file *file) {
-    uint64_t longest = file->folder_facts.longest_name, most = longest > MARK_BYTES ? longest - MARK_BYTES : 0;
+    uint64_t longest = file->folder_facts.longest_name, most = longest > END_BYTES ? longest - END_BYTES : 0;
     size_t length = strlen(file->name);
     if (length <= most) return NULL;
     return text_of("%s is a name of %zu bytes, too long to be saved: %llu are the most (the save needs %d more), and --force opens it all the same",
-                   shown(file->name), length, (unsigned long long)most, MARK_BYTES);
+                   shown(file->name), length, (unsigned long long)most, END_BYTES);
 }
 
 const char *unreadable_message(const struct file *file) {
@@ -270,7 +276,7 @@ const char *refuse_access(const struct file *file, bool is_in_place) {
 }
 
 size_t draft_stem(const struct file *file) {
-    size_t length = strlen(file->name), rest = 1 + DRAFT_LETTERS + sizeof DRAFT_END - 1;
+    size_t length = strlen(file->name), rest = 1 + DRAFT_LETTERS + END_BYTES;
     uint64_t longest = file->folder_facts.longest_name;
     uint64_t most = longest > NAME_MAX ? NAME_MAX - rest : longest > rest ? longest - rest : 0;
     if (length <= most) return length;
@@ -280,16 +286,19 @@ size_t draft_stem(const struct file *file) {
     return length;
 }
 
+void mark_name(const struct file *file, int number, char name[PATH_MAX + 8]) {
+    snprintf(name, PATH_MAX + 8, number ? "%s" DRAFT_END "%d" : "%s" DRAFT_END, file->name, number);
+}
+
 static bool is_draft(const struct file *file, size_t stem, const char *name) {
-    static const char letters[] = "abcdefghijklmnopqrstuvwxyz0123456789";
     if (strncmp(name, file->name, stem) != 0 || name[stem] != '.') return false;
     name += stem + 1;
-    return strspn(name, letters) == DRAFT_LETTERS && strcmp(name + DRAFT_LETTERS, DRAFT_END) == 0;
+    return strspn(name, DRAFT_ALPHABET) == DRAFT_LETTERS && strcmp(name + DRAFT_LETTERS, DRAFT_END) == 0;
 }
 
 static char *add_name(const struct file *file, char *names, const char *name) {
     const char *slash = strrchr(file->typed, '/');
-    if (file->is_linked) return text_of("%s %s", names, shown(text_of("%s/%s", strcmp(file->folder_path, "/") == 0 ? "" : file->folder_path, name)));
+    if (file->is_linked) return text_of("%s %s", names, shown(text_of("%s/%s", before_slash(file->folder_path), name)));
     return text_of("%s %s", names, shown(text_of("%.*s%s", slash ? (int)(slash - file->typed) + 1 : 0, file->typed, name)));
 }
 
@@ -309,9 +318,9 @@ static char *add_drafts(const struct file *file, char *names) {
 
 const char *leftovers_line(const struct file *file) {
     char *names = text_of("%s", ""), name[PATH_MAX + 8];
-    for (int number = 0; number < 10; number++) {
-        snprintf(name, sizeof name, number ? "%s.bx%d" : "%s.bx", file->name, number);
+    for (int number = 0; number < MARK_NAMES; number++) {
         struct stat found;
+        mark_name(file, number, name);
         if (fstatat(file->folder, name, &found, 0) == 0) names = add_name(file, names, name);
     }
     names = add_drafts(file, names);

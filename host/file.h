@@ -92,11 +92,16 @@ bool is_closed(const struct file *file);
 /* The message that refuses a FILE that cannot be read, or saved; NULL where it can be. */
 const char *refuse_access(const struct file *file, bool is_in_place);
 
-/* The name of a draft beside FILE is the first bytes of FILE's, as many as this, a point, DRAFT_LETTERS random letters and
- * DRAFT_END. */
+/* The name of a draft beside FILE is the first bytes of FILE's, as many as this, a point, DRAFT_LETTERS random ones of DRAFT_ALPHABET
+ * and DRAFT_END. */
 #define DRAFT_END ".bx"
+#define DRAFT_ALPHABET "abcdefghijklmnopqrstuvwxyz0123456789"
 enum { DRAFT_LETTERS = 8 };
 size_t draft_stem(const struct file *file);
+
+/* The name of a mark beside FILE, of MARK_NAMES that are tried: FILE.bx, and FILE.bx1 to FILE.bx9. */
+enum { MARK_NAMES = 10 };
+void mark_name(const struct file *file, int number, char name[PATH_MAX + 8]);
 
 /* The message that names files which killed saves left beside FILE; NULL if there are none. */
 const char *leftovers_line(const struct file *file);
@@ -108,6 +113,9 @@ const char *too_long_message(const struct file *file);
 
 /* Looks at a name in a folder. Returns false at a fault other than that nothing is there. */
 bool look_at(int folder, const char *name, struct look *look);
+
+/* The same, and opens what is there (O_PATH), so that all that is asked is of one file; -1 where nothing is there, or at a fault. */
+bool look_and_open(int folder, const char *name, struct look *look, int *itself);
 
 /* Looks at FILE's name now. */
 bool look_again(const struct file *file, struct look *look);

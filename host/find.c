@@ -181,7 +181,7 @@ void sessions_sweep(const struct sessions *sessions) {
         struct session *session = &walk.session;
         bool is_left = walk.kind == NAME_DEAD || (!session_has(session, PART_PATH) && is_old(session));
         /* one that is locked waits for room; a folder that cannot be removed now is tried again at the next start */
-        if (!is_left || session_is_live(session)) continue;
+        if (!is_left || !session_is_own(session) || session_is_live(session)) continue;
         if (walk.kind == NAME_SESSION) session_remove(session);
         else remove_folder(session, session_name(session));
     }

@@ -1,5 +1,5 @@
 /* Frames, the messages between the host and the program: a letter, a length in two bytes, the higher one first, and that many
- * bytes. The crate bx_frames has the same table. */
+ * bytes. The crates bx_input and bx_store have the same letters. */
 #ifndef FRAMES_H
 #define FRAMES_H
 
@@ -9,12 +9,11 @@
 
 enum frame_letter {
     /* to the program's standard input: bytes as the terminal gave them; rows and columns, in two bytes each, the higher one first;
-     * IDLE_MS went by after typed bytes; a number of a notice; a second went by */
+     * IDLE_MS went by after typed bytes; a number of a notice */
     FRAME_TYPED = 'b',
     FRAME_SIZE = 'z',
     FRAME_IDLE = 'i',
     FRAME_NOTICE = 'n',
-    FRAME_SECOND = 's',
     /* from the program's standard error: FILE was read and can be opened; KIND or KIND VALUE; `lost` or `kept`; WORD KEYS; the
      * last one, a word of enum end_word */
     FRAME_OPENED = 'o',
@@ -45,7 +44,8 @@ enum save_cause {
     SAVE_OTHER,
 };
 
-/* What the program shows in its last row, by number; NOTICE_NONE is never sent. */
+/* What the program shows in its last row, by number. NOTICE_NONE shows nothing: as all input it has the program try its journal
+ * again. */
 enum notice {
     NOTICE_NONE,
     NOTICE_NO_SPACE,

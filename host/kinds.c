@@ -237,7 +237,7 @@ static void tell_mirroring(enum kind kind) {
 static _Noreturn void become_tmux(int out) {
     /* a client in control mode is a program that reads tmux's protocol, so it does not count */
     static char *const words[] = {"tmux", "display-message", "-p", "#{?client_control_mode,,#{client_tty} #{client_termtype}}", NULL};
-    int none = open("/dev/null", O_RDWR);
+    int none = open("/dev/null", O_RDWR | O_CLOEXEC);
     if (none < 0 || dup2(none, STDIN_FILENO) < 0 || dup2(out, STDOUT_FILENO) < 0 || dup2(none, STDERR_FILENO) < 0) _exit(126);
     give_back_signals();
     execvp(words[0], words);

@@ -37,7 +37,7 @@ static bool go_up(char *path) {
 }
 
 static char *below(const char *folder, const char *name) {
-    return text_of("%s/%s", strcmp(folder, "/") == 0 ? "" : folder, name);
+    return text_of("%s/%s", before_slash(folder), name);
 }
 
 static bool find_programs(struct programs *programs) {
@@ -157,17 +157,11 @@ static void tell_unusual(const struct edit *edit) {
     if (leftovers) warn("%s", leftovers);
 }
 
-static int edit_new(struct edit *edit) {
-    int status = begin_session(edit);
+/* Runs the program with a session that was taken, or with a new one. */
+static int run_editor(struct edit *edit, bool is_taken) {
+    int status = is_taken ? resume_session(edit) : begin_session(edit);
     return status == GO_ON ? run_session(edit) : status;
 }
-
-static int go_on_with_session(struct edit *edit) {
-    int status = resume_session(edit);
-    return status == GO_ON ? run_session(edit) : status;
-}
-
-/* ---- what a command line asks for */
 
 static int edit_file(struct edit *edit) {
     int status = check_file(edit, edit->call->file);
@@ -176,10 +170,10 @@ static int edit_file(struct edit *edit) {
     tell_unusual(edit);
     enum met met = meet_sessions(edit, &status);
     if (met == MET_END) return status;
-    if (met == MET_TAKEN) return go_on_with_session(edit);
+    if (met == MET_TAKEN) return run_editor(edit, true);
     /* FILE may have changed meanwhile */
     if (met == MET_ASKED) status = check_file(edit, edit->call->file);
-    return status == GO_ON ? edit_new(edit) : status;
+    return status == GO_ON ? run_editor(edit, false) : status;
 }
 
 static int edit_recovered(struct edit *edit) {
@@ -190,7 +184,7 @@ static int edit_recovered(struct edit *edit) {
     if (status == GO_ON && !is_taken) status = check_file(edit, edit->call->file);
     if (status != GO_ON) return status;
     tell_unusual(edit);
-    return is_taken ? go_on_with_session(edit) : edit_new(edit);
+    return run_editor(edit, is_taken);
 }
 
 /* Tells of variables that are passed over: an XDG_STATE_HOME that is not absolute, and a TMPDIR that no system takes. */
@@ -209,8 +203,10 @@ static int edit_by(const struct call *call, const struct programs *programs) {
     }
     tell_variables();
     edit.programs = programs;
-    if (!find_versions(&edit, edit.versions)) {
-        warn("a program or table of the editor cannot be looked at: %s", strerror(errno));
+    const char *lacking = find_versions(&edit, edit.versions);
+    if (lacking) {
+        const char *why = strerror(errno);
+        warn("the editor needs %s, which cannot be read: %s", shown(lacking), why);
         return STATUS_FAULT;
     }
     edit.call = call;
@@ -282,7 +278,7 @@ int main(int count, char **words) {
     set_first_signals();
     note_own_word(words[0]);
     if (access("/proc/self/fd", X_OK) != 0) return refuse_start("there is no /proc, which it needs: mount -t proc proc /proc gives one");
-    if (!find_programs(&programs)) return refuse_start("its own place cannot be found");
+    if (!find_programs(&programs)) return refuse_start("/proc/self/exe cannot be read, so its programs cannot be found");
     open_terminal();
     int status = obey_words(count - 1, words + 1, &programs);
     listen_once();

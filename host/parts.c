@@ -8,7 +8,7 @@
 #include <sys/stat.h>
 #include <unistd.h>
 
-#include "file.h"
+#include "save.h"
 
 /* The longest journal that is read to see whether it has
  * sizes and notices alone; a longer one counts as having keys, which at worst keeps a session without any. */
@@ -19,8 +19,8 @@ const char *part_name(enum part part) {
         [PART_TEXT] = "text",         [PART_PATH] = "path",         [PART_OPENED] = "opened",     [PART_BESIDE] = "beside",
         [PART_BEGIN] = "begin",       [PART_PROCESS] = "process",   [PART_MODE] = "mode",         [PART_VERSIONS] = "versions",
         [PART_JOURNAL] = "journal",   [PART_LOCK] = "lock",         [PART_DROPPED] = "dropped",   [PART_CUT] = "cut",
-        [PART_UNSAVED] = "unsaved",   [PART_UNJOINED] = "unjoined", [PART_SNAPSHOT] = "snapshot", [PART_MARK] = "mark",
-        [PART_MARK_DRAFT] = "mark.bx", [PART_PLACE] = "place",      [PART_SAVE] = "save",         [PART_FILE] = "file",
+        [PART_UNSAVED] = "unsaved",   [PART_UNJOINED] = "unjoined", [PART_SNAPSHOT] = "snapshot", [PART_MARK] = MARK_NAME,
+        [PART_MARK_DRAFT] = MARK_DRAFT_NAME, [PART_PLACE] = "place",      [PART_SAVE] = "save",         [PART_FILE] = "file",
         [PART_SECRET] = "secret",
     };
     return names[part];

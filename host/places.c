@@ -87,7 +87,7 @@ static void judge_at(struct sessions *sessions, int above, const char *name) {
         fail_with(sessions, errno);
         return;
     }
-    if (path_of(above, real)) put_path(sessions->path, "%s/%s", strcmp(real, "/") == 0 ? "" : real, name);
+    if (path_of(above, real)) put_path(sessions->path, "%s/%s", before_slash(real), name);
     if (fstat(folder, &found) != 0 || !S_ISDIR(found.st_mode) || !is_private(found.st_uid, found.st_mode, sessions->user)) {
         sessions->state = FOLDER_DISTRUSTED;
         memcpy(sessions->distrusted, sessions->path, sizeof sessions->distrusted);
@@ -148,8 +148,7 @@ bool sessions_make(struct sessions *sessions) {
 }
 
 void sessions_close(struct sessions *sessions) {
-    if (sessions->folder >= 0) close(sessions->folder);
-    sessions->folder = -1;
+    close_one(&sessions->folder);
 }
 
 void sessions_close_all(struct sessions *all, size_t count) {

@@ -10,11 +10,18 @@
 #include "say.h"
 #include "util.h"
 
+static const char missed[] = "another start of the editor has that session by now";
 static const char unsure[] =
-    "an editor of another version, or with other tables, kept that session, and not its text: the keys may make another one now";
+    "another version of the editor, or of Unicode's tables, kept that session without its text, and the keys may make another text now";
 
 /* What becomes of a session that is to go on. OUTCOME_MISSED: another start has it by now. */
 enum outcome { OUTCOME_TAKEN, OUTCOME_OPENED, OUTCOME_MISSED, OUTCOME_END };
+
+/* The start ends with this exit status. */
+static enum outcome end_with(int *status, int value) {
+    *status = value;
+    return OUTCOME_END;
+}
 
 /* Names of new files beside FILE are tried with numbers below this. */
 enum { MOST_NEW_NAMES = 10000 };
@@ -81,7 +88,7 @@ static int tell_unwritable(const struct edit *edit, int error) {
 
 static void tell_cut(const struct session *session) {
     if (!session_has(session, PART_CUT)) return;
-    tell("the session is cut behind its key %zu, where its journal could not be written", session_count_keys(session));
+    tell("the session is cut off after its key %zu: what followed could not be written", session_count_keys(session));
 }
 
 /* Settles the file with which a session goes on: FILE, or where it has another's text, a new file beside it. */
@@ -114,10 +121,7 @@ static enum outcome go_on_with(struct edit *edit, struct session *session, enum 
     *status = settle_file(edit, found);
     if (*status != GO_ON) return OUTCOME_END;
     int error = session_go_on(session, edit->aside_of ? edit->file.path : NULL, is_own);
-    if (error != 0) {
-        *status = tell_unwritable(edit, error);
-        return OUTCOME_END;
-    }
+    if (error != 0) return end_with(status, tell_unwritable(edit, error));
     edit->session = *session;
     session_clear(session);
     return OUTCOME_TAKEN;
@@ -147,10 +151,7 @@ static enum outcome take_by_keys(struct edit *edit, struct session *session, int
     enum replayed found = replay(edit, session, &text, 0);
     if (text >= 0) close(text);
     if (found == REPLAY_UNREADABLE) return ask_what_to_keep(edit, session, status);
-    if (found == REPLAY_FAILED) {
-        *status = tell_failed_replay(edit, session);
-        return OUTCOME_END;
-    }
+    if (found == REPLAY_FAILED) return end_with(status, tell_failed_replay(edit, session));
     tell_cut(session);
     return found == REPLAY_SAME ? end_where_same(edit, session) : go_on_with(edit, session, found, status);
 }
@@ -160,13 +161,10 @@ static enum outcome take_by_text(struct edit *edit, struct session *session, int
     struct session renewed;
     enum replayed found = compare_text(edit, session);
     if (found == REPLAY_SAME) return end_where_same(edit, session);
-    tell("an editor of another version, or with other tables, kept that session: its text is had back, and its undo history is not");
+    tell("another version of the editor, or of Unicode's tables, kept that session: its text is recovered, and its undo history is not");
     session_clear(&renewed);
     int error = session_renew(&renewed, &edit->sessions, session, edit->versions);
-    if (error != 0) {
-        *status = tell_unwritable(edit, error);
-        return OUTCOME_END;
-    }
+    if (error != 0) return end_with(status, tell_unwritable(edit, error));
     /* if the old one cannot be removed, the next start asks about it */
     session_remove(session);
     enum outcome outcome = go_on_with(edit, &renewed, found, status);
@@ -177,10 +175,7 @@ static enum outcome take_by_text(struct edit *edit, struct session *session, int
 static enum outcome take_locked(struct edit *edit, struct session *session, int *status) {
     struct mending mending;
     bool is_mended = session_mend(session, &edit->sessions, &edit->target, &mending) == 0;
-    if (is_mended && tell_mended(edit, &mending, tell)) {
-        *status = STATUS_FAULT;
-        return OUTCOME_END;
-    }
+    if (is_mended && tell_mended(edit, &mending, tell)) return end_with(status, STATUS_FAULT);
     /* FILE as it is now, after the question */
     *status = find_file(edit, edit->call->file, true);
     if (*status != GO_ON) return OUTCOME_END;
@@ -188,19 +183,14 @@ static enum outcome take_locked(struct edit *edit, struct session *session, int 
     if (session_has(session, PART_SNAPSHOT)) return take_by_text(edit, session, status);
     tell("%s", unsure);
     if (ask_to_go_on("Recover it all the same")) return take_by_keys(edit, session, status);
-    *status = STATUS_NO;
-    return OUTCOME_END;
-}
-
-static void tell_missed(void) {
-    tell("another start of the editor has that session by now");
+    return end_with(status, STATUS_NO);
 }
 
 static enum outcome take_over(struct edit *edit, struct session *session, int *status) {
     switch (session_lock(session, PART_PATH)) {
     case LOCK_TAKEN: return take_locked(edit, session, status);
-    case LOCK_FAILED: *status = tell_unwritable(edit, session->error); return OUTCOME_END;
-    default: tell_missed(); return OUTCOME_MISSED;
+    case LOCK_FAILED: return end_with(status, tell_unwritable(edit, session->error));
+    default: tell("%s", missed); return OUTCOME_MISSED;
     }
 }
 
@@ -242,7 +232,7 @@ static enum outcome delete_session(const struct edit *edit, struct session *sess
     enum lock_result lock = session_lock(session, PART_PATH);
     int error = lock == LOCK_TAKEN ? session_remove(session) : session->error;
     if (lock == LOCK_TAKEN && error == 0) return OUTCOME_OPENED;
-    if (lock == LOCK_HELD || lock == LOCK_GONE) tell_missed();
+    if (lock == LOCK_HELD || lock == LOCK_GONE) tell("%s", missed);
     else warn("the session of %s in %s cannot be deleted%s", shown(edit->file.typed), shown(session->path), fault_words(error));
     return OUTCOME_MISSED;
 }
@@ -253,7 +243,7 @@ static enum outcome ask_what_to_do(struct edit *edit, struct session *session, i
     case CHOICE_RECOVER: return take_over(edit, session, status);
     case CHOICE_LATER: return OUTCOME_OPENED;
     case CHOICE_DELETE: return delete_session(edit, session);
-    default: *status = STATUS_NO; return OUTCOME_END;
+    default: return end_with(status, STATUS_NO);
     }
 }
 
@@ -280,7 +270,7 @@ enum met meet_sessions(struct edit *edit, int *status) {
 static int tell_no_session(const struct edit *edit, bool is_live) {
     enum notice notice;
     const char *file = shown(edit->file.typed), *unkept = unkept_by(&edit->sessions, &notice);
-    if (is_live) warn("the session of %s goes on", file);
+    if (is_live) warn("the session of %s is open in another window", file);
     else if (unkept) warn("there is no session of %s to recover (%s)", file, unkept);
     else warn("there is no session of %s to recover", file);
     return STATUS_FAULT;
@@ -303,7 +293,7 @@ static bool ask_of_elsewhere(const struct edit *edit, const struct session *sess
 
 static int find_sessions(struct edit *edit, struct found *found) {
     int error = sessions_of(found, &edit->sessions, &edit->target);
-    if (error != 0) warn("nothing can be written in %s", shown(edit->sessions.path));
+    if (error != 0) warn("%s cannot be read: %s", shown(edit->sessions.path), strerror(error));
     return error != 0 ? STATUS_FAULT : GO_ON;
 }
 
@@ -312,10 +302,7 @@ static enum outcome recover_found(struct edit *edit, struct found *found, int *s
     struct session *session = pick(found, &is_elsewhere);
     *status = STATUS_NO;
     if (!is_elsewhere && ask_beside(edit, found) == MET_END) return OUTCOME_END;
-    if (!session) {
-        *status = tell_no_session(edit, !session_is_none(&found->live));
-        return OUTCOME_END;
-    }
+    if (!session) return end_with(status, tell_no_session(edit, !session_is_none(&found->live)));
     if (is_elsewhere && !ask_of_elsewhere(edit, session)) return OUTCOME_END;
     return take_over(edit, session, status);
 }
@@ -382,7 +369,7 @@ static int store_found(struct edit *edit, struct found *found) {
     }
     enum lock_result lock = session_lock(session, PART_PATH);
     if (lock == LOCK_HELD || lock == LOCK_GONE) {
-        warn("another start of the editor has that session by now");
+        warn("%s", missed);
         return STATUS_FAULT;
     }
     /* no lock can be taken on a disk that is read-only, where no editor can run either */

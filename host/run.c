@@ -14,12 +14,11 @@
 #include "terminal.h"
 #include "util.h"
 
-/* Milliseconds. GRACE_MS: the program's for its end, of which the first HAND_ON_MS are for what was typed to be handed on;
- * DEATH_MS: a killed one's. RESTORE_MS: the terminal's to take what restores it, or RESTORE_BY_SIGNAL_MS after a signal. IDLE_MS:
- * typed bytes that nothing follows for so long are all. SILENCE_MS: a program that asks for nothing so long waits for an answer.
- * HOLD_MS: the program's to be stopped, looked at each LOOK_MS; STOP_MS: the terminal's to be restored before a stop. */
+/* Milliseconds. HAND_ON_MS: those of the program's end in which what was typed is handed on; DEATH_MS: a killed one's. RESTORE_MS: the
+ * terminal's to take what restores it, or RESTORE_BY_SIGNAL_MS after a signal. IDLE_MS: typed bytes that nothing follows for so long
+ * are all. SILENCE_MS: a program that asks for nothing so long waits for an answer. HOLD_MS: the program's to be stopped, looked at
+ * each LOOK_MS; STOP_MS: the terminal's to be restored before a stop. */
 enum {
-    GRACE_MS = 3000,
     HAND_ON_MS = 500,
     DEATH_MS = 1000,
     RESTORE_MS = 10000,
@@ -244,14 +243,14 @@ static void mind_idle(void) {
     if (put_frame(&now_running.queue, FRAME_IDLE, NULL, 0)) now_running.idle = 0;
 }
 
-/* Tells each second, the program only if it has read all before. */
+/* Does what is due each second. Any input has the program try its journal again, so it is sent none while it has some to read. */
 static void mind_second(struct run *run) {
     int waiting = 0;
     if (now() < now_running.second) return;
     now_running.second = now() + SECOND_MS;
-    if (run->on_second) run->on_second(run->whose);
+    if (!run->on_second || !run->on_second(run->whose)) return;
     bool is_read = ioctl(now_running.pipes.keys, FIONREAD, &waiting) == 0 && waiting == 0;
-    if (is_read && queue_length(&now_running.queue) == 0) put_frame(&now_running.queue, FRAME_SECOND, NULL, 0);
+    if (is_read && queue_length(&now_running.queue) == 0) give_notice(NOTICE_NONE);
 }
 
 static void mind_queue(void) {
@@ -325,7 +324,7 @@ static bool start(struct run *run, struct pipes *ends) {
     struct size size, first;
     measure(&size);
     first = run->rows > 0 ? (struct size){run->rows, run->columns} : size;
-    run->cause = "the terminal takes no settings";
+    run->cause = "the terminal's settings cannot be changed";
     watched->is_changed = true;
     if (!begin_screen()) return false;
     run->cause = "no process can be started";
@@ -343,13 +342,13 @@ static bool start(struct run *run, struct pipes *ends) {
 
 /* Makes what the watcher and the program need. */
 static bool prepare(struct run *run, struct pipes *ends) {
-    run->cause = "the terminal tells no settings";
+    run->cause = "the terminal's settings cannot be read";
     if (!note_settings()) return false;
     prepare_screen(run->title, run->has_mouse);
     run->cause = "no pipe can be made";
     if (!open_words(&now_running.pipes, ends)) return false;
     run->cause = "no process can be started";
-    if (!start_watcher(now_running.pipes.words, ends->words)) return false;
+    if (!start_watcher(now_running.pipes.words, run->held)) return false;
     run->cause = "no pipe can be made";
     return open_pipes(&now_running.pipes, ends);
 }

@@ -38,13 +38,16 @@ struct run {
     size_t handed_count;
     /* Permissions that no new file of the program gets. */
     unsigned mask;
+    /* The session's folder and its lock, which the watcher holds until the program has ended; -1 without a session. */
+    int held[2];
     /* Who serves saves; NULL for nobody. */
     struct saver *saver;
-    /* Called with `whose`, while the program runs, each if not NULL. None may wait. */
+    /* Called with `whose`, while the program runs, each if not NULL. None may wait. `on_second` returns whether the program is to
+     * try its journal again. */
     void *whose;
     void (*on_opened)(void *whose);
     void (*on_journal)(void *whose, bool is_kept);
-    void (*on_second)(void *whose);
+    bool (*on_second)(void *whose);
     void (*on_saved)(void *whose);
 
     /* What comes out. `status` is as in a shell: the program's, or 128 and the number of the signal that ended it. `cause` tells

@@ -5,10 +5,8 @@
 #include <signal.h>
 #include <stdatomic.h>
 #include <string.h>
-#include <sys/file.h>
 #include <sys/mman.h>
 #include <sys/prctl.h>
-#include <time.h>
 #include <unistd.h>
 
 #include "frames.h"
@@ -20,28 +18,32 @@ enum { FOLDER_LOCK_TRIES = 50, LOCK_MS = 10 };
 
 /* ---- FILE and its folder, as they are now */
 
-static void note(struct save *save, const struct look *now) {
-    struct stat opened;
+static void note(struct save *save, const struct look *now, int itself) {
     save->state.seen = *now;
     save->state.is_distrusted = false;
     if (!now->is_there || !S_ISREG(now->found.st_mode)) return;
-    int itself = open_itself(save->folder, save->file->name);
-    bool is_same = itself >= 0 && fstat(itself, &opened) == 0 && is_unchanged(&opened, &now->found);
     save->state.old = *now;
-    save->state.is_old_plain = is_same && has_access_list(itself) == NO;
-    if (itself >= 0) close(itself);
+    save->state.is_old_plain = has_access_list(itself) == NO;
 }
 
-/* Looks at FILE's name. Returns 0, or the cause why the save must not go on; `is_there` tells whether something is there that was
- * seen before. */
-static int look_now(struct save *save, bool *is_there) {
+/* Notes what is at FILE's name in a folder. */
+static void look_and_note(struct save *save, int folder) {
     struct look now;
-    if (!look_at(save->folder, save->file->name, &now)) return cause_of(errno);
+    int itself;
+    if (look_and_open(folder, save->file->name, &now, &itself)) note(save, &now, itself);
+    close_one(&itself);
+}
+
+/* Looks at FILE's name, and opens what is there. Returns 0, or the cause why the save must not go on; `is_there` tells whether it was
+ * seen before. */
+static int look_now(struct save *save, int *itself) {
+    struct look now;
+    if (!look_and_open(save->folder, save->file->name, &now, itself)) return cause_of(errno);
     enum look_verdict verdict = judge_look(&save->state.seen, &now, save->state.is_distrusted);
-    *is_there = verdict == LOOK_SAME;
+    save->is_there = verdict == LOOK_SAME;
     if (verdict == LOOK_NOT_PLAIN) return SAVE_NOT_PLAIN;
     if (verdict != LOOK_CHANGED) return 0;
-    note(save, &now);
+    note(save, &now, *itself);
     return SAVE_CHANGED;
 }
 
@@ -102,39 +104,32 @@ static bool leads_elsewhere(struct save *save) {
 /* Whether the folder's path still leads to it. A folder that was made again there is FILE's from the next save on. */
 static int check_place(struct save *save) {
     struct stat own, there;
-    struct look now;
     if (leads_elsewhere(save)) return SAVE_CHANGED;
     if (!save->file->is_at_path && !save->state.is_moved) return 0;
     int folder = open_folder_path(save);
     if (folder < 0) return errno == ENOENT || errno == ENOTDIR || errno == ELOOP ? SAVE_FOLDER_GONE : 0;
     bool is_same = fstat(folder, &there) == 0 && fstat(save->folder, &own) == 0 && is_same_file(&there, &own);
     bool is_new = !is_same && adopt(save, folder);
-    if (is_new && look_at(folder, save->file->name, &now)) note(save, &now);
-    if (!is_new) close(folder);
+    if (is_new) look_and_note(save, folder);
+    else close(folder);
     return is_same ? 0 : is_new ? SAVE_CHANGED : SAVE_FOLDER_GONE;
 }
 
 /* ---- the beginning */
 
-static int find_reason(struct save *save, enum reason *reason) {
+static enum reason find_reason(struct save *save, int itself) {
     struct facts facts, of_folder;
-    int itself = open_itself(save->folder, save->file->name);
-    if (itself < 0) return errno == ENOENT ? SAVE_CHANGED : cause_of(errno);
     find_facts(itself, save->folder, &facts);
     find_folder_facts(save->folder, &of_folder);
-    close(itself);
     save->is_listless = !facts.has_access_list;
-    *reason = find_in_place(&facts, &save->state.seen, &of_folder);
-    return 0;
+    return find_in_place(&facts, &save->state.seen, &of_folder);
 }
 
-static int settle_way(struct save *save) {
+static int settle_way(struct save *save, int itself) {
     const struct saver *saver = save->saver;
-    enum reason reason = NO_REASON;
     save->is_in_place = save->is_listless = false;
     if (!save->is_there || !S_ISREG(save->state.seen.found.st_mode)) return 0;
-    int cause = find_reason(save, &reason);
-    if (cause != 0) return cause;
+    enum reason reason = find_reason(save, itself);
     bool is_itself = save->state.is_held || (saver->is_itself && !save->state.is_replaced);
     save->is_in_place = saver->mark_folder >= 0 || is_itself || reason != NO_REASON;
     /* a mark beside FILE would not help: nothing can be put there */
@@ -154,10 +149,10 @@ static int open_draft(struct save *save) {
 }
 
 static int begin_here(struct save *save) {
-    int cause = look_now(save, &save->is_there);
-    if (cause == 0) cause = settle_way(save);
-    if (cause != 0) return cause;
-    return cause_of(open_draft(save));
+    int itself, cause = look_now(save, &itself);
+    if (cause == 0) cause = settle_way(save, itself);
+    close_one(&itself);
+    return cause == 0 ? cause_of(open_draft(save)) : cause;
 }
 
 /* Settles where a save goes, and opens its draft. */
@@ -173,12 +168,8 @@ static int save_begin(struct save *save) {
 
 /* Opens the folder to be synced, and keeps other saves of the editor out of it for as long as the child lives. */
 static void lock_folder(struct save *save) {
-    const struct timespec pause = {.tv_nsec = LOCK_MS * 1000000L};
     save->folder_to_sync = openat(save->folder, ".", O_RDONLY | O_DIRECTORY | O_CLOEXEC);
-    for (int tries = 0; save->folder_to_sync >= 0 && tries < FOLDER_LOCK_TRIES; tries++) {
-        if (flock(save->folder_to_sync, LOCK_EX | LOCK_NB) == 0 || errno != EWOULDBLOCK) return;
-        nanosleep(&pause, NULL);
-    }
+    if (save->folder_to_sync >= 0) lock_file(save->folder_to_sync, FOLDER_LOCK_TRIES, LOCK_MS);
 }
 
 int save_sync_folder(const struct save *save) {
@@ -209,13 +200,12 @@ static enum placed place(struct save *save) {
 
 static int replace(struct save *save) {
     struct stat before;
-    struct look now;
     if (fstat(save->draft.file, &before) != 0) return cause_of(errno);
     enum placed placed = place(save);
     if (placed == PLACE_FAILED) return cause_of(errno);
     if (placed == PLACE_MOUNTED) save->state.is_held = true;
     if (placed != PLACED) {
-        if (look_at(save->folder, save->file->name, &now)) note(save, &now);
+        look_and_note(save, save->folder);
         return SAVE_CHANGED;
     }
     /* the new name is on the disk before the old file goes */
@@ -242,7 +232,8 @@ static int save_commit(struct save *save) {
     int error = complete(save);
     if (error != 0) return cause_of(error);
     lock_folder(save);
-    int cause = look_now(save, &save->is_there);
+    int itself, cause = look_now(save, &itself);
+    close_one(&itself);
     if (cause == 0) cause = check_place(save);
     if (cause != 0) return cause;
     /* how a FILE is saved that came back meanwhile is settled at the next beginning */
@@ -358,10 +349,6 @@ bool saver_open(struct saver *saver, struct file *file) {
     state->old = file->look;
     state->is_old_plain = !file->facts.has_access_list && !file->facts.is_unsure;
     return true;
-}
-
-void saver_distrust(struct saver *saver) {
-    current(saver)->is_distrusted = true;
 }
 
 pid_t saver_start(struct saver *saver, int request, int answer) {

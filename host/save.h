@@ -30,9 +30,6 @@ struct saver {
  * is_itself, which are -1, -1 and false. Returns false without memory. */
 bool saver_open(struct saver *saver, struct file *file);
 
-/* Has the next save fail as if another program had changed FILE, unless FILE is gone then. */
-void saver_distrust(struct saver *saver);
-
 /* Forks the child that serves one save, from its BEGIN frame on `request`, which it answers on `answer`, to its end. Returns its
  * process, or -1: then it is as after saver_finish that returns false. To be called whenever `request` can be read and there is no child. */
 pid_t saver_start(struct saver *saver, int request, int answer);

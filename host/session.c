@@ -2,7 +2,6 @@
 
 #include <errno.h>
 #include <fcntl.h>
-#include <poll.h>
 #include <stdio.h>
 #include <stdlib.h>
 #include <string.h>
@@ -73,16 +72,17 @@ void time_words(const struct timespec *time, char words[32]) {
     if (localtime_r(&time->tv_sec, &parts)) strftime(words, 32, "%Y-%m-%d %H:%M", &parts);
 }
 
-bool versions_look(const char *version, const char *const *files, size_t count, char words[MOST_WORDS]) {
+const char *versions_look(const char *version, const char *const *files, size_t count, char words[MOST_WORDS]) {
     struct stat found;
     size_t length = (size_t)snprintf(words, MOST_WORDS, "bidi-edit %s\n", version);
     for (size_t at = 0; at < count; at++) {
-        if (stat(files[at], &found) != 0) return false;
+        if (stat(files[at], &found) != 0) return files[at];
         length += (size_t)snprintf(words + length, MOST_WORDS - length, "%lld %lld %lld\n", (long long)found.st_size,
                                    (long long)found.st_mtim.tv_sec, (long long)found.st_mtim.tv_nsec);
-        if (length >= MOST_WORDS) return false;
+        errno = ENAMETOOLONG;
+        if (length >= MOST_WORDS) return files[at];
     }
-    return true;
+    return NULL;
 }
 
 /* ---- the folder, and its locks */
@@ -121,25 +121,14 @@ static int make_folder(struct session *session, const struct sessions *sessions)
     return EEXIST;
 }
 
-/* Locks an open file. Returns 0, EWOULDBLOCK where another process has it for a second, or why it cannot be locked. */
-static int lock_file(int file) {
-    for (int tries = 0; tries < LOCK_TRIES; tries++) {
-        if (flock(file, LOCK_EX | LOCK_NB) == 0) return 0;
-        if (errno == EINTR) continue;
-        if (errno != EWOULDBLOCK) return errno;
-        poll(NULL, 0, LOCK_PAUSE_MS);
-    }
-    return EWOULDBLOCK;
-}
-
 /* Locks the folder, which no name leads away from, and its file `lock`, by which editors of before see it. A disk that locks no
  * folders, as by NFS, has the file alone. */
 static int lock_both(struct session *session) {
-    int of_folder = lock_file(session->folder);
+    int of_folder = lock_file(session->folder, LOCK_TRIES, LOCK_PAUSE_MS);
     if (of_folder == EWOULDBLOCK) return of_folder;
     session->lock = part_open(session->folder, part_name(PART_LOCK), O_RDWR | O_CREAT);
     if (session->lock < 0) return errno;
-    int of_file = lock_file(session->lock);
+    int of_file = lock_file(session->lock, LOCK_TRIES, LOCK_PAUSE_MS);
     session->is_locked = of_file == 0 || (of_file != EWOULDBLOCK && of_folder == 0);
     return session->is_locked ? 0 : of_file;
 }
@@ -268,7 +257,7 @@ int session_renew(struct session *renewed, const struct sessions *sessions, cons
     int snapshot = error ? -1 : session_open(old, PART_SNAPSHOT);
     if (!error) error = snapshot < 0 || !renewed->parts[PART_PATH].is_kept ? ENOENT : 0;
     if (!error) error = choose_source(renewed, snapshot);
-    if (!error && renewed->is_waiting) error = renewed->error ? renewed->error : ENOSPC;
+    if (!error && renewed->is_waiting) error = renewed->error;
     if (!error) error = write_session(renewed);
     if (snapshot >= 0) close(snapshot);
     if (error) {

@@ -154,10 +154,12 @@ struct session {
     /* The child that writes: its number, the pipe of what it reports, and when it began; -1 if there is none. */
     pid_t child;
     int report;
-    time_t since;
-    /* The journal, as the mirror has it; the mirror has less than the journal; it is not on the disk yet. */
+    int64_t since;
+    /* The journal, as the mirror has it; what `journal` names in the folder has less than the journal, or the disk refuses it. */
     struct stat mirrored;
-    bool is_mirror_behind, is_mirror_new;
+    bool is_journal_behind, is_journal_refused;
+    /* The size of the journal as it is on the disk, and as a child puts it there; -1 for a new mirror. */
+    off_t synced, syncing;
     struct kept_part parts[PARTS];
 };
 
@@ -263,8 +265,8 @@ bool read_line_ends(int file, struct line_ends *ends);
 const struct process *this_process(void);
 /* As users read it: date, hour and minute. */
 void time_words(const struct timespec *time, char words[32]);
-/* The version and the sizes and times of these files. Returns false where one cannot be looked at. */
-bool versions_look(const char *version, const char *const *files, size_t count, char words[MOST_WORDS]);
+/* The version and the sizes and times of these files. Returns NULL, or the one that cannot be looked at, and errno. */
+const char *versions_look(const char *version, const char *const *files, size_t count, char words[MOST_WORDS]);
 
 /* ---- the sessions of a file (find.c) */
 
@@ -295,7 +297,7 @@ void walk_end(struct walk *walk);
 
 enum session_state session_state(const struct session *session);
 
-/* Removes folders that killed starts left, after an hour. */
+/* Removes the user's folders that killed starts left, after an hour. */
 void sessions_sweep(const struct sessions *sessions);
 /* Removes all sessions with dropped changes except this one, of whatever file. */
 void sessions_forget_dropped(const struct sessions *sessions, const struct session *except);

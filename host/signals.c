@@ -13,7 +13,8 @@ enum { PIECE_MS = 100, RING_MS = 20, LOOK_MS = 50 };
 enum { WRITE_PIECE = 4096, WRITE_TRIES = 3 };
 
 volatile sig_atomic_t end_signal, is_resized, is_continued, is_stop_asked;
-volatile int64_t end_time;
+/* When it came. */
+static volatile int64_t end_time;
 
 /* What is blocked as the host was started, and in its waits. */
 static sigset_t first_mask, waiting_mask;
@@ -39,7 +40,9 @@ void note_end(int number) {
     end_time = now();
 }
 
-static void note_waking(int number) {
+static void note_waking(int number, siginfo_t *info, void *context) {
+    (void)info;
+    (void)context;
     if (number == SIGWINCH) is_resized = 1;
     if (number == SIGCONT) is_continued = 1;
     if (number == SIGTSTP) is_stop_asked = 1;
@@ -67,21 +70,16 @@ static bool is_ignored(int number) {
     return sigaction(number, NULL, &before) != 0 || (!(before.sa_flags & SA_SIGINFO) && before.sa_handler == SIG_IGN);
 }
 
-/* Has a signal of the end handled, but not one that the caller has ignored. */
-static void handle_ending(int number, void (*handler)(int, siginfo_t *, void *)) {
-    struct sigaction action = {0};
-    if (number != SIGALRM && is_ignored(number)) return;
+static void handle(int number, void (*handler)(int, siginfo_t *, void *)) {
+    struct sigaction action = {.sa_flags = SA_SIGINFO};
     sigemptyset(&action.sa_mask);
-    action.sa_flags = SA_SIGINFO;
     action.sa_sigaction = handler;
     sigaction(number, &action, NULL);
 }
 
-static void handle_waking(int number) {
-    struct sigaction action = {0};
-    sigemptyset(&action.sa_mask);
-    action.sa_handler = note_waking;
-    sigaction(number, &action, NULL);
+/* Has a signal of the end handled, but not one that the caller has ignored. */
+static void handle_ending(int number, void (*handler)(int, siginfo_t *, void *)) {
+    if (number == SIGALRM || !is_ignored(number)) handle(number, handler);
 }
 
 static void block(const int *numbers, size_t count) {
@@ -99,7 +97,7 @@ void set_first_signals(void) {
     sigprocmask(SIG_SETMASK, NULL, &first_mask);
     waiting_mask = first_mask;
     block(child, 1);
-    handle_waking(SIGCHLD);
+    handle(SIGCHLD, note_waking);
     handle_ending(SIGPIPE, die_unless_own);
     handle_ending(SIGXFSZ, die_unless_own);
 }
@@ -108,10 +106,10 @@ void catch_signals(void) {
     block(ending, ENDING);
     block(waking, WAKING);
     for (size_t i = 0; i < ENDING; i++) handle_ending(ending[i], note_ending);
-    for (size_t i = 0; i < WAKING; i++) handle_waking(waking[i]);
+    for (size_t i = 0; i < WAKING; i++) handle(waking[i], note_waking);
     if (is_ignored(SIGTSTP)) return;
     block(stopping, 1);
-    handle_waking(SIGTSTP);
+    handle(SIGTSTP, note_waking);
 }
 
 static void let_signal_in(int number, bool is_let) {
@@ -133,7 +131,7 @@ void stop_here(void) {
     is_stop_asked = 1;
     let_stops_in();
     let_signal_in(SIGTSTP, false);
-    handle_waking(SIGTSTP);
+    handle(SIGTSTP, note_waking);
 }
 
 void give_back_signals(void) {

@@ -12,14 +12,12 @@
 #include <stdint.h>
 #include <sys/types.h>
 
-/* A host that got a signal is gone END_MS later, as far as the kernel lets it; what it still has to do then has LEAST_MS. A child
- * that is killed has ended within DYING_MS, if at all. */
-enum { END_MS = 4300, LEAST_MS = 100, DYING_MS = 300 };
+/* A host that got a signal is gone END_MS later, as far as the kernel lets it; what it still has to do then has LEAST_MS. The program
+ * has GRACE_MS to end. A child that is killed has ended within DYING_MS, if at all. */
+enum { END_MS = 4300, GRACE_MS = 3000, LEAST_MS = 100, DYING_MS = 300 };
 
-/* The first signal that asked for the end, or 0, and when it came; whether the window changed; whether a stop has ended; whether one
- * is asked for. */
+/* The first signal that asked for the end, or 0; whether the window changed; whether a stop has ended; whether one is asked for. */
 extern volatile sig_atomic_t end_signal, is_resized, is_continued, is_stop_asked;
-extern volatile int64_t end_time;
 
 /* At the start: a write to a pipe without a reader, or beyond a limit, fails and ends nothing; ends of children wake waits. */
 void set_first_signals(void);

@@ -17,6 +17,7 @@
 
 #include "run.h"
 #include "signals.h"
+#include "util.h"
 #include "words.h"
 
 /* Bytes that wait for the terminal at most, of a title, and of other sequences;
@@ -245,9 +246,9 @@ void drain_paste(struct paste *paste, int64_t limit) {
 
 /* ---- the watcher */
 
-/* Milliseconds from the host's death on: how long the program has, and a save. TTY_RESTORE_MS: the
- * terminal's to take what restores it; WATCH_MS: between looks at a process. */
-enum { PROGRAM_MS = 3000, SAVE_MS = 4500, TTY_RESTORE_MS = 1000, WATCH_MS = 50 };
+/* Milliseconds. SAVE_MS: a save's from the host's death on; TTY_RESTORE_MS: the terminal's to take what restores it; WATCH_MS: between
+ * looks at a process. */
+enum { SAVE_MS = 4500, TTY_RESTORE_MS = 1000, WATCH_MS = 50 };
 
 struct watched *watched;
 pid_t watcher;
@@ -312,7 +313,7 @@ static _Noreturn void watch(int words, pid_t host) {
     /* as soon as can be, since a shell sets its own now; where it has, they stay */
     if (is_changed && is_raw()) restore_settings();
     if (is_paste) tcflow(terminal_line, TCOON);
-    if (!ends_before(words, start + PROGRAM_MS) && watched->program > 0) kill(watched->program, SIGKILL);
+    if (!ends_before(words, start + GRACE_MS) && watched->program > 0) kill(watched->program, SIGKILL);
     if (is_changed) restore_screen(TTY_RESTORE_MS);
     /* its pipe has ended with the program */
     while (watched->saver > 0 && now() < start + SAVE_MS && kill(watched->saver, 0) == 0) poll(NULL, 0, WATCH_MS);
@@ -320,35 +321,35 @@ static _Noreturn void watch(int words, pid_t host) {
     _exit(0);
 }
 
-/* Closes what would keep others waiting, and lets no signal but SIGKILL end the watcher. */
-static _Noreturn void become_watcher(int words, int words_end, pid_t host) {
+/* Closes all but what it needs: FILE and the ends of pipes would keep others waiting. Lets no signal but SIGKILL end the watcher. */
+static _Noreturn void become_watcher(int words, const int held[2], pid_t host) {
+    const int kept[] = {words, terminal_line, held[0], held[1]};
     sigset_t mask;
     sigfillset(&mask);
     sigprocmask(SIG_SETMASK, &mask, NULL);
     setpgid(0, 0);
     /* who has no terminal is never in the background of one */
     ioctl(terminal_line, TIOCNOTTY);
-    const int others[] = {words_end, terminal_screen, STDIN_FILENO, STDOUT_FILENO, STDERR_FILENO};
-    for (size_t i = 0; i < sizeof others / sizeof *others; i++) close(others[i]);
+    close_others(kept, sizeof kept / sizeof *kept);
     watch(words, host);
 }
 
 /* Makes what is shared, with a lock that the host holds as long as it lives. */
 static bool share(void) {
-    pthread_mutexattr_t kind;
+    pthread_mutexattr_t attributes;
     void *shared = mmap(NULL, sizeof *watched, PROT_READ | PROT_WRITE, MAP_SHARED | MAP_ANONYMOUS, -1, 0);
     if (shared == MAP_FAILED) return false;
     watched = shared;
-    return pthread_mutexattr_init(&kind) == 0 && pthread_mutexattr_setpshared(&kind, PTHREAD_PROCESS_SHARED) == 0 &&
-           pthread_mutexattr_setrobust(&kind, PTHREAD_MUTEX_ROBUST) == 0 && pthread_mutex_init(&watched->life, &kind) == 0 &&
+    return pthread_mutexattr_init(&attributes) == 0 && pthread_mutexattr_setpshared(&attributes, PTHREAD_PROCESS_SHARED) == 0 &&
+           pthread_mutexattr_setrobust(&attributes, PTHREAD_MUTEX_ROBUST) == 0 && pthread_mutex_init(&watched->life, &attributes) == 0 &&
            pthread_mutex_lock(&watched->life) == 0;
 }
 
-bool start_watcher(int words, int words_end) {
+bool start_watcher(int words, const int held[2]) {
     if (!share()) return false;
     pid_t host = getpid();
     watcher = fork_under_name();
-    if (watcher == 0) become_watcher(words, words_end, host);
+    if (watcher == 0) become_watcher(words, held, host);
     if (watcher < 0) watcher = 0;
     /* before the terminal changes: a kill of the whole job spares it */
     return watcher > 0 && (setpgid(watcher, watcher) == 0 || errno == EACCES);

@@ -96,8 +96,9 @@ extern pid_t watcher;
 /* Takes note of the word that the host was started with, which the watcher overwrites in its own copy. */
 void note_own_word(char *word);
 
-/* Starts it. It sees the end of the program by that of the program's words, whose reading and writing ends are given. */
-bool start_watcher(int words, int words_end);
+/* Starts it. It sees the end of the program by that of the program's words, which it reads, and holds the session's folder and lock
+ * until then (-1 without a session). */
+bool start_watcher(int words, const int held[2]);
 
 /* Kills it: the host has restored the terminal itself. */
 void end_watcher(void);

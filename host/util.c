@@ -2,10 +2,12 @@
 
 #include <errno.h>
 #include <fcntl.h>
+#include <poll.h>
 #include <stdarg.h>
 #include <stdio.h>
 #include <stdlib.h>
 #include <string.h>
+#include <sys/file.h>
 #include <sys/ioctl.h>
 #include <sys/random.h>
 #include <sys/stat.h>
@@ -70,6 +72,10 @@ bool put_path(char path[PATH_MAX], const char *format, ...) {
     if (length >= 0 && length < PATH_MAX) return true;
     path[0] = '\0';
     return false;
+}
+
+const char *before_slash(const char *folder) {
+    return strcmp(folder, "/") == 0 ? "" : folder;
 }
 
 const char *variable(const char *name) {
@@ -144,6 +150,16 @@ const char *next_entry(DIR *entries) {
 
 bool is_lacking(int error) {
     return error == ENOSYS || error == EINVAL || error == EOPNOTSUPP;
+}
+
+int lock_file(int file, int tries, int milliseconds) {
+    for (; tries > 0; tries--) {
+        if (flock(file, LOCK_EX | LOCK_NB) == 0) return 0;
+        if (errno == EINTR) continue;
+        if (errno != EWOULDBLOCK) return errno;
+        poll(NULL, 0, milliseconds);
+    }
+    return EWOULDBLOCK;
 }
 
 int sync_file(int file) {

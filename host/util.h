@@ -31,6 +31,9 @@ struct link link_of(int file);
 /* Puts a path together; false, and an empty path, where it is too long. */
 bool put_path(char path[PATH_MAX], const char *format, ...) __attribute__((format(printf, 2, 3)));
 
+/* What precedes the slash and a name in this folder. */
+const char *before_slash(const char *folder);
+
 /* A variable of the environment; NULL where it is not set or empty. */
 const char *variable(const char *name);
 
@@ -50,6 +53,10 @@ const char *next_entry(DIR *entries);
 
 /* Whether a call failed since the system or the file system lacks it. */
 bool is_lacking(int error);
+
+/* Locks an open file, for which it tries so many times and waits so long after each. Returns 0, EWOULDBLOCK where another process
+ * has it all the time, or why it cannot be locked. */
+int lock_file(int file, int tries, int milliseconds);
 
 /* Syncs a file, or a folder, to the disk, where its file system can. */
 int sync_file(int file);

@@ -8,14 +8,12 @@
 #include <sys/stat.h>
 #include <unistd.h>
 
+#include "file.h"
 #include "say.h"
 
-/* Exit statuses of refusals. */
-enum { REFUSED_NAME = 1, REFUSED_WORDS = 2 };
-
-/* The last line of the longest text: 16,777,216 line feeds end as many lines, and one more line follows. Numbers from TOO_LARGE
- * on, of more than eight digits, name it too. */
-static const unsigned long last_line = 16777217, too_large = 100000000;
+/* The last line of the longest text: so many line feeds end as many lines, and one more line follows. Numbers from TOO_LARGE on, of
+ * more than eight digits, name it too. */
+static const unsigned long last_line = LARGEST_TEXT + 1, too_large = 100000000;
 
 #define USAGE                                                                                                                     \
     "usage: bidi-edit [--direction auto|ltr|rtl] [--line N | +N] [--force] FILE\n"                                                \
@@ -31,7 +29,7 @@ const char help_text[] = USAGE "\n"
     "Edits text of any scripts, each paragraph in its direction, from line N. --force\n"
     "opens what cannot be saved, -n keeps no session, --no-joining joins no letters,\n"
     "--no-mouse and --no-clipboard leave these to the terminal. More: man bidi_edit\n"
-    "--recover has back or lists what was typed, --to stores it, --forget deletes it.\n"
+    "--recover recovers or lists what was typed, --to stores it, --forget deletes it.\n"
     "\n"
     "  Left Right Up Down    move as the screen shows; Left, Right with Ctrl by words\n"
     "  Ctrl-B Ctrl-F Ctrl-G  go back, on as the text is stored; to a line, 12 or 12:5\n"
@@ -241,13 +239,13 @@ int read_words(int count, char *const *words, struct call *call, const char **ca
     take_words(&reading, count, words);
     if (reading.cause) {
         *cause = text_of("%s\n%s", reading.cause, reading.is_print ? print_usage : usage);
-        return REFUSED_WORDS;
+        return STATUS_NO;
     }
     const char *const names[] = {reading.other, reading.file};
     for (size_t i = 0; i < sizeof names / sizeof *names; i++) {
         if (!names[i] || is_utf8(names[i])) continue;
         *cause = text_of("%s has a name that is not UTF-8: mv gives it another", shown(names[i]));
-        return REFUSED_NAME;
+        return STATUS_FAULT;
     }
     if (reading.file) call->file = word_path(reading.file);
     if (reading.other) call->other = word_path(reading.other);

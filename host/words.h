@@ -8,6 +8,9 @@
 /* The editor's version, also told by CHANGELOG.md and docs/bidi_edit.1. Sessions note it. */
 #define EDITOR_VERSION "0.4.0"
 
+/* Exit statuses: of a fault or a refusal; of a refused command line, after a no, or no answer. */
+enum { STATUS_FAULT = 1, STATUS_NO = 2 };
+
 /* The sides of a window, and of a printed row. */
 enum { LARGEST_SIDE = 500 };
 

@@ -16,7 +16,7 @@ trap 'chmod -R u+w "$folder"; rm -rf -- "$folder"' EXIT
 trap 'exit 1' HUP INT TERM
 passed=0 failed=0 skipped=0
 # shellcheck disable=SC2034 # of the parts
-tree=$folder/tree names="$dist_programs $dist_player" player=$dist_player
+tree=$folder/tree names=$dist_programs player=$dist_player
 export LC_ALL=C HOME="$folder/home" TOLD="$folder/told"
 unset XDG_CACHE_HOME
 umask 022

@@ -263,13 +263,17 @@ break_off() { # ROW WORDS KEY..
     wait_for 150 has_row shell '- 1:1'
     terminal send-keys -t shell "$@"
     wait_for 150 has_row shell "$row"
+    # a start that has not kept all of it yet leaves no session
+    wait_for 150 has_session
     process=$(terminal list-panes -t shell -F '#{pane_pid}')
     if [ -n "$words" ]; then
         kill -s KILL "$(program_under "$process")"
         expect "$scene" "$words"
     else
-        # the host first, which else sees how the program ended, and tells it
-        kill -s KILL "$(ps -o pid= --ppid "$process" | tr -d ' ')" "$(program_under "$process")"
+        # the host first, which else sees how the program ended, and tells it; a stopped program does not see its input end
+        program=$(program_under "$process")
+        kill -s STOP "$program"
+        kill -s KILL "$(ps -o pid= --ppid "$process" | tr -d ' ')" "$program"
         # the watcher gives the terminal back
         wait_for 150 shows_shell
     fi
@@ -312,7 +316,7 @@ scene_changed_by_another() {
 scene_dropped() {
     open_shell
     say bidi-edit text
-    wait_for 150 has_row shell '- 1:1' && end_by_keys y C-q C-q && expect "$scene" 'what was dropped can be had back' &&
+    wait_for 150 has_row shell '- 1:1' && end_by_keys y C-q C-q && expect "$scene" 'what was dropped can be recovered' &&
         say clear && say bidi-edit --recover text && wait_for 150 has_row shell '* 1:2 recovered' && end_by_keys C-s C-q &&
         say 'grep -c y text; ls state/bidi_edit | wc -l' && expect "$scene" 1 && expect "$scene" 0
 }

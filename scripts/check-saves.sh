@@ -73,6 +73,7 @@ check_points() {
 check_changes
 check_changes_in_place
 check_drafts
+check_paths
 check_losses
 check_names
 check_owners

@@ -1,6 +1,6 @@
 #!/bin/sh
 # install.sh [--uninstall] [PREFIX]: installs the host, the programs, the tables and the manual page under PREFIX, by default
-# $HOME/.local, or removes them. It takes the programs that are built in crates/, or, where the editor is not, all of dist/, if they
+# $HOME/.local, or removes them. It takes the programs that are built in crates/, or, where the editor is not, those of dist/, if they
 # belong to the sources. It compiles the host where a source is newer, and proves nothing. Exit status 1: neither is there, or there
 # is no C compiler for the host. The installation is independent of this repository.
 #
@@ -85,11 +85,10 @@ copy_all() {
     take 644 "$top/docs/bidi_edit.1" share/man/man1/bidi_edit.1
     echo '.so man1/bidi_edit.1' >"$beside/tree/share/man/man1/bidi-edit.1"
     # the toolchain that built the editor, for --version
-    if [ -n "$start" ]; then
-        take 644 "$start/lib/bidi_edit/kit" lib/bidi_edit/kit
-    elif command -v rt >/dev/null; then
-        rt version >"$beside/tree/lib/bidi_edit/kit"
-    fi
+    kit=$top/crates/bidi_edit/out/kit
+    [ -z "$start" ] || kit=$start/lib/bidi_edit/kit
+    if [ -z "$start" ] && rt version >"$beside/kit" 2>/dev/null; then kit=$beside/kit; fi
+    [ ! -f "$kit" ] || take 644 "$kit" lib/bidi_edit/kit
 }
 
 # ---- the record: a line `SUM PATH` for each file, `folder PATH` for each folder created, with paths below PREFIX

@@ -1,10 +1,10 @@
 #!/bin/sh
 # make-deb.sh [FOLDER]: makes bidi-edit_VERSION_amd64.deb and bidi-edit_VERSION_amd64.tar.gz, with the same tree, for users
 # without the toolchain, in FOLDER (by default out/ at the top of the repository). It takes the programs that are built and proved in
-# crates/, or those of dist/ if they belong to the sources, and compiles the host with cc. The only tools it needs beyond a plain Debian are these two; the status is 77 if dpkg-deb
-# is missing, and 1 without a compiler. Then it checks both: lintian and two readers of manuals find no fault, the package is
-# installed in a clean root folder, where it offers itself as `editor`, used there in tmux and removed, and the tree of the tar file
-# is used too. Checks without their tool are skipped. The last line has the totals. Exit status 1: a check failed.
+# crates/, or those of dist/ if they belong to the sources, and compiles the host with cc. Beyond a plain Debian it needs only these
+# two: without dpkg-deb the status is 77, without a compiler 1. Then it checks both files: lintian and two readers of manuals find no
+# fault, the package is installed in a clean root folder, where it offers itself as `editor`, used there in tmux and removed, and the
+# tree of the tar file is used too. Checks without their tool are skipped. The last line has the totals. Exit status 1: a check failed.
 set -eu
 
 top=$(cd "$(dirname "$0")/.." && pwd)
@@ -13,7 +13,7 @@ top=$(cd "$(dirname "$0")/.." && pwd)
 # shellcheck source=scripts/built.sh
 . "$top/scripts/built.sh"
 version=$(sed -n 's/^#define EDITOR_VERSION "\(.*\)"$/\1/p' "$top/host/words.h")
-name=bidi-edit_${version}_amd64
+stem=bidi-edit_${version}_amd64
 folder=$(mktemp -d)
 socket="bd$$"
 passed=0 failed=0 skipped=0
@@ -35,17 +35,17 @@ has_tool() { # NAME TOOL
     return 1
 }
 
-# Refuses programs that are built in crates/ without a proof, and else the lack of ready ones. install.sh takes the latter where the
-# editor is not built.
+# Refuses programs that are built in crates/ without a proof. Where the editor is not built, install.sh takes the ready programs, so
+# they must be there.
 need_proved() {
-    for name in bidi_edit bidi_print; do
-        built=$top/crates/$name/out/$name
-        if [ "$name" != bidi_print ] && ! [ -x "$built" ]; then
-            find_start thoroughly || refuse "${cause:-there is no dist/ to take it from}; launcher/proving/prove.sh . $name builds $name"
-            return
-        fi
-        if ! [ -x "$built" ] || ! [ -f "$built.stamp" ]; then refuse "$built is not built and proved: launcher/proving/prove.sh . $name does it"; fi
-        is_proved "$built" || refuse "$built is not what its stamp tells: rt run in crates/$name builds it anew"
+    if ! [ -x "$top/crates/bidi_edit/out/bidi_edit" ]; then
+        find_start thoroughly || refuse "${cause:-there is no dist/ to take it from}; launcher/proving/prove.sh . bidi_edit bidi_print builds both programs"
+        return
+    fi
+    for program in bidi_edit bidi_print; do
+        built=$top/crates/$program/out/$program
+        if ! [ -x "$built" ] || ! [ -f "$built.stamp" ]; then refuse "$built is not built and proved: launcher/proving/prove.sh . $program does it"; fi
+        is_proved "$built" || refuse "$built is not what its stamp tells: rt run in crates/$program builds it anew"
     done
 }
 
@@ -144,7 +144,7 @@ make_package() {
     make_scripts "$package"
     chmod -R u=rwX,go=rX "$package"
     chmod 755 "$package/DEBIAN/postinst" "$package/DEBIAN/prerm"
-    dpkg-deb --root-owner-group --build "$package" "$target/$name.deb" >/dev/null
+    dpkg-deb --root-owner-group --build "$package" "$target/$stem.deb" >/dev/null
 }
 
 # Makes the tar file with the tree of /usr, to be unpacked anywhere.
@@ -152,7 +152,7 @@ make_tar() {
     mkdir "$folder/tar"
     cp -R "$package/usr" "$folder/tar/bidi-edit-$version"
     rm -rf "$folder/tar/bidi-edit-$version/share/lintian"
-    tar -C "$folder/tar" --owner=root --group=root --sort=name -czf "$target/$name.tar.gz" "bidi-edit-$version"
+    tar -C "$folder/tar" --owner=root --group=root --sort=name -czf "$target/$stem.tar.gz" "bidi-edit-$version"
 }
 
 # ---- the checks
@@ -206,7 +206,7 @@ check_version() { # NAME FOLDER
 
 check_lintian() {
     has_tool lintian lintian || return 0
-    lintian --allow-root "$target/$name.deb" >"$folder/lintian" 2>&1 || :
+    lintian --allow-root "$target/$stem.deb" >"$folder/lintian" 2>&1 || :
     same 'lintian, errors' "$(grep -c -e '^E:' -e '^lintian: ' "$folder/lintian")" 0
     cat "$folder/lintian"
 }
@@ -228,8 +228,10 @@ check_package() {
     has_tool 'package, installed' dpkg && has_tool 'package, installed' update-alternatives || return 0
     for each in var/lib/dpkg/info var/lib/dpkg/updates var/lib/dpkg/alternatives etc/alternatives var/log; do mkdir -p "$folder/tree/$each"; done
     : >"$folder/tree/var/lib/dpkg/status"
-    in_root --install "$target/$name.deb" && found=0 || found=1
+    in_root --install "$target/$stem.deb" && found=0 || found=1
     report 'package, installed' "$found" "$(cat "$folder/dpkg")"
+    # shellcheck disable=SC2016 # the fields are dpkg's
+    same 'package, its name' "$(dpkg-deb --show --showformat='${Package}_${Version}_${Architecture}' "$target/$stem.deb")" "$stem"
     same 'package, as dpkg tells' "$(in_root --status bidi-edit && sed -n 's/^Status: //p' "$folder/dpkg")" 'install ok installed'
     same 'package, as editor' "$(readlink "$folder/tree/usr/bin/editor" "$folder/tree/etc/alternatives/editor" | paste -s -d ' ')" \
         '/etc/alternatives/editor /usr/bin/bidi-edit'
@@ -244,7 +246,7 @@ check_package() {
 
 check_tar() {
     mkdir "$folder/unpacked"
-    tar -C "$folder/unpacked" -xzf "$target/$name.tar.gz"
+    tar -C "$folder/unpacked" -xzf "$target/$stem.tar.gz"
     check_version tar "$folder/unpacked/bidi-edit-$version"
     use tar "$folder/unpacked/bidi-edit-$version"
     same 'tar, the same tree' "$(cd "$folder/unpacked/bidi-edit-$version" && find . ! -type d | sort)" \
@@ -267,6 +269,6 @@ check_manual
 check_lintian
 check_package
 check_tar
-ls -l "$target/$name.deb" "$target/$name.tar.gz"
+ls -l "$target/$stem.deb" "$target/$stem.tar.gz"
 echo "$passed passed, $failed failed, $skipped skipped"
 [ "$failed" = 0 ]

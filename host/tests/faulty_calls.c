@@ -4,7 +4,7 @@
  *   FAULT_ERROR=N    with this errno; 0 kills the process before the call, -1 after it
  *   FAULT_LOG=PATH   the names of the calls are appended there, a line each; and `FAULT` after the one that failed
  *   LACKS=WORDS      calls that the system or the file system does not have: tmpfile, exchange, noreplace, link, sync, lock, lists,
- *                    statx, access, close_range, proc
+ *                    statx, close_range; and proc, for paths below /proc, which the driver has at its start as the host does
  */
 #include <dlfcn.h>
 #include <errno.h>
@@ -112,7 +112,7 @@ int prctl(int what, ...) {
     }
 
 static bool is_proc(const char *path) {
-    return strncmp(path, "/proc/", 6) == 0 && is_lacking("proc");
+    return is_on && strncmp(path, "/proc/", 6) == 0 && is_lacking("proc");
 }
 
 static bool is_folder(int file) {
@@ -137,8 +137,8 @@ WRAP(int, close, false, 0, (int file), (file))
 WRAP(int, fstat, false, 0, (int file, struct stat *found), (file, found))
 WRAP(int, stat, false, 0, (const char *path, struct stat *found), (path, found))
 WRAP(int, fstatat, false, 0, (int folder, const char *path, struct stat *found, int flags), (folder, path, found, flags))
-WRAP(int, linkat, is_lacking("link") && strncmp(from, "/proc/", 6) != 0, EPERM, (int folder, const char *from, int other, const char *to, int flags),
-     (folder, from, other, to, flags))
+WRAP(int, linkat, is_proc(from) || (is_lacking("link") && strncmp(from, "/proc/", 6) != 0), is_proc(from) ? ENOENT : EPERM,
+     (int folder, const char *from, int other, const char *to, int flags), (folder, from, other, to, flags))
 WRAP(int, unlinkat, false, 0, (int folder, const char *path, int flags), (folder, path, flags))
 WRAP(int, renameat, false, 0, (int folder, const char *from, int other, const char *to), (folder, from, other, to))
 WRAP(int, fsync, is_lacking("sync") && is_folder(file), EINVAL, (int file), (file))
@@ -146,13 +146,11 @@ WRAP(int, ftruncate, false, 0, (int file, off_t length), (file, length))
 WRAP(int, fchown, false, 0, (int file, uid_t owner, gid_t group), (file, owner, group))
 WRAP(int, fchmod, false, 0, (int file, mode_t mode), (file, mode))
 WRAP(int, fremovexattr, is_lacking("lists"), ENOTSUP, (int file, const char *name), (file, name))
-WRAP(ssize_t, fgetxattr, is_lacking("lists"), ENOTSUP, (int file, const char *name, void *room, size_t size), (file, name, room, size))
-WRAP(ssize_t, getxattr, is_lacking("lists") || is_proc(path), ENOENT, (const char *path, const char *name, void *room, size_t size),
-     (path, name, room, size))
-WRAP(ssize_t, flistxattr, is_lacking("lists"), ENOTSUP, (int file, char *room, size_t size), (file, room, size))
-WRAP(ssize_t, listxattr, is_lacking("lists") || is_proc(path), ENOENT, (const char *path, char *room, size_t size), (path, room, size))
-WRAP(int, faccessat, is_lacking("access") && (flags & AT_EMPTY_PATH), EINVAL, (int folder, const char *path, int how, int flags), (folder, path, how, flags))
-WRAP(int, access, is_proc(path), ENOENT, (const char *path, int how), (path, how))
+WRAP(ssize_t, getxattr, is_lacking("lists") || is_proc(path), is_proc(path) ? ENOENT : ENOTSUP,
+     (const char *path, const char *name, void *room, size_t size), (path, name, room, size))
+WRAP(ssize_t, listxattr, is_lacking("lists") || is_proc(path), is_proc(path) ? ENOENT : ENOTSUP, (const char *path, char *room, size_t size),
+     (path, room, size))
+WRAP(int, faccessat, is_proc(path), ENOENT, (int folder, const char *path, int how, int flags), (folder, path, how, flags))
 WRAP(int, fstatvfs, false, 0, (int file, struct statvfs *found), (file, found))
 WRAP(int, fstatfs, false, 0, (int file, struct statfs *found), (file, found))
 WRAP(int, flock, is_lacking("lock"), ENOLCK, (int file, int how), (file, how))

@@ -1,9 +1,10 @@
 """frame_names.py [CRATES]: checks that the crates name the letters of frames, the causes of failed saves and the notices as host/frames.h
-does: `const TYPED: u8 = b'b'` is FRAME_TYPED, the variants of `enum SaveCause` are in the order of enum save_cause, and
-notice_number gives the numbers of enum notice. Exit status 1: something differs or is not there."""
+does: `const TYPED: u8 = b'b'` is FRAME_TYPED, the variants of `enum SaveCause` are in the order of enum save_cause, and the digits
+that give `Key::Notice` are the numbers of enum notice. Exit status 1: something differs or is not there."""
 import glob, os, re, sys
 
 HERE = os.path.dirname(os.path.abspath(__file__))
+NOTICE = re.compile(r"b'(\d)' => Some\(Key::Notice\(Notice::(\w+)\)\)")
 CRATES = sys.argv[1] if len(sys.argv) > 1 else f'{HERE}/../../crates'
 
 
@@ -40,7 +41,7 @@ for path, text in sources.items():
             wrong.append(f'{path}: {variants}, and not {causes}')
 
 notices = [plain(name.removeprefix('NOTICE_')) for name in enum(header, 'notice')]
-told = {plain(name): int(number) for text in sources.values() for name, number in re.findall(r'Notice::(\w+) => (\d+),', text)}
+told = {plain(name): int(number) for text in sources.values() for number, name in NOTICE.findall(text)}
 if told != {name: number for number, name in enumerate(notices) if number}:
     wrong.append(f'{told}, and not {notices}')
 

@@ -21,9 +21,10 @@ static void require(bool is_right) {
 
 /* Words that were read are read again from what is written of them. */
 static void try_words(const char *text) {
-    char words[MOST_WORDS], again[MOST_WORDS];
+    char words[MOST_WORDS];
     struct begin begin, begin_again;
     if (begin_of(text, &begin)) {
+        char again[MOST_WORDS];
         words_of_begin(&begin, words);
         require(begin_of(words, &begin_again));
         words_of_begin(&begin_again, again);

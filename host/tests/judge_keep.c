@@ -86,13 +86,12 @@ static const struct {
 
 static const struct {
     enum end_word end;
-    bool is_refused;
     enum left_how how;
-    bool may_be_unsaved;
+    bool is_refused, may_be_unsaved;
 } hows[] = {
-    {END_SAVED, false, LEFT_SAVED, false}, {END_DROPPED, false, LEFT_DROPPED, false}, {END_UNSAVED, false, LEFT_UNSAVED, true},
-    {END_NONE, false, LEFT_UNKNOWN, true}, {END_INPUT, false, LEFT_UNKNOWN, true},    {END_OUTPUT, false, LEFT_UNKNOWN, true},
-    {END_READS, false, LEFT_UNKNOWN, true}, {END_NONE, true, LEFT_REFUSED, false},
+    {END_SAVED, LEFT_SAVED, false, false}, {END_DROPPED, LEFT_DROPPED, false, false}, {END_UNSAVED, LEFT_UNSAVED, false, true},
+    {END_NONE, LEFT_UNKNOWN, false, true}, {END_INPUT, LEFT_UNKNOWN, false, true},    {END_OUTPUT, LEFT_UNKNOWN, false, true},
+    {END_READS, LEFT_UNKNOWN, false, true}, {END_NONE, LEFT_REFUSED, true, false},
 };
 
 static const struct {

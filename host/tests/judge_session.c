@@ -222,6 +222,16 @@ static void check_states(void) {
 
 /* ---- bytes */
 
+/* Compares a text with its mark, in pieces of `step` bytes. */
+static enum verdict compare_in_pieces(const char *text, size_t size, const char *mark, size_t step) {
+    struct mark_comparison comparison;
+    size_t mark_size = strlen(mark), shared = size < mark_size ? size : mark_size, from = 0;
+    compare_begin(&comparison);
+    for (; shared - from > step; from += step) compare_more(&comparison, text + from, mark + from, step);
+    compare_more(&comparison, text + from, mark + from, shared - from);
+    return compare_end(&comparison, size, mark_size);
+}
+
 /* Each text is taken whole and in pieces of every length. */
 static void check_marks(void) {
     static const struct {
@@ -233,18 +243,9 @@ static void check_marks(void) {
         {"zeros", "h\0\0l", 4, FILE_TORN},      {"all zeros", "\0\0\0\0\0", 5, FILE_TORN}, {"another", "help", 4, FILE_OTHER},
         {"longer", "hello there", 11, FILE_OTHER}, {"zeros behind", "hello\0", 6, FILE_OTHER}, {"zeros and another", "\0e\0p", 4, FILE_OTHER},
     };
-    static const char mark[] = "hello";
-    for (size_t at = 0; at < sizeof cases / sizeof *cases; at++) {
-        size_t shared = cases[at].size < 5 ? cases[at].size : 5;
-        for (size_t step = 1; step <= 5; step++) {
-            struct mark_comparison comparison;
-            compare_begin(&comparison);
-            for (size_t from = 0; from < shared; from += step) {
-                compare_more(&comparison, cases[at].of_file + from, mark + from, step < shared - from ? step : shared - from);
-            }
-            check(compare_end(&comparison, cases[at].size, 5) == cases[at].verdict, "mark", cases[at].which);
-        }
-    }
+    for (size_t at = 0; at < sizeof cases / sizeof *cases; at++)
+        for (size_t step = 1; step <= 5; step++)
+            check(compare_in_pieces(cases[at].of_file, cases[at].size, "hello", step) == cases[at].verdict, "mark", cases[at].which);
     struct mark_comparison comparison;
     compare_begin(&comparison);
     check(compare_end(&comparison, 0, 0) == FILE_WHOLE, "mark", "both empty");

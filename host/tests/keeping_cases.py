@@ -189,7 +189,7 @@ def questions(place):
     started = place.start('a.txt').answers(CHOICE, 'L').sees(b'text <text|>').type(QUIT).ends(0)
     assert len(place.sessions()) == 1
     started = place.start('a.txt').answers(CHOICE, ' R ').sees(b'text <abctext|> *').sees(b'notice 7')
-    assert '--replay' in started.words() and place.part('journal') == b'abc\x13\x1b[8;24;80t', place.part('journal')
+    assert '--replay' in started.words() and place.part('journal') == b'abc\x13\x1b[8;24;80t\x1b[>7~', place.part('journal')
     os.kill(started.run.job, signal.SIGHUP)
     started.ends(-signal.SIGHUP)
     place.start('a.txt').answers(CHOICE, 'delete').sees(b'text <text|>').type(QUIT).ends(0)
@@ -225,7 +225,7 @@ def deletion(place):
 def dropped(place):
     """Keys that the user dropped are not asked about, but can be recovered or removed."""
     started = place.edit('a.txt').type(b'abc').sees(b'*').type(QUIT).ends(0)
-    assert started.err() == 'bidi-edit: what was dropped can be had back: bidi-edit --recover a.txt\n', started.err()
+    assert started.err() == 'bidi-edit: what was dropped can be recovered: bidi-edit --recover a.txt\n', started.err()
     place.edit('a.txt').type(QUIT).ends(0)
     assert '(dropped)' in place.tells('--recover')[1]
     place.start('--recover', 'a.txt').sees(b'text <abc>').type(QUIT).ends(0)
@@ -256,7 +256,7 @@ def live(place):
         second = place.start(name).answers(question, 'maybe').answers(question, 'no').ends(2)
         told = f'bidi-edit: {name} is open in another window of yours, process {first.run.job}. What one of them saves the other may overwrite.\n'
         assert second.out() == told, (second.out(), told)
-    assert place.tells('--recover', '--to', 'x', 'a.txt') == (1, '', 'bidi-edit: the session of a.txt goes on\n')
+    assert place.tells('--recover', '--to', 'x', 'a.txt') == (1, '', 'bidi-edit: the session of a.txt is open in another window\n')
     place.start('a.txt').answers(question, 'y').sees(b'text <').type(QUIT).ends(0)
     first.type(QUIT).ends(0)
 
@@ -280,12 +280,13 @@ def two_at_once(place):
     for _ in range(5):
         both = [place.start('a.txt', is_plain=True) for _ in range(2)]
         for started in both:
-            started.run.rest(0.4)
+            assert started.run.pump_any(20, (b'Edit it all the same', b'text <')), started.run.output
         told = [b'Edit it all the same' in started.run.output for started in both]
         assert any(told), [started.run.output for started in both]
+        time.sleep(0.05)  # as in Started.answers
         for started, is_told in zip(both, told):
             started.type(b'no\n' if is_told else QUIT)
-            assert started.run.pump(5), started.run.output
+            assert started.run.pump(15), started.run.output
             started.run.drain()
         # the last one has the pipes of the first
         for started in reversed(both):
@@ -383,7 +384,7 @@ def another_version(place):
     place.put_part('versions', b'bidi-edit 0.0.0\n')
     before = place.sessions()
     started = place.start('a.txt').answers(CHOICE, 'r').sees(b'text <abctext|> *')
-    assert 'its text is had back, and its undo history is not' in started.out() and '--unsaved' in started.words(), started.out()
+    assert 'its text is recovered, and its undo history is not' in started.out() and '--unsaved' in started.words(), started.out()
     assert place.sessions() != before and len(place.sessions()) == 1
     os.kill(started.run.job, signal.SIGHUP)
     started.ends(-signal.SIGHUP)

@@ -11,7 +11,7 @@ def saved(place):
     started = place.edit('a.txt', TYPIST='late').type(b'abc').sees(b'*').type(SAVE).sees(b'saved').type(QUIT).ends(0)
     assert place.sessions() == [], started.err()
     started = place.edit('a.txt', TYPIST='replay-hangs').type(b'abc').sees(b'*').type(QUIT).ends(0)
-    assert 'what was dropped can be had back' in started.err(), started.err()
+    assert 'what was dropped can be recovered' in started.err(), started.err()
 
 
 def killed(place):
@@ -85,16 +85,18 @@ def remove_at_once(folder, place):
 def folder_gone(place):
     """The session's folder is removed meanwhile: told by title, bell and notice, and at the end."""
     place.put('a.txt', b'text\n')
-    for keys, status, told in ((b'', -signal.SIGTERM, 'what was typed is not kept, since its folder {} is gone'),
+    for keys, status, line in ((b'', -signal.SIGTERM, 'what was typed is not kept, since its folder {} is gone'),
                                (QUIT, 0, 'only what was saved is kept, since its folder {} is gone')):
         started = place.edit('a.txt').type(b'abc').sees(b'*')
         time.sleep(0.3)
         folder = place.sessions()[0]
         remove_at_once(folder, place)
-        started.sees(b'(what is typed is not kept now: save it)').sees(b'notice 2')
+        # host and program write to the terminal in any order
+        for told in b'(what is typed is not kept now: save it)', b'notice 2':
+            assert started.run.pump(15, told), (told, started.run.output)
         started.type(keys) if keys else os.kill(started.run.job, signal.SIGTERM)
         started.ends(status)
-        assert told.format(folder) in started.err(), started.err()
+        assert line.format(folder) in started.err(), started.err()
     started = place.edit('a.txt').type(b'abc').sees(b'*').type(SAVE).sees(b'saved')
     remove_at_once(place.sessions()[0], place)
     started.type(QUIT).ends(0)
@@ -133,7 +135,7 @@ def journal_lost(place):
     started.ends(-signal.SIGTERM)
     assert 'what was typed is kept up to where its journal could not be written: ' in started.err(), started.err()
     found = place.tells('--recover', '--to', 'o', 'a.txt')
-    assert found[0] == 0 and found[1].startswith('bidi-edit: the session is cut behind its key 3, where its journal could not be written\n'), found
+    assert found[0] == 0 and found[1].startswith('bidi-edit: the session is cut off after its key 3: what followed could not be written\n'), found
 
 
 def folder_renamed(place):

@@ -118,23 +118,30 @@ def full_disk(place):
             except OSError:
                 pass
 
-        fill()
-        started = place.edit('a.txt', XDG_STATE_HOME=disk)
-        assert started.err().startswith('bidi-edit: unsaved text is not kept, since '), started.err()
-        started.sees(b'notice 1').type(b'abc').sees(b'*')
-        if 'has no room for it' in started.err():
+        def start():
+            fill()
+            started = place.edit('a.txt', XDG_STATE_HOME=disk)
+            assert started.err() == f'bidi-edit: unsaved text is not kept, since {disk}/bidi_edit has no room for it\n\a', started.err()
+            return started.sees(b'notice 1')
+
+        def make_room(started):
+            time.sleep(1.5)
             filler.truncate(0)
             filler.seek(0)
-            started.sees(b'notice 6')
-            os.kill(started.run.job, signal.SIGTERM)
-            started.ends(-signal.SIGTERM)
-            assert 'what was typed is kept: ' in started.err(), started.err()
-            found = place.tells('--recover', '--to', 'o', 'a.txt', XDG_STATE_HOME=disk)
-            assert found[0] == 0 and place.text('o') == b'abctext\n', found
-        else:
-            os.kill(started.run.job, signal.SIGTERM)
-            started.ends(-signal.SIGTERM)
-            assert 'what was typed is not kept, since ' in started.err(), started.err()
+            # the cause stays the disk's
+            assert started.run.pump(15, b'notice 6') and b'notice 5' not in started.run.output, started.run.output
+
+        # no key has the program try its journal again
+        started = start()
+        make_room(started)
+        started.type(QUIT).ends(0)
+        started = start().type(b'abc').sees(b'*')
+        make_room(started)
+        os.kill(started.run.job, signal.SIGTERM)
+        started.ends(-signal.SIGTERM)
+        assert 'what was typed is kept: ' in started.err(), started.err()
+        found = place.tells('--recover', '--to', 'o', 'a.txt', XDG_STATE_HOME=disk)
+        assert found[0] == 0 and place.text('o') == b'abctext\n', found
         filler.close()
     finally:
         subprocess.run(['umount', disk])
@@ -172,4 +179,16 @@ def read_only_disk(place):
         subprocess.run(['umount', disk])
 
 
-CASES = [forgets, foreign_names, closed_files, renamed, torn, full_disk, read_only_disk, large]
+def watched_files(place):
+    """The watcher holds the session alone, so that nobody waits for it to close FILE or a pipe."""
+    place.put('a.txt', b'text\n')
+    started = place.edit('a.txt')
+    folder = f'/proc/{started.run.child("bidi-watcher")}/fd'
+    files = {os.readlink(f'{folder}/{number}') for number in os.listdir(folder)}
+    session = place.sessions()[0]
+    assert {session, f'{session}/lock'} <= files, files
+    assert all(name.startswith(('/dev/', 'pipe:')) for name in files - {session, f'{session}/lock'}), files
+    started.type(QUIT).ends(0)
+
+
+CASES = [forgets, foreign_names, closed_files, renamed, torn, full_disk, read_only_disk, large, watched_files]

@@ -68,7 +68,7 @@ static void serve(void) {
         child = 0;
         is_killed = !saver_finish(&saver);
     }
-    while (is_killed && poll(&asked, 1, 0) > 0 && read(request, dropped, sizeof dropped) > 0) continue;
+    while (is_killed && poll(&asked, 1, 0) > 0 && read(request, dropped, sizeof dropped) > 0) {}
     if (child == 0 && !is_killed && poll(&asked, 1, 0) > 0) child = saver_start(&saver, request, answer);
 }
 
@@ -140,7 +140,6 @@ static void obey(char *line) {
     else if (strncmp(line, "put ", 4) == 0) put(line + 4), said = "put";
     else if (strcmp(line, "commit") == 0) said = commit();
     else if (strcmp(line, "torn") == 0) said = torn();
-    else if (strcmp(line, "distrust") == 0) saver_distrust(&saver), said = "distrusted";
     else if (strcmp(line, "facts") == 0) said = reason_text(find_in_place(&file.facts, &file.look, &file.folder_facts));
     else if (strcmp(line, "look") == 0) {
         struct look look;

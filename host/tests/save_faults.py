@@ -635,7 +635,7 @@ def refusals(check):
     os.mkdir(at.encode() + b"/\xff")
     os.symlink(b"\xff/new", at.encode() + b"/in_bytes")
     plain = "is no plain file but a device, pipe or socket: put what it gives into a file, and edit that"
-    handed = "is what the caller handed over and no file: put it into a file, and edit that"
+    handed = "is an open file of the caller: write it to a file, and edit that"
     for path, wanted in {
         "inner": "inner is a folder: name a file in it",
         "inner/": "inner/ is a folder: name a file in it",

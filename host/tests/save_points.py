@@ -282,7 +282,7 @@ def main():
         check_all(name, "mark")
     for name in "plain", "doubled", "beset":
         check_all(name, "itself")
-    for lacks in "tmpfile", "tmpfile exchange noreplace", "tmpfile exchange noreplace link sync lock", "exchange lists statx access", "proc":
+    for lacks in "tmpfile", "tmpfile exchange noreplace", "tmpfile exchange noreplace link sync lock", "exchange lists statx", "proc":
         for name in "plain", "made":
             check_all(name, "beside", lacks)
         check_all("plain", "itself", lacks)

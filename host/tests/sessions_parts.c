@@ -125,7 +125,7 @@ static int begin(struct session *session, const struct sessions *sessions, const
 /* Minds the session until it is kept, or for some seconds. */
 static enum keeping mind(struct session *session) {
     enum keeping keeping = session_mind(session);
-    for (int tries = 0; keeping == KEEPS_SOON && tries < 200; tries++) {
+    for (int tries = 0; (keeping == KEEPS_SOON || session->child > 0) && tries < 200; tries++) {
         poll(NULL, 0, 10);
         keeping = session_mind(session);
     }

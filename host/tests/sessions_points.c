@@ -46,7 +46,6 @@ WRAP(ssize_t, write, -1, (int file, const void *bytes, size_t size), (file, byte
 WRAP(ssize_t, read, -1, (int file, void *bytes, size_t size), (file, bytes, size))
 WRAP(ssize_t, pread, -1, (int file, void *bytes, size_t size, off_t place), (file, bytes, size, place))
 WRAP(int, fsync, -1, (int file), (file))
-WRAP(int, fdatasync, -1, (int file), (file))
 WRAP(int, ftruncate, -1, (int file, off_t size), (file, size))
 WRAP(off_t, lseek, -1, (int file, off_t place, int from), (file, place, from))
 WRAP(int, flock, -1, (int file, int how), (file, how))
@@ -65,7 +64,7 @@ int __wrap_openat(int folder, const char *name, int flags, ...);
 int __wrap_openat(int folder, const char *name, int flags, ...) {
     va_list more;
     va_start(more, flags);
-    mode_t mode = flags & O_CREAT ? va_arg(more, mode_t) : 0;
+    mode_t mode = (flags & O_CREAT) ? va_arg(more, mode_t) : 0;
     va_end(more);
     return fails("openat") ? -1 : __real_openat(folder, name, flags, mode);
 }

@@ -142,6 +142,15 @@ class Run:
                 else:
                     self.take_status()
 
+    def pump_any(self, seconds, choices):
+        """Reads for some seconds, or until one of these byte strings comes. Returns whether one came."""
+        end = time.perf_counter() + seconds
+        while not any(until in self.output for until in choices):
+            if time.perf_counter() > end:
+                return False
+            self.rest(0.02)
+        return True
+
     def rest(self, seconds):
         """Reads for some seconds: no program writes these bytes."""
         self.pump(seconds, b'\0\0\0')

@@ -129,7 +129,7 @@ def save(given, text):
 
 
 class Journal:
-    """What is typed, before it is obeyed; what could not be written waits, and is tried again each second."""
+    """What is typed, and notices, before they are obeyed; what could not be written waits, and is tried again with the next."""
 
     def __init__(self, given):
         self.file = os.open(given['--journal'], os.O_WRONLY | os.O_APPEND) if '--journal' in given else None
@@ -185,9 +185,8 @@ def main():
             end(text, given, b'saved' if is_saved else b'unsaved')
         letter, body = got
         if letter == b'n':
-            told = told + b' notice %d' % body[0]
-        if letter == b's':
-            journal.add(b'')
+            journal.add(b'\x1b[>%d~' % body[0])
+            told = told + b' notice %d' % body[0] if body[0] else told
         if letter != b'b':
             continue
         for key in body:

@@ -29,6 +29,20 @@ check_installing() { # NAME
     echo '// more' >>"$tree/crates/low/src/main.rt"
     (cd "$tree" && sh scripts/install.sh "$folder/elsewhere") >"$folder/said" 2>&1
     same "$1, changed sources" "$? $(grep -c 'the sources are not those that dist/ was made from' "$folder/said") $(ls "$folder/elsewhere" 2>/dev/null)" '1 1 '
+    check_installing_built "$1"
+}
+
+# Installs what is built in crates/, with a toolchain that cannot be run, whose version was noted at the build or was not.
+check_installing_built() { # NAME
+    build_all
+    mkdir -p "$folder/none"
+    printf '#!/bin/sh\nexit 1\n' >"$folder/none/rt"
+    chmod +x "$folder/none/rt"
+    for note in '' 'a noted toolchain'; do
+        [ -z "$note" ] || echo "$note" >"$tree/crates/bidi_edit/out/kit"
+        (cd "$tree" && PATH=$folder/none:$PATH sh scripts/install.sh "$folder/built") >"$folder/said" 2>&1
+        same "$1, built here${note:+, $note}" "$? $(cat "$folder/said") $(cat "$folder/built/lib/bidi_edit/kit" 2>/dev/null)" "0 $folder/built/bin/bidi-edit $note"
+    done
 }
 
 # Runs prove.sh, whose failures and last line go to `said`.

@@ -26,8 +26,6 @@ END
 make_repository() {
     mkdir -p "$folder/first/crates" "$folder/first/host" "$folder/first/data" "$folder/first/docs" "$folder/first/dist" "$TOLD/built"
     cp -R "$here/../bidi-edit" "$here/../launcher" "$folder/first/"
-    # with the player, which dist/ may have one day
-    sed -i "s/^dist_programs=.*/dist_programs='$names'/" "$folder/first/launcher/dist.sh"
     cp "$here/../host/build.sh" "$folder/first/host/"
     cp "$here/../data/"*.txt "$folder/first/data/"
     cp "$here/../docs/bidi_edit.1" "$folder/first/docs/"

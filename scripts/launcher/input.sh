@@ -176,16 +176,25 @@ make_big_paste() {
     } >"$folder/big_pasted"
 }
 
+# The journal has the paste, and the editor its text, within two minutes; it works on.
 check_big_paste() {
     make_big_paste
     same 'input, the paste has 1 MB' "$(($(wc -c <"$folder/cycle")))" 1048576
     start_kept
     type_bytes "$folder/big"
-    wait_for 300 has_kept "$(wc -c <"$folder/big_pasted")"
+    wait_for 1200 has_kept "$(wc -c <"$folder/big_pasted")"
     journal >"$folder/record"
     cmp "$folder/record" "$folder/big_pasted" >"$folder/differs" 2>&1
     report 'input, a paste of 1 MB with every byte' $? "$(cat "$folder/differs")"
-    end_kept 'input, a paste'
+    type_keys -l z
+    type_keys C-s
+    wait_for 600 test -s note
+    same 'input, 1 MB pasted into the editor: its end' "$(tail -c 1 note)" z
+    iconv -f UTF-8 -t UTF-8 note >/dev/null 2>&1
+    report 'input, 1 MB pasted into the editor: its text' $? 'it is not UTF-8'
+    type_keys C-q
+    finish 'input, 1 MB pasted into the editor' 0 100
+    rm -f note
 }
 
 # tmux marks a paste (-p) only if the host asked for that (2004).
@@ -230,22 +239,6 @@ check_escape() {
     finish 'input, an Escape' 0 50
 }
 
-# The editor inserts the text of `big`, and works on: within two minutes the save is there.
-check_big_edit() {
-    rm -f note
-    start 8 40 "$top/bidi-edit" note
-    type_bytes "$folder/big"
-    type_keys -l z
-    type_keys C-s
-    wait_for 1200 test -s note
-    same 'input, 1 MB pasted into the editor: its end' "$(tail -c 1 note)" z
-    iconv -f UTF-8 -t UTF-8 note >/dev/null 2>&1
-    report 'input, 1 MB pasted into the editor: its text' $? 'it is not UTF-8'
-    type_keys C-q
-    finish 'input, 1 MB pasted into the editor' 0 100
-    rm -f note
-}
-
 check_input() {
     asked input || return 0
     check_terminal_keys
@@ -255,5 +248,4 @@ check_input() {
     check_marks
     check_editor_input
     check_escape
-    check_big_edit
 }

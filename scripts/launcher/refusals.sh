@@ -74,7 +74,7 @@ check_refused_places() {
     kind='is no plain file but a device, pipe or socket: put what it gives into a file, and edit that'
     refused 'checks, a pipe' "1 bidi-edit: pipe $kind" pipe
     refused 'checks, a device' "1 bidi-edit: /dev/null $kind" /dev/null
-    handed='is what the caller handed over and no file: put it into a file, and edit that'
+    handed='is an open file of the caller: write it to a file, and edit that'
     for name in /dev/stdin /dev/fd/0 /proc/self/fd/0; do
         refused "checks, $name" "1 bidi-edit: $name $handed" "$name"
     done
@@ -136,6 +136,7 @@ check_refused_texts() {
     # lines of 17 bytes, cut after a whole letter; with six bytes more it is one byte too long
     awk 'BEGIN { for (n = 0; n < 16777216; n += 17) print "\327\251\327\234\327\225\327\235 \327\234\327\232 ab" }' | head -c 16777211 >bytes
     start 8 50 "$top/bidi-edit" bytes
+    wait_for 100 shows '- 1:1'
     has 'opening, 16 MB of Hebrew' "$(settled_screen person)" '- 1:1'
     type_keys C-q
     finish 'opening, 16 MB of Hebrew' 0 50

@@ -239,23 +239,6 @@ check_no_file() { # NAME COMMAND..
     close_session
 }
 
-# FILE has other bytes than the session knows: the first save says so.
-check_distrusted() {
-    begin_point 'a FILE that has other bytes than the session knows'
-    prepare plain
-    open_session env
-    before=$(stat -c %s "$folder/out")
-    echo distrust >&3
-    wait_for_more "$before"
-    save_all
-    says 'changed by another'
-    same "FILE after the first save" "$(state)" old
-    save_all
-    same "FILE after the second save" "$(state)" new
-    check_nothing_left
-    close_session
-}
-
 check_changes() {
     begin_kind 'changed by another program'
     check_foreign 'written in place' plain change_in_place
@@ -269,7 +252,6 @@ check_changes() {
     check_exchanged
     check_retargeted
     check_vanished
-    check_distrusted
     check_no_file 'a folder by now' mkdir
     check_no_file 'a pipe by now' mkfifo
 }

@@ -57,6 +57,20 @@ check_names() {
     same "what is there" "$(names | wc -w)" 2
 }
 
+# A save uses what is open, since a path may lead elsewhere the second time. It resolves FILE's path never and that of the folder once,
+# to see that it still leads there; and looks at FILE's name in the open folder at its beginning and before the exchange.
+check_paths() {
+    begin_kind 'paths'
+    prepare plain
+    check_save 'resolved in a save' new strace -f -o "$folder/log" -e trace=%file
+    saver=$(sed -n 's/ .*renameat2.*//p' "$folder/log" | head -n 1)
+    grep -e "^$saver " "$folder/log" >"$folder/said"
+    same "how often FILE's path is resolved" "$(grep -c -F -e "\"$file\"" "$folder/said")" 0
+    same "how often the folder's path is resolved" "$(grep -c -F -e "\"$place\"" "$folder/said")" 1
+    same "how often FILE's name is looked at" "$(grep -v -F -e renameat2 "$folder/said" | grep -c -F -e '"text"')" 2
+    same "how often FILE's name is exchanged" "$(grep -F -e renameat2 "$folder/said" | grep -c -F -e '"text"')" 1
+}
+
 # ---- what a rename would lose
 
 # Gives a file with one name a second one, during a session.

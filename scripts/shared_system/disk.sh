@@ -69,7 +69,7 @@ check_not_begun() {
     esac
     terminal send-keys -t first C-q C-q
     wait_for 60 shows_in first status
-    same 'disk, full: nothing is said to be kept' "$(terminal capture-pane -p -J -t first | grep -c 'can be had back')" 0
+    same 'disk, full: nothing is said to be kept' "$(terminal capture-pane -p -J -t first | grep -c 'can be recovered')" 0
     same 'disk, full: nothing stays there' "$(find "$folder/small" -mindepth 1 ! -name other)" "$folder/small/bidi_edit"
     close_editors first
     close_small_disk
@@ -159,7 +159,7 @@ check_filled_up() {
     rm -f "$folder/small/other"
     as_user "$host" --recover --to other note >"$folder/output" 2>&1
     same 'disk, filled up: what is had back' "$? $(head -c 1 other)" '0 a'
-    has 'disk, filled up: where it is cut is said' "$(cat "$folder/output")" 'the session is cut behind its key'
+    has 'disk, filled up: where it is cut is said' "$(cat "$folder/output")" 'the session is cut off after its key'
     close_editors first
     close_small_disk
     rm -f note other

@@ -55,6 +55,10 @@ kill_whole_editor() {
     terminal kill-session -t person
 }
 
+is_locked() { # FILE
+    ! flock -n "$1" true
+}
+
 # What is left of one then: no file in TMPDIR, and in the state folder a session that none asks about. A later start sweeps it if
 # it has no text yet, but not one that is locked, nor another user's.
 check_left_sessions() {
@@ -69,6 +73,7 @@ check_left_sessions() {
     as_user touch "$locked/lock" "$others/lock"
     flock "$locked/lock" sleep 60 &
     holder=$!
+    wait_for 50 is_locked "$locked/lock"
     wanted_left=20200101000000.locked
     # what stands in root's own folder root may take away
     if [ -n "$stranger" ] && [ "$who" = plain ]; then

@@ -1,10 +1,11 @@
-//! The answers of a scene, in buffers allocated before its world, and how the words of any answer are written.
+//! The answers of a scene, in buffers allocated before its world.
 
 use bx_grid::GridError;
 use bx_session::{Refused, Session};
 use bx_store::{MemoryStore, Store};
 use bx_ucd::BidiData;
 use bx_world::StepFault;
+use player_lines::{add_bytes, add_number};
 use std::alloc::{AllocError, AllocFailed, Global};
 
 /// A text longer than this, in bytes, that equals the file is abbreviated.
@@ -39,19 +40,6 @@ pub struct Answers {
     pub before_end: Option<usize>,
 }
 
-/// Appends bytes in hexadecimal; a hyphen for none.
-pub fn add_bytes(line: &mut String, bytes: &[u8]) -> Result<(), AllocError> {
-    if bytes.is_empty() {
-        line.push('-')?;
-    }
-    for byte in bytes {
-        for digit in [*byte >> 4, *byte & 15] {
-            line.push(char::from_digit(u32::from(digit), 16).unwrap_or('?'))?;
-        }
-    }
-    Ok(())
-}
-
 /// Appends a text; `=` for a long one that equals the file.
 pub fn add_text(line: &mut String, text: &[u8], file: &[u8]) -> Result<(), AllocError> {
     if text.len() > LONG && text == file {
@@ -64,27 +52,6 @@ pub fn add_text(line: &mut String, text: &[u8], file: &[u8]) -> Result<(), Alloc
 /// Appends 1 for true, 0 for false.
 pub fn add_flag(line: &mut String, flag: bool) -> Result<(), AllocError> {
     line.push(if flag { '1' } else { '0' })?;
-    Ok(())
-}
-
-/// Appends a number.
-pub fn add_number(line: &mut String, number: usize) -> Result<(), AllocError> {
-    write!(line, "{number}")
-}
-
-/// Appends a blank, unless a field begins here.
-pub fn add_blank(line: &mut String) -> Result<(), AllocError> {
-    if !line.is_empty() && !line.as_str().ends_with('\t') {
-        line.push(' ')?;
-    }
-    Ok(())
-}
-
-/// Appends a hyphen if a field is empty.
-pub fn add_none(line: &mut String) -> Result<(), AllocError> {
-    if line.is_empty() || line.as_str().ends_with('\t') {
-        line.push('-')?;
-    }
     Ok(())
 }
 

@@ -1,7 +1,7 @@
 //! Faults that stop the program.
 
-use crate::words::WordFault;
 use bx_ucd::{Cause, UcdError};
+use player_lines::WordFault;
 use std::alloc::{AllocError, AllocFailed};
 use std::io::{self, ErrorKind};
 use thiserror::Error;

@@ -1,13 +1,12 @@
 //! Where a query stands in a text.
 
-use crate::answers::{add_blank, add_number};
 use crate::lent::Lent;
-use crate::words::{WordFault, bytes_of, count_of, field};
-use bx_document::Document;
+use bx_document::{Document, DocumentError};
 use bx_find::{Query, Reading};
 use bx_rows::char_count;
 use bx_terms::Base;
 use bx_ucd::Tables;
+use player_lines::{WordFault, add_blank, add_number, bytes_of, count_of, field};
 use std::alloc::Global;
 
 /// Parses a text from its bytes.
@@ -15,6 +14,14 @@ fn text_of(alloc: Global, field: &str) -> Result<String, WordFault> {
     match String::from_utf8(bytes_of(alloc, field)?) {
         Ok(text) => Ok(text),
         Err(_) => Err(WordFault::Bad("UTF-8 is wanted")),
+    }
+}
+
+/// Why a line is refused whose text makes no document.
+fn fault_of(error: DocumentError) -> WordFault {
+    match error {
+        DocumentError::TooLong => WordFault::Bad("a shorter text is wanted"),
+        DocumentError::OutOfMemory => WordFault::OutOfMemory,
     }
 }
 
@@ -61,7 +68,9 @@ pub fn find_line(alloc: Global, tables: &Tables, fields: &[&str]) -> Result<Stri
         return Err(WordFault::Bad("the query is too long"));
     }
     // the number of columns does not affect what is found
-    let mut document = Document::open(alloc, text, Lent { tables }, 80, Base::Auto)?;
+    let mut document = Document::open(alloc, text, Lent { tables }, 80, Base::Auto).map_err(
+        fault_of,
+    )?;
     let mut line = String::new(alloc);
     let Some(query) = document.query(reading, sought.as_str()) else {
         line.push_str("no letters")?;

@@ -1,10 +1,11 @@
 //! What a scene's looks find in a session, with or without a world.
 
-use crate::answers::{add_bytes, add_flag, add_number, add_text};
+use crate::answers::{add_flag, add_text};
 use crate::scene::Look;
 use bx_session::{Aim, Ask, Seek, Session};
 use bx_store::{MemoryStore, Store};
 use bx_ucd::BidiData;
+use player_lines::{add_bytes, add_number};
 use std::alloc::{AllocError, Global};
 
 /// A session that is looked at, its store, and the file that was opened.

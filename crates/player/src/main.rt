@@ -123,26 +123,23 @@
 
 mod alone;
 mod answers;
-mod characters;
-mod class;
-mod command;
 mod fault;
 mod find;
-mod keys;
 mod lent;
 mod looks;
 mod painting;
 mod playing;
-mod row;
-mod rows;
 mod scene;
 mod stage;
 mod tables;
 mod terminal;
-mod words;
 
 use bx_ucd::Tables;
 use fault::Fault;
+use player_lines::{
+    WordFault, class_line, clusters_line, command_line, keys_line, levels_line, order_line,
+    row_line,
+};
 use playing::Player;
 use scene::Scene;
 use std::alloc::Global;
@@ -150,7 +147,6 @@ use std::process::ExitCode;
 use std::rt::{Env, Files};
 use std::{env, io};
 use tables::TableFiles;
-use words::WordFault;
 
 /// The exit status if the command line or a line is refused.
 const REFUSED: u8 = 2;
@@ -195,16 +191,16 @@ fn answer(
     fields: &[&str],
 ) -> Result<String, WordFault> {
     match kind {
-        "levels" => characters::levels_line(alloc, tables, fields),
-        "order" => characters::order_line(alloc, tables, fields),
-        "clusters" => characters::clusters_line(alloc, tables, fields),
-        "row" => row::row_line(alloc, tables, fields),
-        "class" => class::class_line(alloc, tables, fields),
+        "levels" => levels_line(alloc, tables, fields),
+        "order" => order_line(alloc, tables, fields),
+        "clusters" => clusters_line(alloc, tables, fields),
+        "row" => row_line(alloc, tables, fields),
+        "class" => class_line(alloc, tables, fields),
         "find" => find::find_line(alloc, tables, fields),
-        "keys" => keys::keys_line(alloc, fields),
+        "keys" => keys_line(alloc, fields),
         "paint" => painting::paint_line(alloc, fields),
         "screen" => painting::screen_line(alloc, fields),
-        "command" => command::command_answer(alloc, fields),
+        "command" => command_line(alloc, fields),
         _ => Err(WordFault::Bad("no kind of line has this name")),
     }
 }

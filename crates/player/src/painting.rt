@@ -1,13 +1,13 @@
 //! The bytes that paint pictures, and what a terminal shows after bytes.
 
-use crate::answers::{add_blank, add_bytes};
-use crate::rows::{RowFault, picture_of};
 use crate::scene::{Look, look_of};
 use crate::terminal::Terminal;
-use crate::words::{WordFault, bytes_of, field, side_of, two_of};
 use bx_grid::{Cell, GridError, Picture};
 use bx_paint::{changes, whole};
 use bx_world::Step;
+use player_lines::{
+    RowFault, WordFault, add_blank, add_bytes, bytes_of, field, picture_of, side_of, two_of,
+};
 use std::alloc::Global;
 
 /// Parses the rows and the columns of a line.

@@ -1,7 +1,7 @@
 //! Playing a scene in its MODE.
 
 use crate::alone::Alone;
-use crate::answers::{Answers, add_bytes};
+use crate::answers::Answers;
 use crate::lent::Lent;
 use crate::scene::{Mode, Scene};
 use crate::stage::Stage;
@@ -10,6 +10,7 @@ use bx_grid::GridError;
 use bx_session::{OpenError, Session};
 use bx_ucd::Tables;
 use bx_world::{Step, World};
+use player_lines::add_bytes;
 use std::alloc::{AllocError, Global};
 
 /// Capacity of a line of answers, in bytes: for all buffers of `Answers`, written in hexadecimal.

@@ -1,9 +1,9 @@
 //! A scene, parsed from a line.
 
-use crate::words::{WordFault, byte_of, bytes_of, call_of, count_of, side_of, two_of};
 use bx_store::MemoryStore;
 use bx_terms::Base;
 use bx_world::Step;
+use player_lines::{WordFault, byte_of, bytes_of, call_of, count_of, side_of, two_of};
 use std::alloc::{AllocError, Global};
 
 /// The MODE in which the steps of a scene are taken.

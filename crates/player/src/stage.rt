@@ -1,6 +1,6 @@
 //! A scene played in a world.
 
-use crate::answers::{Answers, add_bytes, add_flag, letter_of};
+use crate::answers::{Answers, add_flag, letter_of};
 use crate::looks::Seen;
 use crate::scene::{Act, Look, Scene};
 use crate::terminal::Terminal;
@@ -8,6 +8,7 @@ use bx_grid::Cell;
 use bx_store::{MemoryStore, Store};
 use bx_ucd::BidiData;
 use bx_world::{Step, World};
+use player_lines::add_bytes;
 use std::alloc::{AllocError, Global};
 
 /// The byte of the key Save, Ctrl-S.

@@ -1,8 +1,8 @@
 //! The tables of lines: the program's files or none, with the lines that the field TABLES adds to them.
 
 use crate::fault::Fault;
-use crate::words::WordFault;
 use bx_ucd::{JoiningFiles, Tables, UcdError};
+use player_lines::WordFault;
 use std::alloc::{AllocError, Global};
 use std::fs;
 use std::rt::Files;

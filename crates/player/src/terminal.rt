@@ -1,10 +1,10 @@
 //! A copy of the world's terminal, to compare its rows.
 
 use crate::answers::add_flag;
-use crate::rows::{RowFault, picture_of};
 use bx_grid::{Cell, GridError};
 use bx_terminal::Screen;
 use bx_world::Step;
+use player_lines::{RowFault, picture_of};
 use std::alloc::{AllocError, Global};
 
 /// A terminal that reads the same bytes as the world's, and has the same size.

@@ -1,22 +1,24 @@
-use Rattle.std.proofs.Common.{◌≡◌, ◌≢◌, true, false, get_or, sym, ap, ◌∙◌, arith}
-use Rattle.std.specs.Prelude.{◌==◌}
-use Rattle.std.proofs.lemmas.Bool.Decides.{nat_tests}
-use Rattle.std.proofs.lemmas.List.{drop_more}
-use Rattle.bx_command.proofs.Starts.{behind_a_feed, behind_another}
-use Rattle.bx_command.proofs.line.start_of_line.Goals.{then-byte-eq10, else-byte-eq10}
+use Rattle.std.proofs.Common.{◌≡◌, ◌≢◌, ℕ, ◌<◌, ◌∷◌, length, sym, ap, ◌∙◌, arith}
+use Rattle.std.proofs.lemmas.List.Elements.{All-rest}
+use Rattle.memchr.specs.Find.{Passes, is_byte}
+use Rattle.memchr.proofs.lemmas.CallerLemmas.{All-places}
+use Rattle.bx_command.proofs.Starts.{at_first, behind_a_feed, last_start}
 use Rattle.bx_command.proofs.line.start_of_line.Goals as goal
 
-pub loop-offset-preserved : goal.loop-offset-preserved
-loop-offset-preserved c =
-    let text = c.args.text.now in
-    let at = c.loop-offset.offset in
-    let first = drop_more text at 0 (omega arith) in
-    elim c.if-byte-eq10.branch [
-      | then-byte-eq10 w ↦
-          let feed : (get_or text at 0 == 0x0a) ≡ true = ap (λ b. b == 0x0a) w.if-byte-eq10.true in
-          let some : c.loop-offset.left ≢ 0 = λ e. omega (arith, e) in
-          rw (w.start-is, w.left-is) (sym (behind_a_feed text at c.loop-offset.start c.loop-offset.left (get_or text at 0) first feed some) ∙ c.loop-offset.invariant)
-      | else-byte-eq10 w ↦
-          let other : (get_or text at 0 == 0x0a) ≡ false = grind (arith, nat_tests, w.if-byte-eq10.false) in
-          rw (w.start-is, w.left-is) (sym (behind_another text at c.loop-offset.start c.loop-offset.left (get_or text at 0) first other) ∙ c.loop-offset.invariant)
-    ]
+pub lines-init : goal.lines-init
+lines-init c = (
+  rw (c.memchr_iter-feeds.ensures.value, c.saturating_sub-left.ensures) (at_first c.args.text.now c.args.line),
+  rw c.memchr_iter-feeds.ensures.value (All-places (is_byte 0x0a) c.args.text.now),
+)
+
+pub lines-preserved : goal.lines-preserved
+lines-preserved c =
+    let feed = c.in-Some.feed in
+    let rest = c.next.new.self in
+    let step : c.lines.feeds ≡ feed ∷ rest = c.in-Some.ensures.steps in
+    let some : c.lines.left ≢ 0 = λ e. omega (arith, e, c.lines-test.true) in (
+      sym (behind_a_feed feed rest c.lines.start c.lines.left some)
+          ∙ ap (λ feeds. last_start feeds c.lines.start c.lines.left) (sym step)
+          ∙ c.lines.invariant.0,
+      All-rest (λ (k : ℕ). (k < length c.args.text.now) × Passes (is_byte 0x0a) c.args.text.now k) feed rest c.lines.feeds step c.lines.invariant.1,
+    )

@@ -1,7 +1,13 @@
-use Rattle.std.proofs.Common.{◌≡◌}
+use Rattle.std.proofs.Common.{◌≡◌, ℕ, ◌<◌, length, All}
 use Rattle.bx_command.specs.Lines.{start_of_line}
+use Rattle.memchr.specs.Find.{Passes, is_byte}
 use Rattle.bx_command.proofs.Starts.{last_start}
 use Rattle.bx_command.proofs.line.start_of_line.Given as goal
 
-abbrev pub invariant-loop-offset : goal.invariant-loop-offset
-invariant-loop-offset l = last_start l.text l.offset l.start l.left ≡ start_of_line l.text l.fn.line
+abbrev pub invariant-lines : goal.invariant-lines
+invariant-lines l =
+    (last_start l.feeds l.start l.left ≡ start_of_line l.text l.line) ×
+    All (λ k. (k < length l.text) × Passes (is_byte 0x0a) l.text k) l.feeds
+
+abbrev pub decreases-lines : goal.decreases-lines
+decreases-lines l = l.left

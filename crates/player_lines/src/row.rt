@@ -3,8 +3,8 @@ ghost use Rattle.std.specs.Prelude.{All};
 ghost use Rattle.bx_cells.specs.Units.{StandsIn};
 ghost use Rattle.bx_paragraph.specs.Layout.{IsLayoutBy};
 
-use crate::answers::{add_blank, add_bytes, add_none};
 use crate::words::{WordFault, bytes_of, count_of, field, side_of};
+use crate::writing::{add_blank, add_bytes, add_none};
 use bx_cells::{Unit, units};
 use bx_index::Index;
 use bx_paragraph::{LentRow, ParagraphLayout};

@@ -1,6 +1,5 @@
 //! Parsers for the words of a line.
 
-use bx_document::DocumentError;
 use bx_terms::{OutOfMemory, UnknownBase};
 use bx_text::TextError;
 use std::alloc::{AllocError, AllocFailed, Global};
@@ -38,15 +37,6 @@ impl From<TextError> for WordFault {
                 "a shorter text is wanted",
             ),
             TextError::OutOfMemory => WordFault::OutOfMemory,
-        }
-    }
-}
-
-impl From<DocumentError> for WordFault {
-    fn from(error: DocumentError) -> Self {
-        match error {
-            DocumentError::TooLong => WordFault::Bad("a shorter text is wanted"),
-            DocumentError::OutOfMemory => WordFault::OutOfMemory,
         }
     }
 }

@@ -2,7 +2,7 @@
 
 use crate::words::WordFault;
 use bx_cli::UnicodePaths;
-use bx_command::{Options, command_line};
+use bx_command::Options;
 use bx_terms::Base;
 use std::alloc::{AllocError, Global};
 
@@ -67,14 +67,10 @@ fn add_options(line: &mut String, options: &Options<'_>) -> Result<(), AllocErro
     Ok(())
 }
 
-/// Answers a `command` line.
-pub fn command_answer(alloc: Global, fields: &[&str]) -> Result<String, WordFault> {
-    let words = match fields {
-        ["-"] => &[],
-        words => words,
-    };
+/// Answers the words of a command line.
+fn answer(alloc: Global, words: &[&str]) -> Result<String, WordFault> {
     let mut line = String::new(alloc);
-    match command_line(alloc, words) {
+    match bx_command::command_line(alloc, words) {
         Ok(options) => add_options(&mut line, &options)?,
         Err(error) => {
             let kind = error.kind();
@@ -82,4 +78,12 @@ pub fn command_answer(alloc: Global, fields: &[&str]) -> Result<String, WordFaul
         }
     }
     Ok(line)
+}
+
+/// Answers a `command` line.
+pub fn command_line(alloc: Global, fields: &[&str]) -> Result<String, WordFault> {
+    match fields {
+        ["-"] => answer(alloc, &[]),
+        words => answer(alloc, words),
+    }
 }

@@ -3,7 +3,7 @@ use Rattle.std.proofs.Common.{List, All, subst, sym}
 use Rattle.std.proofs.lemmas.List.Elements.{All-push}
 use Rattle.bx_cells.specs.declared.unit.Unit.{Unit}
 use Rattle.bx_cells.specs.Units.{StandsIn}
-use Rattle.player.proofs.characters.character_units.Goals as goal
+use Rattle.player_lines.proofs.characters.character_units.Goals as goal
 
 pub loop-start-preserved : goal.loop-start-preserved
 loop-start-preserved c =

@@ -1,7 +1,7 @@
 -- The units so far lie in the body.
 use Rattle.std.proofs.Common.{All}
 use Rattle.bx_cells.specs.Units.{StandsIn}
-use Rattle.player.proofs.characters.character_units.Given as goal
+use Rattle.player_lines.proofs.characters.character_units.Given as goal
 
 abbrev pub invariant-loop-start : goal.invariant-loop-start
 invariant-loop-start l = All (StandsIn l.body) l.units.items

@@ -2,8 +2,8 @@
 ghost use Rattle.std.specs.Prelude.{All, IfOk};
 ghost use Rattle.bx_cells.specs.Units.{StandsIn};
 
-use crate::answers::{add_blank, add_none};
 use crate::words::{WordFault, count_of, field};
+use crate::writing::{add_blank, add_none};
 use bx_cells::{Face, Unit};
 use bx_resolve::{Levels, levels};
 use bx_rows::visual;

@@ -1,7 +1,7 @@
 //! The keys of input bytes.
 
-use crate::answers::{add_blank, add_bytes, add_none};
 use crate::words::{WordFault, bytes_of, field};
+use crate::writing::{add_blank, add_bytes, add_none};
 use bx_keys::{Decoder, Key, Notice};
 use std::alloc::Global;
 
