@@ -50,14 +50,18 @@ impl<'a, R: Files> FileStore<'a, R> {
         })
     }
 
-    /// Creates the draft, or empties one that an earlier save left.
+    /// Creates the draft, or empties one that an earlier save left. Without memory for its buffer none is left.
     fn open_draft(&self) -> io::Result<BufWriter<R::File>> {
         let file = OpenOptions::new()
             .write(true)
             .create(true)
             .truncate(true)
             .open(self.files, self.draft_path.as_str())?;
-        Ok(BufWriter::with_capacity(self.alloc, BUFFER_SIZE, file)?)
+        let draft = BufWriter::with_capacity(self.alloc, BUFFER_SIZE, file);
+        if draft.is_err() {
+            let _ = self.files.remove_file(self.draft_path.as_str());
+        }
+        Ok(draft?)
     }
 
     /// Syncs the draft and renames it to the file.
