@@ -1,14 +1,14 @@
 -- What reading keeps of a terminal: its size, and that what is half read does not depend on what is shown.
-use Rattle.std.proofs.Common.{◌≡◌, ℕ, Bool, true, false, List, [], ◌∷◌, ◌++◌, drop, length, Option, Some, None, refl, sym, ap, subst, ◌∙◌, ◌==◌, if◌then◌else◌}
+use Rattle.std.proofs.Common.{◌≡◌, ℕ, Bool, true, false, List, [], ◌∷◌, ◌++◌, length, Option, Some, None, refl, sym, ap, subst, ◌∙◌, ◌==◌, if◌then◌else◌}
 use Rattle.bx_bytes.specs.Utf8.{are_printable}
 use Rattle.bx_bytes.specs.declared.fate.Fate.{Fate}
 use Rattle.bx_bytes.specs.declared.fate.Fate.TheVariants.{Waits, Ends, Breaks}
 use Rattle.std.specs.Prelude.{nat_le, ◌&&◌, ◌+◌}
 use Rattle.bx_grid.specs.Columns.{run_columns}
 use Rattle.bx_grid.specs.Picture.{IsIdle}
-use Rattle.bx_grid.specs.Tokens.{fate, command}
+use Rattle.bx_grid.specs.Tokens.{fate, escape_command}
 use Rattle.bx_grid.specs.declared.command.Command.{Command}
-use Rattle.bx_grid.specs.declared.command.Command.TheVariants.{Move, Clear, Erase, Render, Other}
+use Rattle.bx_grid.specs.declared.command.Command.TheVariants.{Move, Clear, Erase, Render, Clip, Other}
 use Rattle.bx_grid.specs.Terminal.{Terminal, all_unknown, after_clear, after_erase, after_command, run_put, run_ended}
 use Rattle.bx_grid.specs.Terminal.{character_read, token_read, after_first_byte_as, after_first_byte, after_next_byte, read_after, byte_read, reads}
 use Rattle.bx_world.specs.Showing.{begins_sequence, NoRunInSequence, HasSize}
@@ -38,6 +38,7 @@ command_size t (Move line column) = size_if (nat_le 1 line && nat_le line t.heig
 command_size t Clear = clear_size t t.negative
 command_size t Erase = erase_size t t.position t.negative
 command_size t (Render negative) = (refl, refl)
+command_size t Clip = (refl, refl)
 command_size t Other = (refl, refl)
 
 put_size : (t : Terminal) (position : Option (ℕ × ℕ)) (negative : Option Bool) (run : List ℕ) → SameSize t (run_put t position negative run)
@@ -52,7 +53,7 @@ put_size t None None (b ∷ bs) = (refl, refl)
 token_size : (t : Terminal) (bs : List ℕ) → SameSize t (token_read t bs)
 token_size t [] = (refl, refl)
 token_size t (b ∷ rest) =
-    size_if (b == 0x1B) t _ _ (command_size (record t { half_read = [] }) (command (drop 1 rest)))
+    size_if (b == 0x1B) t _ _ (command_size (record t { half_read = [] }) (escape_command rest))
     (size_if (are_printable (b ∷ rest)) t _ _ (refl, refl) (refl, refl))
 
 first_as_size : (t : Terminal) (b : ℕ) (f : Fate) → SameSize t (after_first_byte_as t b f)
@@ -122,6 +123,7 @@ command_idle t (Move line column) idle =
 command_idle t Clear idle = clear_idle t t.negative idle
 command_idle t Erase idle = erase_idle t t.position t.negative idle
 command_idle t (Render negative) idle = record { no_run = idle.no_run; no_token = idle.no_token }
+command_idle t Clip idle = idle
 command_idle t Other idle = unknown_idle t
 
 -- a whole sequence, where there is no run
@@ -156,7 +158,7 @@ token_if false t u c bs no_run same = character_alike (are_printable bs) t u bs 
 
 token_alike : (t u : Terminal) (bs : List ℕ) → (begins_sequence bs ≡ true → t.run ≡ []) → ReadAlike t u → ReadAlike (token_read t bs) (token_read u bs)
 token_alike t u [] no_run alike = alike
-token_alike t u (b ∷ rest) no_run alike = token_if (b == 0x1B) t u (command (drop 1 rest)) (b ∷ rest) no_run alike.run
+token_alike t u (b ∷ rest) no_run alike = token_if (b == 0x1B) t u (escape_command rest) (b ∷ rest) no_run alike.run
 
 not_true : {A : Type 0} (g : Bool) → g ≡ false → g ≡ true → A
 not_true true off on = absurd (cc off)
@@ -215,7 +217,7 @@ no_sequence t is begins = absurd (cc (is, begins))
 
 first_as_no_run : (t : Terminal) (b : ℕ) (f : Fate) → b == 0x1B ≡ false → NoRunInSequence (after_first_byte_as t b f)
 first_as_no_run t b Waits other = not_true (b == 0x1B) other
-first_as_no_run t b Ends other = no_sequence (token_read t (b ∷ [])) (token_waits (b == 0x1B) t (command (drop 1 [])) (b ∷ []) (not_true (b == 0x1B) other))
+first_as_no_run t b Ends other = no_sequence (token_read t (b ∷ [])) (token_waits (b == 0x1B) t (escape_command []) (b ∷ []) (not_true (b == 0x1B) other))
 first_as_no_run t b Breaks other = no_sequence (all_unknown t) refl
 
 first_no_run_if : (g : Bool) (t : Terminal) (b : ℕ) → b == 0x1B ≡ g
@@ -229,7 +231,7 @@ first_no_run t b = first_no_run_if (b == 0x1B) t b refl
 token_no_run : (t : Terminal) (bs : List ℕ) (b : ℕ) (rest : List ℕ) → bs ≡ b ∷ rest
     → (begins_sequence bs ≡ true → t.run ≡ []) → NoRunInSequence (token_read t bs)
 token_no_run t bs b rest is no_run =
-    rw is (no_sequence (token_read t (b ∷ rest)) (token_waits (b == 0x1B) t (command (drop 1 rest)) (b ∷ rest) (λ on. no_run (ap begins_sequence is ∙ on))))
+    rw is (no_sequence (token_read t (b ∷ rest)) (token_waits (b == 0x1B) t (escape_command rest) (b ∷ rest) (λ on. no_run (ap begins_sequence is ∙ on))))
 
 next_no_run : (t : Terminal) (b : ℕ) (f : Fate) (h : ℕ) (rest : List ℕ) → t.half_read ≡ h ∷ rest → NoRunInSequence t → NoRunInSequence (after_next_byte t b f)
 next_no_run t b Waits h rest is no_run = λ begins. no_run (sym (begins_more t.half_read h rest b is) ∙ begins)
