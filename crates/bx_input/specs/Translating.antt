@@ -112,7 +112,7 @@ abbrev pub after_notice : List ℕ → Translating → Translated
 after_notice (number ∷ []) t = settled (record t { notice = Some number })
 after_notice _ t = sent t []
 
--- a frame, by its letter; a second (`s`) and unknown letters give the session nothing
+-- a frame, by its letter; unknown letters give the session nothing
 abbrev pub after_frame : Frame → Translating → Translated
 after_frame f t =
     if f.letter == 0x62 then after_all_typed f.bytes t

@@ -13,8 +13,6 @@ pub const SIZE: u8 = b'z';
 pub const IDLE: u8 = b'i';
 /// The number of a notice.
 pub const NOTICE: u8 = b'n';
-/// A second went by.
-pub const SECOND: u8 = b's';
 
 // The letters of the frames that the program writes to standard error.
 

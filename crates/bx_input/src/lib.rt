@@ -27,7 +27,7 @@ mod translator;
 
 pub use filter::Filter;
 pub use frame::{
-    END, FAULT, FRAME_HEAD, Frame, IDLE, JOURNAL, NOTICE, OPENED, REPLAYED, SECOND, SIZE, TYPED,
+    END, FAULT, FRAME_HEAD, Frame, IDLE, JOURNAL, NOTICE, OPENED, REPLAYED, SIZE, TYPED,
     first_frame,
 };
 pub use frame_reader::FrameReader;
