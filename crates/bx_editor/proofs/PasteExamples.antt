@@ -139,7 +139,11 @@ also_where_that_gives_way = refl
 abbrev asked_paste : Editor
 asked_paste = edited (codes "ab\nc") (GoTo ∷ PasteStart ∷ letters (codes "2\n"))
 
-a_question_is_not_answered : (asked_paste.ask, asked_paste.answer, asked_paste.pasted) ≡ (asks.Line, codes "2", None)
+-- what is asked, the answer as far as it is typed, and what a paste has brought
+abbrev asked_of : Editor → Ask × List ℕ × Option (List ℕ)
+asked_of e = (e.ask, e.answer, e.pasted)
+
+a_question_is_not_answered : asked_of asked_paste ≡ (asks.Line, codes "2", None)
 unfolding unicode_segmentation unicode_width digits
 a_question_is_not_answered = refl
 
