@@ -5,16 +5,14 @@ use Rattle.std.specs.Fmt.{digits}
 use Rattle.unicode_segmentation.proofs.Computing.{unicode_segmentation}
 use Rattle.unicode_width.proofs.Computing.{unicode_width}
 use Rattle.bx_keys.specs.declared.key.Key.{Key}
-use Rattle.bx_keys.specs.declared.key.Key.TheVariants.{Insert, Erase, Forward, Right, Mark, Copy, Cut, Find, GoTo, Name, NewLine, Quit, Repaint, Select, Size}
-use Rattle.bx_keys.specs.declared.key.Key.TheVariants.{LineDown, PasteStart, PasteEnd, RowEnd, Undo, UndoRun}
+use Rattle.bx_keys.specs.declared.key.Key.TheVariants.{Erase, Forward, Right, Mark, Copy, Cut, GoTo, Name, NewLine, Quit, Repaint, Select, Size}
+use Rattle.bx_keys.specs.declared.key.Key.TheVariants.{PasteStart, PasteEnd, Undo, UndoRun}
 use Rattle.bx_asking.specs.declared.question.Ask.{Ask}
 use Rattle.bx_asking.specs.declared.question.Ask.TheVariants as asks
 use Rattle.bx_runs.specs.declared.typing.Typing.{Typing}
 use Rattle.bx_runs.specs.declared.typing.Typing.TheVariants as typings
 use Rattle.bx_editor.specs.declared.message.Message.{Message}
-use Rattle.bx_editor.specs.declared.message.Message.TheVariants.{NotFound, Pasting, Unsaved}
-use Rattle.bx_editor.specs.declared.seek.Seek.{Seek}
-use Rattle.bx_editor.specs.declared.seek.Seek.TheVariants as seeks
+use Rattle.bx_editor.specs.declared.message.Message.TheVariants.{Pasting, Unsaved}
 use Rattle.bx_editor.specs.declared.soft.Soft.{Soft}
 use Rattle.bx_editor.specs.declared.soft.Soft.TheVariants.{Off, Fresh, Old}
 use Rattle.bx_editor.specs.Clipboard.{clip_of}

@@ -1,6 +1,6 @@
 -- What Copy and Cut take goes out to a clipboard.
 use Rattle.std.proofs.Common.{◌≡◌, ℕ, ◌<◌, ◌≤◌, Bool, true, false, nat_lt, List, length, refl, sym, ap, ap₂, subst, ◌∙◌, arith, inl, inr, if◌then◌else◌}
-use Rattle.std.specs.Prelude.{◌⊎◌, ◌&&◌, Option, Some, None}
+use Rattle.std.specs.Prelude.{◌&&◌, Option, Some, None}
 use Rattle.std.proofs.lemmas.Bool.Decides.{nat_tests}
 use Rattle.bx_keys.specs.declared.key.Key.{Key}
 use Rattle.bx_keys.specs.declared.key.Key.TheVariants.{Copy, Cut}
@@ -10,12 +10,12 @@ use Rattle.bx_editor.specs.declared.message.Message.{Message}
 use Rattle.bx_editor.specs.declared.message.Message.TheVariants.{Copied, LineCopied, NothingToCopy, TooLongForClipboard}
 use Rattle.bx_editor.specs.declared.seek.Seek.TheVariants as seeks
 use Rattle.bx_editor.specs.declared.soft.Soft.TheVariants.{Off}
-use Rattle.bx_editor.specs.Clipboard.{clip_of, is_clip}
+use Rattle.bx_editor.specs.Clipboard.{is_clip}
 use Rattle.bx_editor.specs.Editor.{Editor, cleared, with_removal}
 use Rattle.bx_editor.specs.Effects.{before}
 use Rattle.bx_editor.specs.Keys.{after_any, after_key, as_left}
 use Rattle.bx_editor.specs.PasteLaws.{CopiesGoOut, SendsHeld}
-use Rattle.bx_editor.specs.Region.{after_copy, after_cut, bytes_in, held_message, is_empty, largest_clip, line, region, taken, with_held}
+use Rattle.bx_editor.specs.Region.{after_copy, bytes_in, held_message, is_empty, largest_clip, line, region, taken, with_held}
 use Rattle.bx_editor.proofs.InSearch.{any-key}
 
 short : (n limit : ℕ) → n ≤ limit → nat_lt limit n ≡ false
