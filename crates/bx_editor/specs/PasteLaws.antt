@@ -1,5 +1,5 @@
 -- Laws of a paste, and of what goes out to a clipboard. `d` is Unicode's data, `e` the editor before, `new` the editor after.
-use Rattle.std.specs.Prelude.{◌≡◌, ◌≢◌, ℕ, ◌<◌, ◌≤◌, ◌⊎◌, true, false, List, [], ◌∷◌, ◌++◌, length, map, Some, None}
+use Rattle.std.specs.Prelude.{◌≡◌, ◌≢◌, ℕ, ◌+◌, ◌<◌, ◌≤◌, ◌⊎◌, true, false, List, [], ◌∷◌, ◌++◌, length, map, Some, None, if◌then◌else◌}
 use Rattle.bx_keys.specs.declared.key.Key.{Key}
 use Rattle.bx_keys.specs.declared.key.Key.TheVariants.{Copy, Cut, Insert, PasteEnd, PasteStart}
 use Rattle.bx_runs.specs.Runs.{edited}
@@ -12,17 +12,22 @@ use Rattle.bx_editor.specs.Clipboard.{clip_of}
 use Rattle.bx_editor.specs.Editor.{Editor, place_after}
 use Rattle.bx_editor.specs.Keys.{after_key, after_keys, needs_no_painting}
 use Rattle.bx_editor.specs.Picture.{LooksAs}
-use Rattle.bx_editor.specs.Pasting.{longer, pastes_crlf}
+use Rattle.bx_editor.specs.Pasting.{longer, pasted_bytes, pastes_crlf}
 use Rattle.bx_editor.specs.Putting.{has_room}
 use Rattle.bx_editor.specs.Region.{bytes_in, is_empty, largest_clip, region, taken}
 use Rattle.bx_editor.specs.Selecting.{is_selection}
 
 -- ---- a paste
 
--- a list with more characters, each in UTF-8, and LF as the text's line end
+-- what a paste has brought: a list with more characters, until it is longer than any text
 abbrev pub brought : Data → List ℕ → List ℕ → List ℕ → List ℕ
 brought d text list [] = list
 brought d text list (c ∷ cs) = brought d text (longer (pastes_crlf d text c) list c) cs
+
+-- these characters in UTF-8, and LF as the text's line end
+abbrev pub written : Data → List ℕ → List ℕ → List ℕ
+written d text [] = []
+written d text (c ∷ cs) = pasted_bytes (pastes_crlf d text c) c ++ written d text cs
 
 -- the editor after characters are pasted
 abbrev pub after_paste : Data → Editor → List ℕ → Editor
@@ -32,20 +37,27 @@ after_paste d e cs = after_keys d None e (PasteStart ∷ (map Insert cs ++ Paste
 abbrev pub place_between : Data → Editor → ℕ
 place_between d e = place_after d e (splice e.content.text (region e).0 (region e).1 []) (region e).0
 
--- `list` was put in as one edit that begins a run; where a selection gave way, as two of one run
+-- `list` was put in as one edit that begins a run; where a selection gave way, as two of one run. The cursor is at its end
 pub record IsOneEdit (d : Data) (e : Editor) (list : List ℕ) (new : Editor) : Type 0 where
   pub alone : is_selection e ≡ false → new.content ≡ inserted e.content e.place list e.place new.place
   pub instead : is_selection e ≡ true
       → new.content ≡ exchanged e.content (region e).0 (region e).1 (place_between d e) list e.place (place_between d e) new.place
   pub begins : new.runs ≡ edited e.runs (length e.content.past) false
+  pub place : new.place ≡ place_after d e new.content.text ((if is_selection e then place_between d e else e.place) + length list)
 
 -- the text, with its past and future, and the cursor's place stay
 pub record StaysAsText (e new : Editor) : Type 0 where
   pub content : new.content ≡ e.content
   pub place : new.place ≡ e.place
 
--- of the characters that a paste brings nothing is lost, and none is put in alone
-pub record IsPaste (d : Data) (e : Editor) (list : List ℕ) (new : Editor) : Type 0 where
+-- `list` is all these characters where it has room, and has room where they do
+pub record HasAll (d : Data) (e : Editor) (cs list : List ℕ) : Type 0 where
+  pub whole : has_room e list ≡ true → list ≡ written d e.content.text cs
+  pub same_room : has_room e list ≡ has_room e (written d e.content.text cs)
+
+-- of the characters that a paste brings, as `list`, nothing is lost, and none is put in alone
+pub record IsPaste (d : Data) (e : Editor) (cs list : List ℕ) (new : Editor) : Type 0 where
+  pub all : HasAll d e cs list
   pub put : list ≢ [] → has_room e list ≡ true → IsOneEdit d e list new
   pub full : list ≢ [] → has_room e list ≡ false → StaysAsText e new × (new.message ≡ Some TextFull)
   pub empty : list ≡ [] → StaysAsText e new
@@ -55,7 +67,7 @@ pub record IsPaste (d : Data) (e : Editor) (list : List ℕ) (new : Editor) : Ty
 abbrev pub PasteIsOneEdit : Type 0
 PasteIsOneEdit =
     (d : Data) (e : Editor) (cs : List ℕ) → e.ask ≡ asks.Off → e.seek ≡ Off → e.pasted ≡ None
-    → IsPaste d e (brought d e.content.text [] cs) (after_paste d e cs)
+    → IsPaste d e cs (brought d e.content.text [] cs) (after_paste d e cs)
 
 -- a character that goes into a paste, and PasteStart once more, leave the picture as it is
 abbrev pub PasteIsUnseen : Type 0
