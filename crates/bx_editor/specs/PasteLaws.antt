@@ -1,8 +1,9 @@
 -- Laws of a paste, and of what goes out to a clipboard. `d` is Unicode's data, `e` the editor before, `new` the editor after.
-use Rattle.std.specs.Prelude.{◌≡◌, ◌≢◌, ℕ, ◌+◌, ◌<◌, ◌≤◌, ◌⊎◌, true, false, List, [], ◌∷◌, ◌++◌, length, map, Some, None, if◌then◌else◌}
+use Rattle.std.specs.Prelude.{◌≡◌, ◌≢◌, ℕ, ◌+◌, ◌<◌, ◌≤◌, ◌⊎◌, true, false, List, [], ◌∷◌, ◌++◌, length, map, Option, Some, None, if◌then◌else◌}
 use Rattle.bx_keys.specs.declared.key.Key.{Key}
 use Rattle.bx_keys.specs.declared.key.Key.TheVariants.{Copy, Cut, Insert, PasteEnd, PasteStart}
 use Rattle.bx_runs.specs.Runs.{edited}
+use Rattle.bx_store.specs.declared.store.StoreFault.{StoreFault}
 use Rattle.bx_text.specs.Edits.{exchanged, inserted, splice}
 use Rattle.bx_ucd.specs.Data.{Data}
 use Rattle.bx_asking.specs.declared.question.Ask.TheVariants as asks
@@ -12,7 +13,7 @@ use Rattle.bx_editor.specs.Clipboard.{clip_of}
 use Rattle.bx_editor.specs.Editor.{Editor, place_after}
 use Rattle.bx_editor.specs.Keys.{after_key, after_keys, needs_no_painting}
 use Rattle.bx_editor.specs.Picture.{LooksAs}
-use Rattle.bx_editor.specs.Pasting.{longer, pasted_bytes, pastes_crlf}
+use Rattle.bx_editor.specs.Pasting.{longer, paste_ended, pasted_bytes, pastes_crlf}
 use Rattle.bx_editor.specs.Putting.{has_room}
 use Rattle.bx_editor.specs.Region.{bytes_in, is_empty, largest_clip, region, taken}
 use Rattle.bx_editor.specs.Selecting.{is_selection}
@@ -75,15 +76,30 @@ PasteIsUnseen = (d : Data) (e : Editor) (key : Key) → needs_no_painting e key 
 
 -- ---- a clipboard
 
--- a part of the text goes out by a key unless it is empty or too long; that it is too long is told
+-- nothing goes out by a key, and the held text stays
+pub record SendsNothing (e : Editor) (key : Key) (new : Editor) : Type 0 where
+  pub none : clip_of new key ≡ None
+  pub stays : new.held ≡ e.held
+
+-- a part of the text is held and goes out by a key, unless it is empty or too long to go out; that it is too long is told
 pub record SendsHeld (e : Editor) (part : ℕ × ℕ) (key : Key) (new : Editor) : Type 0 where
+  pub held : is_empty part ≡ false → new.held ≡ bytes_in e part
   pub sent : is_empty part ≡ false → length (bytes_in e part) ≤ largest_clip → clip_of new key ≡ Some (bytes_in e part)
   pub too_long : is_empty part ≡ false → largest_clip < length (bytes_in e part)
       → (clip_of new key ≡ None) × (new.message ≡ Some TooLongForClipboard)
-  pub nothing : is_empty part ≡ true → clip_of new key ≡ None
+  pub nothing : is_empty part ≡ true → SendsNothing e key new
 
--- with a clipboard, outside a search and a question and with no paste under way, Copy and Cut send what they take
+-- what Copy and Cut send where no paste is under way: Copy gives up a search or a question and then sends nothing
+pub record SendsCopies (d : Data) (e by_copy by_cut : Editor) : Type 0 where
+  pub copy : e.ask ≡ asks.Off → e.seek ≡ Off → SendsHeld e (taken d e) Copy by_copy
+  pub given_up : (e.ask ≢ asks.Off) ⊎ (e.seek ≢ Off) → SendsNothing e Copy by_copy
+  pub cut : SendsHeld e (taken d e) Cut by_cut
+
+-- with a clipboard Copy and Cut, which first end a paste, send what they take; nothing else is sent
+pub record SendsCopiesAlone (d : Data) (fault : Option StoreFault) (e : Editor) : Type 0 where
+  pub copies : e.clipboard ≡ true → SendsCopies d (paste_ended d e) (after_key d fault e Copy) (after_key d fault e Cut)
+  pub others : (key : Key) → key ≢ Copy → key ≢ Cut → clip_of (after_key d fault e key) key ≡ None
+  pub without_one : e.clipboard ≡ false → (key : Key) → clip_of (after_key d fault e key) key ≡ None
+
 abbrev pub CopiesGoOut : Type 0
-CopiesGoOut =
-    (d : Data) (e : Editor) (key : Key) → (key ≡ Copy) ⊎ (key ≡ Cut) → e.clipboard ≡ true → e.ask ≡ asks.Off → e.seek ≡ Off → e.pasted ≡ None
-    → SendsHeld e (taken d e) key (after_key d None e key)
+CopiesGoOut = (d : Data) (fault : Option StoreFault) (e : Editor) → SendsCopiesAlone d fault e
