@@ -261,9 +261,9 @@ and_it_is_stored : paste_of (cut_off_by Save) ≡ (None, Some Saved, false)
 unfolding unicode_segmentation unicode_width digits
 and_it_is_stored = refl
 
-a_selection_begins_behind_it : mark_of (cut_off_by Select) ≡ (Some 1, Fresh)
+a_selection_begins_after_it : mark_of (cut_off_by Select) ≡ (Some 1, Fresh)
 unfolding unicode_segmentation unicode_width digits
-a_selection_begins_behind_it = refl
+a_selection_begins_after_it = refl
 
 abbrev pointed : List Key → List ℕ × ℕ
 pointed ahead = text_at (after (start (codes "1\n2\n3") 3 4) (ahead ++ PasteStart ∷ letters (codes "x\ny\n") ++ Point 2 1 ∷ []))
@@ -279,9 +279,9 @@ from_the_top_as_it_was = refl
 abbrev in_parts : Editor
 in_parts = edited [] (letters (codes "a") ++ PasteStart ∷ letters (codes "b") ++ NewLine ∷ letters (codes "c") ++ PasteEnd ∷ [])
 
-what_comes_behind_is_typed : runs_of in_parts ≡ (0 ∷ 1 ∷ 2 ∷ 3 ∷ [], 4, typings.Off)
+what_comes_after_is_typed : runs_of in_parts ≡ (0 ∷ 1 ∷ 2 ∷ 3 ∷ [], 4, typings.Off)
 unfolding unicode_segmentation unicode_width digits
-what_comes_behind_is_typed = refl
+what_comes_after_is_typed = refl
 
 in_runs_of_its_own : text_at (after in_parts (UndoRun ∷ UndoRun ∷ UndoRun ∷ [])) ≡ (codes "a", 1)
 unfolding unicode_segmentation unicode_width digits
@@ -290,9 +290,9 @@ in_runs_of_its_own = refl
 abbrev erased : Editor
 erased = after two_pastes (UndoRun ∷ PasteStart ∷ letters (codes "x") ++ Erase ∷ Erase ∷ letters (codes "y"))
 
-erasures_behind_it_are_a_run : runs_of erased ≡ (0 ∷ 1 ∷ 2 ∷ 4 ∷ [], 5, typings.Word)
+erasures_after_it_are_a_run : runs_of erased ≡ (0 ∷ 1 ∷ 2 ∷ 4 ∷ [], 5, typings.Word)
 unfolding unicode_segmentation unicode_width digits
-erasures_behind_it_are_a_run = refl
+erasures_after_it_are_a_run = refl
 
 undone_up_to_it : text_at (after erased (UndoRun ∷ UndoRun ∷ [])) ≡ (codes "abx", 3)
 unfolding unicode_segmentation unicode_width digits
@@ -356,10 +356,10 @@ a_cut_goes_out : copying Cut (codes "a\nb") ≡ Some (codes "a\n")
 unfolding unicode_segmentation unicode_width digits
 a_cut_goes_out = refl
 
-abbrev copying_behind : List ℕ → List Key → Key → Option (List ℕ)
-copying_behind text keys key = clip_of (after (with_clipboard (start text 2 40)) (keys ++ key ∷ [])) key
+abbrev copying_after : List ℕ → List Key → Key → Option (List ℕ)
+copying_after text keys key = clip_of (after (with_clipboard (start text 2 40)) (keys ++ key ∷ [])) key
 
-the_region_is_cut : copying_behind (codes "abcd") (Mark ∷ Forward ∷ Forward ∷ []) Cut ≡ Some (codes "ab")
+the_region_is_cut : copying_after (codes "abcd") (Mark ∷ Forward ∷ Forward ∷ []) Cut ≡ Some (codes "ab")
 unfolding unicode_segmentation unicode_width digits
 the_region_is_cut = refl
 
@@ -374,15 +374,15 @@ not_mirrored = refl
 abbrev in_two_directions : List ℕ
 in_two_directions = 0x61 ∷ 0x20 ∷ 0x5D0 ∷ 0x5D1 ∷ 0x20 ∷ 0x62 ∷ []
 
-in_stored_order : copying_behind in_two_directions (Mark ∷ Forward ∷ Forward ∷ Forward ∷ []) Copy ≡ Some (0x61 ∷ 0x20 ∷ 0xD7 ∷ 0x90 ∷ [])
+in_stored_order : copying_after in_two_directions (Mark ∷ Forward ∷ Forward ∷ Forward ∷ []) Copy ≡ Some (0x61 ∷ 0x20 ∷ 0xD7 ∷ 0x90 ∷ [])
 unfolding unicode_segmentation unicode_width digits
 in_stored_order = refl
 
-and_from_the_end : copying_behind in_two_directions (RowEnd ∷ Mark ∷ Back ∷ Back ∷ Back ∷ []) Copy ≡ Some (0xD7 ∷ 0x91 ∷ 0x20 ∷ 0x62 ∷ [])
+and_from_the_end : copying_after in_two_directions (RowEnd ∷ Mark ∷ Back ∷ Back ∷ Back ∷ []) Copy ≡ Some (0xD7 ∷ 0x91 ∷ 0x20 ∷ 0x62 ∷ [])
 unfolding unicode_segmentation unicode_width digits
 and_from_the_end = refl
 
-what_is_pasted_goes_out : copying_behind (codes "ab") (PasteStart ∷ letters (codes "x")) Copy ≡ Some (codes "xab")
+what_is_pasted_goes_out : copying_after (codes "ab") (PasteStart ∷ letters (codes "x")) Copy ≡ Some (codes "xab")
 unfolding unicode_segmentation unicode_width digits
 what_is_pasted_goes_out = refl
 
