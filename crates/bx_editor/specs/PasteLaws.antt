@@ -38,7 +38,8 @@ after_paste d e cs = after_keys d None e (PasteStart ∷ (map Insert cs ++ Paste
 abbrev pub place_between : Data → Editor → ℕ
 place_between d e = place_after d e (splice e.content.text (region e).0 (region e).1 []) (region e).0
 
--- `list` was put in as one edit that begins a run; where a selection gave way, as two of one run. The cursor is at its end
+-- `list` was put in as one edit that begins a run; where a selection gave way, as two of one run. The cursor is at the first
+-- place at or after its end
 pub record IsOneEdit (d : Data) (e : Editor) (list : List ℕ) (new : Editor) : Type 0 where
   pub alone : is_selection e ≡ false → new.content ≡ inserted e.content e.place list e.place new.place
   pub instead : is_selection e ≡ true
@@ -51,7 +52,7 @@ pub record StaysAsText (e new : Editor) : Type 0 where
   pub content : new.content ≡ e.content
   pub place : new.place ≡ e.place
 
--- `list` is all these characters where it has room, and has room where they do
+-- `list` is all of these characters where it has room, and it has room exactly where they do
 pub record HasAll (d : Data) (e : Editor) (cs list : List ℕ) : Type 0 where
   pub whole : has_room e list ≡ true → list ≡ written d e.content.text cs
   pub same_room : has_room e list ≡ has_room e (written d e.content.text cs)
