@@ -25,6 +25,8 @@ pub struct Options<'a> {
     pub check: bool,
     /// Whether the text counts as changed from the start.
     pub unsaved: bool,
+    /// Whether text that is copied or cut also goes out to the terminal's clipboard.
+    pub clipboard: bool,
     /// The path of the journal that keys are appended to; None if none is kept.
     pub journal: Option<&'a str>,
     /// The path of the journal to replay; None if none is.

@@ -53,6 +53,7 @@ fn add_options(line: &mut String, options: &Options<'_>) -> Result<(), AllocErro
     for (name, is_given) in [
         ("check", options.check),
         ("unsaved", options.unsaved),
+        ("clipboard", options.clipboard),
         ("new", options.is_new),
         ("frames", options.frames),
         ("erases-by-delete", options.erases_by_delete),
