@@ -104,9 +104,10 @@ before_painting text height width base = record {
   pending = [];
 }
 
--- a text is opened, and its first picture queued
+-- a text is opened, and its first picture queued, from the text's start on
 abbrev pub at_opening : Data → List ℕ → ℕ → ℕ → Base → Session
-at_opening d text height width base = with_painting d (before_painting text height width base)
+at_opening d text height width base =
+    let s = before_painting text height width base in with_picture s s.editor (picture_of d s.editor)
 
 -- ---- a byte
 
