@@ -1,6 +1,6 @@
 -- The session after a byte and after a told size, from the contracts of the calls within.
 use Rattle.std.proofs.Common.{◌≡◌, ℕ, Bool, true, false, List, [], drop, Option, Some, None, Result, Ok, Err, IsUtf8, refl, sym, ap, subst, ◌∙◌, if◌then◌else◌}
-use Rattle.std.specs.Prelude.{◌≢◌, not, ◌||◌, ◌&&◌, is_some, OnOk, OnErr}
+use Rattle.std.specs.Prelude.{not, ◌||◌, ◌&&◌, is_some, OnOk, OnErr}
 use Rattle.bx_terms.specs.Sizes.{is_side}
 use Rattle.bx_terms.specs.declared.base.Base.{Base}
 use Rattle.bx_grid.specs.Picture.{PictureState, is_size}
@@ -11,8 +11,8 @@ use Rattle.bx_keys.specs.Waiting.{head_of}
 use Rattle.bx_store.specs.declared.store.StoreFault.{StoreFault}
 use Rattle.bx_ucd.specs.Data.{Data}
 use Rattle.bx_editor.specs.Editor.{Editor, EditorState, HasRows, at_start, with_top}
-use Rattle.bx_editor.specs.Keys.{after_key, after_press, after_user, asks_for_whole}
-use Rattle.bx_editor.specs.Pasting.{ended_with, paste_ended}
+use Rattle.bx_editor.specs.Keys.{after_key, asks_for_whole}
+use Rattle.bx_editor.specs.Pasting.{paste_ended}
 use Rattle.bx_session.specs.declared.error.Refused.{Refused}
 use Rattle.bx_session.specs.declared.error.Refused.TheVariants.{Edit, Paint, Size}
 use Rattle.bx_session.specs.Session.{Session, SessionState, with_painting, with_painting_owed, with_picture, at_opening, before_painting, key_of_byte}
@@ -21,6 +21,7 @@ use Rattle.bx_session.specs.Session.{after_byte, unpainted_after_told}
 use Rattle.bx_session.specs.Painting.{AppendsPainting, FeedAppends, QueuesPicture, FeedPaints}
 use Rattle.bx_session.specs.Saving.{AfterByte, ToldBy, may_refuse_key}
 use Rattle.bx_session.specs.declared.status.Status.{Status}
+use Rattle.bx_session.proofs.Ending.{save_ahead}
 use Rattle.bx_session.proofs.KeySizes.{same_ended}
 use Rattle.bx_session.proofs.Tops.{opening_stays}
 
@@ -92,32 +93,14 @@ applied {D} says old new key is same =
 
 -- ---- a Save
 
--- where a paste ended first
-ended_first : (d : Data) (fault : Option StoreFault) (e : Editor) (pasted : Option (List ℕ)) → e.pasted ≡ pasted
-    → after_user d fault (paste_ended d e) Save ≡ after_press d fault pasted e Save
-ended_first d fault e None none = ap (λ pasted. after_user d fault (ended_with d e pasted) Save) none
-ended_first d fault e (Some list) is = refl
-
 pub save_is : {D : Type 0} (says : D → Data) (fault : Option StoreFault) (old ended new : EditorState D)
-    → ended ≡ record old { editor = paste_ended (says old.tables) old.editor } → ended.editor.pasted ≡ None
+    → ended ≡ record old { editor = paste_ended (says old.tables) old.editor }
     → new ≡ record ended { editor = after_key (says ended.tables) fault ended.editor Save }
     → new ≡ record old { editor = after_key (says old.tables) fault old.editor Save }
-save_is {D} says fault old ended new is none saved =
-    let d = says old.tables in
-    let e : Editor = paste_ended d old.editor in
-    let over : e.pasted ≡ None = ap (λ (x : EditorState D). x.editor.pasted) (sym is) ∙ none in
-    let pressed : after_key d fault e Save ≡ after_key d fault old.editor Save =
-    ap (λ pasted. after_press d fault pasted e Save) over ∙ ended_first d fault old.editor old.editor.pasted refl in
+save_is {D} says fault old ended new is saved =
     saved
     ∙ ap (λ (x : EditorState D). record x { editor = after_key (says x.tables) fault x.editor Save }) is
-    ∙ ap (λ (x : Editor). record { tables = old.tables; editor = x }) pressed
-
--- only a paste is refused before a Save
-pub refused_paste : (e : Editor) → e.pasted ≢ None → is_some e.pasted ≡ true
-refused_paste e some = by e.pasted some where
-  by : (pasted : Option (List ℕ)) → pasted ≢ None → is_some pasted ≡ true
-  by None some = absurd (some refl)
-  by (Some list) some = refl
+    ∙ ap (λ (x : Editor). record { tables = old.tables; editor = x }) (save_ahead (says old.tables) fault old.editor)
 
 -- ---- a byte
 

@@ -50,7 +50,7 @@ pub record IsUnseen (clip : Option (List ℕ)) : Type 0 where
   pub tokens : (bytes : List ℕ) → AreWholeTokens bytes → AreWholeTokens (then_clip bytes clip)
   pub gives : IfSome clip (λ text. decode_of standard (encode_of standard text) ≡ Ok text)
 
-then_clip_after : (before bytes : List ℕ) (clip : Option (List ℕ)) → then_clip (before ++ bytes) clip ≡ before ++ then_clip bytes clip
+pub then_clip_after : (before bytes : List ℕ) (clip : Option (List ℕ)) → then_clip (before ++ bytes) clip ≡ before ++ then_clip bytes clip
 then_clip_after before bytes None = refl
 then_clip_after before bytes (Some text) = append_assoc before bytes (clip_bytes text)
 

@@ -177,23 +177,31 @@ status_of s = if s.editor.ended then Ended else Running
 -- ---- a byte of a journal
 
 -- The effect of a key in a replay. A Save and a Quit end what any key ends, first a paste, and a Save a search and a question too; a
--- Quit gives up a search or a question. Neither stores a text, nor ends the session.
+-- Quit gives up a search or a question. Neither stores a text, nor ends the session. `ask` and `seek` are what stands once a paste has
+-- ended.
 abbrev pub after_replayed : Data → Ask → Seek → Editor → Key → Editor
 after_replayed d ask seek e Save = after_passed_save (paste_ended d e)
 after_replayed d asks.Off Off e Quit = after_passed_quit (paste_ended d e)
 after_replayed d ask seek e key = after_key d None e key
 
+-- the same, in the editor's own state of question and search
+abbrev pub replayed_on : Data → Editor → Key → Editor
+replayed_on d e key = let over = paste_ended d e in after_replayed d over.ask over.seek e key
+
 -- The editor after keys of a journal in sequence. Before each of them it scrolls to the cursor, as the painting before that key did in
 -- the session, since a key can point at a row of the picture.
 abbrev pub after_all_replayed : Data → Editor → List Key → Editor
 after_all_replayed d e [] = e
-after_all_replayed d e (key ∷ keys) = after_all_replayed d (after_replayed d e.ask e.seek (scrolled d e) key) keys
+after_all_replayed d e (key ∷ keys) = after_all_replayed d (replayed_on d (scrolled d e) key) keys
 
 -- the session after a key of a journal, in these states of question and search
 abbrev pub session_after_replayed : Data → Ask → Seek → Session → Key → Session
 session_after_replayed d ask seek s Save = record s { editor = after_passed_save (paste_ended d s.editor) }
 session_after_replayed d asks.Off Off s Quit = record s { editor = after_passed_quit (paste_ended d s.editor) }
 session_after_replayed d ask seek s key = session_after_key d None s key
+
+abbrev pub session_replayed_on : Data → Session → Key → Session
+session_replayed_on d s key = let over = paste_ended d s.editor in session_after_replayed d over.ask over.seek s key
 
 -- the session scrolled to its cursor; nothing is painted
 abbrev pub session_scrolled : Data → Session → Session
@@ -202,7 +210,7 @@ session_scrolled d s = record s { editor = scrolled d s.editor }
 -- the session after the key of a journal's byte, if it completes one
 abbrev pub after_replayed_key : Data → Session → Option Key → Session
 after_replayed_key d s None = s
-after_replayed_key d s (Some key) = session_after_replayed d s.editor.ask s.editor.seek (session_scrolled d s) key
+after_replayed_key d s (Some key) = session_replayed_on d (session_scrolled d s) key
 
 -- the byte's key is applied, and a painting is owed
 abbrev pub after_replay : Data → Session → ℕ → Session

@@ -1,12 +1,12 @@
 //! Replay of a journal's bytes in a session that opened the same text: keys are applied again, and nothing is stored.
 
-ghost use Rattle.std.specs.Prelude.{◌≡◌, ◌↔◌, ◌⊎◌, IsErrOf, IsTrue, true, None, Some, is_some, IfErr, OnErr, OnOk};
+ghost use Rattle.std.specs.Prelude.{◌≡◌, ◌↔◌, ◌⊎◌, IsErrOf, IsOk, IsTrue, true, None, Some, is_some, IfErr, OnErr, OnOk};
 ghost use Rattle.bx_session.specs.Saving.{may_refuse_key, store_state, with_text};
 ghost use Rattle.bx_keys.specs.Keys.{HasSides};
 ghost use Rattle.bx_editor.specs.Keys.{may_refuse};
 ghost use Rattle.bx_editor.specs.Pasting.{paste_ended};
 ghost use Rattle.bx_session.specs.Session.{after_replay, after_replayed_key, after_spending, at_replay_end, at_unscrolled_end, key_of_byte};
-ghost use Rattle.bx_session.specs.Session.{session_after_replayed, session_scrolled};
+ghost use Rattle.bx_session.specs.Session.{session_after_replayed, session_replayed_on, session_scrolled};
 ghost use Rattle.bx_store.specs.Stores.{with_fault};
 
 use crate::error::Refused;
@@ -26,25 +26,43 @@ impl<D: BidiData + Drop> Session<D> {
     fn press_again(&mut self, key: Key) -> Result<(), Refused>
         requires sides { HasSides key }
         ensures after_key { OnOk result (self.new ≡ record self.old {
-          session = session_after_replayed (D.data self.old.tables) self.old.session.editor.ask self.old.session.editor.seek
-              self.old.session key;
+          session = session_replayed_on (D.data self.old.tables) self.old.session key;
         }) }
         ensures err { OnErr result (self.new ≡ self.old) }
         ensures edits { OnErr result (may_refuse self.old.session.editor key ≡ true) }
         ensures refused { OnErr result (result ≡ Err Refused.Edit) }
     {
-        match (key, self.editor.ask(), self.editor.seek()) {
-            (Key::Save, _, _) => {
+        match key {
+            Key::Save => {
                 self.end_paste()?;
                 self.editor.pass_save();
                 Ok(())
             }
-            (Key::Quit, Ask::Off, Seek::Off) => {
+            Key::Quit => {
                 self.end_paste()?;
+                self.pass_quit()
+            }
+            _ => self.press(key),
+        }
+    }
+
+    /// Passes over a Quit of a journal, or gives up a search or a question with it, where no paste is under way.
+    ///
+    /// Errors: never, since no memory is needed.
+    fn pass_quit(&mut self) -> Result<(), Refused>
+        requires no_paste { self.old.session.editor.pasted ≡ None }
+        ensures after_key { self.new ≡ record self.old {
+          session = session_after_replayed (D.data self.old.tables) self.old.session.editor.ask self.old.session.editor.seek
+              self.old.session Key.Quit;
+        } }
+        ensures ok { IsOk result }
+    {
+        match (self.editor.ask(), self.editor.seek()) {
+            (Ask::Off, Seek::Off) => {
                 self.editor.pass_quit();
                 Ok(())
             }
-            _ => self.press(key),
+            _ => self.press(Key::Quit),
         }
     }
 
