@@ -146,6 +146,7 @@ impl<D: BidiData + Drop> Session<D> {
     /// Errors: `Edit` if memory runs out for the end of a paste: nothing has changed. `Paint` if it runs out for scrolling: the replay
     /// has ended, and the next painting scrolls.
     pub fn end_replay(&mut self) -> Result<(), Refused>
+        ensures tables { self.new.tables ≡ self.old.tables }
         ensures ok { OnOk result (self.new ≡ record self.old { session = at_replay_end (D.data self.old.tables) self.old.session }) }
         ensures err { IsErrOf result Refused.Edit → self.new ≡ self.old }
         ensures pasting { IsErrOf result Refused.Edit → is_some self.old.session.editor.pasted ≡ true }
