@@ -35,10 +35,3 @@ loop-byte-preserved g c =
           c.loop-byte.met.is_known _ c.loop-byte.met.keys _ met c.key_of-key.ensures c.met_with-met.ensures.known c.met_with-met.ensures.keys next;
       few = let one = one_key_at_most c.key_of-key.result in omega (arith, one, was.few, c.met_with-met.ensures.keys);
     }
-
-pub returns-clause-replays : goal.returns-clause-replays
-returns-clause-replays g c =
-    let says : g.row.D.Denot → Data = g.D.BidiData.data in
-    let keys = c.args.keys.now in
-    journal_is says c.args.session.now.tables c.loop-byte.session c.end_replay.new.self c.args.session.now.session keys _ c.loop-byte.invariant.goes
-    (take_all _ keys (omega (arith, c.loop-byte-test.false))) c.in_ok-end_replay.ensures.ok
