@@ -44,21 +44,21 @@ stored_both d e store (event ∷ first) others = stored_both d (after_event d e 
 -- each byte has the key that it ends behind what a session keeps of those before
 abbrev pub AreDecoded : List ℕ → List Event → Type 0
 AreDecoded rest [] = Unit {0}
-AreDecoded rest (Input byte key applied fault ∷ more) = (key ≡ key_after rest byte) × AreDecoded (head_of (rest_after rest byte)) more
-AreDecoded rest (Telling height width ∷ more) = AreDecoded rest more
+AreDecoded rest (Input byte key applied fault painted ∷ more) = (key ≡ key_after rest byte) × AreDecoded (head_of (rest_after rest byte)) more
+AreDecoded rest (Telling height width painted ∷ more) = AreDecoded rest more
 
 decoded_keys : (rest : List ℕ) (events : List Event) → AreDecoded rest events → keys_of events ≡ keys_from rest (input_of events)
 decoded_keys rest [] are = refl
-decoded_keys rest (Input byte key applied fault ∷ more) are =
+decoded_keys rest (Input byte key applied fault painted ∷ more) are =
     ap (λ k. option_to_list k ++ keys_of more) are.0
     ∙ ap (λ ks. option_to_list (key_after rest byte) ++ ks) (decoded_keys (head_of (rest_after rest byte)) more are.1)
-decoded_keys rest (Telling height width ∷ more) are = decoded_keys rest more are
+decoded_keys rest (Telling height width painted ∷ more) are = decoded_keys rest more are
 
 front_decoded : (rest : List ℕ) (front back : List Event) → AreDecoded rest (front ++ back) → AreDecoded rest front
 front_decoded rest [] back are = tt
-front_decoded rest (Input byte key applied fault ∷ front) back are =
+front_decoded rest (Input byte key applied fault painted ∷ front) back are =
     (are.0, front_decoded (head_of (rest_after rest byte)) front back are.1)
-front_decoded rest (Telling height width ∷ front) back are = front_decoded rest front back are
+front_decoded rest (Telling height width painted ∷ front) back are = front_decoded rest front back are
 
 -- behind the bytes of a journal, of which this waits
 pub decoded_behind : (journal : List ℕ) (events : List Event) → AreDecoded (rest_from [] journal) events → HasKeysOfAll journal events
@@ -197,7 +197,7 @@ no_size_if true event off = absurd (cc off)
 no_size_if false event off = refl
 
 telling_brings : (d : Data) (old new : World) (store store' : StoreState) (height width : ℕ) (answer : Result (Unit {0}) StepFault)
-    → is_size height width ≡ true → new.session.editor ≡ after_events d old.session.editor (Telling height width ∷ [])
+    → is_size height width ≡ true → new.session.editor ≡ after_events d old.session.editor (Telling height width painted ∷ [])
     → new.session.rest ≡ old.session.rest → store' ≡ store → StepBrings d old new store store' (Told height width) answer
 telling_brings d old new store store' height width answer sized editor rest same = record {
   first = Telling height width ∷ [];
@@ -330,8 +330,8 @@ below g n k now low is = by (cases_lt g (suc n)) where
 failed_are : (d : Data) (e : Editor) (store : StoreState) (events : List Event) → (stored_after_all d e store events).faults.count < greatest
     → (stored_after_all d e store events).faults.count ≡ store.faults.count + failed_saves events
 failed_are d e store [] low = omega arith
-failed_are d e store (Telling height width ∷ more) low = failed_are d (after_event d e (Telling height width)) store more low
-failed_are d e store (Input byte key applied fault ∷ more) low =
+failed_are d e store (Telling height width painted ∷ more) low = failed_are d (after_event d e (Telling height width)) store more low
+failed_are d e store (Input byte key applied fault painted ∷ more) low =
     by_save (is_save_key key) fault (λ (now : StoreState). failed_are d (after_input d applied fault e key) now more) low where
       next : Editor
       next = after_input d applied fault e key
