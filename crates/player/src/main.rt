@@ -65,6 +65,7 @@
 //!     S38           at most 38 of the pending bytes go to the line
 //!     R11           the terminal reads at most 11 bytes of the line
 //!     J6178         a journal of these bytes is replayed; each byte is a step
+//!     clipboard     from the beginning, what is copied or cut also goes out to the clipboard; wherever the word stands, no step
 //!
 //! and words that only look:
 //!
