@@ -44,6 +44,8 @@ pub struct Options<'a> {
     /// The host's two pipes for saves, for requests and for answers, divided by a comma: each a descriptor's number or a path. None
     /// if the program saves by itself.
     pub saves: Option<&'a str>,
+    /// Whether text that is copied or cut goes out to the terminal's clipboard too.
+    pub clipboard: bool,
     /// Whether the terminal's own erase character is DELETE, 7F.
     pub erases_by_delete: bool,
     pub ghost has_rows: { is_side rows ≡ true },

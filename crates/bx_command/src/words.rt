@@ -87,7 +87,7 @@ fn add_options<'a>(args: &mut Vec<Arg<'a>>, alloc: Global) -> Result<(), AllocEr
     for name in ["text", "journal", "replay"] {
         args.push(path(alloc, name))?;
     }
-    for name in ["unsaved", "frames"] {
+    for name in ["unsaved", "frames", "clipboard"] {
         args.push(flag(alloc, name))?;
     }
     for arg in [direction(alloc), line(alloc), before(alloc), file(alloc)] {
@@ -142,6 +142,7 @@ fn options_of<'a>(matches: &ArgMatches<'a>) -> Option<Options<'a>>
         before: matches.get_str("before"),
         frames: matches.get_flag("frames"),
         saves: matches.get_str("saves"),
+        clipboard: matches.get_flag("clipboard"),
         erases_by_delete: is_delete(matches.get_str("erase")),
     })
 }

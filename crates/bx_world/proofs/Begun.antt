@@ -46,7 +46,7 @@ opened_at d s t idle queued =
       follows = λ on. (let window = window_is t.height t.width s.editor on in
           subst (λ painted. IfSome painted (λ q. Shows (reads t s.pending) q)) (sym paints.known)
           (subst (λ bytes. Shows (reads t bytes) p) (sym paints.appends)
-          (paints.updates t idle (sym window.0 ∙ sym (picture_height d s.editor s.top)) (sym window.1 ∙ sym (picture_width d s.editor s.top)))));
+          (paints.updates t idle (sym window.0 ∙ sym (picture_height d s.editor s.editor.top)) (sym window.1 ∙ sym (picture_width d s.editor s.editor.top)))));
       whole = subst (λ bytes. IsIdle (reads t bytes)) (sym paints.appends) (paints.tokens t idle);
       screen = ((refl, refl), λ on. idle.no_run);
       size = λ on. window_is t.height t.width s.editor on;

@@ -80,7 +80,7 @@ cursor_behind_letter fault = refl
 pub the_cursor_is_behind_the_letter : (store store' : StoreState) (new : World) (column : ℕ)
     → (clause : HeadlineFromOpening tables (around (start [] 1 5) 1 5) store ((Byte 0x61, ok) ∷ []) new store')
     → new.session.painting_owed ≡ false → new.session.editor.ended ≡ false
-    → (picture tables (after_events tables empty (clause [] 1 5 Auto refl).0) new.session.top).column ≡ column → column ≡ 1
+    → (picture tables (after_events tables empty (clause [] 1 5 Auto refl).0) new.session.editor.top).column ≡ column → column ≡ 1
 the_cursor_is_behind_the_letter store store' new column clause paid on is =
     let found = clause [] 1 5 Auto refl in
     let one = one_key [] 0x61 (Insert 0x61) found.0 (λ bs. (decoding bs).keys) refl found.1.events_are (found.1.keys found.0 [] (sym (append-nil found.0))) in

@@ -71,7 +71,7 @@ in_one_turn n m k = (Send n, ok) ∷ (Byte 0x61, ok) ∷ (Byte 0x62, ok) ∷ (Se
 record ShowsBoth (s : Session) : Type 0 where
   pub height : s.editor.height ≡ 1
   pub width : s.editor.width ≡ 5
-  pub columns : (picture tables s.editor s.top).columns ≡ ascii_columns (codes "ab   ")
+  pub columns : (picture tables s.editor s.editor.top).columns ≡ ascii_columns (codes "ab   ")
 
 played_both : (n m k : ℕ) (fault fault' : Option StoreFault)
     → ShowsBoth (after_read (after_send (typed_on (typed_in (after_send (begins_at (begun tables empty) window) n) fault) fault') m) k).session
@@ -115,7 +115,7 @@ typed_letters_are_shown law s store store' reader reader' writer writer' written
     let editor : s.editor ≡ after_events tables (unpainted_at tables empty).editor seen.events =
     ap (λ (x : Session). x.editor) (sym seen.session) ∙ seen.headline.editor in
     (found.1 accepted sent (sym both.height) (sym both.width)).same_columns
-    ∙ ap (λ (e : Editor). (picture tables e s.top).columns) (sym editor) ∙ both.columns
+    ∙ ap (λ (e : Editor). (picture tables e s.editor.top).columns) (sym editor) ∙ both.columns
 
 -- ---- a run's steps
 
@@ -197,5 +197,5 @@ letters_are_shown_as_they_are_read law s store store' reader reader' writer writ
     ap (λ (x : Session). x.editor) (sym found.session) ∙ found.headline.editor in (
       found,
       λ read. (found.shows refl seen.told read sent).same_columns
-          ∙ ap (λ (e : Editor). (picture tables e s.top).columns) (sym editor) ∙ both.columns,
+          ∙ ap (λ (e : Editor). (picture tables e s.editor.top).columns) (sym editor) ∙ both.columns,
     )

@@ -26,8 +26,8 @@ headline_behind d journal old new store store' all played was rest paid live =
     let found = follows_decoded d old new store store' all played in
     let f = found.1 in
     let owes : OwesNot (is_last_accepted true all) new = accepted_owes_nothing d true old new store store' all played (λ on. paid) in
-    let picture_is : Editor → Type 0 = λ (e : Editor). IfSome new.screen (λ t. Shows t (picture d e new.session.top)) in
-    let stands : Editor → Type 0 = λ (e : Editor). StandsOnItsCell d e new.session.top (picture d e new.session.top) in (
+    let picture_is : Editor → Type 0 = λ (e : Editor). IfSome new.screen (λ t. Shows t (picture d e new.session.editor.top)) in
+    let stands : Editor → Type 0 = λ (e : Editor). StandsOnItsCell d e new.session.editor.top (picture d e new.session.editor.top) in (
       found.0,
       record {
         events_are = f.events_are;

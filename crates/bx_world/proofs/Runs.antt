@@ -184,8 +184,8 @@ in_window d b s store store' t schedule new plays was is live =
       screen = shown.1;
       headline = found.1;
       shows = λ accepted told line pending.
-          subst (λ (x : Session). Shows shown.0 (picture d e x.top)) is
-          (subst (λ (screen : Option Terminal). IfSome screen (λ u. Shows u (picture d e new.session.top))) shown.1
+          subst (λ (x : Session). Shows shown.0 (picture d e x.editor.top)) is
+          (subst (λ (screen : Option Terminal). IfSome screen (λ u. Shows u (picture d e new.session.editor.top))) shown.1
           (found.1.shows accepted told line (ap (λ (x : Session). x.pending) is ∙ pending)));
     }
 
@@ -253,8 +253,8 @@ headline_of_runs d b s store store' reader reader' writer writer' answered dropp
     (still_all own ((Read count, Ok tt) ∷ []) (are_own d (begun d b) s store store' answered dropped written run.in_turns) (refl, tt)) plays refl in (
       found,
       λ accepted pending height width.
-          subst (λ (x : Option Terminal). IfSome x (λ u. Shows u (picture d (after_events d (unpainted_at d b).editor found.events) s.top))) shown
-          (subst (λ (x : Session). IfSome new.screen (λ u. Shows u (picture d (after_events d (unpainted_at d b).editor found.events) x.top)))
+          subst (λ (x : Option Terminal). IfSome x (λ u. Shows u (picture d (after_events d (unpainted_at d b).editor found.events) s.editor.top))) shown
+          (subst (λ (x : Session). IfSome new.screen (λ u. Shows u (picture d (after_events d (unpainted_at d b).editor found.events) x.editor.top)))
           played.2.session
           (found.headline.shows (accepted_more true own count ∙ accepted)
           (fit ∙ ap (λ (h : ℕ). (h == new.session.editor.height) && (new.width == new.session.editor.width)) played.2.height
