@@ -63,7 +63,7 @@ any_owed d fault s (Some key) = refl
 unpainted_owed : (d : Data) (fault : Option StoreFault) (s : Session) (b : ℕ) → (unpainted_after_byte d fault s b).painting_owed ≡ s.painting_owed
 unpainted_owed d fault s b = any_owed d fault (after_spending s b) (key_of_byte s b) ∙ (spent s b).owed
 
-byte_owes : (d : Data) (fault : Option StoreFault) (s : Session) (b : ℕ) → (after_byte d fault s b).painting_owed ≡ false
+pub byte_owes : (d : Data) (fault : Option StoreFault) (s : Session) (b : ℕ) → (after_byte d fault s b).painting_owed ≡ false
 byte_owes d fault s b = by_painting (is_painted s b) refl where
   u : Session
   u = unpainted_after_byte d fault s b
