@@ -89,7 +89,7 @@ enum choice ask_choice(void) {
 }
 
 enum rest ask_rest(void) {
-    int rest = ask_either("open FILE and leave the session, or keep its parts as files beside FILE (open, keep)?", "open", "keep");
+    int rest = ask_either("Open the file and leave the session, or keep its parts as files next to it (open, keep)?", "open", "keep");
     return rest < 0 ? REST_NONE : rest == 0 ? REST_OPEN : REST_KEEP;
 }
 
@@ -160,37 +160,40 @@ static const char *note_of(const struct session *session) {
         const char *machine = machine_text(session);
         return text_of(" (on %s)", machine ? machine : THIS_MACHINE);
     }
-    if (session_has(session, PART_MARK)) return " (a save was cut off)";
+    if (session_has(session, PART_MARK)) return " (a save was interrupted)";
     return state == SESSION_DROPPED ? " (dropped)" : "";
 }
 
-static void list_session(const struct session *session) {
-    if (!session_has_something(session)) return;
+/* Lists a session, if it can be recovered. */
+static bool list_session(const struct session *session) {
+    if (!session_has_something(session)) return false;
     char *path = session_note(session, PART_PATH);
     const char *line = text_of("%s  keys: %zu  KB: %llu  %s%s\n", time_text(session), session_count_keys(session),
                                (unsigned long long)session_kilobytes(session), shown(path ? path : ""), note_of(session));
     free(path);
     put_text(STDOUT_FILENO, line);
+    return true;
 }
 
 /* Whether a folder of sessions can be used. Tells of one that others could change. */
 static bool is_usable(const struct sessions *sessions) {
     enum notice notice;
-    if (sessions->state == FOLDER_DISTRUSTED) warn("a folder of sessions is not used: %s", unkept_by(sessions, &notice));
+    if (sessions->state == FOLDER_DISTRUSTED) warn("a folder of sessions is ignored: %s", unkept_by(sessions, &notice));
     return sessions->state == FOLDER_READY;
 }
 
 int list_sessions(void) {
     struct sessions *all;
-    size_t count = sessions_find_all(&all);
+    size_t count = sessions_find_all(&all), listed = 0;
     for (size_t i = 0; i < count; i++) {
         struct walk walk;
         if (!is_usable(&all[i])) continue;
         walk_begin(&walk, &all[i]);
-        while (walk_next_own(&walk)) list_session(&walk.session);
+        while (walk_next_own(&walk)) listed += list_session(&walk.session);
         walk_end(&walk);
     }
     sessions_close_all(all, count);
+    if (listed == 0) tell("there are no sessions to recover");
     return 0;
 }
 
@@ -203,13 +206,13 @@ static void tell_forgotten(void *context, const struct forgotten *forgotten) {
     struct counts *counts = context;
     char time[32] = "";
     if (forgotten->has_time) time_words(&forgotten->changed, time);
-    const char *name = text_of("the session of %s%s%s", shown(forgotten->path), *time ? " of " : "", time);
+    const char *name = text_of("the session of %s%s%s", shown(forgotten->path), *time ? " from " : "", time);
     if (forgotten->error != 0) {
         counts->kept++;
-        warn("%s cannot be removed%s", name, fault_words(forgotten->error));
+        warn("%s cannot be deleted%s", name, fault_words(forgotten->error));
     } else {
         counts->removed++;
-        tell("%s is removed%s", name, forgotten->was_dropped ? " (dropped)" : "");
+        tell("%s is deleted%s", name, forgotten->was_dropped ? " (dropped)" : "");
     }
 }
 
@@ -242,7 +245,7 @@ int forget_sessions(const char *typed) {
     if (typed) status = forget_sessions_of(typed, &counts);
     else forget_all_sessions(&counts);
     if (status != GO_ON) return status;
-    if (counts.removed + counts.kept == 0 && typed) tell("there is no session of %s to remove", shown(typed));
-    if (counts.removed + counts.kept == 0 && !typed) tell("there is no session to remove");
+    if (counts.removed + counts.kept == 0 && typed) tell("there is no session of %s to delete", shown(typed));
+    if (counts.removed + counts.kept == 0 && !typed) tell("there are no sessions to delete");
     return counts.kept > 0 ? STATUS_FAULT : 0;
 }

@@ -50,9 +50,9 @@ const char *find_versions(const struct edit *edit, char words[MOST_WORDS]) {
 
 bool tell_mended(const struct edit *edit, const struct mending *mending, void (*say)(const char *format, ...)) {
     const char *file = shown(edit->file.typed);
-    if (mending->mended == MENDED_PUT_BACK) say("a save of %s was cut off; its whole text is put back", file);
+    if (mending->mended == MENDED_PUT_BACK) say("a save of %s was interrupted; its whole text has been restored", file);
     if (mending->mended == MENDED_STILL_TORN)
-        say("a save of %s was cut off, and its text cannot be put back: it is %s", file, shown(mending->mark));
+        say("a save of %s was interrupted, and its text cannot be restored: the whole text is in %s", file, shown(mending->mark));
     return mending->mended == MENDED_STILL_TORN;
 }
 
@@ -96,8 +96,8 @@ int check_file(struct edit *edit, const char *typed) {
 const char *unkept_by(const struct sessions *sessions, enum notice *notice) {
     *notice = NOTICE_UNKEPT;
     switch (sessions->state) {
-    case FOLDER_NOWHERE: return "there is no folder for it";
-    case FOLDER_DISTRUSTED: return text_of("%s belongs to another user, or others may write there", shown(sessions->distrusted));
+    case FOLDER_NOWHERE: return "there is no folder for it (is HOME set?)";
+    case FOLDER_DISTRUSTED: return text_of("%s belongs to another user, or others can write to it", shown(sessions->distrusted));
     case FOLDER_UNUSABLE: *notice = notice_of(sessions->error); return text_of("nothing can be written in %s", shown(sessions->path));
     default: *notice = NOTICE_NONE; return NULL;
     }
@@ -122,7 +122,7 @@ static void try_session(struct edit *edit) {
     if (error == 0) return;
     const char *path = shown(edit->sessions.path);
     edit->unkept_notice = notice_of(error);
-    edit->unkept = edit->unkept_notice == NOTICE_NO_SPACE ? text_of("%s has no room for it", path) : text_of("nothing can be written in %s", path);
+    edit->unkept = edit->unkept_notice == NOTICE_NO_SPACE ? text_of("there is no space in %s", path) : text_of("nothing can be written in %s", path);
 }
 
 /* Notes in the session that its saves are written into FILE itself. A session that waits for room is given up: such a save needs
@@ -147,11 +147,11 @@ static int settle_in_place(struct edit *edit) {
     edit->is_in_place = note_in_place(edit);
     edit->is_itself = !edit->is_in_place && edit->call->is_forced && edit->reason != REASON_PROTECTED;
     if (edit->is_in_place || edit->is_itself) {
-        warn("%s %s: saves are written into the file itself", file, reason);
+        warn("%s %s: saves overwrite it in place", file, reason);
         return GO_ON;
     }
-    const char *why = edit->unkept ? edit->unkept : "there is no room", *force = edit->call->is_forced ? "" : ": --force opens it all the same";
-    warn("%s %s, and %s, since unsaved text is not kept (%s)%s", file, reason, reason_harm(edit->reason), why, force);
+    const char *why = edit->unkept ? edit->unkept : "there is no space", *force = edit->call->is_forced ? "" : "; --force opens it anyway";
+    warn("%s %s; since unsaved text is not kept (%s), %s%s", file, reason, why, reason_harm(edit->reason), force);
     return edit->call->is_forced ? GO_ON : STATUS_FAULT;
 }
 
@@ -171,7 +171,7 @@ int begin_session(struct edit *edit) {
     edit->begin = (struct begin){.rows = size.rows, .cols = size.columns, .line = (unsigned)edit->call->line};
     snprintf(edit->begin.direction, sizeof edit->begin.direction, "%s", direction_word(edit->call->direction));
     if (edit->call->is_unkept) {
-        edit->unkept = "-n asks for that";
+        edit->unkept = "-n was given";
         edit->unkept_notice = NOTICE_UNKEPT;
     } else {
         try_session(edit);
@@ -235,9 +235,9 @@ static void make_words(struct edit *edit, struct words *words) {
 /* Makes the titles: FILE's last name, the main keys (^S is Ctrl-S), and a note. */
 static void make_titles(struct edit *edit) {
     static const char *const notes[] = {[TITLE_KEPT] = "", [TITLE_UNKEPT] = " (unsaved text is not kept)",
-                                        [TITLE_LOST] = " (what is typed is not kept now: save it)"};
+                                        [TITLE_LOST] = " (unsaved text is not kept now: save it)"};
     const char *slash = strrchr(edit->file.typed, '/'), *name = shown(slash ? slash + 1 : edit->file.typed);
-    for (size_t i = 0; i < sizeof notes / sizeof *notes; i++) edit->titles[i] = text_of("%s - ^S save ^Q quit%s", name, notes[i]);
+    for (size_t i = 0; i < sizeof notes / sizeof *notes; i++) edit->titles[i] = text_of("%s - ^S save ^Q quit F1 keys%s", name, notes[i]);
 }
 
 /* FILE was read: it is copied, and not held open for longer than that. */
@@ -351,7 +351,7 @@ int run_session(struct edit *edit) {
     enum run_end end = run_program(program);
     is_telling_limited = true;
     if (end == RUN_ENDED) return end_session(edit);
-    warn("the editor is not started: %s", program->cause);
+    warn("the editor could not be started: %s", program->cause);
     if (!edit->is_resumed && !session_is_none(&edit->session)) session_remove(&edit->session);
     return STATUS_FAULT;
 }

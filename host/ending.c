@@ -155,7 +155,7 @@ static bool is_there_now(const struct edit *edit) {
 
 static void tell_aside(const struct edit *edit) {
     if (edit->aside_of && is_there_now(edit))
-        warn("%s was changed since, so the recovered text is in %s", shown(edit->aside_of), shown(edit->file.typed));
+        warn("%s was changed by another program, so the recovered text is in %s", shown(edit->aside_of), shown(edit->file.typed));
 }
 
 /* Whether FILE's text, as it was opened, had CR LF at each line's end. */
@@ -170,9 +170,10 @@ static void tell_line_ends(const struct edit *edit) {
     struct stat look;
     struct line_ends ends;
     int file = edit->was_saved && had_all_crlf(edit) ? open_now(edit, &look) : -1;
+    const char *file_name = shown(edit->file.typed);
     if (file < 0) return;
     if (read_line_ends(file, &ends) && ends.has_lines && !ends_are_all_crlf(&ends))
-        warn("%s has lines that end with LF among those with CR LF: perl -pi -e 's/\\r?\\n/\\r\\n/' makes them alike", shown(edit->file.typed));
+        warn("%s now has mixed line ends, CR LF and LF: perl -pi -e 's/\\r?\\n/\\r\\n/' %s makes all of them CR LF", file_name, file_name);
     close(file);
 }
 
@@ -194,11 +195,11 @@ static bool mend_now(struct edit *edit) {
 
 /* Tells that what was typed is not kept, if there may be unsaved text. */
 static void tell_lost(enum left_how how, const char *cause) {
-    if (may_be_unsaved(how)) warn("what was typed is not kept, since %s", cause);
+    if (may_be_unsaved(how)) warn("any unsaved text is lost, since %s", cause);
 }
 
 static void tell_gone(const struct edit *edit, enum left_how how) {
-    const char *cause = text_of("its folder %s is gone", shown(edit->session.path));
+    const char *cause = text_of("the session's folder %s is gone", shown(edit->session.path));
     if (how == LEFT_DROPPED) warn("only what was saved is kept, since %s", cause);
     else tell_lost(how, cause);
 }
@@ -310,18 +311,18 @@ static void drop_changes(struct edit *edit) {
     sessions_forget_dropped(&edit->sessions, &edit->session);
     /* if this fails, the next start asks about the session */
     session_put_empty(&edit->session, PART_DROPPED);
-    tell_kept(edit, "what was dropped can be recovered", "");
+    tell_kept(edit, "the dropped changes can be recovered", "");
 }
 
 static void wipe_changes(struct edit *edit) {
     int error = session_remove(&edit->session);
-    if (error == 0) warn("what was dropped is not kept, since only root can read %s", shown(edit->file.typed));
-    else warn("what was dropped cannot be removed from %s%s", shown(edit->session.path), fault_words(error));
+    if (error == 0) warn("the dropped changes are not kept, since only root can read %s", shown(edit->file.typed));
+    else warn("the dropped changes cannot be deleted from %s%s", shown(edit->session.path), fault_words(error));
 }
 
 static void leave_session(struct edit *edit) {
     if (edit->facts.is_journal_lost) session_note_cut(&edit->session);
-    tell_kept(edit, "what was typed is kept", " gets it back");
+    tell_kept(edit, "unsaved text is kept", " restores it");
 }
 
 static void end_kept(struct edit *edit, enum left_how how) {
@@ -330,7 +331,7 @@ static void end_kept(struct edit *edit, enum left_how how) {
     switch (fate_of(&left)) {
     case FATE_GONE: tell_gone(edit, how); break;
     case FATE_REMOVED:
-        if (!left.has_keys && edit->facts.is_journal_lost) tell_lost(how, "its journal could not be written");
+        if (!left.has_keys && edit->facts.is_journal_lost) tell_lost(how, "the journal could not be written");
         session_remove(session);
         break;
     case FATE_LOST:
@@ -347,8 +348,8 @@ static void end_kept(struct edit *edit, enum left_how how) {
 static void tell_signal(int status) {
     const char *name = sigabbrev_np(status - 128);
     if (end_signal || status <= 128) return;
-    if (name) warn("the editor was ended by the signal %s", name);
-    else warn("the editor was ended by the signal %d", status - 128);
+    if (name) warn("the editor was ended by SIG%s", name);
+    else warn("the editor was ended by signal %d", status - 128);
 }
 
 int end_session(struct edit *edit) {

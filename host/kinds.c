@@ -215,7 +215,7 @@ static void find_reordering(struct terminal_kind *found) {
 
 static void tell_setting(const char *terminal, const char *file, const char *wanted) {
     char text[256];
-    int length = snprintf(text, sizeof text, "bidi-edit: %s mirrors right-to-left words: the line '%s' in its %s ends that\n", terminal,
+    int length = snprintf(text, sizeof text, "bidi-edit: %s shows right-to-left words reversed: the line '%s' in its %s prevents that\n", terminal,
                           wanted, file);
     write_within(STDERR_FILENO, text, (size_t)length, NOTE_MS, false);
 }

@@ -327,7 +327,7 @@ static bool start(struct run *run, struct pipes *ends) {
     run->cause = "the terminal's settings cannot be changed";
     watched->is_changed = true;
     if (!begin_screen()) return false;
-    run->cause = "no process can be started";
+    run->cause = "no process can be created";
     listen_once();
     if (end_signal) return false;
     pid_t program = start_program(run, ends, first.rows, first.columns);
@@ -345,11 +345,11 @@ static bool prepare(struct run *run, struct pipes *ends) {
     run->cause = "the terminal's settings cannot be read";
     if (!note_settings()) return false;
     prepare_screen(run->title, run->has_mouse);
-    run->cause = "no pipe can be made";
+    run->cause = "no pipe can be created";
     if (!open_words(&now_running.pipes, ends)) return false;
-    run->cause = "no process can be started";
+    run->cause = "no process can be created";
     if (!start_watcher(now_running.pipes.words, run->held)) return false;
-    run->cause = "no pipe can be made";
+    run->cause = "no pipe can be created";
     return open_pipes(&now_running.pipes, ends);
 }
 
