@@ -40,6 +40,9 @@ esac
     echo "bidi-edit: the host is not built, and cannot be built here, since nothing can be written in $(shown "$written"): build it in your own copy" >&2
     exit 1
 }
+# the compiler runs in another folder
+out=$(CDPATH='' cd -- "$out" && pwd)
+program=$out/bidi-edit
 objects=$(mktemp -d "$out/objects.XXXXXX")
 trap 'rm -rf -- "$objects" "$program.$$"' EXIT
 trap 'exit 1' HUP INT TERM

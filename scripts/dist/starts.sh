@@ -63,6 +63,12 @@ share/bidi_edit/DerivedBidiClass.txt share/bidi_edit/UnicodeData.txt"
     test -x "$tree/host/out/bidi-edit"
     report "$1, programs that are built here come first" $? "$(cat "$folder/said")"
     same "$1, the toolchain is not asked" "$(cat "$TOLD/calls" 2>/dev/null)" ''
+    fresh_tree
+    (cd "$tree" && PATH="$folder/bin:$PATH" ./bidi-edit note) >"$folder/said" 2>&1 </dev/null
+    status=$?
+    runs "$1, in the checkout's folder"
+    same "$1, compiled there" "$(cmp -s "$tree/out/start/bin/bidi-edit" "$tree/out/start/lib/bidi_edit/host" || echo compiled)" compiled
+    same "$1, nothing stays of that" "$(ls "$tree/out/start/bin")" bidi-edit
 }
 
 # A changed source is told before the first start and after it, and one that is changed back is no fault.
