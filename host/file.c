@@ -348,7 +348,7 @@ const char *not_utf8_message(const struct file *file, unsigned long long line) {
         return refuse(file, "is UTF-16, not UTF-8: iconv -f UTF-16 -t UTF-8 converts it");
     if (length > 0 && ((length >= 4 && memcmp(front, "\x7f" "ELF", 4) == 0) || memchr(front, 0, length)))
         return refuse(file, "is a binary file, not text: od -c shows its bytes");
-    return text_of("%s is not UTF-8 (line %llu): iconv -f CP1255 -t UTF-8 converts Hebrew text from Windows, CP1256 Arabic",
+    return text_of("%s is not UTF-8 (line %llu): if it is Hebrew text from Windows, iconv -f CP1255 -t UTF-8 converts it (Arabic: -f CP1256)",
                    shown(file->typed), line);
 }
 

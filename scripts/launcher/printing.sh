@@ -25,7 +25,7 @@ check_refused_prints() {
     refused 'printing, no file' '1 bidi-edit: none does not exist' --print none
     refused 'printing, a folder' '1 bidi-edit: /tmp is a folder: name a file in it' --print /tmp
     printf 'a\nb\377\n' >bytes
-    refused 'printing, bytes' "1 bidi-edit: bytes is not UTF-8 (line 2): iconv -f CP1255 -t UTF-8 converts Hebrew text from Windows, CP1256 Arabic" --print bytes
+    refused 'printing, bytes' "1 bidi-edit: bytes is not UTF-8 (line 2): if it is Hebrew text from Windows, iconv -f CP1255 -t UTF-8 converts it (Arabic: -f CP1256)" --print bytes
 }
 
 check_printed_rows() {

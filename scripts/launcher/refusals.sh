@@ -117,7 +117,7 @@ refused_at_opening() { # NAME WANTED WORD..
 }
 
 # What is told last of a text that is not UTF-8.
-windows='iconv -f CP1255 -t UTF-8 converts Hebrew text from Windows, CP1256 Arabic'
+windows='if it is Hebrew text from Windows, iconv -f CP1255 -t UTF-8 converts it (Arabic: -f CP1256)'
 
 check_refused_texts() {
     printf 'one\ntwo \377\n' >bytes
