@@ -65,11 +65,11 @@ static bool find_programs(struct programs *programs) {
 
 /* ---- print: FILE's rows, which bidi_print writes */
 
-/* The columns where neither the command line nor a terminal tells. */
+/* The number of columns if neither the command line nor a terminal gives one. */
 enum { USUAL_COLUMNS = 80 };
 
-/* Why FILE cannot be printed, by what is there and whether it can be read; NULL where it can be. A device or pipe is read
- * unchecked. */
+/* Returns why FILE cannot be printed, by its kind and permissions; NULL if it can be. A device or pipe is accepted and not looked
+ * into. */
 static const char *refuse_to_print(const char *file) {
     struct stat look;
     if (stat(file, &look) != 0) return "does not exist";
@@ -78,7 +78,7 @@ static const char *refuse_to_print(const char *file) {
     return faccessat(AT_FDCWD, file, R_OK, AT_EACCESS) == 0 ? NULL : "cannot be read: if it is yours, chmod u+r makes it readable";
 }
 
-/* Why an open file is no text; NULL where it is one, or cannot be read, which the printing program tells. */
+/* Returns why an open file is not a text; NULL if it is one, or if reading fails, which the printing program then reports. */
 static const char *check_text(const struct file *file) {
     static char bytes[LARGEST_TEXT + 1];
     ssize_t count = 1;
@@ -149,7 +149,7 @@ static int check_terminal(void) {
     return STATUS_NO;
 }
 
-/* Tells what is not as usual: an empty text in place of FILE's, and what killed saves left. */
+/* Warns that an empty text is opened in place of FILE's, and of files that killed saves left. */
 static void tell_unusual(const struct edit *edit) {
     if (is_closed(&edit->file))
         warn("%s cannot be read: the text starts empty, and a save overwrites the file", shown(edit->file.typed));
@@ -157,7 +157,7 @@ static void tell_unusual(const struct edit *edit) {
     if (leftovers) warn("%s", leftovers);
 }
 
-/* Runs the program with a session that was taken, or with a new one. */
+/* Runs the program with the session that is recovered, or with a new one. */
 static int run_editor(struct edit *edit, bool is_taken) {
     int status = is_taken ? resume_session(edit) : begin_session(edit);
     return status == GO_ON ? run_session(edit) : status;
@@ -187,7 +187,7 @@ static int edit_recovered(struct edit *edit) {
     return run_editor(edit, is_taken);
 }
 
-/* Tells of variables that are passed over: an XDG_STATE_HOME that is not absolute, and a TMPDIR that no system takes. */
+/* Warns of variables that are ignored: an XDG_STATE_HOME that is not absolute, and a TMPDIR that is too long for a path. */
 static void tell_variables(void) {
     const char *state = getenv("XDG_STATE_HOME"), *temporary = getenv("TMPDIR");
     if (state && is_state_home_relative()) warn("XDG_STATE_HOME is ignored, since %s is not an absolute path: ~/.local/state is used instead", shown(state));

@@ -11,8 +11,7 @@
 #include "file.h"
 #include "say.h"
 
-/* The last line of the longest text: so many line feeds end as many lines, and one more line follows. Numbers from TOO_LARGE on, of
- * more than eight digits, name it too. */
+/* The last line of the longest text, if every byte of that text is a line feed. Numbers from `too_large` on count as this line. */
 static const unsigned long last_line = LARGEST_TEXT + 1, too_large = 100000000;
 
 #define USAGE                                                                                                                     \
@@ -76,12 +75,12 @@ static unsigned long line_option(unsigned long line) {
     return line <= 1 ? 0 : line;
 }
 
-/* The path that a word names, with ./ before it if it begins as an option. */
+/* The path that an argument names, with ./ in front if it could be taken for an option. */
 static const char *word_path(const char *word) {
     return *word == '-' || *word == '+' ? text_of("./%s", word) : word;
 }
 
-/* What is read of a command line. `cause` is NULL as long as no word is refused. */
+/* The state of parsing. `cause` is NULL until an argument is refused. */
 struct reading {
     struct call *call;
     const char *cause, *file, *other;
@@ -120,7 +119,7 @@ static const struct valued {
 } edit_values[] = {{"--direction", take_direction}, {"--line", take_line}, {"--to", take_other}, {NULL, NULL}},
   print_values[] = {{"--cols", take_columns}, {"--direction", take_direction}, {NULL, NULL}};
 
-/* Takes an option with a value. Returns the number of words taken, 0 where the word is another. */
+/* Takes an option with a value. Returns how many arguments it used: 0 if words[0] is none of these options. */
 static int take_valued(struct reading *reading, const struct valued *options, int count, char *const *words) {
     for (; options->name; options++) {
         size_t length = strlen(options->name);
@@ -191,13 +190,13 @@ static void take_print_words(struct reading *reading, int count, char *const *wo
         else if (strcmp(word, "--marks") == 0) reading->call->has_marks = true;
         else if (strcmp(word, "--no-joining") == 0) reading->call->is_unjoined = true;
         else reading->cause = text_of("--print does not take %s", shown(word));
-        /* of several words after the end of the options none is looked at */
+        /* after --, several names are refused whatever they are */
         if (!is_option && count > 2 && may_be_option) reading->cause = several_files;
     }
     if (!reading->cause && !reading->file) reading->cause = no_file;
 }
 
-/* Settles the call by its options and the words after them, which should be one FILE, or none. */
+/* Decides what the command line asks for, by its options and by what follows them, which should be one FILE or nothing. */
 static void take_files(struct reading *reading, int count, char *const *words) {
     bool is_lone = count == 0 && !reading->other && reading->is_recovery != reading->is_forgetting;
     reading->call->kind = !reading->is_recovery ? reading->is_forgetting ? CALL_FORGET : CALL_EDIT : count > 0 ? CALL_RECOVER : CALL_LIST;
@@ -289,7 +288,7 @@ static bool is_readable(const char *path) {
 }
 
 static bool find_tables_in(struct tables *tables, const char *folder) {
-    /* one folder deeper in Unicode's own tree */
+    /* Unicode itself publishes this file in a subfolder */
     tables->classes = text_of("%s/extracted/DerivedBidiClass.txt", folder);
     if (!is_readable(tables->classes)) tables->classes = text_of("%s/DerivedBidiClass.txt", folder);
     tables->brackets = text_of("%s/BidiBrackets.txt", folder);
