@@ -95,18 +95,18 @@ enum rest ask_rest(void) {
 
 /* ---- other editors of the user's that have FILE open and may keep no session */
 
-/* The socket that says so, and its name, which is no file's. */
+/* The socket by which others see this process, and its name, which is in no folder. */
 static int own = -1;
 static struct sockaddr_un own_name;
 
-/* A number for a name (FNV-1a), which has no room in the name of a socket. */
+/* A hash of a name (FNV-1a): the name itself may be too long for the name of a socket. */
 static uint64_t hash_of(const char *name) {
     uint64_t number = 14695981039346656037u;
     for (; *name; name++) number = (number ^ (unsigned char)*name) * 1099511628211u;
     return number;
 }
 
-/* The process that listens at a name; 0 where it is not one of the user's, -1 where it is not known. */
+/* The process that listens at a socket's name; 0 if it is not one of the user's, -1 if its number is unknown. */
 static pid_t listener_at(const struct sockaddr_un *address, socklen_t length) {
     struct ucred peer = {0, 0, 0};
     socklen_t size = sizeof peer;
@@ -121,7 +121,8 @@ static pid_t listener_at(const struct sockaddr_un *address, socklen_t length) {
 
 pid_t note_open_file(const struct file *file) {
     struct sockaddr_un address = {.sun_family = AF_UNIX};
-    /* a NUL in front: a name that is no path. A folder keeps its number when it is renamed, and FILE's name when it is saved. */
+    /* The name begins with NUL, so it is no path. It has the folder's number and FILE's name: a rename of the folder changes no number, and
+     * a save changes FILE's own number. */
     int length = snprintf(address.sun_path + 1, sizeof address.sun_path - 1, "bidi-edit.%u.%ju.%ju.%ju", (unsigned)geteuid(),
                           (uintmax_t)file->folder_id.device, (uintmax_t)file->folder_id.inode, (uintmax_t)hash_of(file->name));
     socklen_t size = (socklen_t)(offsetof(struct sockaddr_un, sun_path) + 1 + (size_t)length);
@@ -175,7 +176,7 @@ static bool list_session(const struct session *session) {
     return true;
 }
 
-/* Whether a folder of sessions can be used. Tells of one that others could change. */
+/* Whether a folder of sessions can be used. Warns of one that others could change. */
 static bool is_usable(const struct sessions *sessions) {
     enum notice notice;
     if (sessions->state == FOLDER_DISTRUSTED) warn("a folder of sessions is ignored: %s", unkept_by(sessions, &notice));

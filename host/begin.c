@@ -72,7 +72,7 @@ bool mend_file(struct edit *edit) {
     struct mended_file mended = {.edit = edit};
     bool is_whole = sessions_mend(&edit->sessions, &edit->target, take_mended, &mended);
     bool is_lost = edit->file.is_lost;
-    /* it has another look now; one that is refused from now on is refused by the next step */
+    /* FILE has changed by this, so it is opened again; if that is refused, the next step says so */
     if (mended.is_put_back) find_file(edit, edit->file.typed, is_lost);
     return is_whole && edit->file.typed;
 }
@@ -103,7 +103,7 @@ const char *unkept_by(const struct sessions *sessions, enum notice *notice) {
     }
 }
 
-/* Makes the session; where that cannot be, `unkept` tells why. */
+/* Makes the session. If that is impossible, `unkept` says why. */
 static void try_session(struct edit *edit) {
     const struct file *file = &edit->file;
     const struct stat *found = &file->look.found;
@@ -125,8 +125,8 @@ static void try_session(struct edit *edit) {
     edit->unkept = edit->unkept_notice == NOTICE_NO_SPACE ? text_of("there is no space in %s", path) : text_of("nothing can be written in %s", path);
 }
 
-/* Notes in the session that its saves are written into FILE itself. A session that waits for room is given up: such a save needs
- * the room at once. */
+/* Records in the session that its saves overwrite FILE in place. A session that waits for space is abandoned, since such a save needs
+ * the space at once. */
 static bool note_in_place(struct edit *edit) {
     struct session *session = &edit->session;
     if (session_is_none(session)) return false;
@@ -138,9 +138,9 @@ static bool note_in_place(struct edit *edit) {
     return false;
 }
 
-/* Settles whether saves are written into FILE itself. Meanwhile the session has the whole text; where there is none, and the user
- * forces it, FILE's own folder has it, unless the user cannot replace files there. Refuses a FILE that needs a session and has
- * none, unless it is forced. */
+/* Decides whether saves overwrite FILE in place. During such a save the session has the whole text. Without a session such a FILE is
+ * refused; with --force it is opened, and FILE's folder has the whole text during a save, unless the user cannot replace files
+ * there. */
 static int settle_in_place(struct edit *edit) {
     if (edit->reason == NO_REASON) return GO_ON;
     const char *file = shown(edit->file.typed), *reason = reason_text(edit->reason);
@@ -155,7 +155,7 @@ static int settle_in_place(struct edit *edit) {
     return edit->call->is_forced ? GO_ON : STATUS_FAULT;
 }
 
-/* Tells that unsaved text is not kept, before the screen changes; rings the bell and waits unless the user asked for that. */
+/* Warns that unsaved text is not kept, before the screen changes. Unless the user gave -n, it rings the bell and waits a second. */
 static void tell_unkept(const struct edit *edit) {
     struct timespec pause = {.tv_sec = PAUSE};
     if (!edit->unkept) return;
@@ -182,8 +182,8 @@ int begin_session(struct edit *edit) {
     return status;
 }
 
-/* Goes on with a session. It begins with the window of its first start, since its keys are replayed from there. Faults of the
- * session's disk are told while the program runs. */
+/* Continues a recovered session. Its keys are replayed, so the program begins with the window that the session began with. Faults of
+ * the session's disk are reported while the program runs. */
 int resume_session(struct edit *edit) {
     struct session *session = &edit->session;
     struct size size;
@@ -240,7 +240,7 @@ static void make_titles(struct edit *edit) {
     for (size_t i = 0; i < sizeof notes / sizeof *notes; i++) edit->titles[i] = text_of("%s - ^S save ^Q quit F1 keys%s", name, notes[i]);
 }
 
-/* FILE was read: it is copied, and not held open for longer than that. */
+/* Called once the program has read FILE: FILE is copied into the session, and closed after that. */
 static void on_opened(void *whose) {
     struct edit *edit = whose;
     bool is_kept = !session_is_none(&edit->session);
@@ -254,7 +254,7 @@ static void on_journal(void *whose, bool is_kept) {
     edit->facts.is_journal_lost = !is_kept;
 }
 
-/* After a save that succeeded another file is FILE, by which its session is found. */
+/* A successful save replaces FILE by a new file. The session records that file, by which it is found later. */
 static void on_saved(void *whose) {
     struct edit *edit = whose;
     struct look look;
@@ -265,7 +265,7 @@ static void on_saved(void *whose) {
     session_note_file(&edit->session, &edit->target);
 }
 
-/* Why the journal cannot be written, as far as it can be seen. */
+/* The probable reason why the program cannot write the journal. */
 static enum notice cause_of_loss(const struct session *session) {
     if (free_room(session->folder) < ROOM_FOR_KEYS) return NOTICE_NO_SPACE;
     int file = openat(session->folder, part_name(PART_JOURNAL), O_WRONLY | O_APPEND | O_NOFOLLOW | O_CLOEXEC);
@@ -274,8 +274,8 @@ static enum notice cause_of_loss(const struct session *session) {
     return notice == NOTICE_FOLDER_GONE ? NOTICE_UNKEPT : notice;
 }
 
-/* Shows in the title and the last row why no copy is kept, or that one is kept again, and rings the bell with a new cause. A
- * notice that a key has hidden comes again. */
+/* Shows in the title and the last row why no copy is kept, or that one is kept again, and rings the bell for a new cause. A notice
+ * that a key has hidden is shown again. */
 static void tell_trouble(struct edit *edit) {
     struct session *session = &edit->session;
     struct now_facts *facts = &edit->facts;
@@ -344,7 +344,7 @@ int run_session(struct edit *edit) {
         program->rows = edit->begin.rows;
         program->columns = edit->begin.cols;
     }
-    /* a save makes the FILE that was gone */
+    /* FILE is gone, so a save creates it, with no more permissions than it had */
     if (edit->lost_mode >= 0) umask(umask(0) | (program->mask = mask_for((unsigned)edit->lost_mode)));
     enum notice notice = first_notice(&first);
     if (notice != NOTICE_NONE) give_notice(notice);

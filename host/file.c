@@ -9,9 +9,9 @@
 #include "say.h"
 #include "util.h"
 
-/* MOST_LINKS: as in Linux. OPEN_TRIES: openings of a FILE that other programs replace meanwhile. FRONT: more bytes than marks and headers
- * of files take. MOST_NAMES: so many names of a folder are looked at for drafts; MOST_DRAFTS of them are told. END_BYTES: those of
- * DRAFT_END. */
+/* MOST_LINKS: as in Linux. OPEN_TRIES: how often to open a FILE that other programs keep replacing. FRONT: bytes to look at for a byte
+ * order mark or a binary header. MOST_NAMES: how many names in a folder are searched for drafts; at most MOST_DRAFTS are reported.
+ * END_BYTES: the length of DRAFT_END. */
 enum { MOST_LINKS = 40, OPEN_TRIES = 10, FRONT = 512, MOST_NAMES = 20000, MOST_DRAFTS = 10, END_BYTES = sizeof DRAFT_END - 1 };
 
 /* ---- looks */
@@ -108,7 +108,7 @@ static const char *refuse(const struct file *file, const char *cause) {
     return text_of("%s %s", shown(file->typed), cause);
 }
 
-/* Goes on at the path that a link holds. Returns NULL, or the message. */
+/* Reads the path that a link points to. Returns NULL, or the message that refuses it. */
 static const char *follow_link(struct file *file, char words[PATH_MAX], bool *is_of_folder) {
     ssize_t length = readlinkat(file->itself, "", words, PATH_MAX - 1);
     if (length <= 0) return refuse(file, leads_nowhere);
@@ -121,7 +121,7 @@ static const char *follow_link(struct file *file, char words[PATH_MAX], bool *is
     return NULL;
 }
 
-/* Opens the folder of a path and the last name in it, a link as such; -1 where nothing is there. */
+/* Opens the folder of a path, and what has the path's last name there, a link itself and not its target. */
 static const char *take_step(struct file *file, const char *path) {
     char folder_part[PATH_MAX];
     int base = file->is_linked ? file->folder : AT_FDCWD;
@@ -154,8 +154,8 @@ static const char *walk(struct file *file) {
 
 /* ---- the opening */
 
-/* Opens FILE to be read, if it is still the one that was found. Returns false where another one is there by now. A lease on FILE
- * makes the opening wait, which a plain file alone may do. */
+/* Opens FILE for reading, if it is still the file that was found. Returns false if another file has taken its place. A lease on FILE
+ * makes the opening wait, which is accepted for a plain file only. */
 static bool open_text(struct file *file) {
     struct stat opened;
     file->text = openat(file->folder, file->name, O_RDONLY | O_NONBLOCK | O_NOFOLLOW | O_CLOEXEC | O_NOCTTY);
@@ -178,7 +178,7 @@ static void forget_file(struct file *file, const char *typed) {
     *file = (struct file){.typed = typed, .folder = -1, .itself = -1, .text = -1};
 }
 
-/* Opens the plain file that was found. Returns false where another one is there by now. */
+/* Opens the plain file that was found. Returns false if another file has taken its place. */
 static bool open_found(struct file *file) {
     if (!file->look.is_there) return true;
     if (!open_text(file)) return false;
@@ -188,7 +188,7 @@ static bool open_found(struct file *file) {
     return true;
 }
 
-/* Opens FILE once. `is_again`: another one took its place meanwhile. */
+/* Tries once to open FILE. `is_again`: another file took its place meanwhile, so try again. */
 static const char *try_to_open(struct file *file, bool *is_again) {
     static const char no_plain[] = "is a device, pipe or socket, not a plain file: write its content to a file, and edit that";
     size_t length = strlen(file->typed);

@@ -1,4 +1,4 @@
-/* Sessions of FILE that were left: questions about them, their replay, and how one goes on or is stored as another file. */
+/* Sessions that earlier starts left of FILE: questions about them, their replay, and how one is continued or stored as another file. */
 #include <errno.h>
 #include <fcntl.h>
 #include <stdlib.h>
@@ -14,7 +14,7 @@ static const char missed[] = "that session was opened or deleted in another wind
 static const char unsure[] =
     "that session was recorded by another version of the editor or of Unicode's tables, without its text: its keys may give another text now";
 
-/* What becomes of a session that is to go on. OUTCOME_MISSED: another start has it by now. */
+/* What became of a session that was to be recovered. OPENED: FILE is opened instead. MISSED: another start has opened or deleted it. */
 enum outcome { OUTCOME_TAKEN, OUTCOME_OPENED, OUTCOME_MISSED, OUTCOME_END };
 
 /* The start ends with this exit status. */
@@ -53,7 +53,7 @@ static int tell_unwritten(const char *path, int error) {
     return STATUS_FAULT;
 }
 
-/* Copies a session's parts to free names beside FILE, and removes the session. It stays where a part cannot be read or written. */
+/* Copies a session's files to free names beside FILE, and removes the session. If a copy fails, the session stays. */
 static int keep_parts(struct session *session, const char *typed) {
     static const struct {
         enum part part;
@@ -91,11 +91,11 @@ static void tell_cut(const struct session *session) {
     tell("the session ends after key %zu: what was typed later could not be recorded", session_count_keys(session));
 }
 
-/* Settles the file with which a session goes on: FILE, or where it has another's text, a new file beside it. */
+/* Decides which file the recovered text is saved to: FILE, or a new file beside FILE if another program has changed FILE. */
 static int settle_file(struct edit *edit, enum replayed found) {
     const char *typed = edit->call->file;
     if (found != REPLAY_FOREIGN || !edit->file.look.is_there) {
-        /* what is refused of a FILE whose folder is gone is told by the usual opening */
+        /* the usual opening refuses a FILE whose folder is gone */
         if (edit->file.is_lost) return find_file(edit, typed, false);
         return check_access(edit);
     }
@@ -115,7 +115,7 @@ static bool is_of_path(const struct edit *edit, const struct session *session) {
     return is_same;
 }
 
-/* Goes on with a session; `found` is what FILE has. */
+/* Continues a session; `found` says what FILE has. */
 static enum outcome go_on_with(struct edit *edit, struct session *session, enum replayed found, int *status) {
     bool is_own = is_of_path(edit, session);
     *status = settle_file(edit, found);
@@ -133,7 +133,7 @@ static enum outcome end_where_same(const struct edit *edit, struct session *sess
     return OUTCOME_OPENED;
 }
 
-/* Asks about a session whose keys cannot be replayed. FILE is opened in any case. */
+/* Asks about a session whose keys cannot be replayed. After an answer FILE is opened. */
 static enum outcome ask_what_to_keep(const struct edit *edit, struct session *session, int *status) {
     tell("the session of %s in %s could not be replayed", shown(edit->file.typed), shown(session->path));
     enum rest rest = ask_rest();
@@ -156,7 +156,7 @@ static enum outcome take_by_keys(struct edit *edit, struct session *session, int
     return found == REPLAY_SAME ? end_where_same(edit, session) : go_on_with(edit, session, found, status);
 }
 
-/* Starts a new session from the text that a session left, and removes the old one. */
+/* Makes a new session from the text that a session left at its end, and removes the old session. */
 static enum outcome take_by_text(struct edit *edit, struct session *session, int *status) {
     struct session renewed;
     enum replayed found = compare_text(edit, session);
@@ -196,8 +196,8 @@ static enum outcome take_over(struct edit *edit, struct session *session, int *s
 
 /* ---- questions about FILE's sessions */
 
-/* Tells of a process of the user's that has FILE open, or may have it open where that cannot be seen from here (`is_sure`), and
- * asks whether to go on. */
+/* Says that another process of the user's has FILE open (`is_sure`), or may have it open where that cannot be checked from here, and asks
+ * whether to go on. */
 static bool ask_of_other(const char *typed, const char *number, const char *machine, bool is_sure) {
     static const char overwrites[] = "Each window may overwrite what the other saves.";
     const char *file = shown(typed), *where = machine ? text_of(" on %s", machine) : "";
@@ -213,7 +213,7 @@ static const char *number_text(const struct session *session) {
     return session_process(session, &process) ? text_of("%u", process.number) : "unknown";
 }
 
-/* Asks whether to go on beside another editor that has FILE open. Returns MET_NONE where there is none. */
+/* If another editor has FILE open, asks whether to go on. Returns MET_NONE if none has. */
 static enum met ask_beside(const struct edit *edit, const struct found *found) {
     const char *typed = edit->call->file;
     pid_t other = edit->file.is_lost ? 0 : note_open_file(&edit->file);
@@ -227,7 +227,7 @@ static enum met ask_beside(const struct edit *edit, const struct found *found) {
     return goes_on ? MET_ASKED : MET_END;
 }
 
-/* Deletes a session for good. One that cannot be deleted is asked about again. */
+/* Deletes a session for good. If that fails, the question comes again. */
 static enum outcome delete_session(const struct edit *edit, struct session *session) {
     enum lock_result lock = session_lock(session, PART_PATH);
     int error = lock == LOCK_TAKEN ? session_remove(session) : session->error;
@@ -266,7 +266,7 @@ enum met meet_sessions(struct edit *edit, int *status) {
 
 /* ---- --recover FILE */
 
-/* Tells that FILE has no session to recover; where `is_live`, its only one is still running. */
+/* Says that FILE has no session to recover; with `is_live`, that its only one is still running. */
 static int tell_no_session(const struct edit *edit, bool is_live) {
     enum notice notice;
     const char *file = shown(edit->file.typed), *unkept = unkept_by(&edit->sessions, &notice);
@@ -325,8 +325,8 @@ int recover_session(struct edit *edit, bool *is_taken) {
 
 /* ---- --recover --to OTHER FILE */
 
-/* The text of a session, as an open file: by its keys, or as it was left if another version kept it. -1 where it cannot be had,
- * which is told. */
+/* The text of a session as an open file: by a replay of its keys, or, if another version recorded it, as it was at its end. -1 if there is
+ * none, which is reported. */
 static int text_to_store(struct edit *edit, const struct session *session) {
     int text = -1;
     if (!session_has_versions(session, edit->versions)) {
@@ -351,7 +351,7 @@ static int store(struct edit *edit, const struct session *session) {
     return 0;
 }
 
-/* Stores the text of one of the sessions that were found. One of another machine is refused: only --recover alone asks whether it
+/* Stores the text of one of the sessions that were found. A session of another machine is refused: only --recover FILE asks whether it
  * has ended. */
 static int store_found(struct edit *edit, struct found *found) {
     bool is_elsewhere;
