@@ -31,7 +31,8 @@ struct saver {
 bool saver_open(struct saver *saver, struct file *file);
 
 /* Forks the child that serves one save, from its BEGIN frame on `request`, which it answers on `answer`, to its end. Returns its
- * process, or -1: then it is as after saver_finish that returns false. To be called whenever `request` can be read and there is no child. */
+ * process, or -1: then it is as after saver_finish that returns false. To be called whenever `request` can be read and there is no
+ * child. */
 pid_t saver_start(struct saver *saver, int request, int answer);
 
 /* Takes in what the child left, once it has ended, and answers. Returns false where it was killed, and did not end the save. Then
