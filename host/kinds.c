@@ -173,8 +173,9 @@ static bool reports_in_numbers(void) {
     return number <= 0 || number >= FIRST_XTERM;
 }
 
-/* Whether copies for the system's clipboard do it no harm. Most terminals that do not know them pass over them, but GNU screen, rxvt,
- * dvtm and zutty show the end of a long one as text, and terminology ends by it. tmux passes over them for the terminal around it. */
+/* Whether copies for the system's clipboard do the terminal no harm. Most terminals that do not know them ignore them. But GNU screen,
+ * rxvt, dvtm and zutty show the end of a long one as text, and a long one ends terminology. In tmux the terminal around it does not
+ * matter, since tmux reads the copies itself. */
 static bool bears_long_clips(enum kind kind) {
     const char *term = value_of("TERM");
     bool is_shown = is_screen() || begins(term, "rxvt") || begins(term, "dvtm") || (is_set("ZUTTY_VERSION") && !is_set("TMUX"));
