@@ -15,7 +15,7 @@ settle_folder() {
         rmdir -- "$folder"
         return
     fi
-    printf 'bidi-edit: TMPDIR names %s, where nothing can be made: /tmp is taken\n' "$(shown "$TMPDIR")" >&2
+    printf 'bidi-edit: TMPDIR is ignored, since nothing can be created in %s: /tmp is used instead\n' "$(shown "$TMPDIR")" >&2
     export TMPDIR=/tmp
 }
 

@@ -78,12 +78,12 @@ suits() {
         return 1
     }
     [ "$(sources_digest)" = "$(noted sources)" ] || {
-        cause='the sources are not those that dist/ was made from'
+        cause='the sources are not those that dist/ was built from'
         return 1
     }
     for name in "$dist_archive" SOURCES; do
         has_sum "$name" || {
-            cause="dist/$name does not have its sum in dist/SHA256SUMS"
+            cause="dist/$name does not match its checksum in dist/SHA256SUMS"
             return 1
         }
     done

@@ -48,7 +48,7 @@ make_host() { # FOLDER
     fi
     case $told in
     *'there is no C compiler'*)
-        say_fault 'there is no C compiler, and the host in dist/ is not of the sources in host/: on Debian, apt install gcc libc6-dev gives one'
+        say_fault 'there is no C compiler, and the host in dist/ was not built from the sources in host/: install a compiler (on Debian, apt install gcc libc6-dev)'
         ;;
     *) printf '%s\n' "$told" >&2 ;;
     esac

@@ -221,7 +221,7 @@ check_state_taken_away() {
     wait_for 30 has_title_with first 'not kept'
     report 'faults, the state folder is gone: told within seconds' $? "$(title_of first)"
     kill -s TERM "$(editor_process)"
-    expect_in first 'faults, the state folder is gone: told at the end' 'what was typed is not kept, since'
+    expect_in first 'faults, the state folder is gone: told at the end' 'any unsaved text is lost, since'
     leave_files
     put_note note
     open_typed '' note

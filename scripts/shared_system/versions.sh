@@ -56,7 +56,7 @@ check_untouched() {
     say_in first recover
     expect_in first 'versions, without a key: it goes on' '* 1:1'
     kill -s HUP "$(editor_process)"
-    expect_in first 'versions, without a key, at the end: it is said' 'what was typed is kept'
+    expect_in first 'versions, without a key, at the end: it is said' 'unsaved text is kept'
     open_editor first '' --recover note
     expect_in first 'versions, without a key, at the end: it goes on' 'xyab'
 }
