@@ -1,5 +1,6 @@
 -- The start and the end of a run, from the contracts of the calls within.
 use Rattle.std.proofs.Common.{◌≡◌, ℕ, Bool, true, false, List, Option, Result, Ok, Err, IsErrAnd, sym, ap, subst, ◌∙◌}
+use Rattle.bx_editor.specs.Pasting.{has_changes}
 use Rattle.bx_ucd.specs.Data.{Data}
 use Rattle.bx_cli.specs.declared.unicode.UnicodeFiles.{UnicodeFiles}
 use Rattle.bx_session.specs.declared.end.End.{End}
@@ -62,7 +63,7 @@ pub resumes_of : {J D : Type 0} (Q : Type 0) (says : D → Data) (contents : J �
     (after_journal (says old.tables) old.session journal).known begun.session
     → RunsRecorded contents failures (says begun.tables) begun.session new out.store out'.store out.unread out'.unread out.written out'.written
     out.recorder out'.recorder
-    → EndsWith end new out'.unread → result ≡ outcome_of end changed → changed ≡ new.editor.changed
+    → EndsWith end new out'.unread → result ≡ outcome_of end changed → changed ≡ has_changes new.editor
     → RunsUnless result (Resumes contents failures (says old.tables) old.session journal out out' result) Q
 resumes_of {J} {D} Q says contents failures old begun new journal out out' end changed result same is paints runs ends tells changes =
     let d = says old.tables in

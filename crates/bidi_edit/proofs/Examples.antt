@@ -1,6 +1,7 @@
 -- Worked examples: how a run's end is reported, and what follows from the clause of a run alone.
 use Rattle.std.proofs.Common.{◌≡◌, ◌≢◌, ◌++◌, ℕ, Bool, true, false, List, [], ◌∷◌, Option, Some, None, Result, Ok, Err, IsOk, refl, sym, ap, subst, ◌∙◌, if◌then◌else◌}
-use Rattle.std.specs.Prelude.{codes}
+use Rattle.std.specs.Prelude.{◌&&◌, codes}
+use Rattle.bx_editor.specs.Pasting.{has_changes}
 use Rattle.bx_ucd.specs.Data.{Data}
 use Rattle.bx_keys.specs.Keys.{key_after}
 use Rattle.bx_cli.specs.declared.unicode.UnicodeFiles.{UnicodeFiles}
@@ -11,9 +12,10 @@ use Rattle.bx_session.specs.declared.end.RunFault.TheVariants.{WriteFault}
 use Rattle.bx_session.specs.declared.error.Refused.{Refused}
 use Rattle.bx_session.specs.declared.status.Status.{Status}
 use Rattle.bx_session.specs.Session.{Session, after_journal, with_painting}
-use Rattle.bx_session.specs.Saving.{StoreAfter, StoreState, is_save_byte, is_save_key}
+use Rattle.bx_session.specs.Saving.{StoreAfter, StoreState, is_applied, is_save_byte, is_save_key, text_to_save}
 use Rattle.bx_session.specs.Running.{FeedsAll}
 use Rattle.bx_session.specs.Beginning.{Beginning, at_offset, begun}
+use Rattle.bx_session.proofs.KeySizes.{ended_goes_on}
 use Rattle.bx_recovery.proofs.Opened.{reads_all}
 use Rattle.bidi_edit.specs.declared.edit.Changes.TheVariants.{Saved, Dropped}
 use Rattle.bidi_edit.specs.declared.fault.ProgramFault.TheVariants as fault
@@ -55,8 +57,8 @@ a_write_fault changed = refl
 
 -- a run that is said to have ended saved left no change
 pub a_saved_run : {J : Type 0} (contents : J → Option (List ℕ)) (failures : J → ℕ) (b : Beginning) (files : UnicodeFiles) (out out' : Outside J)
-    → (e : Edits contents failures b files out out' (Ok Saved)) → e.session.editor.changed ≡ false
-a_saved_run contents failures b files out out' e = saved_leaves_nothing e.end e.session.editor.changed (sym e.tells)
+    → (e : Edits contents failures b files out out' (Ok Saved)) → has_changes e.session.editor ≡ false
+a_saved_run contents failures b files out out' e = saved_leaves_nothing e.end (has_changes e.session.editor) (sym e.tells)
 
 -- one that ran out of memory before it began stored nothing
 pub a_run_that_did_not_begin : (Runs : Type 0) (store store' : ℕ) → RunsUnless (Err fault.OutOfMemory) Runs (store' ≡ store) → store' ≡ store
@@ -66,12 +68,17 @@ a_run_that_did_not_begin Runs store store' stays = stays
 
 begun_fresh : (d : Data) (b : Beginning) → b.journal ≡ [] → ((begun d b).rest ≡ []) × ((begun d b).editor.ended ≡ false)
 begun_fresh d b none =
+    let reads = reads_all d b in
     subst (λ journal. let s = with_painting d (after_journal d (at_offset d b) journal) in (s.rest ≡ []) × (s.editor.ended ≡ false)) (sym none)
-    (reads_all d b)
+    (reads.0, (ended_goes_on d (at_offset d b).editor).0 ∙ reads.1)
 
 no_save : (s : Session) → s.rest ≡ [] → s.editor.ended ≡ false → is_save_byte s 0x78 ≡ false
 no_save s fresh goes =
     ap (λ ended. is_save_key (if ended then None else key_after s.rest 0x78)) goes ∙ ap (λ rest. is_save_key (key_after rest 0x78)) fresh
+
+neither : (applied : Bool) → (applied && false) ≡ false
+neither true = refl
+neither false = refl
 
 -- a session that was fed the letter x alone stored nothing
 pub a_letter_stores_nothing : (d : Data) (b : Beginning) (store store' : StoreState) (answer : Result Status Refused) (new : Session)
@@ -79,5 +86,7 @@ pub a_letter_stores_nothing : (d : Data) (b : Beginning) (store store' : StoreSt
 a_letter_stores_nothing d b store store' answer new none feeds =
     let fresh = begun_fresh d b none in
     let is_none = no_save (begun d b) fresh.0 fresh.1 in
+    let none_saved : (is_applied answer && is_save_byte (begun d b) 0x78) ≡ false =
+    ap (λ saves. is_applied answer && saves) is_none ∙ neither (is_applied answer) in
     feeds.5.1
-    ∙ subst (λ save. StoreAfter save feeds.3.0 (begun d b).editor.content.text store feeds.1) is_none feeds.3.1
+    ∙ subst (λ save. StoreAfter save feeds.3.0 (text_to_save d (begun d b).editor) store feeds.1) none_saved feeds.3.1

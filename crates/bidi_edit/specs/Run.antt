@@ -1,6 +1,7 @@
 -- The start, the end and the result of a run of the program. Names without a prime are of before a run, those with one of after
 -- it. `d` is Unicode's data, `b` what the session starts with.
 use Rattle.std.specs.Prelude.{◌≡◌, ℕ, Bool, true, false, List, Option, Result, Ok, Err}
+use Rattle.bx_editor.specs.Pasting.{has_changes}
 use Rattle.bx_ucd.specs.Data.{Data}
 use Rattle.bx_cli.specs.declared.unicode.UnicodeFiles.{UnicodeFiles}
 use Rattle.bx_session.specs.declared.end.End.{End}
@@ -47,7 +48,7 @@ pub record Resumes {J : Type 0} (contents : J → Option (List ℕ)) (failures :
   pub painted : QueuesPicture d (after_journal d old journal).pending (after_journal d old journal).known
       (with_painting d (after_journal d old journal))
   pub runs : RunsTo contents failures d (with_painting d (after_journal d old journal)) session out out' end
-  pub tells : result ≡ outcome_of end session.editor.changed
+  pub tells : result ≡ outcome_of end (has_changes session.editor)
 
 -- a session was begun from this start, by tables that agree with these files, and run, and the result tells how that ended
 pub record Edits {J : Type 0} (contents : J → Option (List ℕ)) (failures : J → ℕ) (b : Beginning) (files : UnicodeFiles) (out out' : Outside J)
@@ -58,7 +59,7 @@ pub record Edits {J : Type 0} (contents : J → Option (List ℕ)) (failures : J
   pub answers : AreOfFiles tables files
   pub begins : IsBegun tables b
   pub runs : RunsTo contents failures tables (begun tables b) session out out' end
-  pub tells : result ≡ outcome_of end session.editor.changed
+  pub tells : result ≡ outcome_of end (has_changes session.editor)
 
 -- `Runs` if the result is of a run that began, `Stays` if a fault came before it
 abbrev pub RunsUnless : Result Changes ProgramFault → Type 0 → Type 0 → Type 0

@@ -2,14 +2,13 @@
 use Rattle.std.proofs.Common.{◌≡◌, ℕ, Bool, true, false, List, [], Option, None, Some, Result, Ok, Err, refl, sym, ap, subst, ◌∙◌, length}
 use Rattle.std.specs.Prelude.{IfOk, vec_items, unwrap_or}
 use Rattle.std.specs.Global.{Vec}
-use Rattle.bx_terms.specs.declared.base.Base.{Base}
 use Rattle.bx_keys.specs.Keys.{keys_from}
 use Rattle.bx_ucd.specs.Data.{Data}
 use Rattle.bx_cli.specs.declared.unicode.UnicodeFiles.{UnicodeFiles}
 use Rattle.bx_session.specs.Session.{Session, SessionState, at_opening}
 use Rattle.bx_session.specs.Saving.{StoreState}
 use Rattle.bx_session.specs.Painting.{QueuesPicture}
-use Rattle.bx_session.specs.Beginning.{Beginning, after_going_to, at_offset, changed_if}
+use Rattle.bx_session.specs.Beginning.{Beginning, after_going_to, at_offset, changed_if, clipboard_if}
 use Rattle.bx_recovery.specs.declared.replaying.Replayed.{Replayed}
 use Rattle.bx_recovery.specs.Beginnings.{AreOfFiles, IsOpened, bytes_of}
 use Rattle.bx_recovery.specs.Recovery.{RecoversFrom, Recovers}
@@ -21,7 +20,7 @@ bytes_or_none (Some bytes) none result empty is = ap (λ (v : Vec ℕ). vec_item
 pub opened_is : {D : Type 0} (says : D → Data) (tables : D) (first new : SessionState D) (text : List ℕ) (b : Beginning) (offset : Option ℕ)
     → first ≡ record { tables = tables; session = at_opening (says tables) text b.height b.width b.base }
     → QueuesPicture (says tables) [] None first.session → text ≡ b.text → offset ≡ b.offset
-    → new ≡ record first { session = changed_if b.unsaved (after_going_to (says first.tables) first.session offset) }
+    → new ≡ record first { session = changed_if b.unsaved (after_going_to (says first.tables) (clipboard_if b.clipboard first.session) offset) }
     → IsOpened (says new.tables) b new.session
 opened_is {D} says tables first new text b offset is queued same sent gone =
     let stays : first.tables ≡ tables = ap (λ (x : SessionState D). x.tables) is in
@@ -30,23 +29,34 @@ opened_is {D} says tables first new text b offset is queued same sent gone =
     ap (λ (x : SessionState D). x.session) is ∙ ap (λ (t : List ℕ). at_opening (says tables) t b.height b.width b.base) same in
     let opened : IsOpened (says tables) b new.session = record {
       session = ap (λ (x : SessionState D). x.session) gone
-          ∙ ap (λ (o : Option ℕ). changed_if b.unsaved (after_going_to (says first.tables) first.session o)) sent
-          ∙ ap (λ (t : D). changed_if b.unsaved (after_going_to (says t) first.session b.offset)) stays
-          ∙ ap (λ (s : Session). changed_if b.unsaved (after_going_to (says tables) s b.offset)) begins;
+          ∙ ap (λ (o : Option ℕ). changed_if b.unsaved (after_going_to (says first.tables) (clipboard_if b.clipboard first.session) o)) sent
+          ∙ ap (λ (t : D). changed_if b.unsaved (after_going_to (says t) (clipboard_if b.clipboard first.session) b.offset)) stays
+          ∙ ap (λ (s : Session). changed_if b.unsaved (after_going_to (says tables) (clipboard_if b.clipboard s) b.offset)) begins;
       paints = subst (QueuesPicture (says tables) [] None) begins queued;
     } in subst (λ (t : D). IsOpened (says t) b new.session) (sym kept) opened
 
 -- ---- no byte is read yet
 
-reads_all_at : (d : Data) (text : List ℕ) (height width : ℕ) (base : Base) (offset : Option ℕ) (unsaved : Bool)
-    → let s = changed_if unsaved (after_going_to d (at_opening d text height width base) offset) in (s.rest ≡ []) × (s.editor.ended ≡ false)
-reads_all_at d text height width base None true = (refl, refl)
-reads_all_at d text height width base None false = (refl, refl)
-reads_all_at d text height width base (Some offset) true = (refl, refl)
-reads_all_at d text height width base (Some offset) false = (refl, refl)
+abbrev ReadsNone : Session → Type 0
+ReadsNone s = (s.rest ≡ []) × (s.editor.ended ≡ false)
+
+with_clipboard_reads : (clipboard : Bool) (s : Session) → ReadsNone s → ReadsNone (clipboard_if clipboard s)
+with_clipboard_reads true s h = h
+with_clipboard_reads false s h = h
+
+going_reads : (d : Data) (s : Session) (offset : Option ℕ) → ReadsNone s → ReadsNone (after_going_to d s offset)
+going_reads d s None h = h
+going_reads d s (Some offset) h = h
+
+unsaved_reads : (unsaved : Bool) (s : Session) → ReadsNone s → ReadsNone (changed_if unsaved s)
+unsaved_reads true s h = h
+unsaved_reads false s h = h
 
 pub reads_all : (d : Data) (b : Beginning) → ((at_offset d b).rest ≡ []) × ((at_offset d b).editor.ended ≡ false)
-reads_all d b = reads_all_at d b.text b.height b.width b.base b.offset b.unsaved
+reads_all d b =
+    let opened : Session = at_opening d b.text b.height b.width b.base in
+    let first : Session = clipboard_if b.clipboard opened in
+    unsaved_reads b.unsaved (after_going_to d first b.offset) (going_reads d first b.offset (with_clipboard_reads b.clipboard opened (refl, refl)))
 
 -- ---- what is recovered
 

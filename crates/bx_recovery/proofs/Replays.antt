@@ -6,8 +6,8 @@ use Rattle.bx_keys.specs.declared.key.Key.{Key}
 use Rattle.bx_keys.specs.Keys.{key_after, keys_from, rest_after}
 use Rattle.bx_keys.specs.Waiting.{head_of}
 use Rattle.bx_ucd.specs.Data.{Data}
-use Rattle.bx_session.specs.Session.{Session, SessionState, after_journal, after_replay, after_replaying, key_of_byte}
-use Rattle.bx_session.specs.Saving.{is_save_byte}
+use Rattle.bx_session.specs.Session.{Session, SessionState, after_journal, after_replay, after_replaying, at_replay_end, key_of_byte}
+use Rattle.bx_session.specs.Saving.{is_save_byte, is_save_key}
 use Rattle.bx_session.proofs.Replayed.{applies, replayed_more}
 use Rattle.bx_recovery.specs.declared.replaying.FileText.{FileText}
 use Rattle.bx_recovery.specs.declared.replaying.FileText.TheVariants.{Same, Known, Foreign}
@@ -34,6 +34,15 @@ replayed_one {D} says tables mid new old keys i b was more is = (
   ap (λ (x : SessionState D). x.tables) is ∙ was.1,
 )
 
+-- all bytes, and the end
+pub journal_is : {D : Type 0} (says : D → Data) (tables : D) (mid new : SessionState D) (old : Session) (keys bytes : List ℕ)
+    → (mid.session ≡ after_replaying (says tables) old bytes) × (mid.tables ≡ tables) → bytes ≡ keys
+    → new ≡ record mid { session = at_replay_end (says mid.tables) mid.session } → new.session ≡ after_journal (says tables) old keys
+journal_is {D} says tables mid new old keys bytes was all is =
+    ap (λ (x : SessionState D). x.session) is
+    ∙ ap (λ (t : D). at_replay_end (says t) mid.session) was.1
+    ∙ ap (at_replay_end (says tables)) (was.0 ∙ ap (after_replaying (says tables) old) all)
+
 -- ---- what a replay meets
 
 -- the bytes `rest` are left of the journal; `is_known` tells whether the file was met, and `count` counts the keys
@@ -54,14 +63,25 @@ met_at_first d s journal file known is = record {
 key_before_end : (s : Session) (b : ℕ) → s.editor.ended ≡ false → key_of_byte s b ≡ key_after s.rest b
 key_before_end s b h = ap (λ ended. if ended then None else key_after s.rest b) h
 
-pub met_more : (d : Data) (old now new : Session) (journal rest file : List ℕ) (b : ℕ) (known known' : Bool) (count count' : ℕ)
-    → HasMet d old now journal (b ∷ rest) file known count
-    → (IsTrue known' ↔ (IsTrue known ⊎ ((is_save_byte now b ≡ true) × (now.editor.content.text ≡ file))))
-    → count' ≡ count + length (option_to_list (key_of_byte now b)) → new ≡ after_replay d now b
+-- the replay of a byte may have met the text of a Save
+saved_now : (d : Data) (now new : Session) (file : List ℕ) (b : ℕ) (key : Option Key) (known known' : Bool) → key ≡ key_of_byte now b → new ≡ after_replay d now b
+    → (IsTrue known' ↔ (IsTrue known ⊎ ((is_save_key key ≡ true) × (new.editor.content.text ≡ file))))
+    → (IsTrue known' ↔ (IsTrue known ⊎ ((is_save_byte now b ≡ true) × ((after_replay d now b).editor.content.text ≡ file))))
+saved_now d now new file b key known known' completes is met =
+    subst (λ (s : Session). IsTrue known' ↔ (IsTrue known ⊎ ((is_save_byte now b ≡ true) × (s.editor.content.text ≡ file)))) is
+    (subst (λ (k : Option Key). IsTrue known' ↔ (IsTrue known ⊎ ((is_save_key k ≡ true) × (new.editor.content.text ≡ file)))) completes met)
+
+pub met_more : (d : Data) (old now new : Session) (journal rest file : List ℕ) (b : ℕ) (key : Option Key) (known known' : Bool) (count count' : ℕ)
+    → HasMet d old now journal (b ∷ rest) file known count → key ≡ key_of_byte now b
+    → (IsTrue known' ↔ (IsTrue known ⊎ ((is_save_key key ≡ true) × (new.editor.content.text ≡ file))))
+    → count' ≡ count + length (option_to_list key) → new ≡ after_replay d now b
     → HasMet d old new journal rest file known' count'
-met_more d old now new journal rest file b known known' count count' was met counted is =
+met_more d old now new journal rest file b key known known' count count' was completes met_by counted_by is =
     let save = is_save_byte now b in
-    let text = now.editor.content.text in
+    let text = (after_replay d now b).editor.content.text in
+    let met = saved_now d now new file b key known known' completes is met_by in
+    let counted : count' ≡ count + length (option_to_list (key_of_byte now b)) =
+    counted_by ∙ ap (λ (k : Option Key). count + length (option_to_list k)) completes in
     let later : List (List ℕ) = texts_at_saves d (after_replay d now b) rest in
     let known_next : (IsTrue known' ⊎ Contains later file) ↔ Contains (known_texts d old journal) file = (
       λ c. was.known.0 (⊎_elim

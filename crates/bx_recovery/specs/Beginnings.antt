@@ -37,6 +37,7 @@ beginning_of b = record {
   height = b.rows;
   width = b.cols;
   base = b.direction;
+  clipboard = b.clipboard;
   offset = offset_of (bytes_of b.text) b.line;
   unsaved = b.unsaved;
   journal = b.keys.now;

@@ -18,10 +18,11 @@ abbrev pub with_text_if : Bool → List ℕ → List (List ℕ) → List (List �
 with_text_if true text texts = text ∷ texts
 with_text_if false text texts = texts
 
--- the text at each Save of a journal, in order: each of them was stored, unless its save failed
+-- the text at each Save of a journal, in order, once a paste has ended there: each of them was stored, unless its save failed
 abbrev pub texts_at_saves : Data → Session → List ℕ → List (List ℕ)
 texts_at_saves d s [] = []
-texts_at_saves d s (b ∷ bytes) = with_text_if (is_save_byte s b) s.editor.content.text (texts_at_saves d (after_replay d s b) bytes)
+texts_at_saves d s (b ∷ bytes) =
+    let new = after_replay d s b in with_text_if (is_save_byte s b) new.editor.content.text (texts_at_saves d new bytes)
 
 -- the texts that the session knows of its file: the text at the start of a journal, and the text at each Save
 abbrev pub known_texts : Data → Session → List ℕ → List (List ℕ)

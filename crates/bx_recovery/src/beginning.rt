@@ -21,6 +21,8 @@ pub struct Beginning<'a> {
     pub cols: u16,
     /// The base direction of the paragraphs at first.
     pub direction: Base,
+    /// Whether text that is copied or cut goes out to the terminal's clipboard too.
+    pub clipboard: bool,
     /// The line that the cursor is sent to, from 1; None to leave it at the text's start.
     pub line: Option<u64>,
     /// Whether the text counts as changed from the start.

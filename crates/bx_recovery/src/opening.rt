@@ -1,7 +1,7 @@
 //! The opening of a session from its files, without its journal's keys.
 
 ghost use Rattle.std.specs.Prelude.{◌≡◌, IfOk, OnOk};
-ghost use Rattle.bx_session.specs.Beginning.{after_going_to, changed_if};
+ghost use Rattle.bx_session.specs.Beginning.{after_going_to, changed_if, clipboard_if};
 ghost use Rattle.bx_recovery.specs.Beginnings.{AreOfFiles, IsOpened, beginning_of, offset_of};
 
 use crate::beginning::Beginning;
@@ -27,7 +27,7 @@ pub fn open(beginning: Beginning<'_>) -> Result<Session<Tables>, RecoveryFault>
 {
     let alloc = beginning.alloc;
     let (rows, cols, direction) = (beginning.rows, beginning.cols, beginning.direction);
-    let unsaved = beginning.unsaved;
+    let (clipboard, unsaved) = (beginning.clipboard, beginning.unsaved);
     let unicode = beginning.unicode;
     let tables = Tables::read(
         alloc,
@@ -39,20 +39,25 @@ pub fn open(beginning: Beginning<'_>) -> Result<Session<Tables>, RecoveryFault>
     let text = beginning.text.unwrap_or(Vec::new(alloc));
     let start = offset_of(text.as_slice(), beginning.line);
     let mut session = Session::open(text, tables, rows, cols, direction)?;
-    prepare(&mut session, start, unsaved)?;
+    prepare(&mut session, clipboard, start, unsaved)?;
     Ok(session)
 }
 
-/// Moves the cursor to an offset, if there is one, and counts an unsaved text as changed.
+/// Gives the session a clipboard, if there is one, moves the cursor to an offset, if there is one, and counts an unsaved text as
+/// changed.
 fn prepare<D: BidiData + Drop>(
     session: &mut Session<D>,
+    clipboard: bool,
     offset: Option<usize>,
     unsaved: bool,
 ) -> Result<(), RecoveryFault>
     ensures { OnOk result (session.new ≡ record session.old {
-      session = changed_if unsaved (after_going_to (D.data session.old.tables) session.old.session offset);
+      session = changed_if unsaved (after_going_to (D.data session.old.tables) (clipboard_if clipboard session.old.session) offset);
     }) }
 {
+    if clipboard {
+        session.use_clipboard();
+    }
     if let Some(offset) = offset {
         session.go_to(offset)?;
     }

@@ -5,8 +5,7 @@ ghost use Rattle.std.specs.Prelude.{option_to_list};
 ghost use Rattle.bx_keys.specs.Keys.{keys_from};
 ghost use Rattle.bx_editor.specs.Keys as keys;
 ghost use Rattle.bx_session.specs.Laws.{after_journal};
-ghost use Rattle.bx_session.specs.Saving.{is_save_byte};
-ghost use Rattle.bx_session.specs.Session.{key_of_byte};
+ghost use Rattle.bx_session.specs.Saving.{is_save_key};
 ghost use Rattle.bx_recovery.specs.Recovery.{HoldsBeside};
 
 use crate::fault::RecoveryFault;
@@ -62,7 +61,7 @@ pub fn replay<D: BidiData + Drop>(
     for byte in keys {
         session.replay(*byte)?;
     }
-    session.end_replay();
+    session.end_replay()?;
     Ok(())
 }
 
@@ -82,14 +81,19 @@ fn is_save(key: Key) -> bool
     matches!(key, Key::Save)
 }
 
-/// What a replay has met once it takes the next byte, which `session` has not read yet.
-fn met_with<D: BidiData + Drop>(met: Met, session: &Session<D>, byte: u8, file: &[u8]) -> Met
+/// What a replay has met once it took a byte, which completed this key, if any, and led to `session`.
+fn met_with<D: BidiData + Drop>(
+    met: Met,
+    session: &Session<D>,
+    key: Option<Key>,
+    file: &[u8],
+) -> Met
     requires { met.keys < 2 ^ 64 - 1 }
     ensures known { IsTrue result.is_known ↔ (IsTrue met.is_known
-        ⊎ ((is_save_byte session.now.session byte ≡ true) × (session.now.session.editor.content.text ≡ file.now))) }
-    ensures keys { result.keys ≡ met.keys + length (option_to_list (key_of_byte session.now.session byte)) }
+        ⊎ ((is_save_key key ≡ true) × (session.now.session.editor.content.text ≡ file.now))) }
+    ensures keys { result.keys ≡ met.keys + length (option_to_list key) }
 {
-    let Some(key) = session.key_of(byte) else {
+    let Some(key) = key else {
         return met;
     };
     Met {
@@ -135,10 +139,11 @@ pub fn replay_beside<D: BidiData + Drop>(
         keys: 0,
     };
     for byte in keys {
-        met = met_with(met, session, *byte, file);
+        let key = session.key_of(*byte);
         session.replay(*byte)?;
+        met = met_with(met, session, key, file);
     }
-    session.end_replay();
+    session.end_replay()?;
     Ok(Replayed {
         held: held_by(session.has_text(file), met.is_known),
         keys: met.keys,

@@ -1,32 +1,51 @@
 -- The session after a byte and after a told size, from the contracts of the calls within.
-use Rattle.std.proofs.Common.{◌≡◌, ℕ, Bool, true, false, List, [], drop, Option, Some, None, Result, Ok, Err, refl, sym, ap, subst, ◌∙◌, if◌then◌else◌}
+use Rattle.std.proofs.Common.{◌≡◌, ℕ, Bool, true, false, List, [], drop, Option, Some, None, Result, Ok, Err, IsUtf8, refl, sym, ap, subst, ◌∙◌, if◌then◌else◌}
 use Rattle.std.specs.Prelude.{not, ◌||◌, ◌&&◌, is_some, OnOk, OnErr}
+use Rattle.bx_terms.specs.Sizes.{is_side}
 use Rattle.bx_terms.specs.declared.base.Base.{Base}
 use Rattle.bx_grid.specs.Picture.{PictureState, is_size}
 use Rattle.bx_keys.specs.declared.key.Key.{Key}
+use Rattle.bx_keys.specs.declared.key.Key.TheVariants.{Save}
 use Rattle.bx_keys.specs.Keys.{rest_after}
 use Rattle.bx_keys.specs.Waiting.{head_of}
 use Rattle.bx_store.specs.declared.store.StoreFault.{StoreFault}
 use Rattle.bx_ucd.specs.Data.{Data}
-use Rattle.bx_editor.specs.Editor.{Editor, EditorState, at_start}
+use Rattle.bx_editor.specs.Editor.{Editor, EditorState, HasRows, at_start, with_top}
 use Rattle.bx_editor.specs.Keys.{after_key, asks_for_whole}
+use Rattle.bx_editor.specs.Pasting.{paste_ended}
 use Rattle.bx_session.specs.declared.error.Refused.{Refused}
 use Rattle.bx_session.specs.declared.error.Refused.TheVariants.{Edit, Paint, Size}
-use Rattle.bx_session.specs.Session.{Session, SessionState, with_painting, with_painting_owed, at_opening, key_of_byte, after_spending, session_after_any}
-use Rattle.bx_session.specs.Session.{unpainted_after_byte, is_idle, after_byte, unpainted_after_told}
-use Rattle.bx_session.specs.Painting.{QueuesPicture, FeedPaints}
-use Rattle.bx_session.specs.Saving.{AfterByte, ToldBy}
+use Rattle.bx_session.specs.Session.{Session, SessionState, with_painting, with_painting_owed, with_picture, at_opening, before_painting, key_of_byte}
+use Rattle.bx_session.specs.Session.{after_spending, session_after_any, unpainted_after_byte, is_idle, is_painted, needs_painting, painted_after, picture_of}
+use Rattle.bx_session.specs.Session.{after_byte, unpainted_after_told}
+use Rattle.bx_session.specs.Painting.{AppendsPainting, FeedAppends, QueuesPicture, FeedPaints}
+use Rattle.bx_session.specs.Saving.{AfterByte, ToldBy, may_refuse_key}
 use Rattle.bx_session.specs.declared.status.Status.{Status}
+use Rattle.bx_session.proofs.Ending.{save_ahead}
 use Rattle.bx_session.proofs.KeySizes.{same_ended}
+use Rattle.bx_session.proofs.Tops.{opening_stays}
 
 -- ---- opening
 
+sized_rows : (text : List ℕ) (height width : ℕ) (base : Base) → IsUtf8 text → is_size height width ≡ true → HasRows (at_start text height width base)
+sized_rows text height width base utf8 sized = record { text = utf8; columns = right (is_side height) (is_side width) sized } where
+  right : (a b : Bool) → (a && b) ≡ true → b ≡ true
+  right true b h = h
+  right false b h = absurd (cc h)
+
+-- the first painting leaves the first row first
+at_opening_is : (d : Data) (text : List ℕ) (height width : ℕ) (base : Base) → HasRows (at_start text height width base)
+    → with_painting d (before_painting text height width base) ≡ at_opening d text height width base
+at_opening_is d text height width base has =
+    let s = before_painting text height width base in
+    ap (λ top. with_picture s (with_top s.editor top) (picture_of d (with_top s.editor top))) (opening_stays d text height width base has)
+
 pub opening_is : {D : Type 0} (says : D → Data) (tables : D) (text : List ℕ) (height width : ℕ) (base : Base) (e : EditorState D) (rest queue : List ℕ)
-    (new : SessionState D) → e ≡ record { tables = tables; editor = at_start text height width base } → rest ≡ [] → queue ≡ []
+    (new : SessionState D) → IsUtf8 text → is_size height width ≡ true
+    → e ≡ record { tables = tables; editor = at_start text height width base } → rest ≡ [] → queue ≡ []
     → new.tables ≡ e.tables
     → new.session ≡ with_painting (says e.tables) (record {
       editor = e.editor;
-      top = 0;
       rest = rest;
       painted = None;
       known = None;
@@ -34,19 +53,34 @@ pub opening_is : {D : Type 0} (says : D → Data) (tables : D) (text : List ℕ)
       pending = drop 0 queue;
     })
     → new ≡ record { tables = tables; session = at_opening (says tables) text height width base }
-opening_is {D} says tables text height width base e rest queue new is waits empty same painted =
+opening_is {D} says tables text height width base e rest queue new utf8 sized is waits empty same painted =
     let state : new.session ≡ at_opening (says tables) text height width base =
     painted
     ∙ ap (λ (x : EditorState D). with_painting (says x.tables) (record {
       editor = x.editor;
-      top = 0;
       rest = rest;
       painted = None;
       known = None;
       painting_owed = false;
       pending = drop 0 queue;
     })) is
-    ∙ rw (waits, empty) refl in
+    ∙ ap (λ xs. with_painting (says tables) (record {
+      editor = at_start text height width base;
+      rest = xs;
+      painted = None;
+      known = None;
+      painting_owed = false;
+      pending = drop 0 queue;
+    })) waits
+    ∙ ap (λ xs. with_painting (says tables) (record {
+      editor = at_start text height width base;
+      rest = [];
+      painted = None;
+      known = None;
+      painting_owed = false;
+      pending = drop 0 xs;
+    })) empty
+    ∙ at_opening_is (says tables) text height width base (sized_rows text height width base utf8 sized) in
     ap (λ (x : D). record { tables = x; session = new.session }) (same ∙ ap (λ (x : EditorState D). x.tables) is)
     ∙ ap (λ (x : Session). record { tables = tables; session = x }) state
 
@@ -57,54 +91,96 @@ pub applied : {D : Type 0} (says : D → Data) (old new : EditorState D) (key : 
 applied {D} says old new key is same =
     ap (λ (x : D). record { tables = x; editor = new.editor }) same ∙ ap (λ (x : Editor). record { tables = old.tables; editor = x }) is
 
+-- ---- a Save
+
+pub save_is : {D : Type 0} (says : D → Data) (fault : Option StoreFault) (old ended new : EditorState D)
+    → ended ≡ record old { editor = paste_ended (says old.tables) old.editor }
+    → new ≡ record ended { editor = after_key (says ended.tables) fault ended.editor Save }
+    → new ≡ record old { editor = after_key (says old.tables) fault old.editor Save }
+save_is {D} says fault old ended new is saved =
+    saved
+    ∙ ap (λ (x : EditorState D). record x { editor = after_key (says x.tables) fault x.editor Save }) is
+    ∙ ap (λ (x : Editor). record { tables = old.tables; editor = x }) (save_ahead (says old.tables) fault old.editor)
+
 -- ---- a byte
 
-not_idle : (idle : Bool) (spent painted new : Session) → idle ≡ false → new ≡ painted → new ≡ (if idle then spent else painted)
-not_idle true spent painted new is h = absurd (cc is)
-not_idle false spent painted new is h = h
+pub spent_editor : (s : Session) (b : ℕ) → (after_spending s b).editor ≡ s.editor
+spent_editor s b = by s.editor.ended where
+  by : (ended : Bool) → (if ended then s else record s { rest = head_of (rest_after s.rest b) }).editor ≡ s.editor
+  by true = refl
+  by false = refl
 
-pub after_byte_is : {D : Type 0} (says : D → Data) (fault : Option StoreFault) (old mid new : SessionState D) (b : ℕ) → is_idle old.session b ≡ false
+pub spent_owed : (s : Session) (b : ℕ) → (after_spending s b).painting_owed ≡ s.painting_owed
+spent_owed s b = by s.editor.ended where
+  by : (ended : Bool) → (if ended then s else record s { rest = head_of (rest_after s.rest b) }).painting_owed ≡ s.painting_owed
+  by true = refl
+  by false = refl
+
+-- what is asked once the byte is spent
+pub asks_for : (s : Session) (b : ℕ) (key : Option Key) → key ≡ key_of_byte s b
+    → ((after_spending s b).painting_owed || needs_painting (after_spending s b).editor key) ≡ is_painted s b
+asks_for s b key is =
+    ap (λ owed. owed || needs_painting (after_spending s b).editor key) (spent_owed s b)
+    ∙ ap (λ (e : Editor). s.painting_owed || needs_painting e key) (spent_editor s b)
+    ∙ ap (λ k. s.painting_owed || needs_painting s.editor k) is
+
+with_clip_if : (paints : Bool) (plain painted new : Session) → paints ≡ true → new ≡ painted → new ≡ (if paints then painted else plain)
+with_clip_if true plain painted new is h = h
+with_clip_if false plain painted new is h = absurd (cc is)
+
+plain_if : (paints : Bool) (plain painted new : Session) → paints ≡ false → new ≡ plain → new ≡ (if paints then painted else plain)
+plain_if true plain painted new is h = absurd (cc is)
+plain_if false plain painted new is h = h
+
+-- a byte after which the picture was painted
+pub after_byte_is : {D : Type 0} (says : D → Data) (fault : Option StoreFault) (old mid new : SessionState D) (b : ℕ) (key : Option Key)
+    → is_painted old.session b ≡ true → key ≡ key_of_byte old.session b
     → mid ≡ record old { session = unpainted_after_byte (says old.tables) fault old.session b }
-    → new.session ≡ with_painting (says mid.tables) mid.session → new.session ≡ after_byte (says old.tables) fault old.session b
-after_byte_is {D} says fault old mid new b asks e painted =
-    not_idle (is_idle old.session b) (after_spending old.session b)
-    (with_painting (says old.tables) (unpainted_after_byte (says old.tables) fault old.session b)) new.session asks
-    (painted ∙ ap (λ (x : SessionState D). with_painting (says x.tables) x.session) e)
+    → new.session ≡ painted_after (says mid.tables) mid.session key → new.session ≡ after_byte (says old.tables) fault old.session b
+after_byte_is {D} says fault old mid new b key asks is e painted =
+    let d = says old.tables in
+    let u = unpainted_after_byte d fault old.session b in
+    with_clip_if (is_painted old.session b) u (painted_after d u (key_of_byte old.session b)) new.session asks
+    (painted
+    ∙ ap (λ (x : SessionState D). painted_after (says x.tables) x.session key) e
+    ∙ ap (painted_after d u) is)
 
-asks_where_not_idle : (idle asks : Bool) → asks ≡ not idle → asks ≡ true → idle ≡ false
-asks_where_not_idle true asks e h = absurd (let g = sym e ∙ h in cc g)
-asks_where_not_idle false asks e h = refl
-
-pub is_not_idle : (s : Session) (b : ℕ) (asks : Bool) → asks ≡ not (is_idle s b) → asks ≡ true → is_idle s b ≡ false
-is_not_idle s b asks e h = asks_where_not_idle (is_idle s b) asks e h
-
-asks_unless_idle : (idle asks : Bool) → asks ≡ not idle → asks ≡ false → idle ≡ true
-asks_unless_idle true asks e h = refl
-asks_unless_idle false asks e h = absurd (let g = sym e ∙ h in cc g)
-
-where_idle : (owed : Bool) (key : Option Key) (d : Data) (fault : Option StoreFault) (spent painted : Session) (idle : Bool)
-    → (not (is_some key) && not owed) ≡ idle → idle ≡ true → session_after_any d fault spent key ≡ (if idle then spent else painted)
-where_idle owed key d fault spent painted false e h = absurd (cc h)
-where_idle owed None d fault spent painted true e h = refl
-where_idle owed (Some key) d fault spent painted true e h = absurd (cc e)
-
--- a byte that completes no key is spent alone
-pub idle_is : {D : Type 0} (says : D → Data) (fault : Option StoreFault) (old new : SessionState D) (b : ℕ) (asks : Bool)
-    → asks ≡ not (is_idle old.session b) → asks ≡ false → new ≡ record old { session = unpainted_after_byte (says old.tables) fault old.session b }
+-- one that needs no painting
+pub quiet_is : {D : Type 0} (says : D → Data) (fault : Option StoreFault) (old new : SessionState D) (b : ℕ) → is_painted old.session b ≡ false
+    → new ≡ record old { session = unpainted_after_byte (says old.tables) fault old.session b }
     → new.session ≡ after_byte (says old.tables) fault old.session b
-idle_is {D} says fault old new b asks is unasked e =
-    let s = old.session in
-    ap (λ (x : SessionState D). x.session) e
-    ∙ where_idle s.painting_owed (key_of_byte s b) (says old.tables) fault (after_spending s b)
-    (with_painting (says old.tables) (unpainted_after_byte (says old.tables) fault s b)) (is_idle s b) refl
-    (asks_unless_idle (is_idle s b) asks is unasked)
+quiet_is {D} says fault old new b unasked e =
+    let d = says old.tables in
+    let u = unpainted_after_byte d fault old.session b in
+    plain_if (is_painted old.session b) u (painted_after d u (key_of_byte old.session b)) new.session unasked (ap (λ (x : SessionState D). x.session) e)
 
 pub owing_is : {D : Type 0} (says : D → Data) (fault : Option StoreFault) (old mid new : SessionState D) (b : ℕ) (result : Result Status Refused)
-    → is_idle old.session b ≡ false → mid ≡ record old { session = unpainted_after_byte (says old.tables) fault old.session b }
+    → is_painted old.session b ≡ true → mid ≡ record old { session = unpainted_after_byte (says old.tables) fault old.session b }
     → new.session ≡ with_painting_owed mid.session → result ≡ Err Paint → AfterByte (says old.tables) fault old.session b result new.session
 owing_is {D} says fault old mid new b result asks e owed is =
     subst (λ r. AfterByte (says old.tables) fault old.session b r new.session) (sym is)
     (owed ∙ ap (λ (x : SessionState D). with_painting_owed x.session) e, asks)
+
+-- ---- a byte that completes no key
+
+idle_key : (s : Session) (b : ℕ) → is_idle s b ≡ true → (key_of_byte s b ≡ None) × (s.painting_owed ≡ false)
+idle_key s b idle = by (key_of_byte s b) s.painting_owed idle where
+  by : (key : Option Key) (owed : Bool) → (not (is_some key) && not owed) ≡ true → (key ≡ None) × (owed ≡ false)
+  by None false h = (refl, refl)
+  by None true h = absurd (cc h)
+  by (Some key) owed h = absurd (cc h)
+
+pub idle_unpainted : (s : Session) (b : ℕ) → is_idle s b ≡ true → is_painted s b ≡ false
+idle_unpainted s b idle =
+    let none = idle_key s b idle in
+    ap (λ owed. owed || needs_painting s.editor (key_of_byte s b)) none.1 ∙ ap (needs_painting s.editor) none.0
+
+pub idle_not_refused : (s : Session) (b : ℕ) → is_idle s b ≡ true → may_refuse_key s.editor (key_of_byte s b) ≡ true → ⊥
+idle_not_refused s b idle refuses = let same : false ≡ true = ap (may_refuse_key s.editor) (sym (idle_key s b idle).0) ∙ refuses in cc same
+
+pub idle_alone : (d : Data) (fault : Option StoreFault) (s : Session) (b : ℕ) → is_idle s b ≡ true
+    → unpainted_after_byte d fault s b ≡ after_spending s b
+idle_alone d fault s b idle = ap (session_after_any d fault (after_spending s b)) (idle_key s b idle).0
 
 -- ---- the knowledge of the screen before the painting
 
@@ -116,24 +192,39 @@ pub same_pending_after : (d : Data) (fault : Option StoreFault) (s : Session) (k
 same_pending_after d fault s None = refl
 same_pending_after d fault s (Some key) = refl
 
+pub unpainted_pending : (d : Data) (fault : Option StoreFault) (s : Session) (b : ℕ) → (unpainted_after_byte d fault s b).pending ≡ s.pending
+unpainted_pending d fault s b =
+    same_pending_after d fault (after_spending s b) (key_of_byte s b) ∙ same_pending s.editor.ended s (head_of (rest_after s.rest b))
+
 -- it does not depend on a Save's success
 same_screen_after : (d : Data) (fault : Option StoreFault) (s : Session) (key : Option Key)
     → (session_after_any d fault s key).known ≡ (session_after_any d None s key).known
 same_screen_after d fault s None = refl
 same_screen_after d fault s (Some key) = ap (λ ended. if asks_for_whole key || ended then None else s.known) (same_ended d fault s.editor key)
 
-pub byte_paints : {D : Type 0} (says : D → Data) (fault : Option StoreFault) (old mid : SessionState D) (new : Session) (b : ℕ)
+-- what is said of the queue and of the screen before the byte's key was applied
+byte_says : {D : Type 0} (Says : Data → List ℕ → Option PictureState → Type 0) (says : D → Data) (fault : Option StoreFault) (old mid : SessionState D) (b : ℕ)
     → mid ≡ record old { session = unpainted_after_byte (says old.tables) fault old.session b }
-    → QueuesPicture (says mid.tables) mid.session.pending mid.session.known new → FeedPaints (says old.tables) old.session b new
-byte_paints {D} says fault old mid new b e h =
+    → Says (says mid.tables) mid.session.pending mid.session.known
+    → Says (says old.tables) old.session.pending (unpainted_after_byte (says old.tables) None old.session b).known
+byte_says {D} Says says fault old mid b e h =
     let d = says old.tables in
     let s = after_spending old.session b in
     let key = key_of_byte old.session b in
-    let pending : (session_after_any d fault s key).pending ≡ old.session.pending =
-    same_pending_after d fault s key ∙ same_pending old.session.editor.ended old.session (head_of (rest_after old.session.rest b)) in
-    subst (λ (q : List ℕ). QueuesPicture d q (session_after_any d None s key).known new) pending
-    (subst (λ (p : Option PictureState). QueuesPicture d (session_after_any d fault s key).pending p new) (same_screen_after d fault s key)
-    (subst (λ (x : SessionState D). QueuesPicture (says x.tables) x.session.pending x.session.known new) e h))
+    let pending : (session_after_any d fault s key).pending ≡ old.session.pending = unpainted_pending d fault old.session b in
+    subst (λ (q : List ℕ). Says d q (session_after_any d None s key).known) pending
+    (subst (λ (p : Option PictureState). Says d (session_after_any d fault s key).pending p) (same_screen_after d fault s key)
+    (subst (λ (x : SessionState D). Says (says x.tables) x.session.pending x.session.known) e h))
+
+pub byte_paints : {D : Type 0} (says : D → Data) (fault : Option StoreFault) (old mid : SessionState D) (new : Session) (b : ℕ)
+    → mid ≡ record old { session = unpainted_after_byte (says old.tables) fault old.session b }
+    → QueuesPicture (says mid.tables) mid.session.pending mid.session.known new → FeedPaints (says old.tables) old.session b new
+byte_paints says fault old mid new b e h = byte_says (λ d before known. QueuesPicture d before known new) says fault old mid b e h
+
+pub byte_appends : {D : Type 0} (says : D → Data) (fault : Option StoreFault) (old mid : SessionState D) (new : Session) (b : ℕ)
+    → mid ≡ record old { session = unpainted_after_byte (says old.tables) fault old.session b }
+    → AppendsPainting (says mid.tables) mid.session.pending mid.session.known new → FeedAppends (says old.tables) old.session b new
+byte_appends says fault old mid new b e h = byte_says (λ d before known. AppendsPainting d before known new) says fault old mid b e h
 
 -- ---- a told size
 

@@ -4,7 +4,7 @@ use Rattle.std.specs.Prelude.{not, ◌||◌, ◌&&◌, ◌==◌, encode_utf8, le
 use Rattle.bx_text.specs.declared.change.Change.{Change}
 use Rattle.bx_text.specs.Edits.{Edit, fits, splice}
 use Rattle.bx_keys.specs.declared.key.Key.{Key}
-use Rattle.bx_keys.specs.declared.key.Key.TheVariants.{Quit, Size}
+use Rattle.bx_keys.specs.declared.key.Key.TheVariants.{Quit, Size, PasteStart, PasteEnd}
 use Rattle.bx_grid.specs.Picture.{PictureState}
 use Rattle.bx_store.specs.declared.store.StoreFault.{StoreFault}
 use Rattle.bx_ucd.specs.Data.{Data}
@@ -29,16 +29,18 @@ use Rattle.bx_editor.specs.Editor.{Editor, after_quit, after_redo, after_save, a
 use Rattle.bx_editor.specs.Effects.{Effect, Types, BeginsLine, Puts, Removes, RemovesWord, Steps, StepsRun, Goes, GoesByRows, Marks, Selects, Unmarks, Copies}
 use Rattle.bx_editor.specs.Effects.{Cuts, Seeks, SeeksNext, Saves, Quits, Turns, Helps, AsksLine, AsksName, Tells, Rests, Before, before, by}
 use Rattle.bx_editor.specs.Erasing.{after_erasing, after_erasing_word, after_removing, or_selection, removed_on}
-use Rattle.bx_editor.specs.Keys.{Answer, Letter, Shortens, GoesBack, Next, Previous, Replaces, Stays, Ends, after_any, after_asking, after_key, after_user, answer_of}
-use Rattle.bx_editor.specs.Keys.{answered, answered_match, answered_other, asks_for_whole, effect_of, is_size_key}
+use Rattle.bx_editor.specs.Keys.{Answer, Letter, Shortens, GoesBack, Next, Previous, Replaces, Stays, Ends, after_any, after_asking, after_key, after_press, after_user, answer_of}
+use Rattle.bx_editor.specs.Keys.{answered, answered_match, answered_other, as_left, asks_for_whole, effect_of, is_size_key}
+use Rattle.bx_editor.specs.Pasting.{after_paste_end, after_paste_start, ended_with, paste_ended, without_paste}
 use Rattle.bx_editor.specs.Putting.{after_character, after_new_line, after_put, has_room, is_paste, line_end, put_in, typed, yielding}
 use Rattle.bx_editor.specs.Region.{after_copy, after_cut, after_mark, is_at_mark, is_empty, line, region, taken}
-use Rattle.bx_editor.specs.Replacing.{after_asking_other, after_match_letter, after_other_letter, after_replacing, after_replacing_all, after_sought_letter}
+use Rattle.bx_editor.specs.Replacing.{after_asking_other, after_match_letter, after_other_letter, after_replacing, after_replacing_all, after_sought_end, after_sought_letter}
 use Rattle.bx_editor.specs.Replacing.{asked_at, at_match, is_replacing, match_stop, matches_on, next_match, shown_at, with_matches_replaced}
 use Rattle.bx_editor.specs.Runs.{by_run, run_length}
 use Rattle.bx_editor.specs.Search.{after_letter, is_no_letter, landed, landing_from, sought, without_search}
 use Rattle.bx_editor.specs.Selecting.{is_selection, selecting, unselected}
-use Rattle.bx_editor.proofs.InSearch.{each-key}
+use Rattle.bx_editor.proofs.EffectsKept.{IsKeptPasting, pasted-letter-keeps, start-keeps}
+use Rattle.bx_editor.proofs.InSearch.{each-key, press-keeps}
 use Rattle.bx_editor.proofs.Questions.{IsKept, question-keeps}
 use Rattle.bx_session.specs.Painting.{FitsEditor}
 use Rattle.bx_session.specs.Parts.{is_quit}
@@ -76,8 +78,7 @@ module _ (key : Key) where
   new_line_kept d typing e = let part = yielding e in typed_kept d typing e (line_end d (splice e.content.text part.0 part.1 [])) Separator
 
   character_kept : (d : Data) (typing : Typing) (e : Editor) (c : ℕ) → Keeps e (after_character d typing e c)
-  character_kept d typing e c =
-      kept_if ((c == 0xA) && is_paste typing) e _ _ (new_line_kept d typing e) (typed_kept d typing e (encode_utf8 c) (kind_of (d.class c)))
+  character_kept d typing e c = typed_kept d typing e (encode_utf8 c) (kind_of (d.class c))
 
   put_kept : (d : Data) (e : Editor) → Keeps e (after_put d e)
   put_kept d e = kept_if (length e.held == 0) e _ _ refl (put_in_kept d e e.held false)
@@ -171,7 +172,7 @@ module _ (key : Key) where
   ends d fault was e = by_kept d fault was e (effect_of d e key) (effect_kind d e key).1
 
   letter_kept : (d : Data) (e : Editor) (c : ℕ) → Keeps e (after_letter d e c)
-  letter_kept d e c = kept_if (c == 0xA) e _ _ refl (kept_if (is_no_letter d c) e _ _ refl refl)
+  letter_kept d e c = kept_if (is_no_letter d c) e _ _ refl refl
 
   exchange_kept : (d : Data) (e : Editor) (start stop : ℕ) (new : List ℕ) → Keeps e (with_exchange d e start stop new)
   exchange_kept d e start stop [] = refl
@@ -209,9 +210,12 @@ module _ (key : Key) where
       let landing = landing_from d e.place aimed in
       kept_if (length (sought d aimed) == 0) e _ _ refl (asked_kept e (landed aimed landing) landing.place refl)
 
+  sought_end_kept : (d : Data) (typing : Typing) (e : Editor) → Keeps e (after_sought_end d typing e)
+  sought_end_kept d typing e =
+      kept_if (is_replacing e.aim) e _ _ (kept_if (is_paste typing) e _ _ refl (asking_other_kept d e)) (kept_if (is_paste typing) e _ _ refl refl)
+
   sought_letter_kept : (d : Data) (typing : Typing) (e : Editor) (c : ℕ) → Keeps e (after_sought_letter d typing e c)
-  sought_letter_kept d typing e c =
-      kept_if ((c == 0xA) && is_replacing e.aim) e _ _ (kept_if (is_paste typing) e _ _ refl (asking_other_kept d e)) (letter_kept d e c)
+  sought_letter_kept d typing e c = kept_if (c == 0xA) e _ _ (sought_end_kept d typing e) (letter_kept d e c)
 
   other_letter_kept : (d : Data) (typing : Typing) (e : Editor) (c : ℕ) → Keeps e (after_other_letter d typing e c)
   other_letter_kept d typing e c =
@@ -284,6 +288,33 @@ module _ (key : Key) where
   any_kept d fault was asks.Name seek e = asking_kept d fault was e
   any_kept d fault was asks.Code seek e = asking_kept d fault was e
 
+  -- ---- a paste
+
+  pasting_kept : (e : Editor) → IsKeptPasting (Keeps e)
+  pasting_kept e = record { pasted = λ x pasted message typing h. h; lengthened = λ x pasted soft h. h }
+
+  ended_with_kept : (d : Data) (e : Editor) (pasted : Option (List ℕ)) → Keeps e (ended_with d e pasted)
+  ended_with_kept d e None = refl
+  ended_with_kept d e (Some list) =
+      let left : Editor = without_paste e in kept_if (length list == 0) e _ _ refl (put_in_kept d left list false)
+
+  pub ended_kept : (d : Data) (e : Editor) → Keeps e (paste_ended d e)
+  ended_kept d e = ended_with_kept d e e.pasted
+
+  user_kept : (d : Data) (fault : Option StoreFault) (e : Editor) → Keeps e (after_user d fault e key)
+  user_kept d fault e = any_kept d fault (before e) e.ask e.seek (cleared e)
+
+  press_kept : (d : Data) (fault : Option StoreFault) (e : Editor) → Keeps e (after_press d fault e.pasted e key)
+  press_kept d fault e =
+      press-keeps d fault e (Keeps e) key (λ x h. user_kept d fault x ∙ h) (λ x h. ended_kept d x ∙ h)
+      (λ c. pasted-letter-keeps (Keeps e) (pasting_kept e) d e c refl) refl
+
+  start_kept : (e : Editor) → Keeps e (after_paste_start e)
+  start_kept e = start-keeps (Keeps e) (pasting_kept e) e refl
+
+  end_kept : (d : Data) (e : Editor) → Keeps e (after_paste_end d e)
+  end_kept d e = ended_kept d e
+
 -- ---- told keys too
 
 same_size : (key : Key) (e new : Editor) → part key new ≡ part key e → SameSize e new
@@ -293,7 +324,8 @@ key_size : (d : Data) (fault : Option StoreFault) (e : Editor) (P : Key → Type
     → SameSize e (after_key d fault e key)
 key_size d fault e P none =
     each-key d fault e (λ k new. P k → SameSize e new) (λ height width told. absurd (none height width told)) (λ notice told. (refl, refl))
-    (λ told. (refl, refl), λ told. (refl, refl)) (λ k other told. same_size k e (after_user d fault e k) (any_kept k d fault (before e) e.ask e.seek (cleared e)))
+    (λ told. same_size PasteStart e (after_paste_start e) (start_kept PasteStart e), λ told. same_size PasteEnd e (after_paste_end d e) (end_kept PasteEnd d e))
+    (λ k other told. same_size k e (after_press d fault e.pasted e k) (press_kept k d fault e))
 
 pub other_size : (d : Data) (fault : Option StoreFault) (e : Editor) (key : Key) → is_size_key key ≡ false → SameSize e (after_key d fault e key)
 other_size d fault e = key_size d fault e (λ key. is_size_key key ≡ false) (λ height width told. cc told)
@@ -317,7 +349,13 @@ unless_quit false now was other h = h
 pub key_goes_on : (d : Data) (fault : Option StoreFault) (e : Editor) (key : Key) → is_quit (Some key) ≡ false → (after_key d fault e key).ended ≡ e.ended
 key_goes_on d fault e =
     each-key d fault e (λ k new. is_quit (Some k) ≡ false → new.ended ≡ e.ended) (λ height width on. refl) (λ notice on. refl)
-    (λ on. refl, λ on. refl) (λ k other on. unless_quit (is_quit (Some k)) _ e.ended on (ap (λ (p : Part). p.ended) (any_kept k d fault (before e) e.ask e.seek (cleared e))))
+    (λ on. ap (λ (p : Part). p.ended) (start_kept PasteStart e), λ on. ap (λ (p : Part). p.ended) (end_kept PasteEnd d e))
+    (λ k other on. unless_quit (is_quit (Some k)) _ e.ended on (ap (λ (p : Part). p.ended) (press_kept k d fault e)))
+
+-- nor does the end of a paste
+pub ended_goes_on : (d : Data) (e : Editor) → ((paste_ended d e).ended ≡ e.ended) × SameSize e (paste_ended d e)
+ended_goes_on d e =
+    let kept = ended_kept PasteEnd d e in (ap (λ (p : Part). p.ended) kept, same_size PasteEnd e (paste_ended d e) kept)
 
 -- what a Quit does does not depend on a Save
 quit_alike : (d : Data) (fault : Option StoreFault) (was : Before) (ask : Ask) (seek : Seek) (e : Editor)
@@ -326,7 +364,12 @@ quit_alike d fault was asks.Off Off e = refl
 quit_alike d fault was asks.Off seek e = refl
 quit_alike d fault was ask seek e = refl
 
+quit_pressed : (d : Data) (fault : Option StoreFault) (e : Editor) (pasted : Option (List ℕ)) → after_press d fault pasted e Quit ≡ after_press d None pasted e Quit
+quit_pressed d fault e None = ap (as_left Quit) (quit_alike d fault (before e) e.ask e.seek (cleared e))
+quit_pressed d fault e (Some list) =
+    let x : Editor = paste_ended d e in ap (as_left Quit) (quit_alike d fault (before x) x.ask x.seek (cleared x))
+
 -- nor does whether any key ends the session
 pub same_ended : (d : Data) (fault : Option StoreFault) (e : Editor) (key : Key) → (after_key d fault e key).ended ≡ (after_key d None e key).ended
-same_ended d fault e Quit = ap (λ (x : Editor). x.ended) (quit_alike d fault (before e) e.ask e.seek (cleared e))
+same_ended d fault e Quit = ap (λ (x : Editor). x.ended) (quit_pressed d fault e e.pasted)
 same_ended d fault e key = key_goes_on d fault e key refl ∙ sym (key_goes_on d None e key refl)

@@ -1,3 +1,6 @@
+pub mod Tops
+pub mod Quiet
+pub mod Ending
 pub mod Bytes
 pub mod Computed
 pub mod Input

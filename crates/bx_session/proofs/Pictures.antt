@@ -1,13 +1,21 @@
--- Pictures have their editor's size, and the session after a painting.
-use Rattle.std.proofs.Common.{◌≡◌, ℕ, ◌≤◌, Bool, true, false, List, ◌++◌, length, drop, Some, refl, ap, ◌∙◌, if◌then◌else◌}
-use Rattle.std.proofs.lemmas.List.{drop-append-le}
-use Rattle.bx_grid.specs.Picture.{PictureState, AreWholeTokens, IsPicture}
+-- Pictures have their editor's size, and the session after a painting, with a clip or without.
+use Rattle.std.proofs.Common.{◌≡◌, ◌⊎◌, ℕ, ◌≤◌, Bool, true, false, ◌&&◌, List, [], ◌∷◌, ◌++◌, length, drop, Option, Some, None, Ok, refl, sym, ap, subst, inl, inr}
+use Rattle.std.proofs.Common.{◌∙◌, append_assoc, arith, if◌then◌else◌}
+use Rattle.std.specs.Prelude.{IfSome}
+use Rattle.std.proofs.lemmas.List.{append-nil, drop-append-le, length-append}
+use Rattle.base64.specs.Engines.{standard}
+use Rattle.bx_grid.specs.Clip.{clip_bytes, decode_of, encode_of}
+use Rattle.bx_grid.specs.Picture.{PictureState, AreWholeTokens, IsIdle, IsPicture, Shows}
+use Rattle.bx_grid.specs.Terminal.{Terminal, reads}
+use Rattle.bx_keys.specs.declared.key.Key.{Key}
 use Rattle.bx_ucd.specs.Data.{Data}
-use Rattle.bx_editor.specs.Editor.{Editor, rows}
+use Rattle.bx_editor.specs.Clipboard.{is_clip}
+use Rattle.bx_editor.specs.Editor.{Editor, rows, with_top}
 use Rattle.bx_editor.specs.Picture.{StandsOnItsCell, picture, next_top, blank_picture, text_picture}
 use Rattle.bx_session.specs.declared.session.Session.TheInside.{Inside}
-use Rattle.bx_session.specs.Session.{Session, known_if, painting, with_painting}
-use Rattle.bx_session.specs.Painting.{QueuesPicture, Updates}
+use Rattle.bx_session.specs.Session.{Session, clip_after, known_if, painted_after, painting, picture_of, then_clip}
+use Rattle.bx_session.specs.Painting.{AppendsPainting, IsClipOf, QueuesPicture, Updates}
+use Rattle.bx_session.proofs.Tops.{drawn_is, stands_on}
 
 either_height : (ended : Bool) (p q : PictureState) (h : ℕ) → p.height ≡ h → q.height ≡ h → (if ended then p else q).height ≡ h
 either_height true p q h e f = e
@@ -23,15 +31,10 @@ picture_height d e top = either_height e.ended (blank_picture e.height e.width) 
 pub picture_width : (d : Data) (e : Editor) (top : ℕ) → (picture d e top).width ≡ e.width
 picture_width d e top = either_width e.ended (blank_picture e.height e.width) (text_picture d e top (rows d e)) e.width refl refl
 
--- bytes appended to a queue whose first bytes were sent
-pub longer_queue : (n : ℕ) (queue more new : List ℕ) → n ≤ length queue → new ≡ queue ++ more → drop n new ≡ drop n queue ++ more
-longer_queue n queue more new fits is = ap (drop n) is ∙ drop-append-le n queue more fits
-
 -- the value of a session's fields
 abbrev pub value_of : {D : Type 0} → Inside D → Session
 value_of s = record {
   editor = s.editor.editor;
-  top = s.top;
   rest = s.decoder;
   painted = s.painted;
   known = known_if s.is_known s.painted;
@@ -39,25 +42,112 @@ value_of s = record {
   pending = drop s.taken s.queue.items;
 }
 
--- a session with this painting queued
-pub painting_is : (d : Data) (s : Session) (e : Editor) (top : ℕ) (p : PictureState) (pending : List ℕ) → e ≡ s.editor
-    → top ≡ next_top d s.editor s.top → p ≡ picture d s.editor top → pending ≡ s.pending ++ painting s.known p
-    → record s { editor = e; top = top; painted = Some p; known = Some p; painting_owed = false; pending = pending } ≡ with_painting d s
-painting_is d s e top p pending same follows is appends = rw (appends, is, follows, same) refl
+-- ---- a clip after a painting
 
-pub painting_queues : (d : Data) (s : Session) (e : Editor) (top : ℕ) (p : PictureState) (pending : List ℕ) → e ≡ s.editor
-    → p ≡ picture d s.editor top → pending ≡ s.pending ++ painting s.known p → AreWholeTokens (painting s.known p)
-    → Updates s.known (painting s.known p) p → IsPicture p → (s.editor.ended ≡ false → StandsOnItsCell d s.editor top p)
-    → QueuesPicture d s.pending s.known (record s { editor = e; top = top; painted = Some p; known = Some p; painting_owed = false; pending = pending })
-painting_queues d s e top p pending same is appends tokens updates sized stands = (
-  painting s.known p,
-  record {
-    appends = appends;
-    tokens = tokens;
-    updates = rw (same, ← is) updates;
-    painted = rw (same, ← is) refl;
-    known = rw (same, ← is) refl;
-    is_picture = rw (same, ← is) sized;
-    cursor = rw (same, ← is) stands;
-  },
-)
+-- what a clip after bytes leaves of them: what they show, and that they are whole tokens; and what it gives
+pub record IsUnseen (clip : Option (List ℕ)) : Type 0 where
+  pub shows : (t : Terminal) (bytes : List ℕ) (p : PictureState) → Shows (reads t bytes) p → Shows (reads t (then_clip bytes clip)) p
+  pub tokens : (bytes : List ℕ) → AreWholeTokens bytes → AreWholeTokens (then_clip bytes clip)
+  pub gives : IfSome clip (λ text. decode_of standard (encode_of standard text) ≡ Ok text)
+
+pub then_clip_after : (before bytes : List ℕ) (clip : Option (List ℕ)) → then_clip (before ++ bytes) clip ≡ before ++ then_clip bytes clip
+then_clip_after before bytes None = refl
+then_clip_after before bytes (Some text) = append_assoc before bytes (clip_bytes text)
+
+updates_before : (known : Option PictureState) (bytes : List ℕ) (clip : Option (List ℕ)) (p : PictureState) → IsUnseen clip → Updates known bytes p
+    → Updates known (then_clip bytes clip) p
+updates_before None bytes clip p unseen updates = λ t idle height width. unseen.shows t bytes p (updates t idle height width)
+updates_before (Some old) bytes clip p unseen updates = λ t shown. unseen.shows t bytes p (updates t shown)
+
+-- bytes appended to a queue whose first bytes were sent, and a clip
+then_clip_drop : (n : ℕ) (bytes : List ℕ) (clip : Option (List ℕ)) → n ≤ length bytes → drop n (then_clip bytes clip) ≡ then_clip (drop n bytes) clip
+then_clip_drop n bytes None fits = refl
+then_clip_drop n bytes (Some text) fits = drop-append-le n bytes (clip_bytes text) fits
+
+pub then_clip_longer : (n : ℕ) (bytes : List ℕ) (clip : Option (List ℕ)) → n ≤ length bytes → n ≤ length (then_clip bytes clip)
+then_clip_longer n bytes None fits = fits
+then_clip_longer n bytes (Some text) fits = omega (arith, fits, length-append bytes (clip_bytes text))
+
+pub longer_by_both : (n : ℕ) (queue more new : List ℕ) (clip : Option (List ℕ)) → n ≤ length queue → new ≡ then_clip (queue ++ more) clip
+    → drop n new ≡ then_clip (drop n queue ++ more) clip
+longer_by_both n queue more new clip fits is =
+    ap (drop n) is
+    ∙ then_clip_drop n (queue ++ more) clip (omega (arith, fits, length-append queue more))
+    ∙ ap (λ bytes. then_clip bytes clip) (drop-append-le n queue more fits)
+
+-- what goes out is the held text
+held_if : (out : Bool) (held text : List ℕ) → (if out then Some held else None) ≡ Some text → text ≡ held
+held_if true held text is = sym (cc is)
+held_if false held text is = absurd (cc is)
+
+clip_is_held : (e : Editor) (key : Option Key) (text : List ℕ) → clip_after e key ≡ Some text → text ≡ e.held
+clip_is_held e None text is = absurd (cc is)
+clip_is_held e (Some key) text is = held_if (e.clipboard && is_clip key e.message) e.held text is
+
+held_clip : (clip : Option (List ℕ)) {P : List ℕ → Type 0} {held : List ℕ} → ((text : List ℕ) → clip ≡ Some text → text ≡ held) → IfSome clip P
+    → IfSome clip (λ text. (text ≡ held) × P text)
+held_clip None own gives = tt
+held_clip (Some text) own gives = (own text refl, gives)
+
+-- ---- a session with this painting queued
+
+module _ (d : Data) (s : Session) (e : Editor) (top : ℕ) (p : PictureState) (clip : Option (List ℕ)) (pending : List ℕ) (same : e ≡ with_top s.editor top)
+    (is : p ≡ picture d s.editor top) (appends : pending ≡ then_clip (s.pending ++ painting s.known p) clip) where
+  abbrev new : Session
+  new = record s { editor = e; painted = Some p; known = Some p; painting_owed = false; pending = pending }
+
+  drawn : p ≡ picture_of d e
+  drawn = drawn_is d s.editor e top p same is
+
+  pub painting_is : (key : Option Key) → top ≡ next_top d s.editor s.editor.top → clip ≡ clip_after s.editor key → new ≡ painted_after d s key
+  painting_is key follows clips =
+      let f : Editor → PictureState → List ℕ → Session =
+      λ x q xs. record s { editor = x; painted = Some q; known = Some q; painting_owed = false; pending = xs } in
+      let all : Editor → PictureState → Session = λ x q. f x q (then_clip (s.pending ++ painting s.known q) (clip_after s.editor key)) in
+      ap (f e p) (appends ∙ ap (then_clip (s.pending ++ painting s.known p)) clips)
+      ∙ ap (all e) drawn
+      ∙ ap (λ (x : Editor). all x (picture_of d x)) (same ∙ ap (with_top s.editor) follows)
+
+  stands_at : (s.editor.ended ≡ false → StandsOnItsCell d s.editor top p) → e.ended ≡ false → StandsOnItsCell d e e.top (picture_of d e)
+  stands_at stands =
+      subst (λ (x : Editor). x.ended ≡ false → StandsOnItsCell d x x.top (picture_of d e)) (sym same)
+      (λ on. subst (λ (q : PictureState). StandsOnItsCell d (with_top s.editor top) top q) drawn (stands_on d s.editor top p (stands on)))
+
+  pub painting_queues : AreWholeTokens (painting s.known p) → Updates s.known (painting s.known p) p → IsPicture p
+      → (s.editor.ended ≡ false → StandsOnItsCell d s.editor top p) → IsUnseen clip → QueuesPicture d s.pending s.known new
+  painting_queues tokens updates sized stands unseen = (
+    then_clip (painting s.known p) clip,
+    record {
+      appends = appends ∙ then_clip_after s.pending (painting s.known p) clip;
+      tokens = unseen.tokens (painting s.known p) tokens;
+      updates = subst (Updates s.known (then_clip (painting s.known p) clip)) drawn (updates_before s.known (painting s.known p) clip p unseen updates);
+      painted = ap (λ (q : PictureState). Some q) drawn;
+      known = ap (λ (q : PictureState). Some q) drawn;
+      is_picture = subst IsPicture drawn sized;
+      cursor = stands_at stands;
+    },
+  )
+
+  bytes_drawn : s.pending ++ painting s.known p ≡ s.pending ++ painting s.known (picture_of d e)
+  bytes_drawn = ap (λ (q : PictureState). s.pending ++ painting s.known q) drawn
+
+  appends_by : (clip : Option (List ℕ)) → pending ≡ then_clip (s.pending ++ painting s.known p) clip
+      → IfSome clip (λ text. (text ≡ s.editor.held) × (decode_of standard (encode_of standard text) ≡ Ok text)) → AppendsPainting d s.pending s.known new
+  unfolding clip_bytes
+  appends_by None appended gives = record {
+    clip = [];
+    appends = appended ∙ sym (append-nil (s.pending ++ painting s.known p)) ∙ ap (λ xs. xs ++ []) bytes_drawn;
+    at_most_one = inl refl;
+  }
+  appends_by (Some text) appended gives =
+      let own : text ≡ e.held = gives.0 ∙ ap (λ (x : Editor). x.held) (sym same) in
+      let one : IsClipOf text (clip_bytes text) = record { base64 = encode_of standard text; is_clip = refl; gives = gives.1 } in
+      record {
+        clip = clip_bytes text;
+        appends = appended ∙ ap (λ xs. xs ++ clip_bytes text) bytes_drawn;
+        at_most_one = inr (subst (λ held. IsClipOf held (clip_bytes text)) own one);
+      }
+
+  pub painting_appends : (key : Option Key) → clip ≡ clip_after s.editor key → IsUnseen clip → AppendsPainting d s.pending s.known new
+  painting_appends key clips unseen =
+      appends_by clip appends (held_clip clip (λ text one. clip_is_held s.editor key text (sym clips ∙ one)) unseen.gives)

@@ -10,28 +10,31 @@ use Rattle.bx_asking.specs.declared.question.Ask.{Ask}
 use Rattle.bx_asking.specs.declared.question.Ask.TheVariants as asks
 use Rattle.bx_editor.specs.Editor.{Editor, cleared}
 use Rattle.bx_editor.specs.declared.seek.Seek.{Seek}
-use Rattle.bx_editor.specs.declared.seek.Seek.TheVariants.{Off}
+use Rattle.bx_editor.specs.declared.seek.Seek.TheVariants.{Off, Begun, Typed, WithBegun, WithTyped, Replacing}
 use Rattle.bx_editor.specs.Effects.{before}
 use Rattle.bx_editor.specs.Keys.{after_any, after_key}
+use Rattle.bx_editor.specs.Pasting.{paste_ended}
 use Rattle.bx_editor.specs.Replay.{after_passed_save}
 use Rattle.bx_session.specs.Laws.{keys_from, after_replaying, ReplaysKeys}
-use Rattle.bx_session.specs.Session.{Session, after_all_replayed, after_replay, after_replayed, after_replayed_key, session_after_key, session_after_replayed}
-use Rattle.bx_session.specs.Session.{with_painting_owed}
+use Rattle.bx_session.specs.Session.{Session, after_all_replayed, after_replay, after_replayed, after_replayed_key, replayed_on, scrolled, session_after_key}
+use Rattle.bx_session.specs.Session.{session_after_replayed, session_scrolled, with_painting_owed}
 use Rattle.bx_session.proofs.KeyKinds.{is_other, not_quitting}
-use Rattle.bx_session.proofs.KeySizes.{key_goes_on}
+use Rattle.bx_session.proofs.KeySizes.{ended_goes_on, key_goes_on}
+use Rattle.bx_session.proofs.Ending.{quit_user}
 
 -- ---- the keys of a replay
 
-pub each-replayed : (d : Data) (ask : Ask) (seek : Seek) (e : Editor) (P : Key → Editor → Type 0) → P Save (after_passed_save e) → P Quit (after_replayed d ask seek e Quit)
-    → ((key : Key) → is_other key ≡ true → P key (after_key d None e key)) → (key : Key) → P key (after_replayed d ask seek e key)
+pub each-replayed : (d : Data) (ask : Ask) (seek : Seek) (e : Editor) (P : Key → Editor → Type 0) → P Save (after_passed_save (paste_ended d e))
+    → P Quit (after_replayed d ask seek e Quit) → ((key : Key) → is_other key ≡ true → P key (after_key d None e key)) → (key : Key)
+    → P key (after_replayed d ask seek e key)
 each-replayed d ask seek e P save quit other Save = save
 each-replayed d ask seek e P save quit other Quit = quit
 each-replayed d ask seek e P save quit other key = other key refl
 
 -- and the session that each leaves
-pub each-session : (d : Data) (ask : Ask) (seek : Seek) (s : Session) (P : Key → Session → Type 0) → P Save (record s { editor = after_passed_save s.editor })
-    → P Quit (session_after_replayed d ask seek s Quit) → ((key : Key) → is_other key ≡ true → P key (session_after_key d None s key)) → (key : Key)
-    → P key (session_after_replayed d ask seek s key)
+pub each-session : (d : Data) (ask : Ask) (seek : Seek) (s : Session) (P : Key → Session → Type 0)
+    → P Save (record s { editor = after_passed_save (paste_ended d s.editor) }) → P Quit (session_after_replayed d ask seek s Quit)
+    → ((key : Key) → is_other key ≡ true → P key (session_after_key d None s key)) → (key : Key) → P key (session_after_replayed d ask seek s key)
 each-session d ask seek s P save quit other Save = save
 each-session d ask seek s P save quit other Quit = quit
 each-session d ask seek s P save quit other key = other key refl
@@ -62,14 +65,32 @@ rest_stays d ask seek s = each-session d ask seek s (λ key new. new.rest ≡ s.
 
 -- ---- a replay ends no session
 
-quit_goes_on : (d : Data) (ask : Ask) (seek : Seek) (e : Editor) → e.ask ≡ ask → e.seek ≡ seek → (after_replayed d ask seek e Quit).ended ≡ e.ended
-quit_goes_on d asks.Off Off e asked is = refl
-quit_goes_on d asks.Off seek e asked is = ap₂ (λ (a : Ask) (s : Seek). (after_any d None (before e) a s (cleared e) Quit).ended) asked is
-quit_goes_on d ask seek e asked is = ap (λ (a : Ask). (after_any d None (before e) a e.seek (cleared e) Quit).ended) asked
+-- a Quit that gives up a search or a question, where a paste ends first
+given_up : (d : Data) (ask : Ask) (seek : Seek) (e : Editor) → (paste_ended d e).ask ≡ ask → (paste_ended d e).seek ≡ seek
+    → ((x : Editor) → (after_any d None (before x) ask seek (cleared x) Quit).ended ≡ x.ended) → (after_key d None e Quit).ended ≡ e.ended
+given_up d ask seek e asked is left =
+    let x : Editor = paste_ended d e in
+    ap (λ (y : Editor). y.ended) (quit_user d None e)
+    ∙ ap₂ (λ (a : Ask) (s : Seek). (after_any d None (before x) a s (cleared x) Quit).ended) asked is
+    ∙ left x
+    ∙ (ended_goes_on d e).0
 
-goes_on : (d : Data) (e : Editor) (key : Key) → e.ended ≡ false → (after_replayed d e.ask e.seek e key).ended ≡ false
+quit_goes_on : (d : Data) (ask : Ask) (seek : Seek) (e : Editor) → (paste_ended d e).ask ≡ ask → (paste_ended d e).seek ≡ seek
+    → (after_replayed d ask seek e Quit).ended ≡ e.ended
+quit_goes_on d asks.Off Off e asked is = (ended_goes_on d e).0
+quit_goes_on d asks.Off Begun e asked is = given_up d asks.Off Begun e asked is (λ x. refl)
+quit_goes_on d asks.Off Typed e asked is = given_up d asks.Off Typed e asked is (λ x. refl)
+quit_goes_on d asks.Off WithBegun e asked is = given_up d asks.Off WithBegun e asked is (λ x. refl)
+quit_goes_on d asks.Off WithTyped e asked is = given_up d asks.Off WithTyped e asked is (λ x. refl)
+quit_goes_on d asks.Off Replacing e asked is = given_up d asks.Off Replacing e asked is (λ x. refl)
+quit_goes_on d asks.Line seek e asked is = given_up d asks.Line seek e asked is (λ x. refl)
+quit_goes_on d asks.Name seek e asked is = given_up d asks.Name seek e asked is (λ x. refl)
+quit_goes_on d asks.Code seek e asked is = given_up d asks.Code seek e asked is (λ x. refl)
+
+goes_on : (d : Data) (e : Editor) (key : Key) → e.ended ≡ false → (replayed_on d e key).ended ≡ false
 goes_on d e key h =
-    each-replayed d e.ask e.seek e (λ k new. new.ended ≡ e.ended) refl (quit_goes_on d e.ask e.seek e refl refl)
+    let over : Editor = paste_ended d e in
+    each-replayed d over.ask over.seek e (λ k new. new.ended ≡ e.ended) (ended_goes_on d e).0 (quit_goes_on d over.ask over.seek e refl refl)
     (λ k other. key_goes_on d None e k (not_quitting k other)) key
     ∙ h
 
@@ -84,11 +105,13 @@ pub record Applies (d : Data) (old : Session) (rest : List ℕ) (keys : List Key
 applies_any : (d : Data) (s : Session) (key : Option Key) → s.editor.ended ≡ false
     → Applies d s s.rest (option_to_list key) (after_replayed_key d s key)
 applies_any d s None h = record { editor = refl; rest_is = refl; goes_on = h }
-applies_any d s (Some key) h = record {
-  editor = editor_is d s.editor.ask s.editor.seek s key;
-  rest_is = rest_stays d s.editor.ask s.editor.seek s key;
-  goes_on = ap (λ (e : Editor). e.ended) (editor_is d s.editor.ask s.editor.seek s key) ∙ goes_on d s.editor key h;
-}
+applies_any d s (Some key) h =
+    let from : Session = session_scrolled d s in
+    let over : Editor = paste_ended d from.editor in record {
+      editor = editor_is d over.ask over.seek from key;
+      rest_is = rest_stays d over.ask over.seek from key;
+      goes_on = ap (λ (e : Editor). e.ended) (editor_is d over.ask over.seek from key) ∙ goes_on d from.editor key h;
+    }
 
 applies_at : (ended : Bool) (d : Data) (s : Session) (b : ℕ) → s.editor.ended ≡ ended → ended ≡ false
     → Applies d s (head_of (rest_after s.rest b)) (option_to_list (key_after s.rest b))
@@ -107,7 +130,7 @@ applies d s b h = applies_at s.editor.ended d s b refl h
 pub keys_in_parts : (d : Data) (e : Editor) (first others : List Key)
     → after_all_replayed d e (first ++ others) ≡ after_all_replayed d (after_all_replayed d e first) others
 keys_in_parts d e [] others = refl
-keys_in_parts d e (key ∷ first) others = keys_in_parts d (after_replayed d e.ask e.seek e key) first others
+keys_in_parts d e (key ∷ first) others = keys_in_parts d (replayed_on d (scrolled d e) key) first others
 
 pub replays_keys : ReplaysKeys
 replays_keys d s [] h = refl

@@ -10,15 +10,15 @@ use Rattle.bx_keys.specs.Waiting.{head_of}
 use Rattle.bx_grid.specs.Picture.{PictureState}
 use Rattle.bx_store.specs.declared.store.StoreFault.{StoreFault}
 use Rattle.bx_ucd.specs.Data.{Data}
-use Rattle.bx_editor.specs.Picture.{picture, next_top}
 use Rattle.bx_session.specs.declared.status.Status.{Status}
 use Rattle.bx_session.specs.declared.error.Refused.{Refused}
 use Rattle.bx_session.specs.declared.error.Refused.TheVariants.{Edit, Paint, Size}
-use Rattle.bx_session.specs.Session.{Session, painting, with_painting, with_painting_owed, key_of_byte, after_spending, session_after_any}
-use Rattle.bx_session.specs.Session.{unpainted_after_byte, is_idle}
+use Rattle.bx_session.specs.Session.{Session, clip_after, painted_after, painting, picture_of, scrolled, then_clip, with_painting_owed, key_of_byte, after_spending}
+use Rattle.bx_session.specs.Session.{session_after_any, unpainted_after_byte, is_painted}
 use Rattle.bx_session.specs.Painting.{FeedPaints, QueuesPicture}
 use Rattle.bx_session.specs.Saving.{StoreState, AfterByte, Feeds}
 use Rattle.bx_session.specs.Running.{ByteAnswer, bytes_of, FeedsAll, FedUntilEnd, HasRead, Sent, HasRun}
+use Rattle.bx_session.proofs.Pictures.{then_clip_after}
 use Rattle.bx_session.specs.Running.{Turn, IsRead, TakesTurn, TakesTurns, read_in, read_size, fed_in, dropped_in, written_in}
 
 -- ---- bytes pending before do not matter
@@ -27,11 +27,13 @@ use Rattle.bx_session.specs.Running.{Turn, IsRead, TakesTurn, TakesTurns, read_i
 abbrev pub prefixed : List ℕ → Session → Session
 prefixed p s = record s { pending = p ++ s.pending }
 
-with_painting-prefixed : (d : Data) (p : List ℕ) (s : Session) → with_painting d (prefixed p s) ≡ prefixed p (with_painting d s)
-with_painting-prefixed d p s =
-    let top = next_top d s.editor s.top in
-    ap (λ (q : List ℕ). record s { top = top; painted = Some (picture d s.editor top); known = Some (picture d s.editor top); painting_owed = false; pending = q })
-    (append_assoc p s.pending (painting s.known (picture d s.editor top)))
+painted_after-prefixed : (d : Data) (p : List ℕ) (s : Session) (key : Option Key) → painted_after d (prefixed p s) key ≡ prefixed p (painted_after d s key)
+painted_after-prefixed d p s key =
+    let e = scrolled d s.editor in
+    let new = picture_of d e in
+    let clip = clip_after s.editor key in
+    ap (λ (q : List ℕ). record s { editor = e; painted = Some new; known = Some new; painting_owed = false; pending = q })
+    (ap (λ xs. then_clip xs clip) (append_assoc p s.pending (painting s.known new)) ∙ then_clip_after p (s.pending ++ painting s.known new) clip)
 
 spending_at : (ended : Bool) (p : List ℕ) (s : Session) (rest : List ℕ)
     → (if ended then prefixed p s else record (prefixed p s) { rest = rest }) ≡ prefixed p (if ended then s else record s { rest = rest })
@@ -52,16 +54,16 @@ unpainted-prefixed d fault p s b =
     ap (λ (x : Session). session_after_any d fault x (key_of_byte s b)) (after_spending-prefixed p s b)
     ∙ session_after_any-prefixed d fault p (after_spending s b) (key_of_byte s b)
 
-either_prefixed : (idle : Bool) (d : Data) (fault : Option StoreFault) (p : List ℕ) (s : Session) (b : ℕ)
-    → (if idle then after_spending (prefixed p s) b else with_painting d (unpainted_after_byte d fault (prefixed p s) b))
-    ≡ prefixed p (if idle then after_spending s b else with_painting d (unpainted_after_byte d fault s b))
-either_prefixed true d fault p s b = after_spending-prefixed p s b
-either_prefixed false d fault p s b =
-    ap (with_painting d) (unpainted-prefixed d fault p s b) ∙ with_painting-prefixed d p (unpainted_after_byte d fault s b)
+either_prefixed : (paints : Bool) (d : Data) (fault : Option StoreFault) (p : List ℕ) (s : Session) (b : ℕ) (key : Option Key)
+    → (if paints then painted_after d (unpainted_after_byte d fault (prefixed p s) b) key else unpainted_after_byte d fault (prefixed p s) b)
+    ≡ prefixed p (if paints then painted_after d (unpainted_after_byte d fault s b) key else unpainted_after_byte d fault s b)
+either_prefixed true d fault p s b key =
+    ap (λ (x : Session). painted_after d x key) (unpainted-prefixed d fault p s b) ∙ painted_after-prefixed d p (unpainted_after_byte d fault s b) key
+either_prefixed false d fault p s b key = unpainted-prefixed d fault p s b
 
 AfterByte-prefixed : (d : Data) (fault : Option StoreFault) (p : List ℕ) (s : Session) (b : ℕ) (a : Result Status Refused) (s' : Session) → AfterByte d fault s b a s'
     → AfterByte d fault (prefixed p s) b a (prefixed p s')
-AfterByte-prefixed d fault p s b (Ok status) s' h = (ap (prefixed p) h.0 ∙ sym (either_prefixed (is_idle s b) d fault p s b), h.1)
+AfterByte-prefixed d fault p s b (Ok status) s' h = (ap (prefixed p) h.0 ∙ sym (either_prefixed (is_painted s b) d fault p s b (key_of_byte s b)), h.1)
 AfterByte-prefixed d fault p s b (Err Edit) s' h = (ap (prefixed p) h.0 ∙ sym (after_spending-prefixed p s b), h.1)
 AfterByte-prefixed d fault p s b (Err Paint) s' h = (ap (prefixed p) h.0 ∙ ap with_painting_owed (sym (unpainted-prefixed d fault p s b)), h.1)
 AfterByte-prefixed d fault p s b (Err Size) s' h = h
@@ -122,12 +124,12 @@ pub record Fed (d : Data) (old : Session) (store : StoreState) (bytes : List ℕ
 pub fed_more : {D : Type 0} (says : D → Data) (tables tables1 : D) (old now new : Session) (store store1 store2 : StoreState) (bytes : List ℕ)
     (i b : ℕ) (a : Result Status Refused) (answered : List ByteAnswer) → Fed (says tables) old store bytes i now store1 answered → tables1 ≡ tables
     → now.editor.ended ≡ false → Feeds (says tables1) now store1 b a new store2
-    → (is_idle now b ≡ false → OnOk a (FeedPaints (says tables1) now b new)) → take (i + 1) bytes ≡ take i bytes ++ b ∷ []
+    → (is_painted now b ≡ true → OnOk a (FeedPaints (says tables1) now b new)) → take (i + 1) bytes ≡ take i bytes ++ b ∷ []
     → Fed (says tables) old store bytes (i + 1) new store2 (answered ++ (b, a) ∷ [])
 fed_more {D} says tables tables1 old now new store store1 store2 bytes i b a answered before same running feeds paints more =
     let feeds' : Feeds (says tables) now store1 b a new store2 = subst (λ (t : D). Feeds (says t) now store1 b a new store2) same feeds in
-    let paints' : is_idle now b ≡ false → OnOk a (FeedPaints (says tables) now b new) =
-    subst (λ (t : D). is_idle now b ≡ false → OnOk a (FeedPaints (says t) now b new)) same paints in
+    let paints' : is_painted now b ≡ true → OnOk a (FeedPaints (says tables) now b new) =
+    subst (λ (t : D). is_painted now b ≡ true → OnOk a (FeedPaints (says t) now b new)) same paints in
     record {
       so_far = map-append (λ (x : ByteAnswer). x.0) answered ((b, a) ∷ []) ∙ ap (λ xs. xs ++ b ∷ []) before.so_far ∙ sym more;
       feeds = FeedsAll-append (says tables) old store answered ((b, a) ∷ []) now store1 new store2 before.feeds

@@ -3,7 +3,7 @@
 use Rattle.std.specs.Prelude.{ℕ, Bool, true, false, List, [], Option, Some, None}
 use Rattle.bx_terms.specs.declared.base.Base.{Base}
 use Rattle.bx_ucd.specs.Data.{Data}
-use Rattle.bx_session.specs.Session.{Session, at_opening, after_going, as_changed, after_journal, with_painting}
+use Rattle.bx_session.specs.Session.{Session, at_opening, after_going, as_changed, after_journal, with_clipboard, with_painting}
 use Rattle.bx_session.specs.Painting.{QueuesPicture}
 
 -- what a session starts with
@@ -14,12 +14,19 @@ pub record Beginning : Type 0 where
   pub height : ℕ
   pub width : ℕ
   pub base : Base
+  -- text that is copied or cut goes out to a clipboard
+  pub clipboard : Bool
   -- the offset, in bytes, that the cursor goes to before the journal's keys; None for the text's start
   pub offset : Option ℕ
   -- the opened text counts as unsaved, as a recovered one does
   pub unsaved : Bool
   -- the journal's bytes; empty if there is none
   pub journal : List ℕ
+
+-- with a clipboard, if there is one
+abbrev pub clipboard_if : Bool → Session → Session
+clipboard_if true s = with_clipboard s
+clipboard_if false s = s
 
 -- after the cursor goes to the offset, if one is given
 abbrev pub after_going_to : Data → Session → Option ℕ → Session
@@ -33,7 +40,8 @@ changed_if false s = s
 
 -- opened, before the journal's keys
 abbrev pub at_offset : Data → Beginning → Session
-at_offset d b = changed_if b.unsaved (after_going_to d (at_opening d b.text b.height b.width b.base) b.offset)
+at_offset d b =
+    changed_if b.unsaved (after_going_to d (clipboard_if b.clipboard (at_opening d b.text b.height b.width b.base)) b.offset)
 
 -- after the replay of the journal, not painted yet
 abbrev pub unpainted_at : Data → Beginning → Session

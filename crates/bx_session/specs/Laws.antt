@@ -6,7 +6,7 @@ pub use Rattle.bx_keys.specs.Keys.{keys_from}
 use Rattle.bx_store.specs.declared.store.StoreFault.{StoreFault}
 use Rattle.bx_ucd.specs.Data.{Data}
 use Rattle.bx_session.specs.Session.{Session, at_opening, after_spending, after_byte, owing_after_byte, after_told, owing_after_told, after_sending}
-use Rattle.bx_session.specs.Session.{after_all_replayed, after_going, after_replay, at_replay_end}
+use Rattle.bx_session.specs.Session.{after_all_replayed, after_going, after_replay, at_replay_end, with_clipboard}
 pub use Rattle.bx_session.specs.Session.{after_journal, after_replaying}
 pub use Rattle.bx_session.specs.Painting.{ShowsState}
 
@@ -19,7 +19,8 @@ pub record AlwaysShowsState : Type 0 where
   pub told : (d : Data) (s : Session) (height width : ℕ) → ShowsState d (after_told d s height width)
   pub owing_told : (d : Data) (s : Session) (height width : ℕ) → ShowsState d (owing_after_told s height width)
   pub replay : (d : Data) (s : Session) (b : ℕ) → ShowsState d (after_replay d s b)
-  pub replay_end : (d : Data) (s : Session) → ShowsState d (at_replay_end s)
+  pub replay_end : (d : Data) (s : Session) → ShowsState d (at_replay_end d s)
+  pub clipboard : (d : Data) (s : Session) → ShowsState d s → ShowsState d (with_clipboard s)
   pub going : (d : Data) (s : Session) (offset : ℕ) → ShowsState d (after_going d s offset)
   pub sending : (d : Data) (s : Session) (count : ℕ) → ShowsState d s → ShowsState d (after_sending s count)
 

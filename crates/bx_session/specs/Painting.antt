@@ -1,17 +1,20 @@
 -- The effect of queued bytes on a terminal. `d` is Unicode's data, `s` a session, `e` an editor, `t` a terminal, `b` a byte of
 -- input.
-use Rattle.std.specs.Prelude.{◌≡◌, ℕ, false, List, ◌++◌, Option, Some, None, IfSome}
+use Rattle.std.specs.Prelude.{◌≡◌, ◌⊎◌, ℕ, false, List, [], ◌∷◌, ◌++◌, Option, Some, None, IfSome, Ok, codes, option_map}
+use Rattle.std.specs.Borrow.{Bor}
+use Rattle.base64.specs.Engines.{standard}
+use Rattle.bx_grid.specs.Clip.{decode_of}
 use Rattle.bx_grid.specs.Picture.{PictureState, AreWholeTokens, IsIdle, IsPicture, Shows}
 use Rattle.bx_grid.specs.Terminal.{Terminal, reads}
 use Rattle.bx_ucd.specs.Data.{Data}
 use Rattle.bx_editor.specs.Editor.{Editor}
-use Rattle.bx_editor.specs.Picture.{StandsOnItsCell, picture}
-use Rattle.bx_session.specs.Session.{Session, unpainted_after_byte}
+use Rattle.bx_editor.specs.Picture.{StandsOnItsCell}
+use Rattle.bx_session.specs.Session.{Session, painting, picture_of, unpainted_after_byte}
 
 -- if no painting is owed, the picture last painted is the picture of the session's state, and the screen is taken to show it
 abbrev pub ShowsState : Data → Session → Type 0
 ShowsState d s =
-    s.painting_owed ≡ false → (s.painted ≡ Some (picture d s.editor s.top)) × (s.known ≡ Some (picture d s.editor s.top))
+    s.painting_owed ≡ false → (s.painted ≡ Some (picture_of d s.editor)) × (s.known ≡ Some (picture_of d s.editor))
 
 -- the bytes make a terminal that shows the old picture show the new one; without an old one, any terminal of the new
 -- picture's size with nothing half read
@@ -23,22 +26,42 @@ Updates None bytes new = (t : Terminal) → IsIdle t → t.height ≡ new.height
 pub record Paints (d : Data) (before : List ℕ) (old : Option PictureState) (new : Session) (bytes : List ℕ) : Type 0 where
   pub appends : new.pending ≡ before ++ bytes
   pub tokens : AreWholeTokens bytes
-  pub updates : Updates old bytes (picture d new.editor new.top)
-  pub painted : new.painted ≡ Some (picture d new.editor new.top)
-  pub known : new.known ≡ Some (picture d new.editor new.top)
-  pub is_picture : IsPicture (picture d new.editor new.top)
+  pub updates : Updates old bytes (picture_of d new.editor)
+  pub painted : new.painted ≡ Some (picture_of d new.editor)
+  pub known : new.known ≡ Some (picture_of d new.editor)
+  pub is_picture : IsPicture (picture_of d new.editor)
   -- until the session's end the cursor is on the cell of its place
-  pub cursor : new.editor.ended ≡ false → StandsOnItsCell d new.editor new.top (picture d new.editor new.top)
+  pub cursor : new.editor.ended ≡ false → StandsOnItsCell d new.editor new.editor.top (picture_of d new.editor)
 
 -- bytes that paint the session's picture were appended, where `known` is the picture that the screen was taken to show, None for
 -- unknown content
 abbrev pub QueuesPicture : Data → List ℕ → Option PictureState → Session → Type 0
 QueuesPicture d before known new = (bytes : List ℕ) × Paints d before known new bytes
 
--- A byte that was not refused and is not idle queues its painting. A Save's result changes nothing about the screen's content, so
--- None stands in its place here.
+-- A byte that was not refused, and after which the picture is painted, queues its painting, with a clip or without. A Save's result
+-- changes nothing about the screen's content, so None stands in its place here.
 abbrev pub FeedPaints : Data → Session → ℕ → Session → Type 0
 FeedPaints d old b new = QueuesPicture d old.pending (unpainted_after_byte d None old b).known new
+
+-- the text that is lent, if one is
+abbrev pub text_in : Option (Bor (List ℕ)) → Option (List ℕ)
+text_in text = option_map (λ t. t.now) text
+
+-- the clip of a text: its base64 gives the text
+pub record IsClipOf (text bytes : List ℕ) : Type 0 where
+  pub base64 : List ℕ
+  pub is_clip : bytes ≡ 0x1B ∷ 0x5D ∷ ((codes "52;c;" ++ base64) ++ 0x07 ∷ [])
+  pub gives : decode_of standard base64 ≡ Ok text
+
+-- the bytes appended are the painting alone, or the painting and then one clip, of the held text
+pub record AppendsPainting (d : Data) (before : List ℕ) (old : Option PictureState) (new : Session) : Type 0 where
+  pub clip : List ℕ
+  pub appends : new.pending ≡ (before ++ painting old (picture_of d new.editor)) ++ clip
+  pub at_most_one : (clip ≡ []) ⊎ IsClipOf new.editor.held clip
+
+-- what a byte appends that was not refused, and after which the picture is painted
+abbrev pub FeedAppends : Data → Session → ℕ → Session → Type 0
+FeedAppends d old b new = AppendsPainting d old.pending (unpainted_after_byte d None old b).known new
 
 -- a told size that was not refused queues a whole painting, since the screen's content is unknown
 abbrev pub ToldPaints : Data → Session → Session → Type 0

@@ -10,7 +10,8 @@ use Rattle.bx_session.specs.declared.end.End.{End}
 use Rattle.bx_session.specs.declared.end.End.TheVariants.{Quit, InputEnded}
 use Rattle.bx_session.specs.declared.end.RunFault.{RunFault}
 use Rattle.bx_session.specs.declared.end.RunFault.TheVariants.{ReadFault, WriteFault, ReadLimit}
-use Rattle.bx_session.specs.Session.{Session, is_idle}
+use Rattle.bx_editor.specs.Pasting.{has_changes}
+use Rattle.bx_session.specs.Session.{Session, is_painted}
 use Rattle.bx_session.specs.Saving.{StoreState, Feeds}
 use Rattle.bx_session.specs.Painting.{FeedPaints}
 
@@ -27,7 +28,7 @@ abbrev pub FeedsAll : Data → Session → StoreState → List ByteAnswer → Se
 FeedsAll d old store [] new store' = (new ≡ old) × (store' ≡ store)
 FeedsAll d old store (a ∷ answered) new store' =
     (mid : Session) × (mid_store : StoreState) × (old.editor.ended ≡ false) × Feeds d old store a.0 a.1 mid mid_store
-    × (is_idle old a.0 ≡ false → OnOk a.1 (FeedPaints d old a.0 mid)) × FeedsAll d mid mid_store answered new store'
+    × (is_painted old a.0 ≡ true → OnOk a.1 (FeedPaints d old a.0 mid)) × FeedsAll d mid mid_store answered new store'
 
 -- bytes are fed up to the session's end, and the rest is dropped
 pub record FedUntilEnd (d : Data) (old : Session) (store : StoreState) (bytes : List ℕ) (new : Session) (store' : StoreState)
@@ -134,7 +135,7 @@ Runs d old new store store' reader reader' writer writer' =
 -- the session, and the bytes that the reader has left, after a run, by its result
 abbrev pub EndsWith : Result End RunFault → Session → Option (List ℕ) → Type 0
 EndsWith (Ok Quit) s left = (s.editor.ended ≡ true) × (s.pending ≡ [])
-EndsWith (Ok (InputEnded changed)) s left = (s.editor.ended ≡ false) × (s.pending ≡ []) × (changed ≡ s.editor.changed) × IsAtEnd left
+EndsWith (Ok (InputEnded changed)) s left = (s.editor.ended ≡ false) × (s.pending ≡ []) × (changed ≡ has_changes s.editor) × IsAtEnd left
 EndsWith (Err ReadFault) s left = (s.editor.ended ≡ false) × (s.pending ≡ [])
 EndsWith (Err ReadLimit) s left = (s.editor.ended ≡ false) × (s.pending ≡ [])
 EndsWith (Err WriteFault) s left = Unit {0}

@@ -5,6 +5,7 @@ use Rattle.bx_terms.specs.declared.base.Base.{Base}
 use Rattle.bx_keys.specs.declared.key.Key.{Key}
 use Rattle.bx_keys.specs.declared.key.Key.TheVariants.{Quit, Save}
 use Rattle.bx_keys.specs.Keys.{head_of, key_after, rest_after}
+use Rattle.bx_grid.specs.Clip.{clip_bytes}
 use Rattle.bx_grid.specs.Picture.{PictureState}
 use Rattle.bx_paint.specs.Painting.{whole_bytes, changes_bytes}
 use Rattle.bx_store.specs.declared.store.StoreFault.{StoreFault}
@@ -12,10 +13,13 @@ use Rattle.bx_ucd.specs.Data.{Data}
 use Rattle.bx_asking.specs.declared.question.Ask.{Ask}
 use Rattle.bx_asking.specs.declared.question.Ask.TheVariants as asks
 use Rattle.bx_view.specs.Moves.{place_from}
-use Rattle.bx_editor.specs.Editor.{Editor, at_start, cleared, rows, with_place, with_size}
+use Rattle.bx_editor.specs.Clipboard.{clip_of}
+use Rattle.bx_editor.specs.Editor.{Editor, at_start, cleared, rows, with_place, with_size, with_top}
+use Rattle.bx_editor.specs.Editor as editors
 use Rattle.bx_editor.specs.declared.seek.Seek.{Seek}
 use Rattle.bx_editor.specs.declared.seek.Seek.TheVariants.{Off}
-use Rattle.bx_editor.specs.Keys.{after_key, asks_for_whole}
+use Rattle.bx_editor.specs.Keys.{after_key, asks_for_whole, needs_no_painting}
+use Rattle.bx_editor.specs.Pasting.{paste_ended}
 use Rattle.bx_editor.specs.Replay.{after_passed_quit, after_passed_save}
 use Rattle.bx_editor.specs.Replay as replay
 use Rattle.bx_editor.specs.Picture.{picture, next_top}
@@ -25,8 +29,6 @@ use Rattle.bx_session.specs.declared.status.Status.TheVariants.{Running, Ended}
 -- a session, without Unicode's tables
 pub record Session : Type 0 where
   pub editor : Editor
-  -- the offset, in bytes of the text, whose row was last shown first
-  pub top : ℕ
   -- the input bytes that are not a whole key yet (`head_of`: of more than 12 bytes, which can give no key, the first 12)
   pub rest : List ℕ
   -- the picture last painted; None before the first
@@ -54,10 +56,18 @@ abbrev pub painting : Option PictureState → PictureState → List ℕ
 painting None new = whole_bytes new
 painting (Some old) new = changes_bytes old new
 
--- a picture, with the row of the offset `top` first, is painted
-abbrev pub with_picture : Session → ℕ → PictureState → Session
-with_picture s top new = record s {
-  top = top;
+-- the editor scrolled to its cursor: by the fewest rows that make the cursor's row visible
+abbrev pub scrolled : Data → Editor → Editor
+scrolled d e = with_top e (next_top d e e.top)
+
+-- the picture of an editor, from the row that is shown first on
+abbrev pub picture_of : Data → Editor → PictureState
+picture_of d e = picture d e e.top
+
+-- a picture of this editor is painted
+abbrev pub with_picture : Session → Editor → PictureState → Session
+with_picture s e new = record s {
+  editor = e;
   painted = Some new;
   known = Some new;
   painting_owed = false;
@@ -66,11 +76,20 @@ with_picture s top new = record s {
 
 -- scrolls to the cursor and paints the picture
 abbrev pub with_painting : Data → Session → Session
-with_painting d s = let top = next_top d s.editor s.top in with_picture s top (picture d s.editor top)
+with_painting d s = let e = scrolled d s.editor in with_picture s e (picture_of d e)
 
 -- the painting was refused
 abbrev pub with_painting_owed : Session → Session
 with_painting_owed s = record s { painting_owed = true }
+
+-- bytes, and after them the clip of a text, if there is one
+abbrev pub then_clip : List ℕ → Option (List ℕ) → List ℕ
+then_clip bytes None = bytes
+then_clip bytes (Some text) = bytes ++ clip_bytes text
+
+-- paints the picture, and sends a text to the clipboard, if there is one, after the painting: one growth of the pending bytes
+abbrev pub with_painting_and_clip : Data → Session → Option (List ℕ) → Session
+with_painting_and_clip d s clip = let new = with_painting d s in record new { pending = then_clip new.pending clip }
 
 -- ---- opening
 
@@ -78,7 +97,6 @@ with_painting_owed s = record s { painting_owed = true }
 abbrev pub before_painting : List ℕ → ℕ → ℕ → Base → Session
 before_painting text height width base = record {
   editor = at_start text height width base;
-  top = 0;
   rest = [];
   painted = None;
   known = None;
@@ -86,9 +104,10 @@ before_painting text height width base = record {
   pending = [];
 }
 
--- a text is opened, and its first picture queued
+-- a text is opened, and its first picture queued, from the text's start on
 abbrev pub at_opening : Data → List ℕ → ℕ → ℕ → Base → Session
-at_opening d text height width base = with_painting d (before_painting text height width base)
+at_opening d text height width base =
+    let s = before_painting text height width base in with_picture s s.editor (picture_of d s.editor)
 
 -- ---- a byte
 
@@ -124,9 +143,29 @@ unpainted_after_byte d fault s b = session_after_any d fault (after_spending s b
 abbrev pub is_idle : Session → ℕ → Bool
 is_idle s b = not (is_some (key_of_byte s b)) && not s.painting_owed
 
+-- there is a key, and it may change the picture: all but what goes into a paste
+abbrev pub needs_painting : Editor → Option Key → Bool
+needs_painting e None = false
+needs_painting e (Some key) = not (needs_no_painting e key)
+
+-- the picture is painted after the byte: its key may change it, or a painting is owed
+abbrev pub is_painted : Session → ℕ → Bool
+is_painted s b = s.painting_owed || needs_painting s.editor (key_of_byte s b)
+
+-- what goes out to the clipboard after a key, if there was one; `e`: the editor after it
+abbrev pub clip_after : Editor → Option Key → Option (List ℕ)
+clip_after e None = None
+clip_after e (Some key) = clip_of e key
+
+-- the picture is painted after a key that is applied, and what the key sends to the clipboard follows
+abbrev pub painted_after : Data → Session → Option Key → Session
+painted_after d s key = with_painting_and_clip d s (clip_after s.editor key)
+
 -- after a byte that was not refused
 abbrev pub after_byte : Data → Option StoreFault → Session → ℕ → Session
-after_byte d fault s b = if is_idle s b then after_spending s b else with_painting d (unpainted_after_byte d fault s b)
+after_byte d fault s b =
+    let new = unpainted_after_byte d fault s b in
+    if is_painted s b then painted_after d new (key_of_byte s b) else new
 
 -- after a byte whose painting was refused
 abbrev pub owing_after_byte : Data → Option StoreFault → Session → ℕ → Session
@@ -137,28 +176,41 @@ status_of s = if s.editor.ended then Ended else Running
 
 -- ---- a byte of a journal
 
--- The effect of a key in a replay. A Save and a Quit end what any key ends, and a Save a search and a question too; a Quit gives
--- up a search or a question. Neither stores a text, nor ends the session.
+-- The effect of a key in a replay. A Save and a Quit end what any key ends, first a paste, and a Save a search and a question too; a
+-- Quit gives up a search or a question. Neither stores a text, nor ends the session. `ask` and `seek` are what stands once a paste has
+-- ended.
 abbrev pub after_replayed : Data → Ask → Seek → Editor → Key → Editor
-after_replayed d ask seek e Save = after_passed_save e
-after_replayed d asks.Off Off e Quit = after_passed_quit e
+after_replayed d ask seek e Save = after_passed_save (paste_ended d e)
+after_replayed d asks.Off Off e Quit = after_passed_quit (paste_ended d e)
 after_replayed d ask seek e key = after_key d None e key
 
--- the editor after keys of a journal in sequence
+-- the same, in the editor's own state of question and search
+abbrev pub replayed_on : Data → Editor → Key → Editor
+replayed_on d e key = let over = paste_ended d e in after_replayed d over.ask over.seek e key
+
+-- The editor after keys of a journal in sequence. Before each of them it scrolls to the cursor, as the painting before that key did in
+-- the session, since a key can point at a row of the picture.
 abbrev pub after_all_replayed : Data → Editor → List Key → Editor
 after_all_replayed d e [] = e
-after_all_replayed d e (key ∷ keys) = after_all_replayed d (after_replayed d e.ask e.seek e key) keys
+after_all_replayed d e (key ∷ keys) = after_all_replayed d (replayed_on d (scrolled d e) key) keys
 
 -- the session after a key of a journal, in these states of question and search
 abbrev pub session_after_replayed : Data → Ask → Seek → Session → Key → Session
-session_after_replayed d ask seek s Save = record s { editor = after_passed_save s.editor }
-session_after_replayed d asks.Off Off s Quit = record s { editor = after_passed_quit s.editor }
+session_after_replayed d ask seek s Save = record s { editor = after_passed_save (paste_ended d s.editor) }
+session_after_replayed d asks.Off Off s Quit = record s { editor = after_passed_quit (paste_ended d s.editor) }
 session_after_replayed d ask seek s key = session_after_key d None s key
+
+abbrev pub session_replayed_on : Data → Session → Key → Session
+session_replayed_on d s key = let over = paste_ended d s.editor in session_after_replayed d over.ask over.seek s key
+
+-- the session scrolled to its cursor; nothing is painted
+abbrev pub session_scrolled : Data → Session → Session
+session_scrolled d s = record s { editor = scrolled d s.editor }
 
 -- the session after the key of a journal's byte, if it completes one
 abbrev pub after_replayed_key : Data → Session → Option Key → Session
 after_replayed_key d s None = s
-after_replayed_key d s (Some key) = session_after_replayed d s.editor.ask s.editor.seek s key
+after_replayed_key d s (Some key) = session_replayed_on d (session_scrolled d s) key
 
 -- the byte's key is applied, and a painting is owed
 abbrev pub after_replay : Data → Session → ℕ → Session
@@ -169,15 +221,23 @@ abbrev pub after_replaying : Data → Session → List ℕ → Session
 after_replaying d s [] = s
 after_replaying d s (b ∷ bs) = after_replaying d (after_replay d s b) bs
 
--- the end of a replay, after which a painting is owed
-abbrev pub at_replay_end : Session → Session
-at_replay_end s = with_painting_owed (record s { editor = replay.at_replay_end s.editor })
+-- the end of a replay, which ends a paste first; a painting is owed
+abbrev pub at_unscrolled_end : Data → Session → Session
+at_unscrolled_end d s = with_painting_owed (record s { editor = replay.at_replay_end (paste_ended d s.editor) })
+
+-- the end of a replay, from which the session goes on with the row first that a painting would show first
+abbrev pub at_replay_end : Data → Session → Session
+at_replay_end d s = session_scrolled d (at_unscrolled_end d s)
 
 -- the session after a whole journal
 abbrev pub after_journal : Data → Session → List ℕ → Session
-after_journal d s bytes = at_replay_end (after_replaying d s bytes)
+after_journal d s bytes = at_replay_end d (after_replaying d s bytes)
 
--- ---- before the keys: the cursor's offset, and an unsaved text
+-- ---- before the keys: a clipboard, the cursor's offset, and an unsaved text
+
+-- from now on text that is copied or cut goes out to a clipboard
+abbrev pub with_clipboard : Session → Session
+with_clipboard s = record s { editor = editors.with_clipboard s.editor }
 
 -- the cursor goes to the first place at or after an offset, or to the last place, and a painting is owed
 abbrev pub after_going : Data → Session → ℕ → Session

@@ -1,13 +1,14 @@
 //! Feeding a session: input bytes, and the window's size.
 
-ghost use Rattle.std.specs.Prelude.{◌≡◌, Option, None, true, false, not, IfOk, IfSome, IsOk, OnErr, OnOk};
+ghost use Rattle.std.specs.Prelude.{◌≡◌, ◌&&◌, ◌||◌, Option, None, true, false, IfOk, IfSome, IsOk, OnErr, OnOk};
 ghost use Rattle.bx_grid.specs.Picture.{is_size};
 ghost use Rattle.bx_keys.specs.Keys.{HasSides};
 ghost use Rattle.bx_editor.specs.Keys as keys;
 ghost use Rattle.bx_store.specs.declared.store.StoreFault.{StoreFault};
-ghost use Rattle.bx_session.specs.Painting.{FeedPaints, ToldPaints};
-ghost use Rattle.bx_session.specs.Saving.{Feeds, SaveEnds, StoreAfter, ToldBy, is_edit_or_move_key, is_save_byte, store_state};
-ghost use Rattle.bx_session.specs.Session.{after_spending, is_idle, key_of_byte, session_after_key, unpainted_after_byte, unpainted_after_told};
+ghost use Rattle.bx_session.specs.Painting.{FeedAppends, FeedPaints, ToldPaints};
+ghost use Rattle.bx_session.specs.Saving.{Feeds, SaveEnds, StoreAfter, ToldBy, is_applied, is_save_byte, may_refuse_key, store_state, text_to_save};
+ghost use Rattle.bx_session.specs.Session.{after_spending, is_idle, is_painted, key_of_byte, needs_painting, session_after_key};
+ghost use Rattle.bx_session.specs.Session.{unpainted_after_byte, unpainted_after_told};
 
 use crate::error::Refused;
 use crate::saving::save_pieces;
@@ -34,9 +35,19 @@ fn is_size(height: u16, width: u16) -> bool
     is_side(height) && is_side(width)
 }
 
+/// Whether a key may change the picture; without a key it stays.
+fn needs_painting<D: BidiData + Drop>(editor: &Editor<D>, key: Option<Key>) -> bool
+    ensures { result ≡ needs_painting editor.now.editor key }
+{
+    match key {
+        Some(key) => !editor.needs_no_painting(key),
+        None => false,
+    }
+}
+
 /// Applies a key other than Save to the editor.
 ///
-/// Errors: `Edit` if memory runs out, only for a key that edits, moves, copies or finds; nothing has changed.
+/// Errors: `Edit` if memory runs out, only for a key that edits, moves, copies, finds or ends a paste; nothing has changed.
 fn apply<D: BidiData + Drop>(editor: &mut Editor<D>, key: Key) -> Result<(), Refused>
     requires no_save { keys.is_save key ≡ false }
     requires sides { HasSides key }
@@ -44,7 +55,7 @@ fn apply<D: BidiData + Drop>(editor: &mut Editor<D>, key: Key) -> Result<(), Ref
       editor = keys.after_key (D.data editor.old.tables) None editor.old.editor key;
     }) }
     ensures err { OnErr result (editor.new ≡ editor.old) }
-    ensures edits { OnErr result (keys.is_edit_or_move key ≡ true) }
+    ensures edits { OnErr result (keys.may_refuse editor.old.editor key ≡ true) }
     ensures refused { OnErr result (result ≡ Err Refused.Edit) }
 {
     match key {
@@ -73,23 +84,33 @@ impl<D: BidiData + Drop> Session<D> {
         self.decoder.feed(byte)
     }
 
-    /// Stores the text, and tells the editor how that ended. Paints nothing.
-    fn save<S: Store>(&mut self, store: &mut S)
+    /// Ends a paste, stores the text, and tells the editor how that ended. Paints nothing.
+    ///
+    /// Errors: `Edit` if memory runs out, only for the end of a paste; nothing has changed, and nothing is stored.
+    fn save<S: Store>(&mut self, store: &mut S) -> Result<(), Refused>
         requires runs { self.old.session.editor.ended ≡ false }
-        ensures saved { (fault : Option StoreFault)
-            × SaveEnds fault self.old.session.editor.content.text
+        ensures saved { OnOk result ((fault : Option StoreFault)
+            × SaveEnds fault (text_to_save (D.data self.old.tables) self.old.session.editor)
             (store_state S.contents S.faults store.old) (store_state S.contents S.faults store.new)
             × (self.new ≡ record self.old {
               session = session_after_key (D.data self.old.tables) fault self.old.session Key.Save;
-            }) }
+            })) }
+        ensures err { OnErr result (self.new ≡ self.old) }
+        ensures untouched { OnErr result (store.new ≡ store.old) }
+        ensures edits { OnErr result (keys.may_refuse self.old.session.editor Key.Save ≡ true) }
+        ensures refused { OnErr result (result ≡ Err Refused.Edit) }
     {
+        if self.editor.end_paste().is_err() {
+            return Err(Refused::Edit);
+        }
         let fault = save_pieces(self.editor.pieces(), store).err();
         self.editor.finish_save(fault);
+        Ok(())
     }
 
     /// Applies a key other than Save, without painting.
     ///
-    /// Errors: `Edit` if memory runs out, only for a key that edits, moves, copies or finds; nothing has changed.
+    /// Errors: `Edit` if memory runs out, only for a key that edits, moves, copies, finds or ends a paste; nothing has changed.
     pub(crate) fn press(&mut self, key: Key) -> Result<(), Refused>
         requires no_save { keys.is_save key ≡ false }
         requires sides { HasSides key }
@@ -97,7 +118,7 @@ impl<D: BidiData + Drop> Session<D> {
           session = session_after_key (D.data self.old.tables) None self.old.session key;
         }) }
         ensures err { OnErr result (self.new ≡ self.old) }
-        ensures edits { OnErr result (keys.is_edit_or_move key ≡ true) }
+        ensures edits { OnErr result (keys.may_refuse self.old.session.editor key ≡ true) }
         ensures refused { OnErr result (result ≡ Err Refused.Edit) }
     {
         apply(&mut self.editor, key)?;
@@ -107,44 +128,58 @@ impl<D: BidiData + Drop> Session<D> {
         Ok(())
     }
 
+    /// Whether the picture is painted after this key, before the key is applied: it may change the picture, or a painting is owed.
+    fn asks_for_painting(&self, key: Option<Key>) -> bool
+        ensures { result ≡ self.now.session.painting_owed || needs_painting self.now.session.editor key }
+    {
+        self.painting_owed || needs_painting(&self.editor, key)
+    }
+
     /// Decodes a byte and applies the key that it completes. Returns whether to paint.
     ///
-    /// Errors: `Edit` if memory runs out, only for a key that edits, moves, copies or finds; the byte is consumed, and nothing
-    /// else has changed.
+    /// Errors: `Edit` if memory runs out, only for a key that edits, moves, copies, finds or ends a paste; the byte is consumed, and
+    /// nothing else has changed.
     fn enter<S: Store>(&mut self, byte: u8, store: &mut S) -> Result<bool, Refused>
         ensures after_byte { (fault : Option StoreFault)
-            × StoreAfter (is_save_byte self.old.session byte) fault self.old.session.editor.content.text
+            × StoreAfter (is_applied result && is_save_byte self.old.session byte) fault
+            (text_to_save (D.data self.old.tables) self.old.session.editor)
             (store_state S.contents S.faults store.old) (store_state S.contents S.faults store.new)
             × OnOk result (self.new ≡ record self.old { session = unpainted_after_byte (D.data self.old.tables) fault self.old.session byte }) }
-        ensures asks { IfOk result (λ asks. asks ≡ not (is_idle self.old.session byte)) }
+        ensures asks { IfOk result (λ asks. asks ≡ is_painted self.old.session byte) }
         ensures untouched { is_save_byte self.old.session byte ≡ false → store.new ≡ store.old }
         ensures err { OnErr result (self.new ≡ record self.old { session = after_spending self.old.session byte }) }
-        ensures edits { OnErr result (is_edit_or_move_key (key_of_byte self.old.session byte) ≡ true) }
+        ensures edits { OnErr result (may_refuse_key self.old.session.editor (key_of_byte self.old.session byte) ≡ true) }
         ensures refused { OnErr result (result ≡ Err Refused.Edit) }
     {
-        match self.decode(byte) {
+        let key = self.decode(byte);
+        let asks = self.asks_for_painting(key);
+        match key {
             Some(Key::Save) => {
-                self.save(store);
-                Ok(true)
+                self.save(store)?;
+                Ok(asks)
             }
             Some(key) => {
                 self.press(key)?;
-                Ok(true)
+                Ok(asks)
             }
-            None => Ok(self.painting_owed),
+            None => Ok(asks),
         }
     }
 
-    /// Handles a byte of input. A byte that completes no key allocates nothing if no painting is owed.
+    /// Handles a byte of input. A byte that completes no key allocates nothing if no painting is owed, and a character of a paste
+    /// nothing but the memory for it.
     ///
     /// Errors: `Edit` if memory runs out for the key: its bytes are consumed, and nothing else has changed. `Paint` if it runs
-    /// out while painting: the key is applied, the queue is unchanged, and the painting is owed.
+    /// out while painting, or for the clip after that: the key is applied, the queue is unchanged, and the painting is owed.
     pub fn feed<S: Store>(&mut self, byte: u8, store: &mut S) -> Result<Status, Refused>
         ensures after_byte { Feeds (D.data self.old.tables) self.old.session (store_state S.contents S.faults store.old) byte result
             self.new.session (store_state S.contents S.faults store.new) }
         ensures tables { self.new.tables ≡ self.old.tables }
-        ensures paints { is_idle self.old.session byte ≡ false →
+        ensures paints { is_painted self.old.session byte ≡ true →
             OnOk result (FeedPaints (D.data self.old.tables) self.old.session byte self.new.session) }
+        ensures appends { is_painted self.old.session byte ≡ true →
+            OnOk result (FeedAppends (D.data self.old.tables) self.old.session byte self.new.session) }
+        ensures quiet { is_painted self.old.session byte ≡ false → self.new.session.pending ≡ self.old.session.pending }
         ensures refused { OnErr result (self.new.session.pending ≡ self.old.session.pending) }
         ensures untouched { is_save_byte self.old.session byte ≡ false → store.new ≡ store.old }
 
@@ -152,10 +187,11 @@ impl<D: BidiData + Drop> Session<D> {
         ensures idle { is_idle self.old.session byte ≡ true → IsOk result }
         ensures unchanged { is_idle self.old.session byte ≡ true → self.new.session ≡ after_spending self.old.session byte }
     {
+        let key = self.key_of(byte);
         if !self.enter(byte, store)? {
             return Ok(self.status());
         }
-        self.paint()?;
+        self.paint_after(key)?;
         Ok(self.status())
     }
 

@@ -1,13 +1,22 @@
-//! Settings before the first key, of the command line and of a recovery: the cursor's offset, and a text that is not saved.
+//! Settings before the first key, of the command line and of a recovery: a clipboard, the cursor's offset, and a text that is not
+//! saved.
 
 ghost use Rattle.std.specs.Prelude.{◌≡◌, OnErr, OnOk};
-ghost use Rattle.bx_session.specs.Session.{after_going, as_changed};
+ghost use Rattle.bx_session.specs.Session.{after_going, as_changed, with_clipboard};
 
 use crate::error::Refused;
 use crate::session::Session;
 use bx_ucd::BidiData;
 
 impl<D: BidiData + Drop> Session<D> {
+    /// From now on text that is copied or cut also goes out to the terminal's clipboard, as a clip after the key's painting. The
+    /// picture stays. Allocates nothing.
+    pub fn use_clipboard(&mut self)
+        ensures { self.new ≡ record self.old { session = with_clipboard self.old.session } }
+    {
+        self.editor.use_clipboard();
+    }
+
     /// Moves the cursor to the first place at or after an offset, in bytes from 0, or to the text's end for an offset past
     /// it. Paints nothing; call [`Session::paint`] afterwards.
     ///

@@ -40,7 +40,6 @@ impl<D: BidiData + Drop> Session<D> {
         let editor = Editor::open(bytes, tables, height, width, base)?;
         let mut session = Session {
             editor,
-            top: 0,
             decoder: Decoder::new(),
             painted: None,
             spare: None,

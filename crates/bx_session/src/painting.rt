@@ -1,14 +1,19 @@
-//! Painting: the bytes that bring the picture to the terminal.
+//! Painting: the bytes that bring the picture to the terminal, and a text to its clipboard.
 
-ghost use Rattle.std.specs.Prelude.{◌≡◌, ◌++◌, true, IfOk, IfSome, OnErr, OnOk};
-ghost use Rattle.bx_grid.specs.Picture.{AreWholeTokens, IsPicture, is_size};
-ghost use Rattle.bx_session.specs.Painting.{QueuesPicture, Updates};
-ghost use Rattle.bx_session.specs.Session.{known_if, painting, with_painting, with_painting_owed};
+ghost use Rattle.std.specs.Prelude.{◌≡◌, ◌++◌, ℕ, List, true, IfOk, IfSome, Ok, OnErr, OnOk};
+ghost use Rattle.base64.specs.Engines.{standard};
+ghost use Rattle.bx_grid.specs.Clip.{decode_of, encode_of};
+ghost use Rattle.bx_grid.specs.Picture.{AreWholeTokens, IsPicture, PictureState, Shows, is_size};
+ghost use Rattle.bx_grid.specs.Terminal.{Terminal, reads};
+ghost use Rattle.bx_session.specs.Painting.{AppendsPainting, QueuesPicture, Updates, text_in};
+ghost use Rattle.bx_session.specs.Session.{clip_after, known_if, painted_after, painting, then_clip, with_painting, with_painting_owed};
 
 use crate::error::Refused;
 use crate::session::Session;
+use bx_editor::Editor;
 use bx_grid::{Grid, Picture};
-use bx_paint::{PaintError, changes_into, whole_into};
+use bx_keys::Key;
+use bx_paint::{PaintError, changes_into, clip_into, whole_into};
 use bx_terms::OutOfMemory;
 use bx_ucd::BidiData;
 use std::alloc::Global;
@@ -33,6 +38,64 @@ fn append(
     match painted {
         Some(old) if is_known => changes_into(queue, old, picture),
         _ => whole_into(queue, picture),
+    }
+}
+
+/// Appends the clip of a text, if there is one.
+///
+/// Errors: `OutOfMemory`, and nothing is appended.
+fn append_clip(queue: &mut Vec<u8>, clip: Option<&str>) -> Result<(), PaintError>
+    ensures bytes { OnOk result (queue.new.items ≡ then_clip queue.old.items (text_in clip)) }
+    ensures err { OnErr result (queue.new.items ≡ queue.old.items) }
+    ensures shows { (t : Terminal) (painting : List ℕ) (p : PictureState) → Shows (reads t painting) p
+        → Shows (reads t (then_clip painting (text_in clip))) p }
+    ensures tokens { (painting : List ℕ) → AreWholeTokens painting → AreWholeTokens (then_clip painting (text_in clip)) }
+    ensures gives { IfSome (text_in clip) (λ text. decode_of standard (encode_of standard text) ≡ Ok text) }
+{
+    match clip {
+        Some(text) => clip_into(queue, text.as_bytes()),
+        None => Ok(()),
+    }
+}
+
+/// Appends a painting as [`append`] does, and the clip of a text, if there is one: both or, for want of memory, neither.
+fn append_both(
+    queue: &mut Vec<u8>,
+    painted: &Option<Picture>,
+    is_known: bool,
+    picture: &Picture,
+    clip: Option<&str>,
+) -> Result<(), PaintError>
+    requires fits { IfSome (known_if is_known painted.now) (λ p. (p.height ≡ picture.now.height) × (p.width ≡ picture.now.width)) }
+    ensures bytes { OnOk result (queue.new.items
+        ≡ then_clip (queue.old.items ++ painting (known_if is_known painted.now) picture.now) (text_in clip)) }
+    ensures err { OnErr result (queue.new.items ≡ queue.old.items) }
+    ensures updates { Updates (known_if is_known painted.now) (painting (known_if is_known painted.now) picture.now) picture.now }
+    ensures tokens { AreWholeTokens (painting (known_if is_known painted.now) picture.now) }
+    ensures is_picture { IsPicture picture.now }
+    ensures shows { (t : Terminal) (painting : List ℕ) (p : PictureState) → Shows (reads t painting) p
+        → Shows (reads t (then_clip painting (text_in clip))) p }
+    ensures whole { (painting : List ℕ) → AreWholeTokens painting → AreWholeTokens (then_clip painting (text_in clip)) }
+    ensures gives { IfSome (text_in clip) (λ text. decode_of standard (encode_of standard text) ≡ Ok text) }
+{
+    let count = queue.len();
+    append(queue, painted, is_known, picture)?;
+    match append_clip(queue, clip) {
+        Ok(()) => Ok(()),
+        Err(refused) => {
+            queue.truncate(count);
+            Err(refused)
+        }
+    }
+}
+
+/// What goes out to the clipboard after a key, the last that was applied, if there was one.
+fn clip_after<D: BidiData + Drop>(editor: &Editor<D>, key: Option<Key>) -> Option<&str>
+    ensures { text_in result ≡ clip_after editor.now.editor key }
+{
+    match key {
+        Some(key) => editor.clip(key),
+        None => None,
     }
 }
 
@@ -74,19 +137,38 @@ impl<D: BidiData + Drop> Session<D> {
         ensures err { OnErr result (self.new.session ≡ with_painting_owed self.old.session) }
         ensures memory { OnErr result (result ≡ Err Refused.Paint) }
     {
+        self.paint_after(None)
+    }
+
+    /// Scrolls to the cursor and queues the bytes that paint the picture after a key, the last that was applied, and then the clip of
+    /// what the key sends to the clipboard.
+    ///
+    /// Errors: `Paint` if memory runs out: top and queue are unchanged, and the painting is owed. The clip never comes.
+    pub(crate) fn paint_after(&mut self, key: Option<Key>) -> Result<(), Refused>
+        ensures tables { self.new.tables ≡ self.old.tables }
+        ensures ok { OnOk result (self.new.session ≡ painted_after (D.data self.old.tables) self.old.session key) }
+        ensures paints { OnOk result (QueuesPicture (D.data self.old.tables) self.old.session.pending
+            self.old.session.known self.new.session) }
+        ensures appends { OnOk result (AppendsPainting (D.data self.old.tables) self.old.session.pending
+            self.old.session.known self.new.session) }
+        ensures err { OnErr result (self.new.session ≡ with_painting_owed self.old.session) }
+        ensures memory { OnErr result (result ≡ Err Refused.Paint) }
+    {
         let alloc = *self.queue.allocator();
         self.painting_owed = true;
         let (height, width) = (self.editor.height(), self.editor.width());
         let Ok(page) = page_of(alloc, self.spare.take(), height, width) else {
             return Err(Refused::Paint);
         };
-        let Ok((top, picture)) = self.editor.picture(alloc, page, self.top) else {
+        let top = self.editor.top();
+        let Ok((top, picture)) = self.editor.picture(alloc, page, top) else {
             return Err(Refused::Paint);
         };
-        let Ok(()) = append(&mut self.queue, &self.painted, self.is_known, &picture) else {
+        let clip = clip_after(&self.editor, key);
+        let Ok(()) = append_both(&mut self.queue, &self.painted, self.is_known, &picture, clip) else {
             return Err(Refused::Paint);
         };
-        self.top = top;
+        self.editor.set_top(top);
         self.spare = spare_of(self.painted.take());
         self.painted = Some(picture);
         self.is_known = true;

@@ -1,10 +1,12 @@
 //! Replay of a journal's bytes in a session that opened the same text: keys are applied again, and nothing is stored.
 
-ghost use Rattle.std.specs.Prelude.{◌≡◌, ◌↔◌, IsTrue, true, IfErr, OnErr, OnOk};
-ghost use Rattle.bx_session.specs.Saving.{is_edit_or_move_key, store_state, with_text};
+ghost use Rattle.std.specs.Prelude.{◌≡◌, ◌↔◌, ◌⊎◌, IsErrOf, IsOk, IsTrue, true, None, Some, is_some, IfErr, OnErr, OnOk};
+ghost use Rattle.bx_session.specs.Saving.{may_refuse_key, store_state, with_text};
 ghost use Rattle.bx_keys.specs.Keys.{HasSides};
-ghost use Rattle.bx_editor.specs.Keys.{is_edit_or_move};
-ghost use Rattle.bx_session.specs.Session.{after_replay, after_spending, at_replay_end, key_of_byte, session_after_replayed};
+ghost use Rattle.bx_editor.specs.Keys.{may_refuse};
+ghost use Rattle.bx_editor.specs.Pasting.{paste_ended};
+ghost use Rattle.bx_session.specs.Session.{after_replay, after_replayed_key, after_spending, at_replay_end, at_unscrolled_end, key_of_byte};
+ghost use Rattle.bx_session.specs.Session.{session_after_replayed, session_replayed_on, session_scrolled};
 ghost use Rattle.bx_store.specs.Stores.{with_fault};
 
 use crate::error::Refused;
@@ -17,57 +19,145 @@ use bx_store::{Store, StoreFault};
 use bx_ucd::BidiData;
 
 impl<D: BidiData + Drop> Session<D> {
-    /// Applies a key of a journal. A Save and a Quit end what any key ends, and a Save a search and a question too; a Quit gives
-    /// up a search or a question. Neither stores a text, nor ends the session.
+    /// Applies a key of a journal. A Save and a Quit end what any key ends, first a paste, and a Save a search and a question too; a
+    /// Quit gives up a search or a question. Neither stores a text, nor ends the session.
     ///
-    /// Errors: `Edit` if memory runs out, only for a key that edits, moves, copies or finds; nothing has changed.
+    /// Errors: `Edit` if memory runs out, only for a key that edits, moves, copies, finds or ends a paste; nothing has changed.
     fn press_again(&mut self, key: Key) -> Result<(), Refused>
         requires sides { HasSides key }
         ensures after_key { OnOk result (self.new ≡ record self.old {
-          session = session_after_replayed (D.data self.old.tables) self.old.session.editor.ask self.old.session.editor.seek
-              self.old.session key;
+          session = session_replayed_on (D.data self.old.tables) self.old.session key;
         }) }
         ensures err { OnErr result (self.new ≡ self.old) }
-        ensures edits { OnErr result (is_edit_or_move key ≡ true) }
+        ensures edits { OnErr result (may_refuse self.old.session.editor key ≡ true) }
         ensures refused { OnErr result (result ≡ Err Refused.Edit) }
     {
-        match (key, self.editor.ask(), self.editor.seek()) {
-            (Key::Save, _, _) => {
+        match key {
+            Key::Save => {
+                self.end_paste()?;
                 self.editor.pass_save();
                 Ok(())
             }
-            (Key::Quit, Ask::Off, Seek::Off) => {
+            Key::Quit => {
+                self.end_paste()?;
+                self.pass_quit()
+            }
+            _ => self.press(key),
+        }
+    }
+
+    /// Passes over a Quit of a journal, or gives up a search or a question with it, where no paste is under way.
+    ///
+    /// Errors: never, since no memory is needed.
+    fn pass_quit(&mut self) -> Result<(), Refused>
+        requires no_paste { self.old.session.editor.pasted ≡ None }
+        ensures after_key { self.new ≡ record self.old {
+          session = session_after_replayed (D.data self.old.tables) self.old.session.editor.ask self.old.session.editor.seek
+              self.old.session Key.Quit;
+        } }
+        ensures ok { IsOk result }
+    {
+        match (self.editor.ask(), self.editor.seek()) {
+            (Ask::Off, Seek::Off) => {
                 self.editor.pass_quit();
                 Ok(())
             }
-            _ => self.press(key),
+            _ => self.press(Key::Quit),
+        }
+    }
+
+    /// Ends a paste, if one is under way: what it has brought goes into the text.
+    ///
+    /// Errors: `Edit` if memory runs out; nothing has changed. Never without a paste.
+    fn end_paste(&mut self) -> Result<(), Refused>
+        ensures ok { OnOk result (self.new ≡ record self.old {
+          session = record self.old.session { editor = paste_ended (D.data self.old.tables) self.old.session.editor };
+        }) }
+        ensures none { OnOk result (self.new.session.editor.pasted ≡ None) }
+        ensures err { OnErr result (self.new ≡ self.old) }
+        ensures pasting { OnErr result (is_some self.old.session.editor.pasted ≡ true) }
+        ensures refused { OnErr result (result ≡ Err Refused.Edit) }
+    {
+        match self.editor.end_paste() {
+            Ok(()) => Ok(()),
+            Err(_) => Err(Refused::Edit),
+        }
+    }
+
+    /// Scrolls to the cursor, as a painting does, without painting.
+    ///
+    /// Errors: `Paint` if memory runs out; nothing has changed.
+    fn scroll(&mut self) -> Result<(), Refused>
+        ensures ok { OnOk result (self.new ≡ record self.old { session = session_scrolled (D.data self.old.tables) self.old.session }) }
+        ensures err { OnErr result (self.new ≡ self.old) }
+        ensures refused { OnErr result (result ≡ Err Refused.Paint) }
+    {
+        match self.editor.scroll() {
+            Ok(()) => Ok(()),
+            Err(_) => Err(Refused::Paint),
+        }
+    }
+
+    /// Scrolls to the cursor, as the painting before this key did in the session, and applies the key of a journal.
+    ///
+    /// Errors: `Edit` and `Paint` if memory runs out for the key and for scrolling; nothing has changed.
+    fn scroll_and_press(&mut self, key: Key) -> Result<(), Refused>
+        requires sides { HasSides key }
+        ensures after_key { OnOk result (self.new ≡ record self.old {
+          session = after_replayed_key (D.data self.old.tables) self.old.session (Some key);
+        }) }
+        ensures err { OnErr result (self.new ≡ self.old) }
+        ensures edits { IsErrOf result Refused.Edit → may_refuse self.old.session.editor key ≡ true }
+        ensures refused { OnErr result ((result ≡ Err Refused.Edit) ⊎ (result ≡ Err Refused.Paint)) }
+    {
+        let top = self.editor.top();
+        self.scroll()?;
+        match self.press_again(key) {
+            Ok(()) => Ok(()),
+            Err(refused) => {
+                self.editor.set_top(top);
+                Err(refused)
+            }
         }
     }
 
     /// Decodes a byte of a journal and applies the key that it completes, without painting. A Save stores nothing, and a Quit
     /// does not end the session. Call [`Session::end_replay`] after the last byte.
     ///
-    /// Errors: `Edit` if memory runs out for the key: its bytes are consumed, and nothing else has changed.
+    /// Errors: `Edit` if memory runs out for the key, `Paint` if it does for scrolling before the key: its bytes are consumed, and
+    /// nothing else has changed.
     pub fn replay(&mut self, byte: u8) -> Result<(), Refused>
         ensures after_byte { OnOk result (self.new ≡ record self.old { session = after_replay (D.data self.old.tables) self.old.session byte }) }
         ensures err { OnErr result (self.new ≡ record self.old { session = after_spending self.old.session byte }) }
-        ensures edits { OnErr result (is_edit_or_move_key (key_of_byte self.old.session byte) ≡ true) }
-        ensures refused { OnErr result (result ≡ Err Refused.Edit) }
+        ensures edits { IsErrOf result Refused.Edit → may_refuse_key self.old.session.editor (key_of_byte self.old.session byte) ≡ true }
+        ensures scrolls { IsErrOf result Refused.Paint → is_some (key_of_byte self.old.session byte) ≡ true }
+        ensures refused { OnErr result ((result ≡ Err Refused.Edit) ⊎ (result ≡ Err Refused.Paint)) }
     {
         if let Some(key) = self.decode(byte) {
-            self.press_again(key)?;
+            self.scroll_and_press(key)?;
         }
         self.painting_owed = true;
         Ok(())
     }
 
-    /// Ends a replay: no search is on, nothing is asked, the next edit begins a run, and the cursor stays. The text is the stored
-    /// one unless it counts as changed. Paints nothing; call [`Session::paint`] afterwards. Allocates nothing.
-    pub fn end_replay(&mut self)
-        ensures { self.new ≡ record self.old { session = at_replay_end self.old.session } }
+    /// Ends a replay: a paste ends, no search is on, nothing is asked, and the next edit begins a run. The text is the stored one unless
+    /// it counts as changed. Scrolls to the cursor, and paints nothing; call [`Session::paint`] afterwards.
+    ///
+    /// Errors: `Edit` if memory runs out for the end of a paste: nothing has changed. `Paint` if it runs out for scrolling: the replay
+    /// has ended, and the next painting scrolls.
+    pub fn end_replay(&mut self) -> Result<(), Refused>
+        ensures tables { self.new.tables ≡ self.old.tables }
+        ensures ok { OnOk result (self.new ≡ record self.old { session = at_replay_end (D.data self.old.tables) self.old.session }) }
+        ensures err { IsErrOf result Refused.Edit → self.new ≡ self.old }
+        ensures pasting { IsErrOf result Refused.Edit → is_some self.old.session.editor.pasted ≡ true }
+        ensures unscrolled { IsErrOf result Refused.Paint
+            → self.new ≡ record self.old { session = at_unscrolled_end (D.data self.old.tables) self.old.session } }
+        ensures refused { OnErr result ((result ≡ Err Refused.Edit) ⊎ (result ≡ Err Refused.Paint)) }
     {
+        self.end_paste()?;
         self.editor.end_replay();
         self.painting_owed = true;
+        self.scroll()
     }
 
     /// Whether the text is just these bytes. Allocates nothing.

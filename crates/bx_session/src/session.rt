@@ -1,6 +1,7 @@
 //! The session's state, and what can be read of it.
 
 ghost use Rattle.std.specs.Prelude.{◌≡◌, ◌≤◌, MatchOption, None, Some, length};
+ghost use Rattle.bx_editor.specs.Pasting.{has_changes};
 ghost use Rattle.bx_session.specs.Session.{after_sending, key_of_byte, status_of};
 
 use crate::status::Status;
@@ -11,12 +12,10 @@ use bx_keys::{Decoder, Key};
 use bx_ucd::BidiData;
 use std::marker::Model;
 
-/// An editor, its scroll position, the unfinished input sequence, and the bytes queued for the terminal.
+/// An editor, the unfinished input sequence, and the bytes queued for the terminal.
 #[derive(Drop)]
 pub struct Session<D: BidiData + Drop> {
     pub(crate) editor: Editor<D>,
-    // the offset, in bytes of the text, whose row was last shown first
-    pub(crate) top: usize,
     // the input bytes that are not a whole key yet
     pub(crate) decoder: Decoder,
     // the picture last painted; None before the first
@@ -45,7 +44,6 @@ impl<D: BidiData + Drop> Model for Session<D> {
       tables = s.editor.tables;
       session = record {
         editor = s.editor.editor;
-        top = s.top;
         rest = s.decoder;
         painted = s.painted;
         known = known_if s.is_known s.painted;
@@ -95,9 +93,9 @@ impl<D: BidiData + Drop> Session<D> {
         self.editor.ended()
     }
 
-    /// Whether there are unsaved changes. Allocates nothing.
+    /// Whether there are unsaved changes, in the text or in a paste under way. Allocates nothing.
     pub fn changed(&self) -> bool
-        ensures { result ≡ self.now.session.editor.changed }
+        ensures { result ≡ has_changes self.now.session.editor }
     {
         self.editor.changed()
     }

@@ -14,13 +14,16 @@ use Rattle.bx_asking.specs.declared.question.Ask.{Ask}
 use Rattle.bx_asking.specs.declared.question.Ask.TheVariants as asks
 use Rattle.bx_editor.specs.declared.seek.Seek.{Seek}
 use Rattle.bx_editor.specs.declared.seek.Seek.TheVariants.{Off, Begun, Typed, WithBegun, WithTyped, Replacing}
+use Rattle.bx_editor.specs.Pasting.{paste_ended}
 use Rattle.bx_editor.specs.Replay.{after_passed_quit, after_passed_save}
 use Rattle.bx_editor.specs.Replay as replay
 use Rattle.bx_session.specs.Session.{Session, after_all_replayed, at_opening, at_replay_end, after_replay, after_replayed_key, after_spending, key_of_byte, session_after_key, session_after_replayed}
+use Rattle.bx_session.specs.Session.{scrolled, session_replayed_on, session_scrolled}
 use Rattle.bx_session.specs.Painting.{QueuesPicture}
 use Rattle.bx_session.specs.Laws.{keys_from, after_journal, after_replaying}
-use Rattle.bx_session.specs.Beginning.{Beginning, IsBegun, after_going_to, changed_if, at_offset, unpainted_at, begun}
+use Rattle.bx_session.specs.Beginning.{Beginning, IsBegun, after_going_to, changed_if, clipboard_if, at_offset, unpainted_at, begun}
 use Rattle.bx_session.proofs.Input.{keys_of_input}
+use Rattle.bx_session.proofs.KeySizes.{ended_goes_on}
 use Rattle.bx_session.proofs.Pictures.{picture_height, picture_width}
 use Rattle.bx_session.proofs.Replayed.{each-session, replays_keys, rest_from, replayed_rest}
 use Rattle.bx_world.specs.Showing.{FitsWindow, IsInStep, picture_of}
@@ -46,7 +49,7 @@ opened_at d s t idle queued =
       follows = λ on. (let window = window_is t.height t.width s.editor on in
           subst (λ painted. IfSome painted (λ q. Shows (reads t s.pending) q)) (sym paints.known)
           (subst (λ bytes. Shows (reads t bytes) p) (sym paints.appends)
-          (paints.updates t idle (sym window.0 ∙ sym (picture_height d s.editor s.top)) (sym window.1 ∙ sym (picture_width d s.editor s.top)))));
+          (paints.updates t idle (sym window.0 ∙ sym (picture_height d s.editor s.editor.top)) (sym window.1 ∙ sym (picture_width d s.editor s.editor.top)))));
       whole = subst (λ bytes. IsIdle (reads t bytes)) (sym paints.appends) (paints.tokens t idle);
       screen = ((refl, refl), λ on. idle.no_run);
       size = λ on. window_is t.height t.width s.editor on;
@@ -99,7 +102,8 @@ passed_stays t s e height width = record {
 }
 
 quit_stays : (d : Data) (t : Terminal) (ask : Ask) (seek : Seek) (s : Session) → StaysKnown t s (session_after_replayed d ask seek s Quit)
-quit_stays d t asks.Off Off s = passed_stays t s (after_passed_quit s.editor) refl refl
+quit_stays d t asks.Off Off s =
+    let size = (ended_goes_on d s.editor).1 in passed_stays t s (after_passed_quit (paste_ended d s.editor)) size.0 size.1
 quit_stays d t asks.Off Begun s = key_stays d t s Quit
 quit_stays d t asks.Off Typed s = key_stays d t s Quit
 quit_stays d t asks.Off WithBegun s = key_stays d t s Quit
@@ -111,12 +115,16 @@ quit_stays d t asks.Code seek s = key_stays d t s Quit
 
 replayed_stays : (d : Data) (t : Terminal) (ask : Ask) (seek : Seek) (s : Session) (key : Key) → StaysKnown t s (session_after_replayed d ask seek s key)
 replayed_stays d t ask seek s =
-    each-session d ask seek s (λ key new. StaysKnown t s new) (passed_stays t s (after_passed_save s.editor) refl refl) (quit_stays d t ask seek s)
-    (λ key other. key_stays d t s key)
+    let size = (ended_goes_on d s.editor).1 in
+    each-session d ask seek s (λ key new. StaysKnown t s new) (passed_stays t s (after_passed_save (paste_ended d s.editor)) size.0 size.1)
+    (quit_stays d t ask seek s) (λ key other. key_stays d t s key)
 
 any_stays : (d : Data) (t : Terminal) (s : Session) (key : Option Key) → StaysKnown t s (after_replayed_key d s key)
 any_stays d t s None = stays_at t s
-any_stays d t s (Some key) = replayed_stays d t s.editor.ask s.editor.seek s key
+any_stays d t s (Some key) =
+    let from : Session = session_scrolled d s in
+    let over : Editor = paste_ended d from.editor in
+    stays_on t s from (session_replayed_on d from key) (passed_stays t s (scrolled d s.editor) refl refl) (replayed_stays d t over.ask over.seek from key)
 
 byte_stays : (d : Data) (t : Terminal) (s : Session) (b : ℕ) → StaysKnown t s (after_replay d s b)
 byte_stays d t s b =
@@ -130,15 +138,22 @@ bytes_stay d t s [] = stays_at t s
 bytes_stay d t s (b ∷ bs) =
     stays_on t s (after_replay d s b) (after_replaying d (after_replay d s b) bs) (byte_stays d t s b) (bytes_stay d t (after_replay d s b) bs)
 
-end_stays : (t : Terminal) (s : Session) → StaysKnown t s (at_replay_end s)
-end_stays t s = record { pending = refl; known = known_at (fits t.height t.width s.editor) s.known }
+end_stays : (d : Data) (t : Terminal) (s : Session) → StaysKnown t s (at_replay_end d s)
+end_stays d t s =
+    let size = (ended_goes_on d s.editor).1 in
+    let passed = passed_stays t s (scrolled d (replay.at_replay_end (paste_ended d s.editor))) size.0 size.1 in
+    record { pending = passed.pending; known = passed.known }
 
 journal_stays : (d : Data) (t : Terminal) (s : Session) (bs : List ℕ) → StaysKnown t s (after_journal d s bs)
-journal_stays d t s bs = stays_on t s (after_replaying d s bs) (after_journal d s bs) (bytes_stay d t s bs) (end_stays t (after_replaying d s bs))
+journal_stays d t s bs = stays_on t s (after_replaying d s bs) (after_journal d s bs) (bytes_stay d t s bs) (end_stays d t (after_replaying d s bs))
 
 going_stays : (d : Data) (t : Terminal) (s : Session) (offset : Option ℕ) → StaysKnown t s (after_going_to d s offset)
 going_stays d t s None = stays_at t s
 going_stays d t s (Some offset) = record { pending = refl; known = known_at (fits t.height t.width s.editor) s.known }
+
+clipboard_stays : (clipboard : Bool) (t : Terminal) (s : Session) → StaysKnown t s (clipboard_if clipboard s)
+clipboard_stays false t s = stays_at t s
+clipboard_stays true t s = record { pending = refl; known = known_at (fits t.height t.width s.editor) s.known }
 
 changed_stays : (unsaved : Bool) (t : Terminal) (s : Session) → StaysKnown t s (changed_if unsaved s)
 changed_stays false t s = stays_at t s
@@ -147,8 +162,10 @@ changed_stays true t s = record { pending = refl; known = known_at (fits t.heigh
 offset_stays : (d : Data) (t : Terminal) (b : Beginning) → StaysKnown t (at_opening d b.text b.height b.width b.base) (at_offset d b)
 offset_stays d t b =
     let s : Session = at_opening d b.text b.height b.width b.base in
-    let there : Session = after_going_to d s b.offset in
-    stays_on t s there (at_offset d b) (going_stays d t s b.offset) (changed_stays b.unsaved t there)
+    let first : Session = clipboard_if b.clipboard s in
+    let there : Session = after_going_to d first b.offset in
+    stays_on t s first (at_offset d b) (clipboard_stays b.clipboard t s)
+    (stays_on t first there (at_offset d b) (going_stays d t first b.offset) (changed_stays b.unsaved t there))
 
 -- ---- a session that begins a run
 
@@ -162,6 +179,14 @@ begun_at d b t idle begins =
     stays.known (λ on. window_is t.height t.width (begun d b).editor on)
 
 -- ---- its keys
+
+clipboard_goes_on : (clipboard : Bool) (s : Session) → s.editor.ended ≡ false → (clipboard_if clipboard s).editor.ended ≡ false
+clipboard_goes_on true s on = on
+clipboard_goes_on false s on = on
+
+clipboard_rest : (clipboard : Bool) (s : Session) → (clipboard_if clipboard s).rest ≡ s.rest
+clipboard_rest true s = refl
+clipboard_rest false s = refl
 
 going_goes_on : (d : Data) (s : Session) (offset : Option ℕ) → s.editor.ended ≡ false → (after_going_to d s offset).editor.ended ≡ false
 going_goes_on d s None on = on
@@ -182,19 +207,23 @@ changed_rest false s = refl
 offset_goes_on : (d : Data) (b : Beginning) → (at_offset d b).editor.ended ≡ false
 offset_goes_on d b =
     let s : Session = at_opening d b.text b.height b.width b.base in
-    changed_goes_on b.unsaved (after_going_to d s b.offset) (going_goes_on d s b.offset refl)
+    let first : Session = clipboard_if b.clipboard s in
+    changed_goes_on b.unsaved (after_going_to d first b.offset) (going_goes_on d first b.offset (clipboard_goes_on b.clipboard s refl))
 
 offset_rest : (d : Data) (b : Beginning) → (at_offset d b).rest ≡ []
 offset_rest d b =
     let s : Session = at_opening d b.text b.height b.width b.base in
-    changed_rest b.unsaved (after_going_to d s b.offset) ∙ going_rest d s b.offset
+    let first : Session = clipboard_if b.clipboard s in
+    changed_rest b.unsaved (after_going_to d first b.offset) ∙ going_rest d first b.offset ∙ clipboard_rest b.clipboard s
 
 pub begun_rest : (d : Data) (b : Beginning) → (begun d b).rest ≡ rest_from [] b.journal
 begun_rest d b =
     replayed_rest d (at_offset d b) b.journal (offset_goes_on d b) ∙ ap (λ rest. rest_from rest b.journal) (offset_rest d b)
 
 pub begins_with_keys : BeginsWithKeys
-begins_with_keys d b =
-    ap replay.at_replay_end
-    (replays_keys d (at_offset d b) b.journal (offset_goes_on d b)
-    ∙ ap (after_all_replayed d (at_offset d b).editor) (ap (λ rest. keys_from rest b.journal) (offset_rest d b) ∙ keys_of_input b.journal))
+begins_with_keys = record {
+  replayed = λ d b. ap (λ (e : Editor). scrolled d (replay.at_replay_end (paste_ended d e)))
+      (replays_keys d (at_offset d b) b.journal (offset_goes_on d b)
+      ∙ ap (after_all_replayed d (at_offset d b).editor) (ap (λ rest. keys_from rest b.journal) (offset_rest d b) ∙ keys_of_input b.journal));
+  painted = λ d b. refl;
+}

@@ -1,7 +1,7 @@
 -- What steps bring to the editor, and what they make of it.
 use Rattle.std.proofs.Common.{◌≡◌, ℕ, ◌+◌, suc, ◌<◌, ◌≤◌, ◌⊎◌, inl, inr, min, Bool, true, false, List, [], ◌∷◌, ◌++◌}
 use Rattle.std.proofs.Common.{Option, Some, None, Result, Ok, Err, refl, sym, ap, subst, ◌∙◌, arith, if◌then◌else◌}
-use Rattle.std.specs.Prelude.{not, ◌&&◌, is_some, option_to_list}
+use Rattle.std.specs.Prelude.{◌&&◌, is_some, option_to_list}
 use Rattle.std.proofs.Math.Nat.{min-eq_left, min-eq_right}
 use Rattle.std.proofs.lemmas.Bool.{cases_lt}
 use Rattle.bx_grid.specs.declared.error.GridError.TheVariants as grid
@@ -13,10 +13,11 @@ use Rattle.bx_store.specs.Stores.{greatest}
 use Rattle.bx_store.specs.declared.faults.Faults.{Faults}
 use Rattle.bx_store.specs.declared.store.StoreFault.{StoreFault}
 use Rattle.bx_ucd.specs.Data.{Data}
-use Rattle.bx_editor.specs.Editor.{Editor}
+use Rattle.bx_view.specs.Top.{follow}
+use Rattle.bx_editor.specs.Editor.{Editor, rows, text_height, with_top}
 use Rattle.bx_session.specs.declared.error.Refused.TheVariants as refused
-use Rattle.bx_session.specs.Session.{Session, key_of_byte, after_spending, session_after_any, unpainted_after_byte, with_painting, is_idle, after_byte}
-use Rattle.bx_session.specs.Saving.{StoreState, StoreAfter, is_save_key, is_save_byte}
+use Rattle.bx_session.specs.Session.{Session, key_of_byte, after_spending, session_after_any, unpainted_after_byte, painted_after, is_painted, after_byte, scrolled}
+use Rattle.bx_session.specs.Saving.{StoreState, StoreAfter, is_save_key, is_save_byte, text_to_save}
 use Rattle.bx_session.specs.Laws.{keys_from}
 use Rattle.bx_session.proofs.Input.{keys_of_input}
 use Rattle.bx_session.proofs.Replayed.{rest_from, keys_from_both}
@@ -27,38 +28,40 @@ use Rattle.bx_world.specs.declared.step.StepFault.TheVariants as faults
 use Rattle.bx_world.specs.World.{World, after_window, after_send, after_read, with_failed_screen}
 use Rattle.bx_world.specs.Steps.{StepsTo, PlaysTo, AfterByteStep, AfterToldStep, AfterWindowStep, AfterSendStep, AfterReadStep}
 use Rattle.bx_world.specs.Events.{Event, Input, Telling, after_input, after_event, after_events, after_save_of, stored_after, stored_after_all, failed_saves}
-use Rattle.bx_world.specs.Events.{input_of, keys_of, HasKeysOfAll, is_applied, Brings, AreEvents}
+use Rattle.bx_world.specs.Answers.{is_ok}
+use Rattle.bx_world.specs.Events.{input_of, keys_of, HasKeysOfAll, is_applied, Brings, BringsByte, AreEventsFrom, owed_after, owed_by, painted_if}
 use Rattle.bx_world.specs.Headline.{Follows}
 use Rattle.bx_world.proofs.Ended.{after_both, has_input}
 use Rattle.bx_world.proofs.Keys.{spent}
+use Rattle.bx_world.proofs.Schedules.{byte_owes}
 
 -- ---- events in two parts
 
 stored_both : (d : Data) (e : Editor) (store : StoreState) (first others : List Event)
     → stored_after_all d e store (first ++ others) ≡ stored_after_all d (after_events d e first) (stored_after_all d e store first) others
 stored_both d e store [] others = refl
-stored_both d e store (event ∷ first) others = stored_both d (after_event d e event) (stored_after e store event) first others
+stored_both d e store (event ∷ first) others = stored_both d (after_event d e event) (stored_after d e store event) first others
 
 -- ---- the keys of events
 
 -- each byte has the key that it ends behind what a session keeps of those before
 abbrev pub AreDecoded : List ℕ → List Event → Type 0
 AreDecoded rest [] = Unit {0}
-AreDecoded rest (Input byte key applied fault ∷ more) = (key ≡ key_after rest byte) × AreDecoded (head_of (rest_after rest byte)) more
-AreDecoded rest (Telling height width ∷ more) = AreDecoded rest more
+AreDecoded rest (Input byte key applied fault painted ∷ more) = (key ≡ key_after rest byte) × AreDecoded (head_of (rest_after rest byte)) more
+AreDecoded rest (Telling height width painted ∷ more) = AreDecoded rest more
 
 decoded_keys : (rest : List ℕ) (events : List Event) → AreDecoded rest events → keys_of events ≡ keys_from rest (input_of events)
 decoded_keys rest [] are = refl
-decoded_keys rest (Input byte key applied fault ∷ more) are =
+decoded_keys rest (Input byte key applied fault painted ∷ more) are =
     ap (λ k. option_to_list k ++ keys_of more) are.0
     ∙ ap (λ ks. option_to_list (key_after rest byte) ++ ks) (decoded_keys (head_of (rest_after rest byte)) more are.1)
-decoded_keys rest (Telling height width ∷ more) are = decoded_keys rest more are
+decoded_keys rest (Telling height width painted ∷ more) are = decoded_keys rest more are
 
 front_decoded : (rest : List ℕ) (front back : List Event) → AreDecoded rest (front ++ back) → AreDecoded rest front
 front_decoded rest [] back are = tt
-front_decoded rest (Input byte key applied fault ∷ front) back are =
+front_decoded rest (Input byte key applied fault painted ∷ front) back are =
     (are.0, front_decoded (head_of (rest_after rest byte)) front back are.1)
-front_decoded rest (Telling height width ∷ front) back are = front_decoded rest front back are
+front_decoded rest (Telling height width painted ∷ front) back are = front_decoded rest front back are
 
 -- behind the bytes of a journal, of which this waits
 pub decoded_behind : (journal : List ℕ) (events : List Event) → AreDecoded (rest_from [] journal) events → HasKeysOfAll journal events
@@ -71,10 +74,11 @@ decoded_behind journal events are front back is =
 
 -- ---- a byte
 
--- what a byte leaves of the editor and of what waits
-pub record IsFed (d : Data) (applied : Bool) (fault : Option StoreFault) (s : Session) (b : ℕ) (new : Session) : Type 0 where
-  pub editor : new.editor ≡ after_input d applied fault s.editor (key_of_byte s b)
+-- what a byte leaves of the editor, of what waits, and of the painting that is owed
+pub record IsFed (d : Data) (answer : Result (Unit {0}) StepFault) (fault : Option StoreFault) (s : Session) (b : ℕ) (new : Session) : Type 0 where
+  pub editor : new.editor ≡ painted_if (is_ok answer && is_painted s b) d (after_input d (is_applied answer) fault s.editor (key_of_byte s b))
   pub rest : new.rest ≡ (after_spending s b).rest
+  pub owed : new.painting_owed ≡ owed_by s.painting_owed answer
 
 any_editor : (d : Data) (fault : Option StoreFault) (s : Session) (key : Option Key) → (session_after_any d fault s key).editor ≡ after_input d true fault s.editor key
 any_editor d fault s None = refl
@@ -93,37 +97,54 @@ unpainted_editor d fault s b =
 unpainted_rest : (d : Data) (fault : Option StoreFault) (s : Session) (b : ℕ) → (unpainted_after_byte d fault s b).rest ≡ (after_spending s b).rest
 unpainted_rest d fault s b = any_rest d fault (after_spending s b) (key_of_byte s b)
 
-idle_input : (d : Data) (fault : Option StoreFault) (owed : Bool) (e : Editor) (key : Option Key) → not (is_some key) && not owed ≡ true → e ≡ after_input d true fault e key
-idle_input d fault owed e None idle = refl
-idle_input d fault owed e (Some key) idle = absurd (cc idle)
-
 refused_input : (d : Data) (fault : Option StoreFault) (e : Editor) (key : Option Key) → e ≡ after_input d false fault e key
 refused_input d fault e None = refl
 refused_input d fault e (Some key) = refl
 
-painted_fed : (d : Data) (fault : Option StoreFault) (s : Session) (b : ℕ) → IsFed d true fault s b (after_byte d fault s b)
-painted_fed d fault s b = by_idle (is_idle s b) refl where
-  by_idle : (idle : Bool) → is_idle s b ≡ idle
-      → IsFed d true fault s b (if idle then after_spending s b else with_painting d (unpainted_after_byte d fault s b))
-  by_idle true idle = record {
-    editor = (spent s b).editor ∙ idle_input d fault s.painting_owed s.editor (key_of_byte s b) idle;
-    rest = refl;
-  }
-  by_idle false other = record { editor = unpainted_editor d fault s b; rest = unpainted_rest d fault s b }
+painted_fed : (d : Data) (fault : Option StoreFault) (s : Session) (b : ℕ) → IsFed d (Ok tt) fault s b (after_byte d fault s b)
+painted_fed d fault s b = record { editor = by_editor (is_painted s b); rest = by_rest (is_painted s b); owed = byte_owes d fault s b } where
+  u : Session
+  u = unpainted_after_byte d fault s b
+
+  by_editor : (paints : Bool) → (if paints then painted_after d u (key_of_byte s b) else u).editor
+      ≡ painted_if paints d (after_input d true fault s.editor (key_of_byte s b))
+  by_editor true = ap (scrolled d) (unpainted_editor d fault s b)
+  by_editor false = unpainted_editor d fault s b
+
+  by_rest : (paints : Bool) → (if paints then painted_after d u (key_of_byte s b) else u).rest ≡ (after_spending s b).rest
+  by_rest true = unpainted_rest d fault s b
+  by_rest false = unpainted_rest d fault s b
 
 pub byte_fed : (d : Data) (fault : Option StoreFault) (old new : World) (b : ℕ) (answer : Result (Unit {0}) StepFault) → AfterByteStep d fault old b answer new
-    → IsFed d (is_applied answer) fault old.session b new.session
+    → IsFed d answer fault old.session b new.session
 byte_fed d fault old new b (Ok done) is =
-    subst (λ (w : World). IsFed d true fault old.session b w.session) (sym is) (painted_fed d fault old.session b)
+    subst (λ (w : World). IsFed d (Ok done) fault old.session b w.session) (sym is)
+    (let fed = painted_fed d fault old.session b in record { editor = fed.editor; rest = fed.rest; owed = fed.owed })
 byte_fed d fault old new b (Err (faults.Session refused.Paint)) is =
-    subst (λ (w : World). IsFed d true fault old.session b w.session) (sym is.0)
-    (record { editor = unpainted_editor d fault old.session b; rest = unpainted_rest d fault old.session b })
+    subst (λ (w : World). IsFed d (Err (faults.Session refused.Paint)) fault old.session b w.session) (sym is.0)
+    (record { editor = unpainted_editor d fault old.session b; rest = unpainted_rest d fault old.session b; owed = refl })
 byte_fed d fault old new b (Err (faults.Session refused.Edit)) is =
-    subst (λ (w : World). IsFed d false fault old.session b w.session) (sym is.0)
-    (record { editor = (spent old.session b).editor ∙ refused_input d fault old.session.editor (key_of_byte old.session b); rest = refl })
+    subst (λ (w : World). IsFed d (Err (faults.Session refused.Edit)) fault old.session b w.session) (sym is.0)
+    (record {
+      editor = (spent old.session b).editor ∙ refused_input d fault old.session.editor (key_of_byte old.session b);
+      rest = refl;
+      owed = (spent old.session b).owed;
+    })
 byte_fed d fault old new b (Err (faults.Session refused.Size)) is = absurd is
 byte_fed d fault old new b (Err (faults.Screen _)) is = absurd is
 byte_fed d fault old new b (Err faults.Line) is = absurd is
+
+-- after the end a painting scrolls no more
+ended_top : (painted : Bool) (d : Data) (e : Editor) → e.ended ≡ true → painted_if painted d e ≡ e
+ended_top false d e on = refl
+ended_top true d e on = ap (with_top e) (same e.ended (follow (rows d e) e.top e.place (text_height e.height)) on) where
+  same : (ended : Bool) (other : ℕ) → ended ≡ true → (if ended then e.top else other) ≡ e.top
+  same true other is = refl
+  same false other is = absurd (cc is)
+
+neither : (applied : Bool) → (applied && false) ≡ false
+neither true = refl
+neither false = refl
 
 -- the key of a byte, and what waits behind it, after the session's end and before
 key_if : (ended : Bool) (key : Option Key) → ended ≡ true → (if ended then None else key) ≡ None
@@ -147,7 +168,8 @@ rest_if_not false s rest off = refl
 -- what a step brings, and what that makes of editor, store and the input that waits
 record StepBrings (d : Data) (old new : World) (store store' : StoreState) (step : Step) (answer : Result (Unit {0}) StepFault) : Type 0 where
   pub first : List Event
-  pub brings : Brings old.session.editor.ended step answer first
+  pub brings : Brings old.session.painting_owed old.session.editor step answer first
+  pub owed : new.session.painting_owed ≡ owed_after old.session.painting_owed step answer
   pub editor : new.session.editor ≡ after_events d old.session.editor first
   pub stored : store' ≡ stored_after_all d old.session.editor store first
   pub decoded : (others : List Event) → AreDecoded new.session.rest others → AreDecoded old.session.rest (first ++ others)
@@ -161,16 +183,21 @@ store_is true (Some fault) text store store' is =
 store_is false fault text store store' is = is
 
 byte_brings : (ended : Bool) (d : Data) (fault : Option StoreFault) (old new : World) (store store' : StoreState) (b : ℕ) (answer : Result (Unit {0}) StepFault)
-    → old.session.editor.ended ≡ ended → StoreAfter (is_save_byte old.session b) fault old.session.editor.content.text store store'
-    → IsFed d (is_applied answer) fault old.session b new.session → StepBrings d old new store store' (Byte b) answer
+    → old.session.editor.ended ≡ ended
+    → StoreAfter (is_applied answer && is_save_byte old.session b) fault (text_to_save d old.session.editor) store store'
+    → IsFed d answer fault old.session b new.session → StepBrings d old new store store' (Byte b) answer
 byte_brings true d fault old new store store' b answer on stores fed =
     let s = old.session in
     let none : key_of_byte s b ≡ None = key_if s.editor.ended (key_after s.rest b) on in
     let same : new.session.rest ≡ s.rest = fed.rest ∙ rest_if s.editor.ended s (head_of (rest_after s.rest b)) on in record {
       first = [];
-      brings = subst (λ ended. Brings ended (Byte b) answer []) (sym on) refl;
-      editor = fed.editor ∙ ap (λ key. after_input d (is_applied answer) fault s.editor key) none;
-      stored = subst (λ key. StoreAfter (is_save_key key) fault s.editor.content.text store store') none stores;
+      brings = subst (λ ended. BringsByte ended s.painting_owed s.editor b answer []) (sym on) refl;
+      owed = fed.owed;
+      editor = fed.editor
+          ∙ ap (λ key. painted_if (is_ok answer && is_painted s b) d (after_input d (is_applied answer) fault s.editor key)) none
+          ∙ ended_top (is_ok answer && is_painted s b) d s.editor on;
+      stored = subst (λ saves. StoreAfter saves fault (text_to_save d s.editor) store store')
+          (ap (λ key. is_applied answer && is_save_key key) none ∙ neither (is_applied answer)) stores;
       decoded = λ others are. subst (λ rest. AreDecoded rest others) same are;
     }
 byte_brings false d fault old new store store' b answer off stores fed =
@@ -178,10 +205,12 @@ byte_brings false d fault old new store store' b answer off stores fed =
     let key = key_of_byte s b in
     let next : new.session.rest ≡ head_of (rest_after s.rest b) =
     fed.rest ∙ rest_if_not s.editor.ended s (head_of (rest_after s.rest b)) off in record {
-      first = Input b key (is_applied answer) fault ∷ [];
-      brings = subst (λ ended. Brings ended (Byte b) answer (Input b key (is_applied answer) fault ∷ [])) (sym off) (key, fault, refl);
+      first = Input b key (is_applied answer) fault (is_ok answer && is_painted s b) ∷ [];
+      brings = subst (λ ended. BringsByte ended s.painting_owed s.editor b answer (Input b key (is_applied answer) fault (is_ok answer && is_painted s b) ∷ []))
+          (sym off) (key, fault, refl);
+      owed = fed.owed;
       editor = fed.editor;
-      stored = store_is (is_save_key key) fault s.editor.content.text store store' stores;
+      stored = store_is (is_applied answer && is_save_key key) fault (text_to_save d s.editor) store store' stores;
       decoded = λ others are. (
         key_if_not s.editor.ended (key_after s.rest b) off,
         subst (λ rest. AreDecoded rest others) next are,
@@ -197,11 +226,13 @@ no_size_if true event off = absurd (cc off)
 no_size_if false event off = refl
 
 telling_brings : (d : Data) (old new : World) (store store' : StoreState) (height width : ℕ) (answer : Result (Unit {0}) StepFault)
-    → is_size height width ≡ true → new.session.editor ≡ after_events d old.session.editor (Telling height width ∷ [])
-    → new.session.rest ≡ old.session.rest → store' ≡ store → StepBrings d old new store store' (Told height width) answer
-telling_brings d old new store store' height width answer sized editor rest same = record {
-  first = Telling height width ∷ [];
-  brings = size_if (is_size height width) (Telling height width) sized;
+    → is_size height width ≡ true → new.session.editor ≡ after_events d old.session.editor (Telling height width (is_ok answer) ∷ [])
+    → new.session.rest ≡ old.session.rest → new.session.painting_owed ≡ owed_by old.session.painting_owed answer → store' ≡ store
+    → StepBrings d old new store store' (Told height width) answer
+telling_brings d old new store store' height width answer sized editor rest owed same = record {
+  first = Telling height width (is_ok answer) ∷ [];
+  brings = size_if (is_size height width) (Telling height width (is_ok answer)) sized;
+  owed = owed;
   editor = editor;
   stored = same;
   decoded = λ others are. subst (λ rest. AreDecoded rest others) rest are;
@@ -211,13 +242,14 @@ told_brings : (d : Data) (old new : World) (store store' : StoreState) (height w
     → AfterToldStep d old height width answer new → store' ≡ store → StepBrings d old new store store' (Told height width) answer
 told_brings d old new store store' height width (Ok done) is same =
     telling_brings d old new store store' height width (Ok done) is.0 (ap (λ (w : World). w.session.editor) is.1)
-    (ap (λ (w : World). w.session.rest) is.1) same
+    (ap (λ (w : World). w.session.rest) is.1) (ap (λ (w : World). w.session.painting_owed) is.1) same
 told_brings d old new store store' height width (Err (faults.Session refused.Paint)) is same =
     telling_brings d old new store store' height width (Err (faults.Session refused.Paint)) is.0 (ap (λ (w : World). w.session.editor) is.1)
-    (ap (λ (w : World). w.session.rest) is.1) same
+    (ap (λ (w : World). w.session.rest) is.1) (ap (λ (w : World). w.session.painting_owed) is.1) same
 told_brings d old new store store' height width (Err (faults.Session refused.Size)) is same = record {
   first = [];
-  brings = no_size_if (is_size height width) (Telling height width) is.0;
+  brings = no_size_if (is_size height width) (Telling height width false) is.0;
+  owed = ap (λ (w : World). w.session.painting_owed) is.1;
   editor = ap (λ (w : World). w.session.editor) is.1;
   stored = same;
   decoded = λ others are. subst (λ (w : World). AreDecoded w.session.rest others) is.1 are;
@@ -226,10 +258,11 @@ told_brings d old new store store' height width (Err (faults.Session refused.Edi
 told_brings d old new store store' height width (Err (faults.Screen fault)) is same = absurd is
 told_brings d old new store store' height width (Err faults.Line) is same = absurd is
 
--- editor and waiting input are as they were
+-- editor, waiting input and owed painting are as they were
 record IsUntouched (old new : World) : Type 0 where
   pub editor : new.session.editor ≡ old.session.editor
   pub rest : new.session.rest ≡ old.session.rest
+  pub owed : new.session.painting_owed ≡ old.session.painting_owed
 
 untouched_as : (old w new : World) → new ≡ w → IsUntouched old w → IsUntouched old new
 untouched_as old w new is same = subst (IsUntouched old) (sym is) same
@@ -237,32 +270,34 @@ untouched_as old w new is same = subst (IsUntouched old) (sym is) same
 window_untouched : (old new : World) (height width : ℕ) (answer : Result (Unit {0}) StepFault) → AfterWindowStep old height width answer new
     → IsUntouched old new
 window_untouched old new height width (Ok done) is =
-    untouched_as old (after_window old height width) new is.2 (record { editor = refl; rest = refl })
-window_untouched old new height width (Err (faults.Screen grid.SizeOutOfRange)) is = untouched_as old old new is.2 (record { editor = refl; rest = refl })
+    untouched_as old (after_window old height width) new is.2 (record { editor = refl; rest = refl; owed = refl })
+window_untouched old new height width (Err (faults.Screen grid.SizeOutOfRange)) is = untouched_as old old new is.2 (record { editor = refl; rest = refl; owed = refl })
 window_untouched old new height width (Err (faults.Screen grid.OutOfMemory)) is =
-    untouched_as old (with_failed_screen old) new is.1 (record { editor = refl; rest = refl })
+    untouched_as old (with_failed_screen old) new is.1 (record { editor = refl; rest = refl; owed = refl })
 window_untouched old new height width (Err (faults.Session fault)) is = absurd is
 window_untouched old new height width (Err faults.Line) is = absurd is
 
 send_untouched : (old new : World) (count : ℕ) (answer : Result (Unit {0}) StepFault) → AfterSendStep old count answer new → IsUntouched old new
-send_untouched old new count (Ok done) is = untouched_as old (after_send old count) new is (record { editor = refl; rest = refl })
-send_untouched old new count (Err faults.Line) is = untouched_as old old new is (record { editor = refl; rest = refl })
+send_untouched old new count (Ok done) is = untouched_as old (after_send old count) new is (record { editor = refl; rest = refl; owed = refl })
+send_untouched old new count (Err faults.Line) is = untouched_as old old new is (record { editor = refl; rest = refl; owed = refl })
 send_untouched old new count (Err (faults.Session fault)) is = absurd is
 send_untouched old new count (Err (faults.Screen fault)) is = absurd is
 
 read_untouched : (old new : World) (count : ℕ) (answer : Result (Unit {0}) StepFault) → AfterReadStep old count answer new → IsUntouched old new
-read_untouched old new count (Ok done) is = untouched_as old (after_read old count) new is.1 (record { editor = refl; rest = refl })
+read_untouched old new count (Ok done) is = untouched_as old (after_read old count) new is.1 (record { editor = refl; rest = refl; owed = refl })
 read_untouched old new count (Err (faults.Screen grid.OutOfMemory)) is =
-    subst (IsUntouched old) (sym is.1) (record { editor = refl; rest = refl })
+    subst (IsUntouched old) (sym is.1) (record { editor = refl; rest = refl; owed = refl })
 read_untouched old new count (Err (faults.Screen grid.SizeOutOfRange)) is = absurd is
 read_untouched old new count (Err (faults.Session fault)) is = absurd is
 read_untouched old new count (Err faults.Line) is = absurd is
 
 nothing_brought : (d : Data) (old new : World) (store store' : StoreState) (step : Step) (answer : Result (Unit {0}) StepFault)
-    → Brings old.session.editor.ended step answer [] → IsUntouched old new → store' ≡ store → StepBrings d old new store store' step answer
-nothing_brought d old new store store' step answer none untouched same = record {
+    → Brings old.session.painting_owed old.session.editor step answer [] → owed_after old.session.painting_owed step answer ≡ old.session.painting_owed
+    → IsUntouched old new → store' ≡ store → StepBrings d old new store store' step answer
+nothing_brought d old new store store' step answer none stays untouched same = record {
   first = [];
   brings = none;
+  owed = untouched.owed ∙ sym stays;
   editor = untouched.editor;
   stored = same;
   decoded = λ others are. subst (λ rest. AreDecoded rest others) untouched.rest are;
@@ -274,17 +309,17 @@ step_brings d old new store store' (Byte b) answer is =
     byte_brings old.session.editor.ended d is.0 old new store store' b answer refl is.1 (byte_fed d is.0 old new b answer is.2)
 step_brings d old new store store' (Told height width) answer is = told_brings d old new store store' height width answer is.0 is.1
 step_brings d old new store store' (Window height width) answer is =
-    nothing_brought d old new store store' (Window height width) answer refl (window_untouched old new height width answer is.0) is.1
+    nothing_brought d old new store store' (Window height width) answer refl refl (window_untouched old new height width answer is.0) is.1
 step_brings d old new store store' (Send count) answer is =
-    nothing_brought d old new store store' (Send count) answer refl (send_untouched old new count answer is.0) is.1
+    nothing_brought d old new store store' (Send count) answer refl refl (send_untouched old new count answer is.0) is.1
 step_brings d old new store store' (Read count) answer is =
-    nothing_brought d old new store store' (Read count) answer refl (read_untouched old new count answer is.0) is.1
+    nothing_brought d old new store store' (Read count) answer refl refl (read_untouched old new count answer is.0) is.1
 
 -- ---- a schedule
 
 record Brought (d : Data) (old new : World) (store store' : StoreState) (all : List (Step × Result (Unit {0}) StepFault)) : Type 0 where
   pub events : List Event
-  pub events_are : AreEvents d old.session.editor all events
+  pub events_are : AreEventsFrom d old.session.painting_owed old.session.editor all events
   pub editor : new.session.editor ≡ after_events d old.session.editor events
   pub stored : store' ≡ stored_after_all d old.session.editor store events
   pub decoded : AreDecoded old.session.rest events
@@ -308,7 +343,8 @@ brought d old new store store' (s ∷ more) played =
         others.events,
         refl,
         one.brings,
-        subst (λ (x : Editor). AreEvents d x more others.events) one.editor others.events_are,
+        subst (λ (owed : Bool). AreEventsFrom d owed (after_events d e one.first) more others.events) one.owed
+            (subst (λ (x : Editor). AreEventsFrom d played.0.session.painting_owed x more others.events) one.editor others.events_are),
       );
       editor = others.editor ∙ ap (λ (x : Editor). after_events d x others.events) one.editor ∙ sym (after_both d e one.first others.events);
       stored = others.stored
@@ -330,21 +366,21 @@ below g n k now low is = by (cases_lt g (suc n)) where
 failed_are : (d : Data) (e : Editor) (store : StoreState) (events : List Event) → (stored_after_all d e store events).faults.count < greatest
     → (stored_after_all d e store events).faults.count ≡ store.faults.count + failed_saves events
 failed_are d e store [] low = omega arith
-failed_are d e store (Telling height width ∷ more) low = failed_are d (after_event d e (Telling height width)) store more low
-failed_are d e store (Input byte key applied fault ∷ more) low =
-    by_save (is_save_key key) fault (λ (now : StoreState). failed_are d (after_input d applied fault e key) now more) low where
+failed_are d e store (Telling height width painted ∷ more) low = failed_are d (after_event d e (Telling height width painted)) store more low
+failed_are d e store (Input byte key applied fault painted ∷ more) low =
+    by_save (applied && is_save_key key) fault (λ (now : StoreState). failed_are d next now more) low where
       next : Editor
-      next = after_input d applied fault e key
+      next = after_event d e (Input byte key applied fault painted)
 
       by_save : (saves : Bool) (fault : Option StoreFault)
           → ((now : StoreState) → (stored_after_all d next now more).faults.count < greatest
           → (stored_after_all d next now more).faults.count ≡ now.faults.count + failed_saves more)
-          → (stored_after_all d next (if saves then after_save_of e.content.text fault store else store) more).faults.count < greatest
-          → (stored_after_all d next (if saves then after_save_of e.content.text fault store else store) more).faults.count
+          → (stored_after_all d next (if saves then after_save_of (text_to_save d e) fault store else store) more).faults.count < greatest
+          → (stored_after_all d next (if saves then after_save_of (text_to_save d e) fault store else store) more).faults.count
           ≡ store.faults.count + (if saves && is_some fault then suc (failed_saves more) else failed_saves more)
-      by_save true None others low = others (after_save_of e.content.text None store) low
+      by_save true None others low = others (after_save_of (text_to_save d e) None store) low
       by_save true (Some failed) others low =
-          let count = others (after_save_of e.content.text (Some failed) store) low in
+          let count = others (after_save_of (text_to_save d e) (Some failed) store) low in
           below greatest store.faults.count (failed_saves more) _ (subst (λ n. n < greatest) count low) count
       by_save false fault others low = others store low
 
@@ -352,7 +388,7 @@ pub follows_decoded : (d : Data) (old new : World) (store store' : StoreState) (
     → PlaysTo d old store all new store' → (events : List Event) × Follows d old store all new store' events × AreDecoded old.session.rest events
 follows_decoded d old new store store' all played =
     let b = brought d old new store store' all played in
-    let i = has_input d old.session.editor all b.events b.events_are in
+    let i = has_input d old.session.painting_owed old.session.editor all b.events b.events_are in
     let failures : store'.faults.count < greatest → store'.faults.count ≡ store.faults.count + failed_saves b.events =
     subst (λ (x : StoreState). x.faults.count < greatest → x.faults.count ≡ store.faults.count + failed_saves b.events) (sym b.stored)
     (failed_are d old.session.editor store b.events) in (

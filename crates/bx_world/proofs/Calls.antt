@@ -1,7 +1,7 @@
 -- What the calls of a world leave, put together from what each call below left.
 use Rattle.std.proofs.Common.{◌≡◌, ℕ, zero, suc, Bool, true, false, List, [], ◌∷◌, ◌++◌, take, drop, length, Option, Some, None, Result, Ok, Err}
 use Rattle.std.proofs.Common.{refl, sym, ap, subst, ◌∙◌, if◌then◌else◌}
-use Rattle.std.specs.Prelude.{IfSome, IsSome, OnOk, OnErr, is_some, not, ◌&&◌, ◌==◌, ◌≢◌, option_map}
+use Rattle.std.specs.Prelude.{IfSome, IsSome, OnOk, OnErr, ◌&&◌, ◌==◌, ◌≢◌, option_map}
 use Rattle.bx_terms.specs.declared.base.Base.{Base}
 use Rattle.bx_keys.specs.declared.key.Key.{Key}
 use Rattle.bx_keys.specs.Keys.{rest_after}
@@ -11,17 +11,21 @@ use Rattle.bx_grid.specs.Picture.{PictureState}
 use Rattle.bx_grid.specs.Terminal.{Terminal, reads, after_resize}
 use Rattle.bx_store.specs.declared.store.StoreFault.{StoreFault}
 use Rattle.bx_ucd.specs.Data.{Data}
+use Rattle.bx_editor.specs.Editor.{Editor}
+use Rattle.bx_editor.specs.Picture.{StandsOnItsCell}
 use Rattle.bx_session.specs.declared.error.Refused.{Refused}
 use Rattle.bx_session.specs.declared.error.Refused.TheVariants as refused
 use Rattle.bx_session.specs.declared.status.Status.{Status}
-use Rattle.bx_session.specs.Session.{Session, SessionState, at_opening, after_spending, after_byte, owing_after_byte, is_idle, unpainted_after_byte}
-use Rattle.bx_session.specs.Session.{with_painting, key_of_byte, owing_after_told, after_sending}
-use Rattle.bx_session.specs.Saving.{StoreState, StoreAfter, Feeds, ToldBy, is_save_byte}
+use Rattle.bx_session.specs.Session.{Session, SessionState, at_opening, after_spending, after_byte, owing_after_byte, is_painted, unpainted_after_byte}
+use Rattle.bx_session.specs.Session.{painted_after, key_of_byte, needs_painting, owing_after_told, after_sending, with_clipboard}
+use Rattle.bx_session.specs.Saving.{StoreState, StoreAfter, Feeds, ToldBy, is_save_byte, text_to_save}
 use Rattle.bx_session.specs.Painting.{QueuesPicture, FeedPaints, ToldPaints}
-use Rattle.bx_session.proofs.Shown.{always_shows}
+use Rattle.bx_session.proofs.Quiet.{quiet_byte, quiet_shows}
+use Rattle.bx_session.proofs.Shown.{always_shows, no_need}
+use Rattle.bx_session.proofs.Tops.{clipboard_unseen}
 use Rattle.bx_world.specs.declared.step.StepFault.{StepFault}
 use Rattle.bx_world.specs.declared.step.StepFault.TheVariants as faults
-use Rattle.bx_world.specs.Answers.{answer_of, mark_after}
+use Rattle.bx_world.specs.Answers.{answer_of, is_applied, mark_after}
 use Rattle.bx_world.specs.Steps.{AfterByteStep, AfterToldStep, AfterReadStep}
 use Rattle.bx_world.specs.declared.world.World.TheInside.{Inside}
 use Rattle.bx_world.specs.World.{World, unknown_terminal, with_byte, with_told_size, told_after, told_after_key, is_window, after_send}
@@ -58,6 +62,27 @@ opened_is {D} says s tables text height width base line screen is queued empty s
     rw (empty, shown) (opened (says s.tables) s.session height width (subst (λ t. QueuesPicture (says t) [] None s.session) (sym same) queued)
     (ap (λ (x : SessionState D). x.session.editor.height) is, ap (λ (x : SessionState D). x.session.editor.width) is))
 
+-- ---- a clipboard
+
+clipboard_cursor : (d : Data) (s : Session) → CursorStands d s → CursorStands d (with_clipboard s)
+clipboard_cursor d s was owed on =
+    let e : Editor = s.editor in
+    let h = was owed on in
+    let new : Editor = record e { clipboard = true } in
+    subst (λ (p : PictureState). StandsOnItsCell d new e.top p) (sym (clipboard_unseen d e true e.top))
+    (record { place = h.place; slot = h.slot; cell = h.cell; shown = h.shown; row = h.row; column = h.column })
+
+-- a session with a clipboard is in step as before
+pub clipboard_call : (d : Data) (w : World) (new : Session) → IsInStep d w → new ≡ with_clipboard w.session → IsInStep d (record w { session = new })
+clipboard_call d w new was is = rw is (record {
+  state = always_shows.clipboard d w.session was.state;
+  cursor = clipboard_cursor d w.session was.cursor;
+  follows = was.follows;
+  whole = was.whole;
+  screen = was.screen;
+  size = was.size;
+})
+
 -- ---- a byte
 
 spent_cursor : (ended : Bool) (d : Data) (s : Session) (rest : List ℕ) → CursorStands d s → CursorStands d (if ended then s else record s { rest = rest })
@@ -86,28 +111,38 @@ owing_in_step d fault w b was =
 
 -- its key was applied and painted
 pub fed_in_step : (d : Data) (fault : Option StoreFault) (w : World) (b : ℕ) (new : Session) → IsInStep d w
-    → new ≡ with_painting d (unpainted_after_byte d fault w.session b) → FeedPaints d w.session b new → IsInStep d (with_byte w b new)
+    → new ≡ painted_after d (unpainted_after_byte d fault w.session b) (key_of_byte w.session b) → FeedPaints d w.session b new
+    → IsInStep d (with_byte w b new)
 fed_in_step d fault w b new was is queued =
     painted d w new (told_after_key w (key_of_byte w.session b)) (unpainted_after_byte d None w.session b).known was queued
     (byte_keeps d None w b).known
     (λ on. rw is ((byte_keeps d fault w b).size was.size on))
 
-idle_told : (height width : ℕ) (told owed : Bool) (key : Option Key) → not (is_some key) && not owed ≡ true → told_after height width told key ≡ told
-idle_told height width told owed None idle = refl
-idle_told height width told owed (Some key) idle = absurd (cc idle)
+-- its key was applied, and needs no painting
+quiet_in_step : (d : Data) (fault : Option StoreFault) (w : World) (b : ℕ) → IsInStep d w → is_painted w.session b ≡ false
+    → IsInStep d (with_byte w b (unpainted_after_byte d fault w.session b))
+quiet_in_step d fault w b was none =
+    let s = w.session in
+    let keeps = byte_keeps d fault w b in
+    let need = no_need s.painting_owed (needs_painting s.editor (key_of_byte s b)) none in
+    let quiet = quiet_byte d fault s b need.1 in
+    kept d w (unpainted_after_byte d fault s b) (told_after_key w (key_of_byte s b)) was quiet.pending
+    (quiet_shows d s (unpainted_after_byte d fault s b) quiet was.state)
+    (λ owed on. quiet.editor.stands (was.cursor need.0 (sym quiet.editor.ended ∙ on))) keeps.known (λ on. keeps.size was.size on)
 
 fed : (d : Data) (fault : Option StoreFault) (w : World) (b : ℕ) (new : Session) → IsInStep d w → new ≡ after_byte d fault w.session b
-    → (is_idle w.session b ≡ false → FeedPaints d w.session b new) → IsInStep d (with_byte w b new)
-fed d fault w b new was is paints = by_idle (is_idle w.session b) refl is where
-  by_idle : (idle : Bool) → is_idle w.session b ≡ idle
-      → new ≡ (if idle then after_spending w.session b else with_painting d (unpainted_after_byte d fault w.session b)) → IsInStep d (with_byte w b new)
-  by_idle true idle same =
-      rw same (spent_in_step d w b (told_after_key w (key_of_byte w.session b)) was
-      (λ on. sym (idle_told w.height w.width w.told w.session.painting_owed (key_of_byte w.session b) idle) ∙ on))
-  by_idle false other same = fed_in_step d fault w b new was same (paints other)
+    → (is_painted w.session b ≡ true → FeedPaints d w.session b new) → IsInStep d (with_byte w b new)
+fed d fault w b new was is paints = by_painting (is_painted w.session b) refl is where
+  u : Session
+  u = unpainted_after_byte d fault w.session b
+
+  by_painting : (painted : Bool) → is_painted w.session b ≡ painted → new ≡ (if painted then painted_after d u (key_of_byte w.session b) else u)
+      → IsInStep d (with_byte w b new)
+  by_painting true asks same = fed_in_step d fault w b new was same (paints asks)
+  by_painting false none same = rw same (quiet_in_step d fault w b was none)
 
 pub byte_in_step : (d : Data) (w : World) (new : Session) (store store' : StoreState) (b : ℕ) (answer : Result Status Refused) → IsInStep d w
-    → Feeds d w.session store b answer new store' → (is_idle w.session b ≡ false → OnOk answer (FeedPaints d w.session b new))
+    → Feeds d w.session store b answer new store' → (is_painted w.session b ≡ true → OnOk answer (FeedPaints d w.session b new))
     → IsInStep d (record w { session = new; told = mark_after w.told (told_after_key w (key_of_byte w.session b)) answer })
 byte_in_step d w new store store' b (Ok status) was feeds paints = fed d feeds.0 w b new was feeds.2.0 paints
 byte_in_step d w new store store' b (Err refused.Edit) was feeds paints = rw feeds.2.0 (spent_in_step d w b w.told was (λ on. on))
@@ -117,14 +152,14 @@ byte_in_step d w new store store' b (Err refused.Size) was feeds paints = absurd
 pub byte_call : {D : Type 0} (says : D → Data) (tables tables' : D) (w : World) (new : Session) (store store' : StoreState) (b : ℕ)
     (answer : Result Status Refused) (told : Bool) → tables' ≡ tables → told ≡ mark_after w.told (told_after_key w (key_of_byte w.session b)) answer
     → IsInStep (says tables) w → Feeds (says tables) w.session store b answer new store'
-    → (is_idle w.session b ≡ false → OnOk answer (FeedPaints (says tables) w.session b new))
+    → (is_painted w.session b ≡ true → OnOk answer (FeedPaints (says tables) w.session b new))
     → IsInStep (says tables') (record w { session = new; told = told })
 byte_call says tables tables' w new store store' b answer told same is was feeds paints =
     rw (same, is) (byte_in_step (says tables) w new store store' b answer was feeds paints)
 
 byte_answer : (d : Data) (w : World) (new : Session) (store store' : StoreState) (b : ℕ) (answer : Result Status Refused)
     → Feeds d w.session store b answer new store'
-    → (fault : Option StoreFault) × StoreAfter (is_save_byte w.session b) fault w.session.editor.content.text store store'
+    → (fault : Option StoreFault) × StoreAfter (is_applied (answer_of answer) && is_save_byte w.session b) fault (text_to_save d w.session.editor) store store'
     × AfterByteStep d fault w b (answer_of answer) (record w { session = new; told = mark_after w.told (told_after_key w (key_of_byte w.session b)) answer })
 byte_answer d w new store store' b (Ok status) feeds = (feeds.0, feeds.1, ap (λ (s : Session). with_byte w b s) feeds.2.0)
 byte_answer d w new store store' b (Err refused.Edit) feeds = (feeds.0, feeds.1, (ap (λ (s : Session). record w { session = s }) feeds.2.0, feeds.2.1))
@@ -134,7 +169,7 @@ byte_answer d w new store store' b (Err refused.Size) feeds = absurd feeds.2
 pub byte_steps : (d : Data) (w : World) (new : Session) (store store' : StoreState) (b : ℕ) (answer : Result Status Refused)
     (result : Result (Unit {0}) StepFault) (told : Bool) → result ≡ answer_of answer
     → told ≡ mark_after w.told (told_after_key w (key_of_byte w.session b)) answer → Feeds d w.session store b answer new store'
-    → (fault : Option StoreFault) × StoreAfter (is_save_byte w.session b) fault w.session.editor.content.text store store'
+    → (fault : Option StoreFault) × StoreAfter (is_applied result && is_save_byte w.session b) fault (text_to_save d w.session.editor) store store'
     × AfterByteStep d fault w b result (record w { session = new; told = told })
 byte_steps d w new store store' b answer result told same is feeds = rw (same, is) (byte_answer d w new store store' b answer feeds)
 

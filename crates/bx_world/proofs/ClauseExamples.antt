@@ -18,10 +18,10 @@ use Rattle.bx_editor.specs.Editor.{Editor, at_start, rows}
 use Rattle.bx_editor.specs.Picture.{picture}
 use Rattle.bx_editor.proofs.Computed.{tables, ascii_columns}
 use Rattle.bx_session.specs.Saving.{StoreState}
-use Rattle.bx_session.specs.Session.{Session}
+use Rattle.bx_session.specs.Session.{Session, needs_painting}
 use Rattle.bx_session.proofs.Computed.{start}
 use Rattle.bx_world.specs.declared.step.Step.TheVariants.{Byte, Send, Read}
-use Rattle.bx_world.specs.Events.{Event, AreEvents, Input, after_events, after_save_of, failed_saves, input_of, keys_of, stored_after_all}
+use Rattle.bx_world.specs.Events.{Event, AreEvents, AreEventsFrom, Input, after_events, after_save_of, failed_saves, input_of, keys_of, stored_after_all}
 use Rattle.bx_world.specs.Headline.{Follows, HeadlineFromOpening}
 use Rattle.bx_world.specs.Reading.{PlaysReading, SeesPromised}
 use Rattle.bx_world.specs.Runs.{begins_at}
@@ -38,20 +38,21 @@ key_only (Some key) k is = cc is
 -- the event of a byte that completes a key
 one_key : (text : List ℕ) (b : ℕ) (key : Key) (events : List Event) (keys : List ℕ → List Key) → keys (b ∷ []) ≡ key ∷ []
     → AreEvents tables (at_start text 1 5 Auto) ((Byte b, ok) ∷ []) events → keys_of events ≡ keys (input_of events)
-    → (fault : Option StoreFault) × (events ≡ Input b (Some key) true fault ∷ [])
+    → (fault : Option StoreFault) × (events ≡ Input b (Some key) true fault true ∷ [])
 one_key text b key events keys typed are whole =
     let one = are.3 in
-    let is : events ≡ Input b one.0 true one.1 ∷ [] = are.2 ∙ ap (λ (xs : List Event). xs ++ are.1) one.2
-    ∙ ap (λ (xs : List Event). Input b one.0 true one.1 ∷ xs) are.4 in
+    let e : Editor = at_start text 1 5 Auto in
+    let event : Option Key → Event = λ k. Input b k true one.1 (needs_painting e k) in
+    let is : events ≡ event one.0 ∷ [] = are.2 ∙ ap (λ (xs : List Event). xs ++ are.1) one.2 ∙ ap (λ (xs : List Event). event one.0 ∷ xs) are.4 in
     let key_is : one.0 ≡ Some key = key_only one.0 key (subst (λ (xs : List Event). keys_of xs ≡ keys (input_of xs)) is whole ∙ typed) in
-    (one.1, is ∙ ap (λ (k : Option Key). Input b k true one.1 ∷ []) key_is)
+    (one.1, is ∙ ap (λ (k : Option Key). event k ∷ []) key_is)
 
 -- ---- a letter is typed into an empty text
 
 abbrev empty : Editor
 empty = at_start [] 1 5 Auto
 
-typed_letter : (fault : Option StoreFault) → (after_events tables empty (Input 0x61 (Some (Insert 0x61)) true fault ∷ [])).content.text ≡ codes "a"
+typed_letter : (fault : Option StoreFault) → (after_events tables empty (Input 0x61 (Some (Insert 0x61)) true fault true ∷ [])).content.text ≡ codes "a"
 unfolding unicode_segmentation unicode_width digits
 typed_letter fault = refl
 
@@ -65,14 +66,14 @@ one_letter events keys typed are whole =
 pub a_byte_is_its_letter : (store store' : StoreState) (new : World)
     → HeadlineFromOpening tables (around (start [] 1 5) 1 5) store ((Byte 0x61, ok) ∷ []) new store' → new.session.editor.content.text ≡ codes "a"
 a_byte_is_its_letter store store' new clause =
-    let found = clause [] 1 5 Auto refl in
+    let found = clause [] 1 5 Auto false refl in
     ap (λ (e : Editor). e.content.text) found.1.editor
     ∙ one_letter found.0 (λ bs. (decoding bs).keys) refl found.1.events_are (found.1.keys found.0 [] (sym (append-nil found.0)))
 
 abbrev cursor_cell : Editor → ℕ
 cursor_cell e = cell_of e.width (rows tables e) e.place
 
-cursor_behind_letter : (fault : Option StoreFault) → cursor_cell (after_events tables empty (Input 0x61 (Some (Insert 0x61)) true fault ∷ [])) ≡ 2
+cursor_behind_letter : (fault : Option StoreFault) → cursor_cell (after_events tables empty (Input 0x61 (Some (Insert 0x61)) true fault true ∷ [])) ≡ 2
 unfolding unicode_segmentation unicode_width digits
 cursor_behind_letter fault = refl
 
@@ -80,9 +81,9 @@ cursor_behind_letter fault = refl
 pub the_cursor_is_behind_the_letter : (store store' : StoreState) (new : World) (column : ℕ)
     → (clause : HeadlineFromOpening tables (around (start [] 1 5) 1 5) store ((Byte 0x61, ok) ∷ []) new store')
     → new.session.painting_owed ≡ false → new.session.editor.ended ≡ false
-    → (picture tables (after_events tables empty (clause [] 1 5 Auto refl).0) new.session.top).column ≡ column → column ≡ 1
+    → (picture tables (after_events tables empty (clause [] 1 5 Auto false refl).0) new.session.editor.top).column ≡ column → column ≡ 1
 the_cursor_is_behind_the_letter store store' new column clause paid on is =
-    let found = clause [] 1 5 Auto refl in
+    let found = clause [] 1 5 Auto false refl in
     let one = one_key [] 0x61 (Insert 0x61) found.0 (λ bs. (decoding bs).keys) refl found.1.events_are (found.1.keys found.0 [] (sym (append-nil found.0))) in
     let cell : column + 1 ≡ cursor_cell (after_events tables empty found.0) = ap (λ n. n + 1) (sym is) ∙ (found.1.cursor paid on).column in
     let second : cursor_cell (after_events tables empty found.0) ≡ 2 =
@@ -92,7 +93,7 @@ the_cursor_is_behind_the_letter store store' new column clause paid on is =
 -- a terminal that has memory is there
 pub the_terminal_is_there : (store store' : StoreState) (new : World)
     → HeadlineFromOpening tables (around (start [] 1 5) 1 5) store ((Byte 0x61, ok) ∷ (Send 3, ok) ∷ (Read 3, ok) ∷ []) new store' → IsSome new.screen
-the_terminal_is_there store store' new clause = (clause [] 1 5 Auto refl).1.live (refl, (refl, (refl, tt)))
+the_terminal_is_there store store' new clause = (clause [] 1 5 Auto false refl).1.live (refl, (refl, (refl, tt)))
 
 -- ---- a Save
 
@@ -109,7 +110,7 @@ pub a_save_stores_the_text : (contents : List ℕ) (store' : StoreState) (new : 
     → HeadlineFromOpening tables (around (start (codes "ab") 1 5) 1 5) (store_of contents) ((Byte 0x13, ok) ∷ []) new store'
     → store'.faults.count ≡ 0 → store'.contents ≡ Some (codes "ab")
 a_save_stores_the_text contents store' new clause none =
-    let found = clause (codes "ab") 1 5 Auto refl in
+    let found = clause (codes "ab") 1 5 Auto false refl in
     let one = one_key (codes "ab") 0x13 Save found.0 (λ bs. (decoding bs).keys) refl found.1.events_are
     (found.1.keys found.0 [] (sym (append-nil found.0))) in
     not_counted one.0 contents store'
@@ -118,9 +119,9 @@ a_save_stores_the_text contents store' new clause none =
 -- a count that is one higher is of one Save that failed
 pub a_failed_save_is_counted : (contents : Option (List ℕ)) (store' : StoreState) (new : World)
     → (clause : HeadlineFromOpening tables (around (start (codes "ab") 1 5) 1 5) (record { contents = contents; faults = record { count = 4; latest = None } }) ((Byte 0x13, ok) ∷ []) new store')
-    → store'.faults.count ≡ 5 → failed_saves (clause (codes "ab") 1 5 Auto refl).0 ≡ 1
+    → store'.faults.count ≡ 5 → failed_saves (clause (codes "ab") 1 5 Auto false refl).0 ≡ 1
 a_failed_save_is_counted contents store' new clause count =
-    let found = clause (codes "ab") 1 5 Auto refl in
+    let found = clause (codes "ab") 1 5 Auto false refl in
     let all : store'.faults.count ≡ 4 + failed_saves found.0 = found.1.failures (subst (λ n. n < greatest) (sym count) (lit< tt)) in
     omega (arith, count, all)
 
@@ -132,7 +133,8 @@ a_byte_follows w store store' new is found =
     let editor : w.session.editor ≡ empty = ap (λ (s : Session). s.editor) is in
     ap (λ (e : Editor). e.content.text) f.editor
     ∙ ap (λ (e : Editor). (after_events tables e found.0).content.text) editor
-    ∙ one_letter found.0 (keys_from []) refl (subst (λ (e : Editor). AreEvents tables e ((Byte 0x61, ok) ∷ []) found.0) editor f.events_are)
+    ∙ one_letter found.0 (keys_from []) refl
+    (subst (λ (s : Session). AreEventsFrom tables s.painting_owed s.editor ((Byte 0x61, ok) ∷ []) found.0) is f.events_are)
     (f.keys ∙ ap (λ (s : Session). keys_from s.rest (input_of found.0)) is)
 
 -- ---- a promised picture

@@ -7,7 +7,7 @@ use Rattle.bx_keys.specs.declared.key.Key.TheVariants.{Insert, Erase, Delete, Ba
 use Rattle.bx_keys.specs.declared.key.Key.TheVariants.{Save, Quit, Undo, Redo, Repaint, Direction, Size, Mark, Copy, Cut, Put}
 use Rattle.bx_keys.specs.declared.key.Key.TheVariants.{Find, FindBack, WordLeft, WordRight, TextStart, TextEnd, Help, Notice}
 use Rattle.bx_keys.specs.declared.key.Key.TheVariants.{EraseWord, DeleteWord, ErasePoint, NewLine, FindNext, Cancel, LineUp, LineDown, PageBack, PageOn}
-use Rattle.bx_keys.specs.declared.key.Key.TheVariants.{Select, UndoRun, RedoRun, GoTo, Replace, Name, Tell, PasteStart, PasteEnd}
+use Rattle.bx_keys.specs.declared.key.Key.TheVariants.{Select, UndoRun, RedoRun, GoTo, Replace, Name, Tell, PasteStart, PasteEnd, Point}
 use Rattle.bx_keys.specs.Keys.{rest_after}
 use Rattle.bx_keys.specs.Waiting.{head_of}
 use Rattle.bx_grid.specs.Picture.{PictureState}
@@ -77,6 +77,7 @@ kind_of_key d fault e GoTo = inl (other_size d fault e GoTo refl, λ h w t. refl
 kind_of_key d fault e Replace = inl (other_size d fault e Replace refl, λ h w t. refl)
 kind_of_key d fault e Name = inl (other_size d fault e Name refl, λ h w t. refl)
 kind_of_key d fault e Tell = inl (other_size d fault e Tell refl, λ h w t. refl)
+kind_of_key d fault e (Point row column) = inl (other_size d fault e (Point row column) refl, λ h w t. refl)
 kind_of_key d fault e PasteStart = inl (other_size d fault e PasteStart refl, λ h w t. refl)
 kind_of_key d fault e PasteEnd = inl (other_size d fault e PasteEnd refl, λ h w t. refl)
 kind_of_key d fault e (Size height width) = inr (height, width, refl)
@@ -136,15 +137,14 @@ any_keeps d fault w s (Some key) = key_keeps d fault w s key
 -- a byte that is spent leaves all but what waits
 pub record IsSpent (old new : Session) : Type 0 where
   pub editor : new.editor ≡ old.editor
-  pub top : new.top ≡ old.top
   pub painted : new.painted ≡ old.painted
   pub known : new.known ≡ old.known
   pub owed : new.painting_owed ≡ old.painting_owed
   pub pending : new.pending ≡ old.pending
 
 spent_if : (ended : Bool) (s : Session) (rest : List ℕ) → IsSpent s (if ended then s else record s { rest = rest })
-spent_if true s rest = record { editor = refl; top = refl; painted = refl; known = refl; owed = refl; pending = refl }
-spent_if false s rest = record { editor = refl; top = refl; painted = refl; known = refl; owed = refl; pending = refl }
+spent_if true s rest = record { editor = refl; painted = refl; known = refl; owed = refl; pending = refl }
+spent_if false s rest = record { editor = refl; painted = refl; known = refl; owed = refl; pending = refl }
 
 pub spent : (s : Session) (b : ℕ) → IsSpent s (after_spending s b)
 spent s b = spent_if s.editor.ended s (head_of (rest_after s.rest b))

@@ -34,6 +34,7 @@ left = record {
   height = 1;
   width = 5;
   base = Auto;
+  clipboard = false;
   offset = None;
   unsaved = false;
   journal = 0x61 ∷ 0x13 ∷ 0x62 ∷ 0x11 ∷ [];
@@ -41,12 +42,12 @@ left = record {
 
 pub a_run_goes_on_from_its_journal : BeginsWithKeys → (unpainted_at tables left).editor.content.text ≡ codes "abx"
 unfolding unicode_segmentation unicode_width digits
-a_run_goes_on_from_its_journal law = ap (λ (e : Editor). e.content.text) (law tables left)
+a_run_goes_on_from_its_journal law = ap (λ (e : Editor). e.content.text) (law.replayed tables left)
 
 -- ---- `ab` is typed into an empty file in a window of one row of five columns
 
 abbrev empty : Beginning
-empty = record { text = []; height = 1; width = 5; base = Auto; offset = None; unsaved = false; journal = [] }
+empty = record { text = []; height = 1; width = 5; base = Auto; clipboard = false; offset = None; unsaved = false; journal = [] }
 
 abbrev fed : List ByteAnswer
 fed = (0x61, Ok Running) ∷ (0x62, Ok Running) ∷ []
@@ -71,7 +72,7 @@ in_one_turn n m k = (Send n, ok) ∷ (Byte 0x61, ok) ∷ (Byte 0x62, ok) ∷ (Se
 record ShowsBoth (s : Session) : Type 0 where
   pub height : s.editor.height ≡ 1
   pub width : s.editor.width ≡ 5
-  pub columns : (picture tables s.editor s.top).columns ≡ ascii_columns (codes "ab   ")
+  pub columns : (picture tables s.editor s.editor.top).columns ≡ ascii_columns (codes "ab   ")
 
 played_both : (n m k : ℕ) (fault fault' : Option StoreFault)
     → ShowsBoth (after_read (after_send (typed_on (typed_in (after_send (begins_at (begun tables empty) window) n) fault) fault') m) k).session
@@ -112,10 +113,10 @@ typed_letters_are_shown law s store store' reader reader' writer writer' written
     let both : ShowsBoth s = subst ShowsBoth seen.session (both_shown n m k store store' seen.new plays) in
     let accepted : is_last_accepted true (steps_of_run run.in_turns) ≡ true =
     subst (λ (ts : List Turn). is_last_accepted true ((Send n, ok) ∷ steps_of_turns ts) ≡ true) (sym turns) refl in
-    let editor : s.editor ≡ after_events tables (unpainted_at tables empty).editor seen.events =
+    let editor : s.editor ≡ after_events tables (begun tables empty).editor seen.events =
     ap (λ (x : Session). x.editor) (sym seen.session) ∙ seen.headline.editor in
     (found.1 accepted sent (sym both.height) (sym both.width)).same_columns
-    ∙ ap (λ (e : Editor). (picture tables e s.top).columns) (sym editor) ∙ both.columns
+    ∙ ap (λ (e : Editor). (picture tables e s.editor.top).columns) (sym editor) ∙ both.columns
 
 -- ---- a run's steps
 
@@ -193,9 +194,9 @@ letters_are_shown_as_they_are_read law s store store' reader reader' writer writ
     (record { no_run = refl; no_token = refl }) among in
     let seen = told_shown n m k store store' found.new found.plays in
     let both : ShowsBoth s = subst ShowsBoth found.session seen.both in
-    let editor : s.editor ≡ after_events tables (unpainted_at tables empty).editor found.events =
+    let editor : s.editor ≡ after_events tables (begun tables empty).editor found.events =
     ap (λ (x : Session). x.editor) (sym found.session) ∙ found.headline.editor in (
       found,
       λ read. (found.shows refl seen.told read sent).same_columns
-          ∙ ap (λ (e : Editor). (picture tables e s.top).columns) (sym editor) ∙ both.columns,
+          ∙ ap (λ (e : Editor). (picture tables e s.editor.top).columns) (sym editor) ∙ both.columns,
     )

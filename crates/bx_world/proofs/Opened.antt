@@ -5,14 +5,17 @@ use Rattle.bx_grid.specs.Picture.{Shows}
 use Rattle.bx_ucd.specs.Data.{Data}
 use Rattle.bx_editor.specs.Editor.{Editor}
 use Rattle.bx_editor.specs.Picture.{StandsOnItsCell, picture}
+use Rattle.bx_terms.specs.declared.base.Base.{Base}
+use Rattle.bx_session.specs.Beginning.{clipboard_if}
 use Rattle.bx_session.specs.Saving.{StoreState}
+use Rattle.bx_session.specs.Session.{Session, at_opening, before_painting}
 use Rattle.bx_session.proofs.Replayed.{rest_from}
 use Rattle.bx_world.specs.declared.step.Step.{Step}
 use Rattle.bx_world.specs.declared.step.StepFault.{StepFault}
 use Rattle.bx_world.specs.World.{World}
 use Rattle.bx_world.specs.Steps.{PlaysTo, is_last_accepted}
 use Rattle.bx_world.specs.Showing.{IsInStep}
-use Rattle.bx_world.specs.Events.{Event}
+use Rattle.bx_world.specs.Events.{Event, AreEventsFrom}
 use Rattle.bx_world.specs.Headline.{Headline, HeadlineFromOpening}
 use Rattle.bx_world.proofs.Brought.{AreDecoded, decoded_behind, follows_decoded}
 use Rattle.bx_world.proofs.Live.{plays_live}
@@ -26,11 +29,11 @@ headline_behind d journal old new store store' all played was rest paid live =
     let found = follows_decoded d old new store store' all played in
     let f = found.1 in
     let owes : OwesNot (is_last_accepted true all) new = accepted_owes_nothing d true old new store store' all played (λ on. paid) in
-    let picture_is : Editor → Type 0 = λ (e : Editor). IfSome new.screen (λ t. Shows t (picture d e new.session.top)) in
-    let stands : Editor → Type 0 = λ (e : Editor). StandsOnItsCell d e new.session.top (picture d e new.session.top) in (
+    let picture_is : Editor → Type 0 = λ (e : Editor). IfSome new.screen (λ t. Shows t (picture d e new.session.editor.top)) in
+    let stands : Editor → Type 0 = λ (e : Editor). StandsOnItsCell d e new.session.editor.top (picture d e new.session.editor.top) in (
       found.0,
       record {
-        events_are = f.events_are;
+        events_are = subst (λ (owed : Bool). AreEventsFrom d owed old.session.editor all found.0) paid f.events_are;
         input = f.input;
         keys = decoded_behind journal found.0 (subst (λ (xs : List ℕ). AreDecoded xs found.0) rest found.2);
         editor = f.editor;
@@ -45,12 +48,24 @@ headline_behind d journal old new store store' all played was rest paid live =
       },
     )
 
+-- a session that was opened, with a clipboard or without
+record IsFresh (d : Data) (s : Session) (e : Editor) : Type 0 where
+  pub rest : s.rest ≡ []
+  pub owed : s.painting_owed ≡ false
+  pub editor : s.editor ≡ e
+
+with_clipboard_or_not : (d : Data) (text : List ℕ) (height width : ℕ) (base : Base) (clipboard : Bool)
+    → IsFresh d (clipboard_if clipboard (at_opening d text height width base)) (clipboard_if clipboard (before_painting text height width base)).editor
+with_clipboard_or_not d text height width base true = record { rest = refl; owed = refl; editor = refl }
+with_clipboard_or_not d text height width base false = record { rest = refl; owed = refl; editor = refl }
+
 pub headline_of : (d : Data) (old new : World) (store store' : StoreState) (all : List (Step × Result (Unit {0}) StepFault))
     → PlaysTo d old store all new store' → IsInStep d new → HeadlineFromOpening d old store all new store'
-headline_of d old new store store' all played was text height width base is =
-    let found = headline_behind d [] old new store store' all played was (ap (λ (w : World). w.session.rest) is)
-    (ap (λ (w : World). w.session.painting_owed) is) (subst (λ (w : World). IsSome w.screen) (sym is) refl) in
-    (found.0, subst (λ (e : Editor). Headline d e [] store all new store' found.0) (ap (λ (w : World). w.session.editor) is) found.1)
+headline_of d old new store store' all played was text height width base clipboard is =
+    let opened = with_clipboard_or_not d text height width base clipboard in
+    let found = headline_behind d [] old new store store' all played was (ap (λ (w : World). w.session.rest) is ∙ opened.rest)
+    (ap (λ (w : World). w.session.painting_owed) is ∙ opened.owed) (subst (λ (w : World). IsSome w.screen) (sym is) refl) in
+    (found.0, subst (λ (e : Editor). Headline d e [] store all new store' found.0) (ap (λ (w : World). w.session.editor) is ∙ opened.editor) found.1)
 
 pub headline : {D : Type 0} (says : D → Data) (tables tables' : D) (old new : World) (store store' : StoreState)
     (all : List (Step × Result (Unit {0}) StepFault)) → tables' ≡ tables → PlaysTo (says tables) old store all new store' → IsInStep (says tables') new

@@ -14,7 +14,7 @@ use Rattle.bx_editor.specs.Picture.{picture}
 use Rattle.bx_session.specs.Session.{Session, key_of_byte}
 use Rattle.bx_session.specs.Saving.{StoreState}
 use Rattle.bx_session.specs.Running.{ByteAnswer, FeedsAll, Turn, TakesTurns, written_in}
-use Rattle.bx_session.specs.Beginning.{Beginning, begun, unpainted_at}
+use Rattle.bx_session.specs.Beginning.{Beginning, begun}
 use Rattle.bx_world.specs.declared.step.Step.{Step}
 use Rattle.bx_world.specs.declared.step.Step.TheVariants.{Byte, Window, Told, Send, Read}
 use Rattle.bx_world.specs.declared.step.StepFault.{StepFault}
@@ -175,7 +175,7 @@ in_window : (d : Data) (b : Beginning) (s : Session) (store store' : StoreState)
 in_window d b s store store' t schedule new plays was is live =
     let found = headline_behind d b.journal (begins_at (begun d b) t) new store store' schedule plays was (begun_rest d b) refl refl in
     let shown = the_terminal new.screen live in
-    let e = after_events d (unpainted_at d b).editor found.0 in record {
+    let e = after_events d (begun d b).editor found.0 in record {
       new = new;
       events = found.0;
       terminal = shown.0;
@@ -184,8 +184,8 @@ in_window d b s store store' t schedule new plays was is live =
       screen = shown.1;
       headline = found.1;
       shows = λ accepted told line pending.
-          subst (λ (x : Session). Shows shown.0 (picture d e x.top)) is
-          (subst (λ (screen : Option Terminal). IfSome screen (λ u. Shows u (picture d e new.session.top))) shown.1
+          subst (λ (x : Session). Shows shown.0 (picture d e x.editor.top)) is
+          (subst (λ (screen : Option Terminal). IfSome screen (λ u. Shows u (picture d e new.session.editor.top))) shown.1
           (found.1.shows accepted told line (ap (λ (x : Session). x.pending) is ∙ pending)));
     }
 
@@ -253,8 +253,8 @@ headline_of_runs d b s store store' reader reader' writer writer' answered dropp
     (still_all own ((Read count, Ok tt) ∷ []) (are_own d (begun d b) s store store' answered dropped written run.in_turns) (refl, tt)) plays refl in (
       found,
       λ accepted pending height width.
-          subst (λ (x : Option Terminal). IfSome x (λ u. Shows u (picture d (after_events d (unpainted_at d b).editor found.events) s.top))) shown
-          (subst (λ (x : Session). IfSome new.screen (λ u. Shows u (picture d (after_events d (unpainted_at d b).editor found.events) x.top)))
+          subst (λ (x : Option Terminal). IfSome x (λ u. Shows u (picture d (after_events d (begun d b).editor found.events) s.editor.top))) shown
+          (subst (λ (x : Session). IfSome new.screen (λ u. Shows u (picture d (after_events d (begun d b).editor found.events) x.editor.top)))
           played.2.session
           (found.headline.shows (accepted_more true own count ∙ accepted)
           (fit ∙ ap (λ (h : ℕ). (h == new.session.editor.height) && (new.width == new.session.editor.width)) played.2.height

@@ -2,7 +2,7 @@
 use Rattle.std.proofs.Common.{◌≡◌, ℕ, Bool, true, false, List, [], ◌∷◌, ◌++◌, take, length, ◌+◌, Option, Some, None}
 use Rattle.std.proofs.Common.{Result, Ok, Err, refl, sym, ap, subst, ◌∙◌, arith}
 use Rattle.std.proofs.Common.{if◌then◌else◌}
-use Rattle.std.specs.Prelude.{IfSome, not, ◌&&◌, is_some}
+use Rattle.std.specs.Prelude.{IfSome, not}
 use Rattle.std.specs.List.{zip}
 use Rattle.std.proofs.lemmas.List.{length-append}
 use Rattle.bx_grid.specs.Picture.{Shows}
@@ -11,7 +11,10 @@ use Rattle.bx_grid.specs.declared.error.GridError.TheVariants as grid
 use Rattle.bx_store.specs.declared.store.StoreFault.{StoreFault}
 use Rattle.bx_ucd.specs.Data.{Data}
 use Rattle.bx_editor.specs.Picture.{picture}
-use Rattle.bx_session.specs.Session.{Session, after_byte, after_spending, with_painting, unpainted_after_byte, is_idle, key_of_byte}
+use Rattle.bx_keys.specs.declared.key.Key.{Key}
+use Rattle.bx_session.specs.Session.{Session, after_byte, after_spending, is_painted, key_of_byte, needs_painting, painted_after, session_after_any}
+use Rattle.bx_session.specs.Session.{unpainted_after_byte}
+use Rattle.bx_session.proofs.Shown.{no_need}
 use Rattle.bx_session.specs.Saving.{StoreState}
 use Rattle.bx_world.specs.declared.step.Step.{Step}
 use Rattle.bx_world.specs.declared.step.Step.TheVariants.{Byte, Window, Told, Send, Read}
@@ -53,17 +56,21 @@ zip_push (a ∷ xs) (b ∷ ys) x y same = ap (λ rest. (a, b) ∷ rest) (zip_pus
 abbrev pub OwesNot : Bool → World → Type 0
 OwesNot accepted w = accepted ≡ true → w.session.painting_owed ≡ false
 
-idle_owes : (key owed : Bool) → not key && not owed ≡ true → owed ≡ false
-idle_owes key false idle = refl
-idle_owes true true idle = absurd (cc idle)
-idle_owes false true idle = absurd (cc idle)
+any_owed : (d : Data) (fault : Option StoreFault) (s : Session) (key : Option Key) → (session_after_any d fault s key).painting_owed ≡ s.painting_owed
+any_owed d fault s None = refl
+any_owed d fault s (Some key) = refl
 
-byte_owes : (d : Data) (fault : Option StoreFault) (s : Session) (b : ℕ) → (after_byte d fault s b).painting_owed ≡ false
-byte_owes d fault s b = by_idle (is_idle s b) refl where
-  by_idle : (idle : Bool) → is_idle s b ≡ idle
-      → (if idle then after_spending s b else with_painting d (unpainted_after_byte d fault s b)).painting_owed ≡ false
-  by_idle true idle = (spent s b).owed ∙ idle_owes (is_some (key_of_byte s b)) s.painting_owed idle
-  by_idle false other = refl
+unpainted_owed : (d : Data) (fault : Option StoreFault) (s : Session) (b : ℕ) → (unpainted_after_byte d fault s b).painting_owed ≡ s.painting_owed
+unpainted_owed d fault s b = any_owed d fault (after_spending s b) (key_of_byte s b) ∙ (spent s b).owed
+
+pub byte_owes : (d : Data) (fault : Option StoreFault) (s : Session) (b : ℕ) → (after_byte d fault s b).painting_owed ≡ false
+byte_owes d fault s b = by_painting (is_painted s b) refl where
+  u : Session
+  u = unpainted_after_byte d fault s b
+
+  by_painting : (paints : Bool) → is_painted s b ≡ paints → (if paints then painted_after d u (key_of_byte s b) else u).painting_owed ≡ false
+  by_painting true paints = refl
+  by_painting false none = unpainted_owed d fault s b ∙ (no_need s.painting_owed (needs_painting s.editor (key_of_byte s b)) none).0
 
 byte_accepted : (d : Data) (fault : Option StoreFault) (old new : World) (b : ℕ) (answer : Result (Unit {0}) StepFault) → AfterByteStep d fault old b answer new
     → accepted_after true (Byte b) answer ≡ true → new.session.painting_owed ≡ false
@@ -124,13 +131,13 @@ pub shows_when_read : (d : Data) (old new : World) (store store' : StoreState) (
 shows_when_read d old new store store' all played was accepted told line pending =
     let owes = accepted_owes_nothing d (not old.session.painting_owed) old new store store' all played (owed_not old.session.painting_owed) accepted in
     now new.screen
-    (subst (λ bytes. IfSome new.screen (λ t. Shows (reads t bytes) (picture d new.session.editor new.session.top)))
+    (subst (λ bytes. IfSome new.screen (λ t. Shows (reads t bytes) (picture d new.session.editor new.session.editor.top)))
     nothing (will_show d new was told owes)) where
       nothing : new.line ++ new.session.pending ≡ []
       nothing = rw (line, pending) refl
 
-      now : (screen : Option Terminal) → IfSome screen (λ t. Shows (reads t []) (picture d new.session.editor new.session.top))
-          → IfSome screen (λ t. Shows t (picture d new.session.editor new.session.top))
+      now : (screen : Option Terminal) → IfSome screen (λ t. Shows (reads t []) (picture d new.session.editor new.session.editor.top))
+          → IfSome screen (λ t. Shows t (picture d new.session.editor new.session.editor.top))
       now None h = h
       now (Some t) h = h
 

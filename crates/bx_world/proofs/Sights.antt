@@ -10,9 +10,11 @@ use Rattle.bx_grid.specs.Terminal.{Terminal, reads}
 use Rattle.bx_grid.proofs.Reading.{reads-append}
 use Rattle.bx_store.specs.declared.store.StoreFault.{StoreFault}
 use Rattle.bx_ucd.specs.Data.{Data}
-use Rattle.bx_editor.specs.Picture.{picture, next_top}
 use Rattle.bx_session.specs.declared.error.Refused.TheVariants as refused
-use Rattle.bx_session.specs.Session.{Session, after_spending, after_byte, with_painting, unpainted_after_byte, unpainted_after_told, is_idle, painting}
+use Rattle.bx_session.specs.Session.{Session, after_byte, clip_after, is_painted, key_of_byte, painted_after, painting, scrolled, then_clip, unpainted_after_byte}
+use Rattle.bx_session.specs.Session.{unpainted_after_told}
+use Rattle.bx_session.specs.Session as sessions
+use Rattle.bx_session.proofs.Pictures.{then_clip_after}
 use Rattle.bx_session.specs.Saving.{StoreState}
 use Rattle.bx_world.specs.declared.step.Step.{Step}
 use Rattle.bx_world.specs.declared.step.Step.TheVariants.{Byte, Window, Told, Send, Read}
@@ -43,15 +45,16 @@ no_bytes old new pending line screen = record {
 }
 
 queued_by_byte : (d : Data) (fault : Option StoreFault) (s : Session) (b : ℕ) → (bytes : List ℕ) × ((after_byte d fault s b).pending ≡ s.pending ++ bytes)
-queued_by_byte d fault s b = by_idle (is_idle s b) where
+queued_by_byte d fault s b = by_painting (is_painted s b) where
   u : Session
   u = unpainted_after_byte d fault s b
 
-  by_idle : (idle : Bool) → (bytes : List ℕ) × ((if idle then after_spending s b else with_painting d u).pending ≡ s.pending ++ bytes)
-  by_idle true = ([], (spent s b).pending ∙ sym (append-nil s.pending))
-  by_idle false =
-      let bytes : List ℕ = painting u.known (picture d u.editor (next_top d u.editor u.top)) in
-      (bytes, ap (λ xs. xs ++ bytes) (byte_pending d fault s b))
+  by_painting : (paints : Bool) → (bytes : List ℕ) × ((if paints then painted_after d u (key_of_byte s b) else u).pending ≡ s.pending ++ bytes)
+  by_painting true =
+      let bytes : List ℕ = painting u.known (sessions.picture_of d (scrolled d u.editor)) in
+      let clip = clip_after u.editor (key_of_byte s b) in
+      (then_clip bytes clip, then_clip_after u.pending bytes clip ∙ ap (λ xs. xs ++ then_clip bytes clip) (byte_pending d fault s b))
+  by_painting false = ([], byte_pending d fault s b ∙ sym (append-nil s.pending))
 
 byte_queues : (d : Data) (fault : Option StoreFault) (old new : World) (b : ℕ) (answer : Result (Unit {0}) StepFault)
     → AfterByteStep d fault old b answer new → Queues old new
@@ -73,7 +76,7 @@ told_queues : (d : Data) (old new : World) (height width : ℕ) (answer : Result
 told_queues d old new height width (Ok done) is =
     let u : Session = unpainted_after_told old.session height width in
     subst (Queues old) (sym is.1) (record {
-      bytes = painting u.known (picture d u.editor (next_top d u.editor u.top));
+      bytes = painting u.known (sessions.picture_of d (scrolled d u.editor));
       pending = refl;
       line = refl;
       screen = refl;

@@ -75,7 +75,7 @@ painted d w s told known was queued stays fits = record {
   paints = queued.1
 
   new : PictureState
-  new = picture d s.editor s.top
+  new = picture d s.editor s.editor.top
 
   known_at : (known : Option PictureState) → IfSome known (λ p. (w.told ≡ true) × (w.session.known ≡ Some p))
       → IfSome known (λ p. IfSome w.screen (λ t. Shows (reads t (unread w)) p))
@@ -96,7 +96,7 @@ painted d w s told known was queued stays fits = record {
       let window = fits on in
       subst (λ u. Shows u new) (read_last w s bytes t paints.appends)
       (updates_later w known bytes new t idle size.0
-      (picture_height d s.editor s.top ∙ window.0, picture_width d s.editor s.top ∙ window.1) (pick known t shown) paints.updates)
+      (picture_height d s.editor s.editor.top ∙ window.0, picture_width d s.editor s.editor.top ∙ window.1) (pick known t shown) paints.updates)
 
   whole_at : (screen : Option Terminal) → IfSome screen (λ t. IsIdle (reads t (unread w))) → IfSome screen (λ t. IsIdle (reads t (w.line ++ s.pending)))
   whole_at None idle = tt
@@ -115,7 +115,7 @@ opened d s height width queued fits =
       cursor = λ owed. paints.cursor;
       follows = λ on. subst (λ painted. IfSome painted (λ q. Shows (reads t s.pending) q)) (sym paints.known)
           (subst (λ bytes. Shows (reads t bytes) p) (sym paints.appends)
-          (paints.updates t idle (sym fits.0 ∙ sym (picture_height d s.editor s.top)) (sym fits.1 ∙ sym (picture_width d s.editor s.top))));
+          (paints.updates t idle (sym fits.0 ∙ sym (picture_height d s.editor s.editor.top)) (sym fits.1 ∙ sym (picture_width d s.editor s.editor.top))));
       whole = subst (λ bytes. IsIdle (reads t bytes)) (sym paints.appends) (paints.tokens t idle);
       screen = ((refl, refl), λ on. refl);
       size = λ on. fits;

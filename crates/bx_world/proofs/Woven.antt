@@ -10,7 +10,7 @@ use Rattle.bx_grid.specs.Terminal.{Terminal}
 use Rattle.bx_ucd.specs.Data.{Data}
 use Rattle.bx_session.specs.declared.error.Refused.{Refused}
 use Rattle.bx_session.specs.declared.status.Status.{Status}
-use Rattle.bx_session.specs.Session.{Session, key_of_byte, is_idle, after_sending}
+use Rattle.bx_session.specs.Session.{Session, key_of_byte, is_painted, after_sending}
 use Rattle.bx_session.specs.Saving.{StoreState, Feeds}
 use Rattle.bx_session.specs.Painting.{FeedPaints}
 use Rattle.bx_session.specs.Running.{ByteAnswer, FeedsAll, Turn, TakesTurns, InTurns}
@@ -33,7 +33,7 @@ ok = Ok tt
 
 abbrev pub OwnStep : Data → Session → StoreState → Step → Result (Unit {0}) StepFault → Session → StoreState → Type 0
 OwnStep d old store (Byte b) answer new store' =
-    (a : Result Status Refused) × (answer ≡ answer_of a) × Feeds d old store b a new store' × (is_idle old b ≡ false → OnOk a (FeedPaints d old b new))
+    (a : Result Status Refused) × (answer ≡ answer_of a) × Feeds d old store b a new store' × (is_painted old b ≡ true → OnOk a (FeedPaints d old b new))
 OwnStep d old store (Send count) answer new store' = (answer ≡ Ok tt) × (new ≡ after_sending old count) × (store' ≡ store)
 OwnStep d old store (Told height width) answer new store' = ⊥
 OwnStep d old store (Window height width) answer new store' = ⊥

@@ -1,26 +1,27 @@
 -- The headline of the proofs: what a schedule makes of a file, from the keys typed to the text, the store, and the picture seen.
 -- `d` is Unicode's data.
-use Rattle.std.specs.Prelude.{◌≡◌, ℕ, ◌+◌, ◌<◌, true, false, List, [], Result, IfSome, IsSome}
+use Rattle.std.specs.Prelude.{◌≡◌, ℕ, ◌+◌, ◌<◌, Bool, true, false, List, [], Result, IfSome, IsSome}
 use Rattle.bx_terms.specs.declared.base.Base.{Base}
 use Rattle.bx_keys.specs.Keys.{keys_from}
 use Rattle.bx_grid.specs.Picture.{Shows}
 use Rattle.bx_store.specs.Stores.{greatest}
 use Rattle.bx_ucd.specs.Data.{Data}
-use Rattle.bx_editor.specs.Editor.{Editor, at_start}
+use Rattle.bx_editor.specs.Editor.{Editor}
 use Rattle.bx_editor.specs.Picture.{StandsOnItsCell, picture}
-use Rattle.bx_session.specs.Session.{at_opening}
+use Rattle.bx_session.specs.Beginning.{clipboard_if}
+use Rattle.bx_session.specs.Session.{at_opening, before_painting}
 use Rattle.bx_session.specs.Saving.{StoreState}
 use Rattle.bx_world.specs.declared.step.Step.{Step}
 use Rattle.bx_world.specs.declared.step.StepFault.{StepFault}
 use Rattle.bx_world.specs.World.{World, around}
 use Rattle.bx_world.specs.Steps.{HasMemory, is_last_accepted}
-use Rattle.bx_world.specs.Events.{Event, AreEvents, input_of, keys_of, HasBytesUntilEnd, HasKeysOfAll}
+use Rattle.bx_world.specs.Events.{Event, AreEvents, AreEventsFrom, input_of, keys_of, HasBytesUntilEnd, HasKeysOfAll}
 use Rattle.bx_world.specs.Events.{after_events, stored_after_all, failed_saves}
 
 -- the effect of a schedule's events on a world
 pub record Follows {A : Type 0} (d : Data) (old : World) (store : StoreState) (schedule : List (Step × Result A StepFault)) (new : World)
     (store' : StoreState) (events : List Event) : Type 0 where
-  pub events_are : AreEvents d old.session.editor schedule events
+  pub events_are : AreEventsFrom d old.session.painting_owed old.session.editor schedule events
   pub input : HasBytesUntilEnd schedule events new.session.editor
   -- the keys of the input after the bytes of an unfinished key; without such bytes, the keys of the input as a whole
   pub keys : keys_of events ≡ keys_from old.session.rest (input_of events)
@@ -45,17 +46,19 @@ pub record Headline {A : Type 0} (d : Data) (start : Editor) (journal : List ℕ
   pub stored : store' ≡ stored_after_all d start store events
   pub failures : store'.faults.count < greatest → store'.faults.count ≡ store.faults.count + failed_saves events
   pub shows : is_last_accepted true schedule ≡ true → new.told ≡ true → new.line ≡ [] → new.session.pending ≡ []
-      → IfSome new.screen (λ t. Shows t (picture d (after_events d start events) new.session.top))
+      → IfSome new.screen (λ t. Shows t (picture d (after_events d start events) new.session.editor.top))
   -- the terminal is there unless it ran out of memory
   pub live : HasMemory schedule → IsSome new.screen
   -- if the last call was accepted, no painting is owed
   pub owes : is_last_accepted true schedule ≡ true → new.session.painting_owed ≡ false
   -- the cursor stands so with bytes unread or pending too, and whatever sizes were told
   pub cursor : new.session.painting_owed ≡ false → new.session.editor.ended ≡ false
-      → StandsOnItsCell d (after_events d start events) new.session.top (picture d (after_events d start events) new.session.top)
+      → StandsOnItsCell d (after_events d start events) new.session.editor.top (picture d (after_events d start events) new.session.editor.top)
 
--- the headline for every file, tables and schedule, from a world at its opening
+-- the headline for every file, tables and schedule, from a world at its opening, with a clipboard or without
 abbrev pub HeadlineFromOpening : {A : Type 0} → Data → World → StoreState → List (Step × Result A StepFault) → World → StoreState → Type 0
 HeadlineFromOpening d old store schedule new store' =
-    (text : List ℕ) (height width : ℕ) (base : Base) → old ≡ around (at_opening d text height width base) height width
-    → (events : List Event) × Headline d (at_start text height width base) [] store schedule new store' events
+    (text : List ℕ) (height width : ℕ) (base : Base) (clipboard : Bool)
+    → old ≡ around (clipboard_if clipboard (at_opening d text height width base)) height width
+    → (events : List Event)
+    × Headline d (clipboard_if clipboard (before_painting text height width base)).editor [] store schedule new store' events

@@ -6,9 +6,10 @@ use Rattle.bx_keys.specs.Keys.{decoding}
 use Rattle.bx_grid.specs.Picture.{IsIdle, Shows}
 use Rattle.bx_grid.specs.Terminal.{Terminal, reads}
 use Rattle.bx_ucd.specs.Data.{Data}
+use Rattle.bx_editor.specs.Pasting.{paste_ended}
 use Rattle.bx_editor.specs.Replay.{at_replay_end}
 use Rattle.bx_editor.specs.Picture.{picture}
-use Rattle.bx_session.specs.Session.{Session, after_all_replayed}
+use Rattle.bx_session.specs.Session.{Session, after_all_replayed, scrolled}
 use Rattle.bx_session.specs.Saving.{StoreState}
 use Rattle.bx_session.specs.Running.{ByteAnswer, Turn, TakesTurn, HasRun}
 use Rattle.bx_session.specs.Beginning.{Beginning, IsBegun, at_offset, unpainted_at, begun}
@@ -46,10 +47,12 @@ RunsArePlays =
 
 -- ---- a run from its start
 
--- a session restored from a journal starts as the replay of the journal's keys and its end leave it
-abbrev pub BeginsWithKeys : Type 0
-BeginsWithKeys = (d : Data) (b : Beginning)
-    → (unpainted_at d b).editor ≡ at_replay_end (after_all_replayed d (at_offset d b).editor (decoding b.journal).keys)
+-- a session restored from a journal starts as the replay of the journal's keys and its end leave it, scrolled to the cursor; the first
+-- painting scrolls it too
+pub record BeginsWithKeys : Type 0 where
+  pub replayed : (d : Data) (b : Beginning)
+      → (unpainted_at d b).editor ≡ scrolled d (at_replay_end (paste_ended d (after_all_replayed d (at_offset d b).editor (decoding b.journal).keys)))
+  pub painted : (d : Data) (b : Beginning) → (begun d b).editor ≡ scrolled d (unpainted_at d b).editor
 
 -- The headline for a run in a window whose size changes meanwhile: for any first content of the terminal, and any steps of
 -- the window and the terminal between the steps of the run.
@@ -71,4 +74,4 @@ HeadlineOfRuns =
     → (t : Terminal) → IsIdle t
     → (found : RunsInWindow d b (begun d b) s store store' t (steps_of_run run.in_turns ++ (Read (length written), Ok tt) ∷ []))
     × (is_last_accepted true (steps_of_run run.in_turns) ≡ true → s.pending ≡ [] → t.height ≡ s.editor.height → t.width ≡ s.editor.width
-    → Shows (reads t written) (picture d (after_events d (unpainted_at d b).editor found.events) s.top))
+    → Shows (reads t written) (picture d (after_events d (begun d b).editor found.events) s.editor.top))

@@ -9,7 +9,7 @@ use Rattle.bx_editor.specs.Picture.{picture}
 use Rattle.bx_session.specs.Session.{Session}
 use Rattle.bx_session.specs.Saving.{StoreState}
 use Rattle.bx_session.specs.Running.{ByteAnswer, Turn, InTurns}
-use Rattle.bx_session.specs.Beginning.{Beginning, unpainted_at}
+use Rattle.bx_session.specs.Beginning.{Beginning}
 use Rattle.bx_world.specs.declared.step.Step.{Step}
 use Rattle.bx_world.specs.declared.step.Step.TheVariants.{Byte, Window, Told, Send, Read}
 use Rattle.bx_world.specs.declared.step.StepFault.{StepFault}
@@ -88,6 +88,6 @@ pub record RunsInWindow (d : Data) (b : Beginning) (begun s : Session) (store st
   pub plays : PlaysTo d (begins_at begun t) store schedule new store'
   pub session : new.session ≡ s
   pub screen : new.screen ≡ Some terminal
-  pub headline : Headline d (unpainted_at d b).editor b.journal store schedule new store' events
+  pub headline : Headline d begun.editor b.journal store schedule new store' events
   pub shows : is_last_accepted true schedule ≡ true → new.told ≡ true → new.line ≡ [] → s.pending ≡ []
-      → Shows terminal (picture d (after_events d (unpainted_at d b).editor events) s.top)
+      → Shows terminal (picture d (after_events d begun.editor events) s.editor.top)

@@ -13,7 +13,7 @@ use Rattle.bx_terminal.specs.Screens.{IfShown}
 
 -- the picture of the state: the rows that the rules give for the text, and the cursor's cell
 abbrev pub picture_of : Data → Session → PictureState
-picture_of d s = picture d s.editor s.top
+picture_of d s = picture d s.editor s.editor.top
 
 -- a property of the terminal, unless it has failed, once it has read the line and the pending bytes
 abbrev pub AfterAll : World → (Terminal → Type 0) → Type 0
@@ -38,7 +38,7 @@ ShowsWhenRead accepted d w = accepted ≡ true → w.told ≡ true → w.line �
 
 -- unless a painting is owed or the session has ended, the cursor of that picture is on its cell
 abbrev pub CursorStands : Data → Session → Type 0
-CursorStands d s = s.painting_owed ≡ false → s.editor.ended ≡ false → StandsOnItsCell d s.editor s.top (picture_of d s)
+CursorStands d s = s.painting_owed ≡ false → s.editor.ended ≡ false → StandsOnItsCell d s.editor s.editor.top (picture_of d s)
 
 -- ---- the invariant of all steps
 

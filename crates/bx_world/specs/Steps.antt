@@ -1,18 +1,20 @@
 -- The world after a step, by its answer, and after a list of steps. `d` is Unicode's data, `b` a byte of input; an answer that a
 -- step never gives has ⊥.
-use Rattle.std.specs.Prelude.{◌≡◌, ◌≢◌, ℕ, Bool, true, false, List, [], ◌∷◌, take, drop, Option, Result, Ok, Err, IsSome}
+use Rattle.std.specs.Prelude.{◌≡◌, ◌≢◌, ℕ, Bool, true, false, ◌&&◌, List, [], ◌∷◌, take, drop, Option, Result, Ok, Err, IsSome}
 use Rattle.std.specs.List.{AllByRecursion}
 use Rattle.bx_grid.specs.Picture.{is_size}
 use Rattle.bx_grid.specs.declared.error.GridError.TheVariants as grid
 use Rattle.bx_store.specs.declared.store.StoreFault.{StoreFault}
 use Rattle.bx_ucd.specs.Data.{Data}
 use Rattle.bx_session.specs.declared.error.Refused.TheVariants as refused
-use Rattle.bx_session.specs.Session.{key_of_byte, after_spending, after_byte, owing_after_byte, is_idle, after_told, owing_after_told}
-use Rattle.bx_session.specs.Saving.{StoreState, StoreAfter, is_save_byte, is_edit_or_move_key}
+use Rattle.bx_session.specs.Session.{key_of_byte, after_spending, after_byte, owing_after_byte, is_painted, after_told, owing_after_told}
+use Rattle.bx_session.specs.Saving.{StoreState, StoreAfter, is_save_byte, may_refuse_key, text_to_save}
 use Rattle.bx_world.specs.declared.step.Step.{Step}
 use Rattle.bx_world.specs.declared.step.Step.TheVariants.{Byte, Window, Told, Send, Read}
 use Rattle.bx_world.specs.declared.step.StepFault.{StepFault}
 use Rattle.bx_world.specs.declared.step.StepFault.TheVariants as faults
+use Rattle.bx_world.specs.Answers.{is_applied}
+pub use Rattle.bx_world.specs.Answers.{is_ok}
 use Rattle.bx_world.specs.World.{World, with_byte, with_told_size, after_window, after_send, after_read, with_failed_screen}
 
 -- ---- one step
@@ -21,9 +23,9 @@ use Rattle.bx_world.specs.World.{World, with_byte, with_told_size, after_window,
 abbrev pub AfterByteStep : {A : Type 0} → Data → Option StoreFault → World → ℕ → Result A StepFault → World → Type 0
 AfterByteStep d fault old b (Ok _) new = new ≡ with_byte old b (after_byte d fault old.session b)
 AfterByteStep d fault old b (Err (faults.Session refused.Paint)) new =
-    (new ≡ with_byte old b (owing_after_byte d fault old.session b)) × (is_idle old.session b ≡ false)
+    (new ≡ with_byte old b (owing_after_byte d fault old.session b)) × (is_painted old.session b ≡ true)
 AfterByteStep d fault old b (Err (faults.Session refused.Edit)) new =
-    (new ≡ record old { session = after_spending old.session b }) × (is_edit_or_move_key (key_of_byte old.session b) ≡ true)
+    (new ≡ record old { session = after_spending old.session b }) × (may_refuse_key old.session.editor (key_of_byte old.session b) ≡ true)
 AfterByteStep d fault old b (Err (faults.Session refused.Size)) new = ⊥
 AfterByteStep d fault old b (Err (faults.Screen _)) new = ⊥
 AfterByteStep d fault old b (Err faults.Line) new = ⊥
@@ -69,7 +71,9 @@ AfterReadStep old count (Err faults.Line) new = ⊥
 -- a step with its answer, world and store; only a byte changes the store
 abbrev pub StepsTo : {A : Type 0} → Data → World → StoreState → Step → Result A StepFault → World → StoreState → Type 0
 StepsTo d old store (Byte b) answer new store' =
-    (fault : Option StoreFault) × StoreAfter (is_save_byte old.session b) fault old.session.editor.content.text store store' × AfterByteStep d fault old b answer new
+    (fault : Option StoreFault)
+    × StoreAfter (is_applied answer && is_save_byte old.session b) fault (text_to_save d old.session.editor) store store'
+    × AfterByteStep d fault old b answer new
 StepsTo d old store (Told height width) answer new store' = AfterToldStep d old height width answer new × (store' ≡ store)
 StepsTo d old store (Window height width) answer new store' = AfterWindowStep old height width answer new × (store' ≡ store)
 StepsTo d old store (Send count) answer new store' = AfterSendStep old count answer new × (store' ≡ store)
@@ -82,11 +86,6 @@ abbrev pub PlaysTo : {A : Type 0} → Data → World → StoreState → List (St
 PlaysTo d old store [] new store' = (new ≡ old) × (store' ≡ store)
 PlaysTo d old store (s ∷ more) new store' =
     (mid : World) × (mid_store : StoreState) × StepsTo d old store s.0 s.1 mid mid_store × PlaysTo d mid mid_store more new store'
-
--- the step was accepted
-abbrev pub is_ok : {A : Type 0} → Result A StepFault → Bool
-is_ok (Ok _) = true
-is_ok (Err fault) = false
 
 -- whether the last byte or told size was accepted, up to this step; `before`: up to the step before
 abbrev pub accepted_after : {A : Type 0} → Bool → Step → Result A StepFault → Bool

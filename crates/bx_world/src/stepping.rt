@@ -2,9 +2,10 @@
 
 ghost use Rattle.std.specs.Prelude.{◌≡◌, ◌≢◌, ◌≤◌, ◌++◌, ◌==◌, ◌&&◌, [], true, false, Option, IsSome, OnErr, OnOk, drop, length, option_map, take};
 ghost use Rattle.bx_grid.specs.Terminal.{reads};
-ghost use Rattle.bx_session.specs.Saving.{StoreAfter, is_save_byte, store_state};
+ghost use Rattle.bx_session.specs.Saving.{StoreAfter, is_save_byte, store_state, text_to_save};
 ghost use Rattle.bx_session.specs.Session.{key_of_byte};
 ghost use Rattle.bx_store.specs.declared.store.StoreFault.{StoreFault};
+ghost use Rattle.bx_world.specs.Answers.{is_applied};
 ghost use Rattle.bx_world.specs.Answers as answers;
 ghost use Rattle.bx_world.specs.Showing.{StaysWhole, WillShow};
 ghost use Rattle.bx_world.specs.Steps.{AfterByteStep, AfterReadStep, AfterSendStep, AfterToldStep, AfterWindowStep, StepsTo};
@@ -124,7 +125,8 @@ impl<D: BidiData + Drop> World<D> {
     /// Feeds a byte of input to the session.
     fn type_byte<S: Store>(&mut self, byte: u8, store: &mut S) -> Result<(), StepFault>
         ensures step { (fault : Option StoreFault)
-            × StoreAfter (is_save_byte self.old.world.session byte) fault self.old.world.session.editor.content.text
+            × StoreAfter (is_applied result && is_save_byte self.old.world.session byte) fault
+            (text_to_save (D.data self.old.tables) self.old.world.session.editor)
             (store_state S.contents S.faults store.old) (store_state S.contents S.faults store.new)
             × AfterByteStep (D.data self.old.tables) fault self.old.world byte result self.new.world }
         ensures tables { self.new.tables ≡ self.old.tables }

@@ -6,7 +6,7 @@ ghost use Rattle.bx_grid.specs.Picture.{is_size};
 ghost use Rattle.bx_terminal.specs.Screens.{IfShown};
 ghost use Rattle.bx_editor.specs.Opening.{Causes};
 ghost use Rattle.bx_world.specs.Showing.{IsShownOn};
-ghost use Rattle.bx_session.specs.Session.{at_opening};
+ghost use Rattle.bx_session.specs.Session.{at_opening, with_clipboard};
 ghost use Rattle.bx_world.specs.Showing.{IsInStep, StaysWhole, WillShow, picture_of};
 ghost use Rattle.bx_world.specs.World.{around};
 
@@ -97,6 +97,13 @@ impl<D: BidiData + Drop> World<D> {
             screen,
             told: true,
         })
+    }
+
+    /// From now on text that is copied or cut also goes out to the terminal's clipboard. Allocates nothing.
+    pub fn use_clipboard(&mut self)
+        ensures { self.new ≡ record self.old { world = record self.old.world { session = with_clipboard self.old.world.session } } }
+    {
+        self.session.use_clipboard();
     }
 
     /// The session.

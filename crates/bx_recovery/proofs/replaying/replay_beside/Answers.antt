@@ -1,7 +1,7 @@
 use Rattle.std.proofs.Common.{◌≡◌, ◌≤◌, ◌+◌, List, ℕ, drop, get_or, ap, subst, ◌∙◌, arith}
 use Rattle.std.proofs.lemmas.List.{drop_more, take_more}
 use Rattle.bx_ucd.specs.Data.{Data}
-use Rattle.bx_session.specs.Session.{SessionState, after_replay, key_of_byte}
+use Rattle.bx_session.specs.Session.{SessionState, after_replay}
 use Rattle.bx_recovery.proofs.Replays.{HasMet, met_at_first, met_more, one_key_at_most, replayed_one}
 use Rattle.bx_recovery.proofs.replaying.replay_beside.Goals as goal
 
@@ -31,7 +31,7 @@ loop-byte-preserved g c =
     (drop_more keys at 0 c.loop-byte-test.true) was.met in record {
       goes = replayed_one says old.tables mid c.replay.new.self old.session keys at b was.goes (take_more keys at 0 c.loop-byte-test.true)
           c.in_ok-replay.ensures.after_byte;
-      met = met_more d old.session mid.session c.replay.new.self.session keys (drop (at + 1) keys) c.args.file.now b c.loop-byte.met.is_known _
-          c.loop-byte.met.keys _ met c.met_with-met.ensures.known c.met_with-met.ensures.keys next;
-      few = let one = one_key_at_most (key_of_byte mid.session b) in omega (arith, one, was.few, c.met_with-met.ensures.keys);
+      met = met_more d old.session mid.session c.replay.new.self.session keys (drop (at + 1) keys) c.args.file.now b c.key_of-key.result
+          c.loop-byte.met.is_known _ c.loop-byte.met.keys _ met c.key_of-key.ensures c.met_with-met.ensures.known c.met_with-met.ensures.keys next;
+      few = let one = one_key_at_most c.key_of-key.result in omega (arith, one, was.few, c.met_with-met.ensures.keys);
     }

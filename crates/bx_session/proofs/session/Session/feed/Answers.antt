@@ -1,7 +1,12 @@
-use Rattle.std.proofs.Common.{rules, ◌≡◌, Err}
+use Rattle.std.proofs.Common.{rules, ◌≡◌, ◌∙◌, Err, Result, sym, ap, subst}
+use Rattle.std.specs.Prelude.{◌&&◌}
 use Rattle.bx_ucd.specs.Data.{Data}
+use Rattle.bx_session.specs.declared.error.Refused.{Refused}
 use Rattle.bx_session.specs.declared.error.Refused.TheVariants.{Paint}
-use Rattle.bx_session.proofs.Bytes.{is_not_idle, after_byte_is, byte_paints, idle_is, owing_is}
+use Rattle.bx_session.specs.declared.status.Status.{Status}
+use Rattle.bx_session.specs.Saving.{StoreAfter, is_applied, is_save_byte, store_state, text_to_save}
+use Rattle.bx_session.specs.Session.{SessionState}
+use Rattle.bx_session.proofs.Bytes.{after_byte_is, byte_appends, byte_paints, owing_is, quiet_is, unpainted_pending}
 use Rattle.bx_session.proofs.session.Session.feed.Goals as goal
 
 pub returns-clause-after_byte : goal.returns-clause-after_byte
@@ -11,9 +16,8 @@ returns-clause-after_byte g c =
       h.0,
       h.1,
       (
-        after_byte_is says h.0 c.args.self.now c.enter.new.self c.paint.new.self c.args.byte
-            (is_not_idle c.args.self.now.session c.args.byte c.in_ok-enter.field-0 c.in_ok-enter.ensures.asks c.if-not-branch.false) h.2
-            c.in_ok-paint.ensures.ok,
+        after_byte_is says h.0 c.args.self.now c.enter.new.self c.paint_after.new.self c.args.byte c.key_of-key.result
+            (sym c.in_ok-enter.ensures.asks ∙ c.if-not-branch.false) c.key_of-key.ensures h.2 c.in_ok-paint_after.ensures.ok,
         c.status-2.ensures,
       ),
     )
@@ -25,7 +29,7 @@ returns-then-not-branch-clause-after_byte g c =
       h.0,
       h.1,
       (
-        idle_is says h.0 c.args.self.now c.enter.new.self c.args.byte c.in_ok-enter.field-0 c.in_ok-enter.ensures.asks c.if-not-branch.true h.2,
+        quiet_is says h.0 c.args.self.now c.enter.new.self c.args.byte (sym c.in_ok-enter.ensures.asks ∙ c.if-not-branch.true) h.2,
         c.status.ensures,
       ),
     )
@@ -34,16 +38,30 @@ pub returns-clause-paints : goal.returns-clause-paints
 returns-clause-paints g c asks =
     let says : g.row.D.Denot → Data = g.D.BidiData.data in
     let h = c.in_ok-enter.ensures.after_byte in
-    byte_paints says h.0 c.args.self.now c.enter.new.self c.paint.new.self.session c.args.byte h.2 c.in_ok-paint.ensures.paints
+    byte_paints says h.0 c.args.self.now c.enter.new.self c.paint_after.new.self.session c.args.byte h.2 c.in_ok-paint_after.ensures.paints
 
-pub returns-in_err-paint-clause-after_byte : goal.returns-in_err-paint-clause-after_byte
-returns-in_err-paint-clause-after_byte g c =
+pub returns-clause-appends : goal.returns-clause-appends
+returns-clause-appends g c asks =
     let says : g.row.D.Denot → Data = g.D.BidiData.data in
     let h = c.in_ok-enter.ensures.after_byte in
-    let is : c.from_residual-in_err-paint.result ≡ Err Paint = search rules in (
+    byte_appends says h.0 c.args.self.now c.enter.new.self c.paint_after.new.self.session c.args.byte h.2 c.in_ok-paint_after.ensures.appends
+
+pub returns-then-not-branch-clause-quiet : goal.returns-then-not-branch-clause-quiet
+returns-then-not-branch-clause-quiet g c none =
+    let says : g.row.D.Denot → Data = g.D.BidiData.data in
+    let h = c.in_ok-enter.ensures.after_byte in
+    ap (λ (x : SessionState g.row.D.Denot). x.session.pending) h.2
+    ∙ unpainted_pending (says c.args.self.now.tables) h.0 c.args.self.now.session c.args.byte
+
+pub returns-in_err-paint_after-clause-after_byte : goal.returns-in_err-paint_after-clause-after_byte
+returns-in_err-paint_after-clause-after_byte g c =
+    let says : g.row.D.Denot → Data = g.D.BidiData.data in
+    let h = c.in_ok-enter.ensures.after_byte in
+    let s = c.args.self.now in
+    let is : c.from_residual-in_err-paint_after.result ≡ Err Paint = search rules in (
       h.0,
-      h.1,
-      owing_is says h.0 c.args.self.now c.enter.new.self c.paint.new.self c.args.byte c.from_residual-in_err-paint.result
-          (is_not_idle c.args.self.now.session c.args.byte c.in_ok-enter.field-0 c.in_ok-enter.ensures.asks c.if-not-branch.false) h.2
-          c.in_err-paint.ensures.err is,
+      subst (λ (r : Result Status Refused). StoreAfter (is_applied r && is_save_byte s.session c.args.byte) h.0 (text_to_save (says s.tables) s.session.editor)
+          (store_state g.S.Store.contents g.S.Store.faults c.args.store.now) (store_state g.S.Store.contents g.S.Store.faults c.enter.new.store)) (sym is) h.1,
+      owing_is says h.0 s c.enter.new.self c.paint_after.new.self c.args.byte c.from_residual-in_err-paint_after.result
+          (sym c.in_ok-enter.ensures.asks ∙ c.if-not-branch.false) h.2 c.in_err-paint_after.ensures.err is,
     )

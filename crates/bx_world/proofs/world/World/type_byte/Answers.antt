@@ -1,8 +1,9 @@
 use Rattle.std.proofs.Common.{Option, subst, ap, ◌∙◌}
+use Rattle.std.specs.Prelude.{◌&&◌}
 use Rattle.bx_store.specs.declared.store.StoreFault.{StoreFault}
 use Rattle.bx_ucd.specs.Data.{Data}
-use Rattle.bx_session.specs.Saving.{StoreAfter, is_save_byte, store_state}
-use Rattle.bx_world.specs.Answers.{mark_after}
+use Rattle.bx_session.specs.Saving.{StoreAfter, is_save_byte, store_state, text_to_save}
+use Rattle.bx_world.specs.Answers.{is_applied, mark_after}
 use Rattle.bx_world.specs.Steps.{AfterByteStep}
 use Rattle.bx_world.specs.World.{World, WorldState}
 use Rattle.bx_world.proofs.Calls.{byte_call, byte_steps, value_of}
@@ -23,7 +24,7 @@ returns-clause-step g c =
     let says : g.row.D.Denot → Data = g.D.BidiData.data in
     let w : World = value_of c.self.inside in
     subst (λ (x : WorldState g.row.D.Denot). (fault : Option StoreFault)
-    × StoreAfter (is_save_byte x.world.session c.args.byte) fault x.world.session.editor.content.text
+    × StoreAfter (is_applied c.answer_of.result && is_save_byte x.world.session c.args.byte) fault (text_to_save (says x.tables) x.world.session.editor)
     (store_state g.S.Store.contents g.S.Store.faults c.args.store.now) (store_state g.S.Store.contents g.S.Store.faults c.feed-answer.new.store)
     × AfterByteStep (says x.tables) fault x.world c.args.byte c.answer_of.result
     (record w { session = c.feed-answer.new.self.session; told = c.mark_after.new.told })) c.self.view_is

@@ -1,0 +1,122 @@
+-- The row that is shown first is not seen by itself, nor is a clipboard; and a text is opened with its first row first.
+use Rattle.std.proofs.Common.{◌≡◌, ℕ, ◌-◌, ◌<◌, ◌≤◌, Bool, true, false, List, [], ◌++◌, length, map, get_or, IsUtf8, refl, sym, ap, ap₂, ◌∙◌, nat_le, leb-true, arith, if◌then◌else◌}
+use Rattle.std.specs.Prelude.{◌&&◌}
+use Rattle.std.proofs.lemmas.List.{get_or-map, length-map}
+use Rattle.bx_terms.specs.Sizes.{is_side, largest_side}
+use Rattle.bx_terms.specs.declared.base.Base.{Base}
+use Rattle.bx_ucd.specs.Data.{Data}
+use Rattle.bx_rows.specs.RowPicture.{Glyph}
+use Rattle.bx_view.specs.TextRows.{TextRow, cell_of, first, no_text_row, row_at, row_of, text_rows}
+use Rattle.bx_view.specs.Top.{follow, nearest_top, shown_rows}
+use Rattle.bx_view.proofs.LeastMove.{falls-own}
+use Rattle.bx_view.proofs.Rising.{rank-few, rank-here}
+use Rattle.bx_view.proofs.Walking.{rows-rise, text-rank}
+use Rattle.bx_grid.specs.Picture.{PictureState}
+use Rattle.bx_asking.specs.declared.question.Ask.{Ask}
+use Rattle.bx_asking.specs.declared.question.Ask.TheVariants as asks
+use Rattle.bx_editor.specs.declared.seek.Seek.{Seek}
+use Rattle.bx_editor.specs.declared.seek.Seek.TheVariants as seeks
+use Rattle.bx_editor.specs.Editor.{Editor, HasRows, at_start, rows, text_height, with_top}
+use Rattle.bx_editor.specs.Picture.{StandsOnItsCell, blank_picture, next_top, picture, region_rows}
+use Rattle.bx_editor.specs.Replacing.{seen_in}
+use Rattle.bx_editor.specs.Status.{glyph_row, letter_glyphs, prompt_glyphs, status_text}
+use Rattle.bx_session.specs.Session.{picture_of}
+
+-- ---- the picture
+
+module _ (d : Data) (e : Editor) (shown : ℕ) (clipboard : Bool) where
+  abbrev new : Editor
+  new = record e { top = shown; clipboard = clipboard }
+
+  same-part : (seek : Seek) → seen_in d new seek ≡ seen_in d e seek
+  same-part seeks.Off = refl
+  same-part seeks.Begun = refl
+  same-part seeks.Typed = refl
+  same-part seeks.WithBegun = refl
+  same-part seeks.WithTyped = refl
+  same-part seeks.Replacing = refl
+
+  same-prompt : (ask : Ask) → prompt_glyphs d new ask ≡ prompt_glyphs d e ask
+  same-prompt asks.Off = refl
+  same-prompt asks.Line = refl
+  same-prompt asks.Name = refl
+  same-prompt asks.Code = refl
+
+  -- the picture with this part of the text in the other rendition, and this prompt
+  abbrev with_parts : ℕ → ℕ × ℕ → List Glyph → PictureState
+  with_parts top part glyphs =
+      if e.ended
+      then blank_picture e.height e.width
+      else record {
+        height = e.height;
+        width = e.width;
+        columns = region_rows d e.width part (text_height e.height) (shown_rows (rows d e) top (text_height e.height))
+            ++ (if nat_le 2 e.height then glyph_row e.width (letter_glyphs (status_text d e) ++ glyphs) else []);
+        row = row_of (rows d e) e.place - row_of (rows d e) top;
+        column = cell_of e.width (rows d e) e.place - 1;
+      }
+
+  pub looks_same : (top : ℕ) → picture d new top ≡ picture d e top
+  looks_same top = ap₂ (with_parts top) (same-part e.seek) (same-prompt e.ask)
+
+-- scrolling changes no row's look
+pub top_unseen : (d : Data) (e : Editor) (shown top : ℕ) → picture d (with_top e shown) top ≡ picture d e top
+top_unseen d e shown top = looks_same d e shown e.clipboard top
+
+-- nor does a clipboard
+pub clipboard_unseen : (d : Data) (e : Editor) (clipboard : Bool) (top : ℕ) → picture d (record e { clipboard = clipboard }) top ≡ picture d e top
+clipboard_unseen d e clipboard top = looks_same d e e.top clipboard top
+
+-- the picture that was drawn from a top is that of the editor which shows it first
+pub drawn_is : (d : Data) (e new : Editor) (top : ℕ) (p : PictureState) → new ≡ with_top e top → p ≡ picture d e top → p ≡ picture_of d new
+drawn_is d e new top p same is = is ∙ sym (top_unseen d e top top) ∙ ap (picture_of d) (sym same)
+
+-- and its cursor is on the cell of its place as before
+pub stands_on : (d : Data) (e : Editor) (top : ℕ) (p : PictureState) → StandsOnItsCell d e top p → StandsOnItsCell d (with_top e top) top p
+stands_on d e top p h = record { place = h.place; slot = h.slot; cell = h.cell; shown = h.shown; row = h.row; column = h.column }
+
+-- ---- the first row
+
+module _ (d : Data) (base : Base) (w : ℕ) (text : List ℕ) (some : 1 ≤ w) (utf8 : IsUtf8 text) where
+  abbrev all : List TextRow
+  all = text_rows d base w text
+
+  one : 1 ≤ length all
+  one =
+      let few = rank-few 0 (map first all) in
+      let first_one = text-rank d base w some text utf8 0 in
+      omega (arith, few, first_one, length-map all first)
+
+  first-at-0 : first (row_at all 0) ≡ 0
+  first-at-0 =
+      let here = rank-here 0 0 0 (map first all) _ 0 (rows-rise d base w some text utf8) (text-rank d base w some text utf8 0) in
+      let same = get_or-map first all 0 no_text_row 0 one in
+      omega (arith, here, same)
+
+  row-of-0 : row_of all 0 ≡ 0
+  row-of-0 = ap (row_of all) (sym first-at-0) ∙ falls-own all _ (rows-rise d base w some text utf8) 0 one
+
+  pub start-stays : (t : ℕ) → 0 < t → follow all 0 0 t ≡ 0
+  start-stays t high =
+      let none : nearest_top 0 0 t ≡ 0 = omega (arith, high) in
+      ap (λ k. first (row_at all (nearest_top k k t))) row-of-0 ∙ ap (λ k. first (row_at all k)) none ∙ first-at-0
+
+some_rows : (height : ℕ) → 0 < text_height height
+some_rows height = go (nat_le 2 height) refl
+  where
+    go : (b : Bool) → nat_le 2 height ≡ b → 0 < (if b then height - 1 else 1)
+    go true high = let more = leb-true 2 height high in omega (arith, more)
+    go false low = omega arith
+
+left : (a b : Bool) → (a && b) ≡ true → a ≡ true
+left true b h = refl
+left false b h = absurd (cc h)
+
+some_columns : (w : ℕ) → is_side w ≡ true → 1 ≤ w
+some_columns w h = leb-true 1 w (left (nat_le 1 w) (nat_le w largest_side) h)
+
+-- at opening the first row is first
+pub opening_stays : (d : Data) (text : List ℕ) (height width : ℕ) (base : Base) → HasRows (at_start text height width base)
+    → next_top d (at_start text height width base) 0 ≡ 0
+opening_stays d text height width base has =
+    start-stays d base width text (some_columns width has.columns) has.text (text_height height) (some_rows height)
