@@ -3,7 +3,6 @@ use Rattle.std.proofs.Common.{◌≡◌, ℕ, Bool, true, false, List, [], ◌++
 use Rattle.std.specs.Prelude.{◌||◌, ◌&&◌, is_some}
 use Rattle.std.proofs.lemmas.List.{append-nil}
 use Rattle.bx_terms.specs.declared.base.Base.{Base}
-use Rattle.bx_grid.specs.Picture.{PictureState}
 use Rattle.bx_paint.proofs.Few.{same_changes}
 use Rattle.bx_keys.specs.declared.key.Key.{Key}
 use Rattle.bx_keys.specs.declared.key.Key.TheVariants.{Insert, PasteStart}
@@ -45,13 +44,13 @@ shown d s same =
 again : (d : Data) (s : Session) → s.painting_owed ≡ false → Shown d s → with_painting d s ≡ s
 again d s owed h =
     let e : Editor = s.editor in
-    let p : PictureState = picture_of d e in
+    let p = picture_of d e in
     ap (λ top. with_picture s (with_top e top) (picture_of d (with_top e top))) h.stays
-    ∙ ap (λ (known : Option PictureState). record s { painted = Some p; known = Some p; painting_owed = false; pending = s.pending ++ painting known p }) h.known
+    ∙ ap (λ known. record s { painted = Some p; known = Some p; painting_owed = false; pending = s.pending ++ painting known p }) h.known
     ∙ ap (λ bytes. record s { painted = Some p; known = Some p; painting_owed = false; pending = s.pending ++ bytes }) (same_changes p p refl)
     ∙ ap (λ bytes. record s { painted = Some p; known = Some p; painting_owed = false; pending = bytes }) (append-nil s.pending)
-    ∙ ap (λ (painted : Option PictureState). record s { painted = painted; known = Some p; painting_owed = false }) (sym h.painted)
-    ∙ ap (λ (known : Option PictureState). record s { known = known; painting_owed = false }) (sym h.known)
+    ∙ ap (λ painted. record s { painted = painted; known = Some p; painting_owed = false }) (sym h.painted)
+    ∙ ap (λ known. record s { known = known; painting_owed = false }) (sym h.known)
     ∙ ap (λ owed. record s { painting_owed = owed }) (sym owed)
 
 -- a painting leaves it so, with a clip behind it or without
@@ -96,7 +95,7 @@ not_whole d fault e (Insert c) h runs = key_goes_on d fault e (Insert c) refl �
 not_whole d fault e PasteStart h runs = key_goes_on d fault e PasteStart refl ∙ runs
 not_whole d fault e key h runs = absurd (cc (second (is_some e.pasted) false h))
 
-known_stays : (whole : Bool) (known : Option PictureState) → whole ≡ false → (if whole then None else known) ≡ known
+known_stays : {X : Type 0} (whole : Bool) (known : Option X) → whole ≡ false → (if whole then None else known) ≡ known
 known_stays true known h = absurd (cc h)
 known_stays false known h = refl
 
