@@ -27,7 +27,7 @@ use Rattle.bx_editor.specs.Pasting.{after_paste_end, after_paste_start, longer, 
 use Rattle.bx_editor.specs.Putting.{has_room, only_paste, put_in, with_selection_replaced}
 use Rattle.bx_editor.specs.Region.{is_empty, region}
 use Rattle.bx_editor.specs.Selecting.{aged, is_selection, is_soft}
-use Rattle.bx_editor_laws.specs.PastingLaws.{typed_from, EndAtTheirPlaces, HaveSameText, IsFree, PasteComesBack, PasteIsTyping}
+use Rattle.bx_editor_laws.specs.PastingLaws.{EndAtTheirPlaces, IsFree, PasteComesBack, PasteIsTyping}
 use Rattle.bx_editor.proofs.OnePaste.{paste-is-one-edit}
 use Rattle.bx_editor_laws.proofs.OneRun.{insert-is, no-selection, paste-is-a-run}
 
