@@ -30,6 +30,8 @@ pub mod HeldApart
 pub mod ManySteps
 pub mod QuestionKept
 pub mod Pasted
+pub mod Refused
+pub mod Copied
 pub mod Unseen
 pub mod OnePaste
 pub mod SentOut

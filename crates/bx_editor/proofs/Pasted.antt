@@ -9,7 +9,7 @@ use Rattle.bx_editor.specs.Putting.{has_room, put_in, with_selection_replaced}
 use Rattle.bx_editor.specs.Selecting.{is_selection}
 
 -- with another key before, and no paste under way
-abbrev settled : Bool → Editor → Editor
+abbrev pub settled : Bool → Editor → Editor
 settled again e = record e { quit_before = again; pasted = None }
 
 each : (b c : Bool) (x y z : Editor) (again : Bool) → settled again (if b then (if c then x else y) else z)
@@ -61,3 +61,8 @@ back-by d e list false = back-from e (has_room (without_paste e) list) (is_selec
 
 pub taken-back : (d : Data) (e : Editor) (list : List ℕ) → as_before e (with_pasted d e list) ≡ e
 taken-back d e list = back-by d e list (length list == 0)
+
+-- the same where the paste was taken out before
+pub back-again : (e new : Editor) (pasted : Option (List ℕ)) → as_before (record e { pasted = pasted }) new ≡ record e { pasted = pasted }
+    → as_before e new ≡ e
+back-again e new pasted back = ap (λ (x : Editor). (let y : Editor = record x { pasted = e.pasted } in y)) back

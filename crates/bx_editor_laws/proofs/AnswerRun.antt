@@ -14,7 +14,6 @@ use Rattle.bx_text.specs.Edits.{fits, fits_both}
 use Rattle.bx_runs.specs.Runs.{edited, run_start}
 use Rattle.bx_runs.specs.Typing.{after_insertion, kind_of}
 use Rattle.bx_runs.specs.declared.typing.Typing.{Typing}
-use Rattle.bx_runs.specs.declared.typing.Typing.TheVariants as typings
 use Rattle.bx_runs.proofs.RunLaws.{edit-is-of-its-run}
 use Rattle.bx_ucd.specs.Data.{Data}
 use Rattle.bx_editor.specs.declared.message.Message.TheVariants as messages
@@ -28,6 +27,7 @@ use Rattle.bx_editor.specs.Putting.{is_paste}
 use Rattle.bx_editor.specs.Region.{is_empty, region}
 use Rattle.bx_editor_laws.specs.RunLaws.{IsBackBefore}
 use Rattle.bx_editor.specs.Wrapping.{after_wrapping, spans_lines, with_wrap}
+use Rattle.bx_editor.proofs.Questions as answers
 use Rattle.bx_editor_laws.proofs.AskingKeys.{name-is}
 use Rattle.bx_editor_laws.proofs.OneRun.{goes-back, insertion-begins, IsOneRun}
 use Rattle.bx_editor_laws.proofs.QuestionKeys.{asked-key, last-asked, typed-leaves}
@@ -57,7 +57,7 @@ either e false p q h k = k
 
 character-puts : (d : Data) (e : Editor) (c : ℕ) → PutsRun e (with_character d e c)
 character-puts d e c =
-    let typing = after_insertion typings.Off (kind_of (d.class c)) in
+    let typing = after_insertion (kind_of (d.class c)) in
     let one = insertion-begins d e e (encode_utf8 c) (refl, (refl, refl)) in
     either e (fits e.content.text e.place e.place (encode_utf8 c)) (with_typing (with_insertion d e (encode_utf8 c) false) typing)
     (record e { message = Some messages.TextFull }) (inr (record { more = one.more; over = one.over; start = one.start })) (inl refl)
@@ -120,38 +120,55 @@ letter-puts d typing Code e c =
 -- ---- the law
 
 -- behind a key that types
-run-back : (d : Data) (first e new : Editor) (key : Key) → IsOneRun e new → e.content ≡ first.content → e.place ≡ first.place
+run-back : (d : Data) (first e new : Editor) (key : Key) → new.pasted ≡ None → IsOneRun e new → e.content ≡ first.content → e.place ≡ first.place
     → IsBackBefore first (after_key d None (as_left key new) keys.UndoRun)
-run-back d first e new key h same at =
-    let back = goes-back d e (as_left key new) (record { more = h.more; over = h.over; start = h.start }) in
+run-back d first e new key settled h same at =
+    let back = goes-back d e (as_left key new) settled (record { more = h.more; over = h.over; start = h.start }) in
     record {
       text_is = back.text_is ∙ ap (λ t. t.text) same;
       past_is = back.past_is ∙ ap (λ t. t.past) same;
       unmarked = record { place_is = back.unmarked.place_is ∙ at; mark_is = back.unmarked.mark_is };
     }
 
-grown : (d : Data) (first e now new : Editor) (key : Key) → PutsRun e new → e.content ≡ first.content → e.place ≡ first.place → now ≡ as_left key new
+grown : (d : Data) (first e now new : Editor) (key : Key) → new.pasted ≡ None → PutsRun e new → e.content ≡ first.content → e.place ≡ first.place → now ≡ as_left key new
     → length first.content.past < length now.content.past → IsBackBefore first (after_key d None now keys.UndoRun)
-grown d first e now new key (inl stays) same at is more =
+grown d first e now new key settled (inl stays) same at is more =
     let few = ap (λ (x : Editor). length x.content.past) is in
     absurd (omega (arith, more, few, ap (λ t. length t.past) (stays ∙ same)))
-grown d first e now new key (inr h) same at is more =
-    subst (λ x. IsBackBefore first (after_key d None x keys.UndoRun)) (sym is) (run-back d first e new key h same at)
+grown d first e now new key settled (inr h) same at is more =
+    subst (λ x. IsBackBefore first (after_key d None x keys.UndoRun)) (sym is) (run-back d first e new key settled h same at)
 
-answer-back : (d : Data) (first e : Editor) (key : Key) → types key ≡ true → e.ask ≢ Off → e.content ≡ first.content → e.place ≡ first.place
+-- an answer begins no paste
+settled-kept : (d : Data) → answers.IsKept d (λ e. e.pasted ≡ None)
+settled-kept d = record {
+  inserted = λ e new h. h;
+  wrapped = λ e opener closer h. h;
+  told = λ e message h. h;
+  placed = λ e place h. h;
+  typed = λ e typing h. h;
+  asked = λ e ask answer h. h;
+}
+
+letter-settled : (d : Data) (typing : Typing) (e : Editor) (c : ℕ) → e.pasted ≡ None → (after_answer_letter d typing e.ask e c).pasted ≡ None
+letter-settled d typing e c settled = answers.letter-keeps d (λ e. e.pasted ≡ None) (settled-kept d) typing e.ask e c settled
+
+answer-back : (d : Data) (first e : Editor) (key : Key) → types key ≡ true → e.pasted ≡ None → e.ask ≢ Off → e.content ≡ first.content → e.place ≡ first.place
     → length first.content.past < length (after_key d None e key).content.past → IsBackBefore first (after_key d None (after_key d None e key) keys.UndoRun)
-answer-back d first e (keys.Insert c) h on same at more =
+answer-back d first e (keys.Insert c) h settled on same at more =
     grown d first (cleared e) (after_key d None e (keys.Insert c)) (after_answer_letter d e.typing e.ask (cleared e) c) (keys.Insert c)
-    (letter-puts d e.typing e.ask (cleared e) c) same at (asked-key d None e (keys.Insert c) on refl) more
-answer-back d first e keys.NewLine h on same at more =
+    (letter-settled d e.typing (cleared e) c settled) (letter-puts d e.typing e.ask (cleared e) c) same at
+    (asked-key d None e (keys.Insert c) settled on refl) more
+answer-back d first e keys.NewLine h settled on same at more =
     grown d first (cleared e) (after_key d None e keys.NewLine) (after_answer_letter d e.typing e.ask (cleared e) 0xA) keys.NewLine
-    (letter-puts d e.typing e.ask (cleared e) 0xA) same at (asked-key d None e keys.NewLine on refl) more
-answer-back d first e _ h on same at more = absurd (cc h)
+    (letter-settled d e.typing (cleared e) 0xA settled) (letter-puts d e.typing e.ask (cleared e) 0xA) same at
+    (asked-key d None e keys.NewLine settled on refl) more
+answer-back d first e _ h settled on same at more = absurd (cc h)
 
 pub answer-is-a-run : AnswerIsARun
-answer-is-a-run d e typed key stays types more =
+answer-is-a-run d e typed key settled stays types more =
     let asked = after_key d None e keys.Name in
-    let left = typed-leaves d asked typed stays in
-    let is = name-is d e in
-    answer-back d e (after_typing d asked typed) key types (last-asked d asked typed stays)
+    let is = name-is d e settled in
+    let unpasted : asked.pasted ≡ None = ap (λ (x : Editor). x.pasted) is ∙ settled in
+    let left = typed-leaves d asked typed unpasted stays in
+    answer-back d e (after_typing d asked typed) key types (left.pasted ∙ unpasted) (last-asked d asked typed stays)
     (left.content ∙ ap (λ (x : Editor). x.content) is) (left.place ∙ ap (λ (x : Editor). x.place) is) more

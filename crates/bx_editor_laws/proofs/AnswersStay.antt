@@ -23,7 +23,6 @@ use Rattle.bx_keys.specs.declared.key.Key.{Key}
 use Rattle.bx_store.specs.declared.store.StoreFault.{StoreFault}
 use Rattle.bx_runs.specs.Typing.{after_insertion, kind_of}
 use Rattle.bx_runs.specs.declared.typing.Typing.{Typing}
-use Rattle.bx_runs.specs.declared.typing.Typing.TheVariants as typings
 use Rattle.bx_text.specs.Edits.{fits, fits_both}
 use Rattle.bx_ucd.specs.Data.{Data}
 use Rattle.bx_document.specs.QueryRow.{IsNarrow, typed_glyph, typed_glyphs}
@@ -38,12 +37,15 @@ use Rattle.bx_editor.specs.Editor.{Editor, at_start, cleared, with_exchange, wit
 use Rattle.bx_editor.specs.Effects.{Effect, AsksLine, AsksName, Before, before, by}
 use Rattle.bx_editor.specs.Keys.{Answer, Letter, Shortens, GoesBack, Stays, after_any, after_key, after_searching, answer_of, answered_question, effect_of}
 use Rattle.bx_editor_laws.specs.Laws.{after_typing}
+use Rattle.bx_editor.specs.Pasting.{paste_ended}
 use Rattle.bx_editor.specs.Putting.{is_paste}
 use Rattle.bx_editor.specs.Region.{is_empty, region}
 use Rattle.bx_editor.specs.Search.{without_search}
 use Rattle.bx_editor.specs.Status.{prompt_glyphs, prompt_text}
 use Rattle.bx_editor.specs.Wrapping.{after_wrapping, spans_lines, with_wrap}
-use Rattle.bx_editor.proofs.InSearch.{each-key}
+use Rattle.bx_editor.proofs.EffectsKept.{IsKeptPasting, start-keeps}
+use Rattle.bx_editor.proofs.InSearch.{each-key, press-keeps}
+use Rattle.bx_editor_laws.proofs.PasteEnded.{ended-by}
 use Rattle.bx_editor.proofs.QuestionKept.{Asks, effect-keeps}
 use Rattle.bx_editor.proofs.Searches.{IsKeptSeeking, match-keeps, other-keeps, query-keeps}
 use Rattle.bx_editor.proofs.Narrow.{narrow-code, narrow-line, narrow-longer, narrow-shorter}
@@ -164,6 +166,7 @@ sought-good d = record {
   told = λ e message h. h;
   placed = λ e place h. h;
   typed = λ e typing h. h;
+  begun = λ e h. h;
   sought = λ e seek aim origin query other at count h. h;
 }
 
@@ -194,7 +197,7 @@ either-of false p q h k = k refl
 
 character-good : (d : Data) (e : Editor) (c : ℕ) → Good e → Good (with_character d e c)
 character-good d e c h =
-    let typing = after_insertion typings.Off (kind_of (d.class c)) in
+    let typing = after_insertion (kind_of (d.class c)) in
     either (fits e.content.text e.place e.place (encode_utf8 c)) (with_typing (with_insertion d e (encode_utf8 c) false) typing)
     (record e { message = Some messages.TextFull }) h h
 
@@ -279,9 +282,17 @@ any-good d fault was Line seek e key h = question-good d fault was e key (answer
 any-good d fault was Name seek e key h = question-good d fault was e key (answer_of key) h
 any-good d fault was Code seek e key h = question-good d fault was e key (answer_of key) h
 
+-- in a paste
+pasting-good : IsKeptPasting Good
+pasting-good = record { pasted = λ e pasted message typing h. h; lengthened = λ e pasted soft h. h }
+
+ended-good : (d : Data) (e : Editor) → Good e → Good (paste_ended d e)
+ended-good d e h = ended-by d e Good h h (λ list. h) (λ list. h) h
+
 key-good : (d : Data) (fault : Option StoreFault) (e : Editor) (key : Key) → Good e → Good (after_key d fault e key)
 key-good d fault e key h =
-    each-key d fault e (λ k new. Good new) (λ height width. h) (λ notice. h) (h, h) (λ k other. any-good d fault (before e) e.ask e.seek (cleared e) k h) key
+    each-key d fault e (λ k new. Good new) (λ height width. h) (λ notice. h) (start-keeps Good pasting-good e h, ended-good d e h)
+    (λ k other. press-keeps d fault e Good k (λ x good. any-good d fault (before x) x.ask x.seek (cleared x) k good) (ended-good d) (λ c. h) h) key
 
 typed-good : (d : Data) (e : Editor) (typed : List (Key × Option StoreFault)) → Good e → Good (after_typing d e typed)
 typed-good d e [] h = h

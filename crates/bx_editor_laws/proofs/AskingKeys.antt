@@ -1,5 +1,5 @@
 -- The keys that ask, whatever was on before.
-use Rattle.std.proofs.Common.{◌≡◌, [], refl}
+use Rattle.std.proofs.Common.{◌≡◌, [], refl, sym, ap, ◌∙◌}
 use Rattle.std.specs.Prelude.{None}
 use Rattle.bx_asking.specs.declared.question.Ask.{Ask}
 use Rattle.bx_asking.specs.declared.question.Ask.TheVariants as asks
@@ -11,6 +11,7 @@ use Rattle.bx_editor.specs.Editor.{Editor, cleared}
 use Rattle.bx_editor.specs.Effects.{Before, before}
 use Rattle.bx_editor.specs.Keys.{after_any, after_key, as_left}
 use Rattle.bx_editor.specs.Selecting.{aged, unselected}
+use Rattle.bx_editor.proofs.InSearch.{any-key}
 
 -- a character, or a line, is asked for
 abbrev pub asked_name : Editor → Seek → Editor
@@ -44,8 +45,12 @@ line-any d was asks.Line seek e = refl
 line-any d was asks.Name seek e = refl
 line-any d was asks.Code seek e = refl
 
-pub name-is : (d : Data) (e : Editor) → after_key d None e Name ≡ asked_name e (after_key d None e Name).seek
-name-is d e = name-any d (before e) e.ask e.seek e
+pub name-is : (d : Data) (e : Editor) → e.pasted ≡ None → after_key d None e Name ≡ asked_name e (after_key d None e Name).seek
+name-is d e settled =
+    let pressed = any-key d None e Name settled refl in
+    pressed ∙ name-any d (before e) e.ask e.seek e ∙ sym (ap (λ (new : Editor). asked_name e new.seek) pressed)
 
-pub line-is : (d : Data) (e : Editor) → after_key d None e GoTo ≡ asked_line e (after_key d None e GoTo).seek
-line-is d e = line-any d (before e) e.ask e.seek e
+pub line-is : (d : Data) (e : Editor) → e.pasted ≡ None → after_key d None e GoTo ≡ asked_line e (after_key d None e GoTo).seek
+line-is d e settled =
+    let pressed = any-key d None e GoTo settled refl in
+    pressed ∙ line-any d (before e) e.ask e.seek e ∙ sym (ap (λ (new : Editor). asked_line e new.seek) pressed)

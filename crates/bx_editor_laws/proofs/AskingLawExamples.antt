@@ -37,13 +37,13 @@ pub digits_go_nowhere : QuestionsChangeThemselves
     → let e = after a_line_asked (Insert 0x31 ∷ Erase ∷ Insert 0x39 ∷ []) in (e.content.text ≡ codes "ab\ncde") × (e.place ≡ 5)
 unfolding unicode_segmentation unicode_width digits
 digits_go_nowhere law =
-    let kept = (law tables a_line_asked (λ e. cc e)).keys (typed (Insert 0x31 ∷ Erase ∷ Insert 0x39 ∷ [])) ((λ e. cc e), ((λ e. cc e), ((λ e. cc e), (λ e. cc e)))) in
+    let kept = (law tables a_line_asked (λ e. cc e) refl).keys (typed (Insert 0x31 ∷ Erase ∷ Insert 0x39 ∷ [])) ((λ e. cc e), ((λ e. cc e), ((λ e. cc e), (λ e. cc e)))) in
     (ap (λ t. t.text) kept.content_is, kept.place_is)
 
 pub two_three_is_here : ToldNumbersLeadBack → (after at_the_end (GoTo ∷ (letters (codes "2:3") ++ NewLine ∷ []))).place ≡ 5
 unfolding unicode_segmentation unicode_width digits
 two_three_is_here law =
-    ((law tables at_the_end (record { text = (codes "ab\ncde", (refl, refl)); size = omega arith; place = (5, omega arith, refl) })).typed NewLine refl).0.place_is
+    ((law tables at_the_end (record { text = (codes "ab\ncde", (refl, refl)); size = omega arith; place = (5, omega arith, refl) })).typed refl NewLine refl).0.place_is
 
 -- ---- what is put in
 
@@ -55,20 +55,20 @@ pub a_code_is_taken_back : AnswerIsARun
     → let e = after between (Name ∷ (letters (codes "u5d0") ++ Insert 0xA ∷ UndoRun ∷ [])) in (e.content.text ≡ codes "ab") × (e.place ≡ 1)
 unfolding unicode_segmentation unicode_width digits
 a_code_is_taken_back law =
-    let back = law tables between (typed (letters (codes "u5d0"))) (Insert 0xA)
+    let back = law tables between (typed (letters (codes "u5d0"))) (Insert 0xA) refl
     ((λ e. cc e), ((λ e. cc e), ((λ e. cc e), ((λ e. cc e), (λ e. cc e))))) refl (omega arith) in
     (back.text_is, back.unmarked.place_is)
 
 -- l names a left-to-right mark
 pub a_mark_is_put_in : LetterPutsIn → (after between (Name ∷ Insert 0x6C ∷ [])).content.text ≡ codes "a" ++ 0xE2 ∷ 0x80 ∷ 0x8E ∷ codes "b"
 unfolding unicode_segmentation unicode_width digits
-a_mark_is_put_in law = (law tables between 0x6C 0x200E refl (inl refl) (omega arith)).text_is
+a_mark_is_put_in law = (law tables between 0x6C 0x200E refl refl (inl refl) (omega arith)).text_is
 
 -- 5d0 is alef's code
 pub alef_is_put_in : CodePutsIn
     → (after between (Name ∷ Insert 0x2B ∷ (letters (codes "5d0") ++ NewLine ∷ []))).content.text ≡ codes "a" ++ 0xD7 ∷ 0x90 ∷ codes "b"
 unfolding unicode_segmentation unicode_width digits
-alef_is_put_in law = (law tables between 0x2B (codes "5d0") 0x5D0 NewLine refl refl (omega arith) refl (omega arith)).text_is
+alef_is_put_in law = (law tables between 0x2B (codes "5d0") 0x5D0 NewLine refl refl refl (omega arith) refl (omega arith)).text_is
 
 -- b is marked in abc
 abbrev b_marked : Editor
@@ -78,7 +78,7 @@ b_marked = after (start (codes "abc") 4 40) (Forward ∷ Mark ∷ Forward ∷ []
 pub b_is_isolated : LetterWraps
     → (after b_marked (Name ∷ Insert 0x69 ∷ [])).content.text ≡ codes "a" ++ 0xE2 ∷ 0x81 ∷ 0xA6 ∷ 0x62 ∷ 0xE2 ∷ 0x81 ∷ 0xA9 ∷ codes "c"
 unfolding unicode_segmentation unicode_width digits
-b_is_isolated law = ((law tables b_marked 0x69 0x2066 0x2069 refl refl (record { some = omega arith; inside = omega arith })).fits refl (omega arith)).text_is
+b_is_isolated law = ((law tables b_marked 0x69 0x2066 0x2069 refl refl refl (record { some = omega arith; inside = omega arith })).fits refl (omega arith)).text_is
 
 -- in its paragraph
 pub b_stands_in_an_isolate : LetterIsolates
@@ -92,6 +92,7 @@ b_stands_in_an_isolate law =
       in_order = omega arith;
     } in
     let isolated = law tables b_marked 0x69 0x2066 0x2069 (record {
+      settled = refl;
       opener_is = refl;
       closer_is = refl;
       begins = refl;
@@ -130,4 +131,4 @@ alef_is_told law =
 
 pub it_is_shown : TellShows → status_text tables (after at_alef (Tell ∷ [])) ≡ codes "- 1:1 U+05D0 R U+0301 NSM level 1"
 unfolding unicode_segmentation unicode_width digits
-it_is_shown law = (law tables at_alef).0
+it_is_shown law = (law tables at_alef refl).0

@@ -24,6 +24,7 @@ use Rattle.bx_editor.specs.Asking.{after_answer_letter, after_code, after_name_l
 use Rattle.bx_editor_laws.specs.AskingLaws.{CodePutsIn, IsPutIn, is_enter}
 use Rattle.bx_editor.specs.Editor.{Editor, cleared, place_after, with_insertion, with_typing}
 use Rattle.bx_editor.specs.Keys.{after_key, after_keys, as_left}
+use Rattle.bx_editor.proofs.InSearch.{any-key}
 use Rattle.bx_editor_laws.proofs.AskingKeys.{asked_name, name-is}
 use Rattle.bx_editor_laws.proofs.LettersPut.{character-in}
 use Rattle.bx_editor_laws.proofs.QuestionKeys.{asked-key}
@@ -80,6 +81,7 @@ record IsCoding (first e : Editor) (answer : List ℕ) : Type 0 where
   pub ask : e.ask ≡ Code
   pub typing : e.typing ≡ typings.Off
   pub answer_is : e.answer ≡ answer
+  pub settled : e.pasted ≡ None
   pub content : e.content ≡ first.content
   pub place : e.place ≡ first.place
   pub base : e.base ≡ first.base
@@ -95,13 +97,13 @@ type-on d first e answer c h all digit room =
     let ended = after_code d (without_ask was) (coded e.answer) in
     let typed = with_answer was (lengthened longest_code e.answer c) in
     let is : after_key d None e (keys.Insert c) ≡ as_left (keys.Insert c) (with_answer was (answer ++ c ∷ [])) =
-    asked-key d None e (keys.Insert c) (on-code e h.ask) refl
+    asked-key d None e (keys.Insert c) h.settled (on-code e h.ask) refl
     ∙ ap₂ (λ t a. as_left (keys.Insert c) (after_answer_letter d t a was c)) h.typing h.ask
     ∙ ap (λ b. as_left (keys.Insert c) (if b then ended else (if is_code_letter c then typed else was))) (no-end-by c (c == 0xA) refl digit)
     ∙ ap (λ b. as_left (keys.Insert c) (if b then typed else was)) digit
     ∙ ap (λ a. as_left (keys.Insert c) (with_answer was a)) (ap (λ a. lengthened longest_code a c) h.answer_is ∙ longer answer c all digit room) in
     subst (λ (x : Editor). IsCoding first x (answer ++ c ∷ [])) (sym is)
-    (record { ask = h.ask; typing = refl; answer_is = refl; content = h.content; place = h.place; base = h.base; width = h.width })
+    (record { ask = h.ask; typing = refl; answer_is = refl; settled = h.settled; content = h.content; place = h.place; base = h.base; width = h.width })
 
 record Reaches (d : Data) (first e : Editor) (answer rest : List ℕ) (more : List Key) : Type 0 where
   pub there : Editor
@@ -135,7 +137,7 @@ ended d first e code c key is h read few =
     let free = without_ask (cleared e) in
     let bytes = encode_utf8 c in
     let room : length e.content.text + length bytes ≤ largest_text = subst (λ (t : Edited). length t.text + length bytes ≤ largest_text) (sym h.content) few in
-    let put = with_typing (with_insertion d free bytes false) (after_insertion typings.Off (kind_of (d.class c))) in
+    let put = with_typing (with_insertion d free bytes false) (after_insertion (kind_of (d.class c))) in
     let whole : after_key d None e key ≡ as_left key put =
     is ∙ ap₂ (λ t a. as_left key (after_answer_letter d t a (cleared e) 0xA)) h.typing h.ask
     ∙ ap (λ a. as_left key (after_code d free (coded a))) h.answer_is ∙ ap (λ x. as_left key (after_code d free x)) read
@@ -147,10 +149,10 @@ entered : (d : Data) (first e : Editor) (code : List ℕ) (c : ℕ) (enter : Key
     → length first.content.text + length (encode_utf8 c) ≤ largest_text → IsPutIn d first (encode_utf8 c) (after_key d None e enter)
 entered d first e code c (keys.Insert x) end h read few =
     ended d first e code c (keys.Insert x)
-    (asked-key d None e (keys.Insert x) (on-code e h.ask) refl
+    (asked-key d None e (keys.Insert x) h.settled (on-code e h.ask) refl
     ∙ ap (λ y. as_left (keys.Insert x) (after_answer_letter d e.typing e.ask (cleared e) y)) (eqb-true x 0xA end)) h read few
 entered d first e code c keys.NewLine end h read few =
-    ended d first e code c keys.NewLine (asked-key d None e keys.NewLine (on-code e h.ask) refl) h read few
+    ended d first e code c keys.NewLine (asked-key d None e keys.NewLine h.settled (on-code e h.ask) refl) h read few
 entered d first e code c _ end h read few = absurd (cc end)
 
 -- ---- the law
@@ -165,20 +167,20 @@ no-name letter asks = elim (or_cases (letter == 0x75) (letter == 0x2B) asks) as 
   | inr plus ↦ ap named (eqb-true letter 0x2B plus)
 ]
 
-begun : (d : Data) (e : Editor) (letter : ℕ) → asks_code letter ≡ true
+begun : (d : Data) (e : Editor) (letter : ℕ) → e.pasted ≡ None → asks_code letter ≡ true
     → after_keys d None e (keys.Name ∷ keys.Insert letter ∷ []) ≡ asked_code e (after_key d None e keys.Name).seek letter
-begun d e letter asks =
+begun d e letter settled asks =
     let seek = (after_key d None e keys.Name).seek in
     let was = cleared (asked_name e seek) in
-    ap (λ x. after_key d None x (keys.Insert letter)) (name-is d e)
+    ap (λ x. after_key d None x (keys.Insert letter)) (name-is d e settled) ∙ any-key d None (asked_name e seek) (keys.Insert letter) settled refl
     ∙ ap (λ n. as_left (keys.Insert letter) (after_name_letter d was letter n)) (no-name letter asks)
     ∙ ap (λ b. as_left (keys.Insert letter) (if b then record was { ask = Code } else (if letter == 0xA then without_ask was else was))) asks
 
 pub code-puts-in : CodePutsIn
-code-puts-in d e letter code c enter asks read short end few =
+code-puts-in d e letter code c enter settled asks read short end few =
     let seek = (after_key d None e keys.Name).seek in
     let first : IsCoding e (asked_code e seek letter) [] =
-    record { ask = refl; typing = refl; answer_is = refl; content = refl; place = refl; base = refl; width = refl } in
+    record { ask = refl; typing = refl; answer_is = refl; settled = settled; content = refl; place = refl; base = refl; width = refl } in
     let all = all-typed d e (asked_code e seek letter) [] code (enter ∷ []) first tt (code-digits code c read) (omega (arith, short)) in
-    subst (IsPutIn d e (encode_utf8 c)) (sym (ap (λ x. after_keys d None x (map keys.Insert code ++ enter ∷ [])) (begun d e letter asks) ∙ all.keys))
+    subst (IsPutIn d e (encode_utf8 c)) (sym (ap (λ x. after_keys d None x (map keys.Insert code ++ enter ∷ [])) (begun d e letter settled asks) ∙ all.keys))
     (entered d e all.there code c enter end all.coding read few)

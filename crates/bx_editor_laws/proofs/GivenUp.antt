@@ -1,10 +1,11 @@
 -- A search that is given up.
 use Rattle.std.proofs.Common.{◌≡◌, ℕ, Bool, true, false, List, [], ◌∷◌, length, refl, sym, ap, subst, ◌∙◌, inl, inr, if◌then◌else◌}
-use Rattle.std.specs.Prelude.{◌==◌, ◌&&◌, Option, Some, None}
+use Rattle.std.specs.Prelude.{◌==◌, Option, Some, None}
 use Rattle.bx_keys.specs.declared.key.Key.{Key}
 use Rattle.bx_keys.specs.declared.key.Key.TheVariants.{Quit, Copy, Find, FindBack, FindNext, Replace, Cancel}
 use Rattle.bx_store.specs.declared.store.StoreFault.{StoreFault}
 use Rattle.bx_runs.specs.declared.typing.Typing.{Typing}
+use Rattle.bx_runs.specs.declared.typing.Typing.TheVariants as typings
 use Rattle.bx_ucd.specs.Data.{Data}
 use Rattle.bx_asking.specs.declared.question.Ask.{Ask}
 use Rattle.bx_asking.specs.declared.question.Ask.TheVariants as asks
@@ -13,20 +14,22 @@ use Rattle.bx_editor.specs.declared.aim.Aim.{Aim}
 use Rattle.bx_editor.specs.declared.aim.Aim.TheVariants as aims
 use Rattle.bx_editor.specs.declared.seek.Seek.{Seek}
 use Rattle.bx_editor.specs.declared.seek.Seek.TheVariants.{Off, Begun, Typed, WithBegun, WithTyped, Replacing}
-use Rattle.bx_editor.specs.Editor.{Editor, cleared}
+use Rattle.bx_editor.specs.Editor.{Editor, cleared, with_typing}
 use Rattle.bx_editor.specs.Effects.{Before, before}
-use Rattle.bx_editor.specs.Keys.{Answer, Letter, Shortens, GoesBack, Next, Previous, Replaces, Stays, Ends, after_any, after_key}
+use Rattle.bx_editor.specs.Keys.{Answer, Letter, Shortens, GoesBack, Next, Previous, Replaces, Stays, Ends, after_any, after_key, after_press}
 use Rattle.bx_editor.specs.Keys.{answer_of, answered, answered_other, effect_of}
 use Rattle.bx_editor_laws.specs.Laws.{after_typing, begins_anew, finds, is_on}
 use Rattle.bx_editor_laws.specs.Laws.{BeginsSearch, GivesUp, GivingUpGoesBack, IsGivenUp, StaysOn}
+use Rattle.bx_editor.specs.Pasting.{paste_begun, paste_ended, with_paste}
 use Rattle.bx_editor.specs.Putting.{is_paste}
-use Rattle.bx_editor.specs.Replacing.{after_asking_other, after_other_letter, after_showing, after_sought_letter, asked_at}
+use Rattle.bx_editor.specs.Replacing.{after_asking_other, after_other_letter, after_showing, after_sought_end, after_sought_letter, asked_at}
 use Rattle.bx_editor.specs.Replacing.{is_replacing, longest_other, next_match, other_typed, shown_at, with_other}
 use Rattle.bx_editor.specs.Search.{after_beginning, after_giving_up, after_letter, is_no_letter, kept, landed, landing_from}
 use Rattle.bx_editor.specs.Search.{lengthened, longest_query, search_from, sought, with_query, without_search}
 use Rattle.bx_editor.specs.Selecting.{unselected}
-use Rattle.bx_editor.proofs.InSearch.{behind, each-key}
+use Rattle.bx_editor.proofs.InSearch.{any-key, behind, each-key}
 use Rattle.bx_editor.proofs.Searches.{is_end}
+use Rattle.bx_editor_laws.proofs.PasteEnded.{none-ended}
 use Rattle.bx_editor_laws.proofs.Unsought.{effect-unsought, is_seeking}
 
 -- the new editor has the text and the mark of the old one, and the place where its search began
@@ -35,11 +38,12 @@ record KeepsSearch (e new : Editor) : Type 0 where
   pub mark_is : new.mark ≡ e.mark
   pub content_is : new.content ≡ e.content
   pub ask_is : new.ask ≡ e.ask
+  pub pasted_is : new.pasted ≡ e.pasted
 
 -- ---- a key after which the search is still on
 
 keeps-all : (e : Editor) → KeepsSearch e e
-keeps-all e = record { origin_is = refl; mark_is = refl; content_is = refl; ask_is = refl }
+keeps-all e = record { origin_is = refl; mark_is = refl; content_is = refl; ask_is = refl; pasted_is = refl }
 
 either-keeps : (b : Bool) (e p q : Editor) → KeepsSearch e p → KeepsSearch e q → KeepsSearch e (if b then p else q)
 either-keeps true e p q h k = h
@@ -51,43 +55,49 @@ either-on : (b : Bool) (e p q : Editor) → (is_on p.seek ≡ true → KeepsSear
 either-on true e p q h k on = h on
 either-on false e p q h k on = k on
 
-letter-keeps : (d : Data) (e : Editor) (c : ℕ) → is_on (after_letter d e c).seek ≡ true → KeepsSearch e (after_letter d e c)
+letter-keeps : (d : Data) (e : Editor) (c : ℕ) → KeepsSearch e (after_letter d e c)
 letter-keeps d e c =
     let longer : Editor = search_from d e.place (with_query e (lengthened longest_query (kept e.seek e.query) c)) in
-    let same : KeepsSearch e longer = record { origin_is = refl; mark_is = refl; content_is = refl; ask_is = refl } in
-    either-on (c == 0xA) e (without_search e) (if is_no_letter d c then e else longer) (λ on. absurd (cc on))
-    (λ on. either-keeps (is_no_letter d c) e e longer (keeps-all e) same)
+    let same : KeepsSearch e longer = record { origin_is = refl; mark_is = refl; content_is = refl; ask_is = refl; pasted_is = refl } in
+    either-keeps (is_no_letter d c) e e longer (keeps-all e) same
 
 asked-keeps : (e went : Editor) (place : Option ℕ) → KeepsSearch e went → KeepsSearch e (asked_at place went)
-asked-keeps e went None h = record { origin_is = h.origin_is; mark_is = h.mark_is; content_is = h.content_is; ask_is = h.ask_is }
+asked-keeps e went None h = record { origin_is = h.origin_is; mark_is = h.mark_is; content_is = h.content_is; ask_is = h.ask_is; pasted_is = h.pasted_is }
 asked-keeps e went (Some place) h =
-    record { origin_is = h.origin_is; mark_is = h.mark_is; content_is = h.content_is; ask_is = h.ask_is }
+    record { origin_is = h.origin_is; mark_is = h.mark_is; content_is = h.content_is; ask_is = h.ask_is; pasted_is = h.pasted_is }
 
 asking-keeps : (d : Data) (e : Editor) → KeepsSearch e (after_asking_other d e)
 asking-keeps d e =
     let aimed : Editor = record e { aim = aims.Replace } in
     let l = landing_from d aimed.place aimed in
-    let same : KeepsSearch e (landed aimed l) = record { origin_is = refl; mark_is = refl; content_is = refl; ask_is = refl } in
+    let same : KeepsSearch e (landed aimed l) = record { origin_is = refl; mark_is = refl; content_is = refl; ask_is = refl; pasted_is = refl } in
     either-keeps (length (sought d aimed) == 0) e aimed (asked_at l.place (landed aimed l))
-    (record { origin_is = refl; mark_is = refl; content_is = refl; ask_is = refl }) (asked-keeps e (landed aimed l) l.place same)
+    (record { origin_is = refl; mark_is = refl; content_is = refl; ask_is = refl; pasted_is = refl }) (asked-keeps e (landed aimed l) l.place same)
+
+-- the end of a search to find, and a paste that begins there
+sought-end-keeps : (d : Data) (typing : Typing) (e : Editor) → is_on (after_sought_end d typing e).seek ≡ true → KeepsSearch e (after_sought_end d typing e)
+sought-end-keeps d typing e =
+    let left = without_search e in
+    either-on (is_replacing e.aim) e (if is_paste typing then e else after_asking_other d e) (if is_paste typing then with_paste left else left)
+    (λ on. either-keeps (is_paste typing) e e (after_asking_other d e) (keeps-all e) (asking-keeps d e))
+    (either-on (is_paste typing) e (with_paste left) left (λ on. absurd (cc on)) (λ on. absurd (cc on)))
 
 sought-keeps : (d : Data) (typing : Typing) (e : Editor) (c : ℕ) → is_on (after_sought_letter d typing e c).seek ≡ true
     → KeepsSearch e (after_sought_letter d typing e c)
 sought-keeps d typing e c =
-    either-on ((c == 0xA) && is_replacing e.aim) e (if is_paste typing then e else after_asking_other d e) (after_letter d e c)
-    (λ on. either-keeps (is_paste typing) e e (after_asking_other d e) (keeps-all e) (asking-keeps d e)) (letter-keeps d e c)
+    either-on (c == 0xA) e (after_sought_end d typing e) (after_letter d e c) (sought-end-keeps d typing e) (λ on. letter-keeps d e c)
 
 answered-keeps : (d : Data) (fault : Option StoreFault) (was : Before) (e : Editor) (key : Key) (answer : Answer)
     → is_on (answered d fault was e key answer).seek ≡ true → KeepsSearch e (answered d fault was e key answer)
 answered-keeps d fault was e key (Letter c) on =
     let keeps = sought-keeps d was.typing e c on in
-    record { origin_is = keeps.origin_is; mark_is = keeps.mark_is; content_is = keeps.content_is; ask_is = keeps.ask_is }
-answered-keeps d fault was e key Shortens on = record { origin_is = refl; mark_is = refl; content_is = refl; ask_is = refl }
+    record { origin_is = keeps.origin_is; mark_is = keeps.mark_is; content_is = keeps.content_is; ask_is = keeps.ask_is; pasted_is = keeps.pasted_is }
+answered-keeps d fault was e key Shortens on = record { origin_is = refl; mark_is = refl; content_is = refl; ask_is = refl; pasted_is = refl }
 answered-keeps d fault was e key GoesBack on = absurd (cc on)
-answered-keeps d fault was e key Next on = record { origin_is = refl; mark_is = refl; content_is = refl; ask_is = refl }
-answered-keeps d fault was e key Previous on = record { origin_is = refl; mark_is = refl; content_is = refl; ask_is = refl }
+answered-keeps d fault was e key Next on = record { origin_is = refl; mark_is = refl; content_is = refl; ask_is = refl; pasted_is = refl }
+answered-keeps d fault was e key Previous on = record { origin_is = refl; mark_is = refl; content_is = refl; ask_is = refl; pasted_is = refl }
 answered-keeps d fault was e key Replaces on = asking-keeps d e
-answered-keeps d fault was e key Stays on = record { origin_is = refl; mark_is = refl; content_is = refl; ask_is = refl }
+answered-keeps d fault was e key Stays on = record { origin_is = refl; mark_is = refl; content_is = refl; ask_is = refl; pasted_is = refl }
 answered-keeps d fault was e key Ends on = absurd (cc on)
 
 -- ---- while the other text is asked for
@@ -100,7 +110,7 @@ other-letter-keeps : (d : Data) (typing : Typing) (e : Editor) (c : ℕ) → is_
     → KeepsSearch e (after_other_letter d typing e c)
 other-letter-keeps d typing e c =
     let longer = with_other e (lengthened longest_other (kept e.seek e.other) c) in
-    let same : KeepsSearch e longer = record { origin_is = refl; mark_is = refl; content_is = refl; ask_is = refl } in
+    let same : KeepsSearch e longer = record { origin_is = refl; mark_is = refl; content_is = refl; ask_is = refl; pasted_is = refl } in
     either-on (c == 0xA) e (if is_paste typing then e else after_showing d e) (other_typed d e c)
     (either-on (is_paste typing) e e (after_showing d e) (λ on. keeps-all e) (shown-keeps e (next_match d e e.place)))
     (λ on. either-keeps (is_no_letter d c) e e longer (keeps-all e) same)
@@ -117,13 +127,13 @@ other-keeps : (d : Data) (fault : Option StoreFault) (was : Before) (e : Editor)
     → is_on (answered_other d fault was e key answer).seek ≡ true → KeepsSearch e (answered_other d fault was e key answer)
 other-keeps d fault was e key (Letter c) other ends on =
     let keeps = other-letter-keeps d was.typing e c on in
-    record { origin_is = keeps.origin_is; mark_is = keeps.mark_is; content_is = keeps.content_is; ask_is = keeps.ask_is }
-other-keeps d fault was e key Shortens other ends on = record { origin_is = refl; mark_is = refl; content_is = refl; ask_is = refl }
+    record { origin_is = keeps.origin_is; mark_is = keeps.mark_is; content_is = keeps.content_is; ask_is = keeps.ask_is; pasted_is = keeps.pasted_is }
+other-keeps d fault was e key Shortens other ends on = record { origin_is = refl; mark_is = refl; content_is = refl; ask_is = refl; pasted_is = refl }
 other-keeps d fault was e key GoesBack other ends on = absurd (cc on)
 other-keeps d fault was e key Next other ends on = absurd (cc other)
 other-keeps d fault was e key Previous other ends on = absurd (cc other)
 other-keeps d fault was e key Replaces other ends on = shown-keeps e (next_match d e e.place) on
-other-keeps d fault was e key Stays other ends on = record { origin_is = refl; mark_is = refl; content_is = refl; ask_is = refl }
+other-keeps d fault was e key Stays other ends on = record { origin_is = refl; mark_is = refl; content_is = refl; ask_is = refl; pasted_is = refl }
 other-keeps d fault was e key Ends other ends on =
     let off = effect-unsought d fault was (without_search e) (effect_of d (without_search e) key) (ends refl) refl in
     let none : false ≡ true = sym (ap is_on off) ∙ on in
@@ -161,19 +171,38 @@ any-keeps d fault was asks.Line seek e key unasked sought same on = absurd (cc u
 any-keeps d fault was asks.Name seek e key unasked sought same on = absurd (cc unasked)
 any-keeps d fault was asks.Code seek e key unasked sought same on = absurd (cc unasked)
 
-key-keeps : (d : Data) (fault : Option StoreFault) (e : Editor) (key : Key) → e.ask ≡ asks.Off → is_on e.seek ≡ true
+-- while a search is on PasteStart leaves the text, and no paste ends
+begun-keeps : (e : Editor) (ask : Ask) (seek : Seek) (pasted : Option (List ℕ)) → is_on seek ≡ true → paste_begun ask seek pasted e ≡ e
+begun-keeps e asks.Off Off pasted on = absurd (cc on)
+begun-keeps e asks.Off Begun pasted on = refl
+begun-keeps e asks.Off Typed pasted on = refl
+begun-keeps e asks.Off WithBegun pasted on = refl
+begun-keeps e asks.Off WithTyped pasted on = refl
+begun-keeps e asks.Off Replacing pasted on = refl
+begun-keeps e asks.Line seek pasted on = refl
+begun-keeps e asks.Name seek pasted on = refl
+begun-keeps e asks.Code seek pasted on = refl
+
+typing-alone : (e new : Editor) (typing : Typing) → new ≡ e → KeepsSearch e (with_typing new typing)
+typing-alone e new typing is =
+    subst (λ (x : Editor). KeepsSearch e (with_typing x typing)) (sym is)
+    (record { origin_is = refl; mark_is = refl; content_is = refl; ask_is = refl; pasted_is = refl })
+
+key-keeps : (d : Data) (fault : Option StoreFault) (e : Editor) (key : Key) → e.ask ≡ asks.Off → e.pasted ≡ None → is_on e.seek ≡ true
     → begins_anew e.seek key ≡ false
     → is_on (after_key d fault e key).seek ≡ true → KeepsSearch e (after_key d fault e key)
-key-keeps d fault e key unasked sought =
+key-keeps d fault e key unasked settled sought =
     each-key d fault e (λ k new. begins_anew e.seek k ≡ false → is_on new.seek ≡ true → KeepsSearch e new)
-    (λ height width same on. record { origin_is = refl; mark_is = refl; content_is = refl; ask_is = refl })
-    (λ notice same on. record { origin_is = refl; mark_is = refl; content_is = refl; ask_is = refl }) (
-      λ same on. record { origin_is = refl; mark_is = refl; content_is = refl; ask_is = refl },
-      λ same on. record { origin_is = refl; mark_is = refl; content_is = refl; ask_is = refl },
+    (λ height width same on. record { origin_is = refl; mark_is = refl; content_is = refl; ask_is = refl; pasted_is = refl })
+    (λ notice same on. record { origin_is = refl; mark_is = refl; content_is = refl; ask_is = refl; pasted_is = refl }) (
+      λ same on. typing-alone e (paste_begun e.ask e.seek e.pasted e) typings.Paste (begun-keeps e e.ask e.seek e.pasted sought),
+      λ same on. typing-alone e (paste_ended d e) typings.Off (none-ended d e settled),
     )
-    (λ k other same on.
+    (λ k other.
+    subst (λ pasted. let new = after_press d fault pasted e k in begins_anew e.seek k ≡ false → is_on new.seek ≡ true → KeepsSearch e new) (sym settled)
+    (λ same on.
     let keeps = any-keeps d fault (before e) e.ask e.seek (cleared e) k unasked sought same on in
-    record { origin_is = keeps.origin_is; mark_is = keeps.mark_is; content_is = keeps.content_is; ask_is = keeps.ask_is })
+    record { origin_is = keeps.origin_is; mark_is = keeps.mark_is; content_is = keeps.content_is; ask_is = keeps.ask_is; pasted_is = keeps.pasted_is }))
     key
 
 -- ---- keys through which it stays on
@@ -187,18 +216,19 @@ on-at-last : (d : Data) (e : Editor) (typed : List (Key × Option StoreFault)) �
 on-at-last d e [] on = on
 on-at-last d e (key ∷ typed) on = on-at-last d (after_key d key.1 e key.0) typed on.1.1
 
-typing-keeps : (d : Data) (e : Editor) (typed : List (Key × Option StoreFault)) → e.ask ≡ asks.Off → StaysOn d e typed
+typing-keeps : (d : Data) (e : Editor) (typed : List (Key × Option StoreFault)) → e.ask ≡ asks.Off → e.pasted ≡ None → StaysOn d e typed
     → KeepsSearch e (after_typing d e typed)
-typing-keeps d e [] unasked on = keeps-all e
-typing-keeps d e (key ∷ typed) unasked on =
+typing-keeps d e [] unasked settled on = keeps-all e
+typing-keeps d e (key ∷ typed) unasked settled on =
     let next = after_key d key.1 e key.0 in
-    let one = key-keeps d key.1 e key.0 unasked on.0 on.1.0 (on-at-first d next typed on.1.1) in
-    let more = typing-keeps d next typed (one.ask_is ∙ unasked) on.1.1 in
+    let one = key-keeps d key.1 e key.0 unasked settled on.0 on.1.0 (on-at-first d next typed on.1.1) in
+    let more = typing-keeps d next typed (one.ask_is ∙ unasked) (one.pasted_is ∙ settled) on.1.1 in
     record {
       origin_is = more.origin_is ∙ one.origin_is;
       mark_is = more.mark_is ∙ one.mark_is;
       content_is = more.content_is ∙ one.content_is;
       ask_is = more.ask_is ∙ one.ask_is;
+      pasted_is = more.pasted_is ∙ one.pasted_is;
     }
 
 -- ---- the first key and the last
@@ -232,28 +262,28 @@ replace-any d was asks.Line e is = refl
 replace-any d was asks.Name e is = refl
 replace-any d was asks.Code e is = refl
 
-pub find-begins : (d : Data) (e : Editor) → e.seek ≡ Off → after_key d None e Find ≡ behind (begun-at aims.Find e)
-find-begins d e off =
-    ap (λ s. behind (after_any d None (before e) e.ask s (cleared e) Find)) off
+pub find-begins : (d : Data) (e : Editor) → e.pasted ≡ None → e.seek ≡ Off → after_key d None e Find ≡ behind (begun-at aims.Find e)
+find-begins d e settled off =
+    any-key d None e Find settled refl ∙ ap (λ s. behind (after_any d None (before e) e.ask s (cleared e) Find)) off
     ∙ ap behind (find-any d (before e) e.ask (cleared e) refl)
 
-pub find-back-begins : (d : Data) (e : Editor) → e.seek ≡ Off → after_key d None e FindBack ≡ behind (begun-at aims.Find e)
-find-back-begins d e off =
-    ap (λ s. behind (after_any d None (before e) e.ask s (cleared e) FindBack)) off
+pub find-back-begins : (d : Data) (e : Editor) → e.pasted ≡ None → e.seek ≡ Off → after_key d None e FindBack ≡ behind (begun-at aims.Find e)
+find-back-begins d e settled off =
+    any-key d None e FindBack settled refl ∙ ap (λ s. behind (after_any d None (before e) e.ask s (cleared e) FindBack)) off
     ∙ ap behind (find-back-any d (before e) e.ask (cleared e) refl)
 
-pub replace-begins : (d : Data) (e : Editor) → e.seek ≡ Off → after_key d None e Replace ≡ behind (begun-at aims.Replace e)
-replace-begins d e off =
-    ap (λ s. behind (after_any d None (before e) e.ask s (cleared e) Replace)) off
+pub replace-begins : (d : Data) (e : Editor) → e.pasted ≡ None → e.seek ≡ Off → after_key d None e Replace ≡ behind (begun-at aims.Replace e)
+replace-begins d e settled off =
+    any-key d None e Replace settled refl ∙ ap (λ s. behind (after_any d None (before e) e.ask s (cleared e) Replace)) off
     ∙ ap behind (replace-any d (before e) e.ask (cleared e) refl)
 
-begin-is : (d : Data) (e : Editor) (begin : Key) → e.seek ≡ Off → BeginsSearch begin
+begin-is : (d : Data) (e : Editor) (begin : Key) → e.pasted ≡ None → e.seek ≡ Off → BeginsSearch begin
     → (aim : Aim) × (after_key d None e begin ≡ behind (begun-at aim e))
-begin-is d e begin off (inl is) = (aims.Find, same-key d e begin Find (behind (begun-at aims.Find e)) is (find-begins d e off))
-begin-is d e begin off (inr (inl is)) =
-    (aims.Find, same-key d e begin FindBack (behind (begun-at aims.Find e)) is (find-back-begins d e off))
-begin-is d e begin off (inr (inr is)) =
-    (aims.Replace, same-key d e begin Replace (behind (begun-at aims.Replace e)) is (replace-begins d e off))
+begin-is d e begin settled off (inl is) = (aims.Find, same-key d e begin Find (behind (begun-at aims.Find e)) is (find-begins d e settled off))
+begin-is d e begin settled off (inr (inl is)) =
+    (aims.Find, same-key d e begin FindBack (behind (begun-at aims.Find e)) is (find-back-begins d e settled off))
+begin-is d e begin settled off (inr (inr is)) =
+    (aims.Replace, same-key d e begin Replace (behind (begun-at aims.Replace e)) is (replace-begins d e settled off))
 
 quit-any : (d : Data) (was : Before) (ask : Ask) (seek : Seek) (e : Editor) → ask ≡ asks.Off → is_on seek ≡ true
     → after_any d None was ask seek e Quit ≡ after_giving_up e
@@ -291,26 +321,27 @@ cancel-any d was asks.Line seek e unasked on = absurd (cc unasked)
 cancel-any d was asks.Name seek e unasked on = absurd (cc unasked)
 cancel-any d was asks.Code seek e unasked on = absurd (cc unasked)
 
-give-is : (d : Data) (e : Editor) (give : Key) → e.ask ≡ asks.Off → is_on e.seek ≡ true → GivesUp give
+give-is : (d : Data) (e : Editor) (give : Key) → e.pasted ≡ None → e.ask ≡ asks.Off → is_on e.seek ≡ true → GivesUp give
     → after_key d None e give ≡ behind (after_giving_up (cleared e))
-give-is d e give unasked on (inl is) =
+give-is d e give settled unasked on (inl is) =
     same-key d e give Quit (behind (after_giving_up (cleared e))) is
-    (ap behind (quit-any d (before e) e.ask e.seek (cleared e) unasked on))
-give-is d e give unasked on (inr (inl is)) =
+    (any-key d None e Quit settled refl ∙ ap behind (quit-any d (before e) e.ask e.seek (cleared e) unasked on))
+give-is d e give settled unasked on (inr (inl is)) =
     same-key d e give Copy (behind (after_giving_up (cleared e))) is
-    (ap behind (copy-any d (before e) e.ask e.seek (cleared e) unasked on))
-give-is d e give unasked on (inr (inr is)) =
+    (any-key d None e Copy settled refl ∙ ap behind (copy-any d (before e) e.ask e.seek (cleared e) unasked on))
+give-is d e give settled unasked on (inr (inr is)) =
     same-key d e give Cancel (behind (after_giving_up (cleared e))) is
-    (ap behind (cancel-any d (before e) e.ask e.seek (cleared e) unasked on))
+    (any-key d None e Cancel settled refl ∙ ap behind (cancel-any d (before e) e.ask e.seek (cleared e) unasked on))
 
 pub giving-up-goes-back : GivingUpGoesBack
-giving-up-goes-back d e begin give typed off begins gives on =
+giving-up-goes-back d e begin give typed off settled begins gives on =
     let begun = after_key d None e begin in
     let last = after_typing d begun typed in
-    let start = (begin-is d e begin off begins).1 in
+    let start = (begin-is d e begin settled off begins).1 in
     let unasked : begun.ask ≡ asks.Off = ap (λ (x : Editor). x.ask) start in
-    let keeps = typing-keeps d begun typed unasked on in
-    subst (IsGivenUp e) (sym (give-is d last give (keeps.ask_is ∙ unasked) (on-at-last d begun typed on) gives))
+    let unpasted : begun.pasted ≡ None = ap (λ (x : Editor). x.pasted) start ∙ settled in
+    let keeps = typing-keeps d begun typed unasked unpasted on in
+    subst (IsGivenUp e) (sym (give-is d last give (keeps.pasted_is ∙ unpasted) (keeps.ask_is ∙ unasked) (on-at-last d begun typed on) gives))
     (record {
       seek_is = refl;
       place_is = keeps.origin_is ∙ ap (λ (x : Editor). x.origin) start;

@@ -1,4 +1,4 @@
--- A selection gives way, and the marks of a paste change nothing that is seen.
+-- A selection gives way.
 use Rattle.std.proofs.Common.{◌≡◌, ℕ, ◌+◌, ◌-◌, ◌≤◌, ◌<◌, Bool, true, false, List, [], ◌∷◌, ◌++◌, length, take, drop, refl, sym, ap, ap₂, subst, ◌∙◌}
 use Rattle.std.proofs.Common.{arith, if◌then◌else◌, append-nil, length-append, ne_eqb}
 use Rattle.std.specs.Prelude.{◌≢◌, ◌==◌, ◌&&◌, not, nat_le, encode_utf8, Some, None}
@@ -10,7 +10,7 @@ use Rattle.bx_keys.specs.declared.key.Key.TheVariants.{Insert, Erase, Delete, Ba
 use Rattle.bx_keys.specs.declared.key.Key.TheVariants.{Quit, Undo, Redo, Repaint, Direction, Size, Mark, Copy, Cut, Put}
 use Rattle.bx_keys.specs.declared.key.Key.TheVariants.{Find, FindBack, WordLeft, WordRight, TextStart, TextEnd, Help, Notice}
 use Rattle.bx_keys.specs.declared.key.Key.TheVariants.{EraseWord, DeleteWord, ErasePoint, NewLine, FindNext, Cancel, LineUp, LineDown, PageBack, PageOn}
-use Rattle.bx_keys.specs.declared.key.Key.TheVariants.{Select, UndoRun, RedoRun, GoTo, Replace, Name, Tell, PasteStart, PasteEnd}
+use Rattle.bx_keys.specs.declared.key.Key.TheVariants.{Select, UndoRun, RedoRun, GoTo, Replace, Name, Tell, PasteStart, PasteEnd, Point}
 use Rattle.bx_text.specs.Edits.{fits, splice}
 use Rattle.bx_runs.specs.Typing.{goes_on, kind_of}
 use Rattle.bx_runs.specs.declared.typing.Kind.{Kind}
@@ -25,11 +25,11 @@ use Rattle.bx_editor.specs.Effects.{Effect, Types, BeginsLine, Puts, Removes, Re
 use Rattle.bx_editor.specs.Effects.{Unmarks, Copies, Cuts, Seeks, SeeksNext, Saves, Quits, Turns, Helps, AsksLine, AsksName, Tells, Rests, Before, before, by}
 use Rattle.bx_editor.specs.Erasing.{after_removing, or_selection, removed_on}
 use Rattle.bx_editor.specs.Keys.{after_any, after_key, as_left, effect_of, is_told_key}
-use Rattle.bx_editor.specs.Putting.{after_character, after_new_line, has_room, is_paste, line_end, put_in, typed, with_selection_replaced, yielding}
+use Rattle.bx_editor.specs.Putting.{after_character, after_new_line, has_room, line_end, put_in, typed, with_selection_replaced, yielding}
 use Rattle.bx_editor.specs.Region.{is_empty, region}
 use Rattle.bx_editor.specs.Selecting.{is_selection, is_soft}
 use Rattle.bx_editor_laws.specs.SelectionLaws.{bytes_put, is_removal, rest, rest_with, seam, HasSelection, IsRefused, IsReplacedBy, IsRest}
-use Rattle.bx_editor_laws.specs.SelectionLaws.{PasteMarksAreUnseen, SelectionComesBack, SelectionGivesWay, SelectionIsRemoved}
+use Rattle.bx_editor_laws.specs.SelectionLaws.{SelectionComesBack, SelectionGivesWay, SelectionIsRemoved}
 use Rattle.bx_editor.proofs.InSearch.{any-key}
 use Rattle.bx_editor_laws.proofs.OneRun.{goes-back, removal-begins, replacement-begins, IsOneRun}
 
@@ -111,6 +111,7 @@ removing d e Name is = absurd (cc is)
 removing d e Tell is = absurd (cc is)
 removing d e PasteStart is = absurd (cc is)
 removing d e PasteEnd is = absurd (cc is)
+removing d e (Point row column) is = absurd (cc is)
 removing d e (Size height width) is = absurd (cc is)
 removing d e (Notice notice) is = absurd (cc is)
 
@@ -146,7 +147,7 @@ removed-is : (d : Data) (e : Editor) (key : Key) → HasSelection e → is_remov
 removed-is d e key has is =
     let was = cleared e in
     let keys = removing d was key is in
-    any-key d None e key keys.1
+    any-key d None e key has.no_paste keys.1
     ∙ ap₂ (λ a s. as_left key (after_any d None (before e) a s was key)) has.no_question has.no_search
     ∙ ap (as_left key) (removed d (before e) was (effect_of d was key) (selection-is e has) keys.0)
 
@@ -160,7 +161,7 @@ selection-is-removed d e key has is =
 -- the bytes stand in its place, of one run with its removal, or were refused
 record Yields (d : Data) (e : Editor) (bytes : List ℕ) (new : Editor) : Type 0 where
   pub fits : length (rest_with d e bytes) ≤ largest_text → IsReplacedBy d e bytes new
-  pub goes : length (rest_with d e bytes) ≤ largest_text → IsOneRun e new
+  pub goes : length (rest_with d e bytes) ≤ largest_text → IsOneRun e new × (new.pasted ≡ None)
   pub full : largest_text < length (rest_with d e bytes) → IsRefused e new
 
 size-with : (text new : List ℕ) (at : ℕ) → length (take at text ++ new ++ drop at text) ≡ length text + length new
@@ -210,7 +211,13 @@ put-full d e new on has many =
     (has-none d e new has many)
 
 still : (e : Editor) → HasSelection e → HasSelection (cleared e)
-still e has = record { no_question = has.no_question; no_search = has.no_search; soft = has.soft; part = record { some = has.part.some; inside = has.part.inside } }
+still e has = record {
+  no_question = has.no_question;
+  no_search = has.no_search;
+  no_paste = has.no_paste;
+  soft = has.soft;
+  part = record { some = has.part.some; inside = has.part.inside };
+}
 
 replaced : (d : Data) (e : Editor) (key : Key) (typing : Typing) (new : List ℕ)
     → IsReplacedBy d e new (as_left key (record (with_selection_replaced d (cleared e) new) { typing = typing }))
@@ -231,8 +238,8 @@ put-yields d e key typing new on has = record {
       (replaced d e key typing new);
   goes = λ few.
       let begun = replacement-begins d e (cleared e) new (refl, (refl, refl)) in
-      subst (λ (p : Editor). IsOneRun e (as_left key (record p { typing = typing }))) (sym (put-fits d (cleared e) new on (still e has) few))
-      (record { more = begun.more; over = begun.over; start = begun.start });
+      subst (λ (p : Editor). let now = as_left key (record p { typing = typing }) in IsOneRun e now × (now.pasted ≡ None))
+      (sym (put-fits d (cleared e) new on (still e has) few)) (record { more = begun.more; over = begun.over; start = begun.start }, has.no_paste);
   full = λ many.
       subst (λ (p : Editor). IsRefused e (as_left key (record p { typing = typing }))) (sym (put-full d (cleared e) new on (still e has) many))
       (record { content_is = refl; place_is = refl; mark_is = refl; message_is = refl });
@@ -257,23 +264,19 @@ line-yields d e key typing has =
     (subst (λ rest_text. Yields d e (line_end d (rest e)) (as_left key (typed d typing (cleared e) (line_end d rest_text) Separator))) (sym (rest-is e))
     (typed-yields d e key typing (line_end d (rest e)) Separator has))
 
--- a character puts in its bytes or a line end, as `b` says
-either-yields : (d : Data) (e : Editor) (key : Key) (typing : Typing) (c : ℕ) (b : Bool) → HasSelection e
-    → Yields d e (if b then line_end d (rest e) else encode_utf8 c)
-    (as_left key (if b then after_new_line d typing (cleared e) else typed d typing (cleared e) (encode_utf8 c) (kind_of (d.class c))))
-either-yields d e key typing c true has = line-yields d e key typing has
-either-yields d e key typing c false has = typed-yields d e key typing (encode_utf8 c) (kind_of (d.class c)) has
-
 insert-gives-way : (d : Data) (e : Editor) (c : ℕ) → HasSelection e → Yields d e (bytes_put d e (Insert c)) (after_key d None e (Insert c))
 insert-gives-way d e c has =
     takes d e (Insert c) (as_left (Insert c) (after_character d e.typing (cleared e) c))
-    (ap₂ (λ a s. as_left (Insert c) (after_any d None (before e) a s (cleared e) (Insert c))) has.no_question has.no_search)
-    (either-yields d e (Insert c) e.typing c ((c == 0xA) && is_paste e.typing) has)
+    (any-key d None e (Insert c) has.no_paste refl
+    ∙ ap₂ (λ a s. as_left (Insert c) (after_any d None (before e) a s (cleared e) (Insert c))) has.no_question has.no_search)
+    (typed-yields d e (Insert c) e.typing (encode_utf8 c) (kind_of (d.class c)) has)
 
 new-line-gives-way : (d : Data) (e : Editor) → HasSelection e → Yields d e (bytes_put d e NewLine) (after_key d None e NewLine)
 new-line-gives-way d e has =
     takes d e NewLine (as_left NewLine (after_new_line d e.typing (cleared e)))
-    (ap₂ (λ a s. as_left NewLine (after_any d None (before e) a s (cleared e) NewLine)) has.no_question has.no_search) (line-yields d e NewLine e.typing has)
+    (any-key d None e NewLine has.no_paste refl
+    ∙ ap₂ (λ a s. as_left NewLine (after_any d None (before e) a s (cleared e) NewLine)) has.no_question has.no_search)
+    (line-yields d e NewLine e.typing has)
 
 some-held : (held : List ℕ) → held ≢ [] → (length held == 0) ≡ false
 some-held [] some = absurd (some refl)
@@ -283,7 +286,8 @@ put-gives-way : (d : Data) (e : Editor) → HasSelection e → e.held ≢ [] →
 put-gives-way d e has some =
     let was = cleared e in
     takes d e Put (as_left Put (put_in d was e.held false))
-    (ap₂ (λ a s. as_left Put (after_any d None (before e) a s was Put)) has.no_question has.no_search
+    (any-key d None e Put has.no_paste refl
+    ∙ ap₂ (λ a s. as_left Put (after_any d None (before e) a s was Put)) has.no_question has.no_search
     ∙ ap (λ b. as_left Put (if b then record was { message = Some NothingToPut } else put_in d was e.held false)) (some-held e.held some))
     (put-yields d e Put ((put_in d was e.held false).typing) e.held false has)
 
@@ -337,6 +341,7 @@ gives-way d e Name has some = absurd (some refl)
 gives-way d e Tell has some = absurd (some refl)
 gives-way d e PasteStart has some = absurd (some refl)
 gives-way d e PasteEnd has some = absurd (some refl)
+gives-way d e (Point row column) has some = absurd (some refl)
 gives-way d e (Size height width) has some = absurd (some refl)
 gives-way d e (Notice notice) has some = absurd (some refl)
 
@@ -347,15 +352,8 @@ pub selection-comes-back : SelectionComesBack
 selection-comes-back d e key has = record {
   removed = λ is.
       let begun = removal-begins d e (cleared e) (region e).0 (region e).1 (refl, (refl, refl)) in
-      let goes = subst (IsOneRun e) (sym (removed-is d e key has is)) (record { more = begun.more; over = begun.over; start = begun.start }) in
-      goes-back d e (after_key d None e key) goes;
-  replaced = λ some few. goes-back d e (after_key d None e key) ((gives-way d e key has some).goes few);
-}
-
--- ---- the marks of a paste
-
-pub paste-marks-are-unseen : PasteMarksAreUnseen
-paste-marks-are-unseen d fault e = record {
-  start = record { rest_is = refl; picture_is = λ top. refl };
-  end = record { rest_is = refl; picture_is = λ top. refl };
+      let there = removed-is d e key has is in
+      let goes = subst (IsOneRun e) (sym there) (record { more = begun.more; over = begun.over; start = begun.start }) in
+      goes-back d e (after_key d None e key) (ap (λ (new : Editor). new.pasted) there ∙ has.no_paste) goes;
+  replaced = λ some few. let goes = (gives-way d e key has some).goes few in goes-back d e (after_key d None e key) goes.1 goes.0;
 }

@@ -6,7 +6,6 @@ use Rattle.bx_terms.specs.Sizes.{largest_text}
 use Rattle.bx_asking.specs.Names.{closing, named}
 use Rattle.bx_keys.specs.declared.key.Key.TheVariants.{Insert, Name}
 use Rattle.bx_runs.specs.Typing.{after_insertion, kind_of}
-use Rattle.bx_runs.specs.declared.typing.Typing.TheVariants as typings
 use Rattle.bx_text.specs.Edits.{fits_both}
 use Rattle.bx_ucd.specs.Data.{Data}
 use Rattle.bx_document.specs.Document.{wrapped_end, wrapped_text}
@@ -21,6 +20,7 @@ use Rattle.bx_editor.specs.Keys.{after_key, after_keys, as_left}
 use Rattle.bx_editor_laws.specs.Laws.{IsPart}
 use Rattle.bx_editor.specs.Region.{is_empty, region}
 use Rattle.bx_editor.specs.Wrapping.{after_wrapping, cursor_end, spans_lines, with_wrap}
+use Rattle.bx_editor.proofs.InSearch.{any-key}
 use Rattle.bx_editor_laws.proofs.AskingKeys.{asked_name, name-is}
 
 -- ---- Name and a letter
@@ -29,11 +29,11 @@ use Rattle.bx_editor_laws.proofs.AskingKeys.{asked_name, name-is}
 abbrev asked : Editor → Seek → Editor
 asked e seek = without_ask (cleared (asked_name e seek))
 
-letter-is : (d : Data) (e : Editor) (letter c : ℕ) → named letter ≡ Some c
+letter-is : (d : Data) (e : Editor) (letter c : ℕ) → e.pasted ≡ None → named letter ≡ Some c
     → after_keys d None e (Name ∷ Insert letter ∷ []) ≡ as_left (Insert letter) (after_named d (asked e (after_key d None e Name).seek) c (closing letter))
-letter-is d e letter c is =
+letter-is d e letter c settled is =
     let seek = (after_key d None e Name).seek in
-    ap (λ x. after_key d None x (Insert letter)) (name-is d e)
+    ap (λ x. after_key d None x (Insert letter)) (name-is d e settled) ∙ any-key d None (asked_name e seek) (Insert letter) settled refl
     ∙ ap (λ n. as_left (Insert letter) (after_name_letter d (cleared (asked_name e seek)) letter n)) is
 
 -- ---- a character is put in
@@ -51,17 +51,17 @@ room-for : (size place new limit : ℕ) → size + new ≤ limit → nat_le (siz
 room-for size place new limit few = grind (arith, nat_tests, few)
 
 pub character-in : (d : Data) (e : Editor) (c : ℕ) → length e.content.text + length (encode_utf8 c) ≤ largest_text
-    → with_character d e c ≡ with_typing (with_insertion d e (encode_utf8 c) false) (after_insertion typings.Off (kind_of (d.class c)))
+    → with_character d e c ≡ with_typing (with_insertion d e (encode_utf8 c) false) (after_insertion (kind_of (d.class c)))
 character-in d e c few =
     let bytes = encode_utf8 c in
-    ap (λ b. if b then with_typing (with_insertion d e bytes false) (after_insertion typings.Off (kind_of (d.class c))) else record e { message = Some TextFull })
+    ap (λ b. if b then with_typing (with_insertion d e bytes false) (after_insertion (kind_of (d.class c))) else record e { message = Some TextFull })
     (room-for (length e.content.text) e.place (length bytes) largest_text few)
 
 pub letter-puts-in : LetterPutsIn
-letter-puts-in d e letter c is alone few =
+letter-puts-in d e letter c settled is alone few =
     let seek = (after_key d None e Name).seek in
     let at = asked e seek in
-    let whole = letter-is d e letter c is ∙ ap (as_left (Insert letter)) (character-alone d at c (closing letter) alone ∙ character-in d at c few) in
+    let whole = letter-is d e letter c settled is ∙ ap (as_left (Insert letter)) (character-alone d at c (closing letter) alone ∙ character-in d at c few) in
     subst (IsPutIn d e (encode_utf8 c)) (sym whole) (record { text_is = refl; place_is = refl; ask_is = refl })
 
 -- ---- a region is wrapped
@@ -94,7 +94,8 @@ text-is e opener closer part =
     sym (wrapped_is text start stop front back order part.inside)
     ∙ ap (λ xs. xs ++ drop stop text) (sym (append_assoc (take start text) (front ++ inside) back) ∙ ap (λ xs. xs ++ back) (sym (append_assoc (take start text) front inside)))
 
-module _ (d : Data) (e : Editor) (letter opener closer : ℕ) (is : named letter ≡ Some opener) (ends : closing letter ≡ Some closer) (part : IsPart e (region e)) where
+module _ (d : Data) (e : Editor) (letter opener closer : ℕ) (settled : e.pasted ≡ None) (is : named letter ≡ Some opener) (ends : closing letter ≡ Some closer)
+    (part : IsPart e (region e)) where
   abbrev at : Editor
   at = asked e (after_key d None e Name).seek
 
@@ -114,7 +115,7 @@ module _ (d : Data) (e : Editor) (letter opener closer : ℕ) (is : named letter
   wraps-by : (lines : Bool) → spans_lines d e ≡ lines
       → after_keys d None e (Name ∷ Insert letter ∷ []) ≡ as_left (Insert letter) (if lines then record at { message = Some MoreThanOneLine } else (if room then wrap else full))
   wraps-by lines h =
-      letter-is d e letter opener is
+      letter-is d e letter opener settled is
       ∙ ap (as_left (Insert letter)) (wraps-alone d at opener closer (closing letter) ends (record { some = part.some; inside = part.inside })
       ∙ ap (λ b. if b then record at { message = Some MoreThanOneLine } else (if room then wrap else full)) h)
 
@@ -144,4 +145,4 @@ module _ (d : Data) (e : Editor) (letter opener closer : ℕ) (is : named letter
   }
 
 pub letter-wraps : LetterWraps
-letter-wraps d e letter opener closer is ends part = wraps d e letter opener closer is ends part
+letter-wraps d e letter opener closer settled is ends part = wraps d e letter opener closer settled is ends part

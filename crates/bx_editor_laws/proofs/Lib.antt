@@ -5,6 +5,7 @@ pub mod WordKeyExamples
 pub mod WorkKeyExamples
 pub mod SearchExamples
 pub mod StatusExamples
+pub mod PasteEnded
 pub mod Unsought
 pub mod Nearest
 pub mod TakenBack
@@ -24,6 +25,7 @@ pub mod RunKeys
 pub mod StoredText
 pub mod MirroredRuns
 pub mod OneRun
+pub mod PasteTyped
 pub mod MovedMarks
 pub mod GivenWay
 pub mod RunLawExamples
@@ -50,8 +52,12 @@ pub mod MatchesApart
 pub mod PlacesBetween
 pub mod QuietSearch
 pub mod MatchReplaced
-pub mod ShownStands
 pub mod ReplacedBack
+pub mod PasteAlone
+pub mod ShownStands
 pub mod ReplaceExamples
+pub mod PointedKeys
 mod SeenMatchExamples
+mod PasteLawExamples
+mod PointingLawExamples
 mod ReplaceLawExamples

@@ -20,7 +20,7 @@ use Rattle.bx_editor_laws.specs.Laws.{GoesToBothEnds, MarkTwiceIsNothing, hard_m
 use Rattle.bx_editor.specs.Region.{after_mark, is_at_mark}
 use Rattle.bx_editor.specs.Search.{without_search}
 use Rattle.bx_editor.specs.Selecting.{aged, mark_left, soft_left, unselected}
-use Rattle.bx_editor.proofs.InSearch.{behind}
+use Rattle.bx_editor.proofs.InSearch.{any-key, behind}
 
 -- ---- Mark
 
@@ -66,12 +66,13 @@ mark-any d was asks.Line seek e asked is = (e.seek, mark-ended (is_at_mark e.mar
 mark-any d was asks.Name seek e asked is = (e.seek, mark-ended (is_at_mark e.mark e.place) e e.seek)
 mark-any d was asks.Code seek e asked is = (e.seek, mark-ended (is_at_mark e.mark e.place) e e.seek)
 
-mark-once : (d : Data) (e : Editor) → (s : Seek) × (after_key d None e Mark ≡ behind (ended s (after_mark (cleared e))))
-mark-once d e = let one = mark-any d (before e) e.ask e.seek (cleared e) refl refl in (one.0, ap behind one.1)
+mark-once : (d : Data) (e : Editor) → e.pasted ≡ None → (s : Seek) × (after_key d None e Mark ≡ behind (ended s (after_mark (cleared e))))
+mark-once d e settled =
+    let one = mark-any d (before e) e.ask e.seek (cleared e) refl refl in (one.0, any-key d None e Mark settled refl ∙ ap behind one.1)
 
-mark-again : (d : Data) (e : Editor) → e.ask ≡ asks.Off → after_key d None e Mark ≡ behind (ended Off (after_mark (cleared e)))
-mark-again d e unasked =
-    ap (λ a. behind (after_any d None (before e) a e.seek (cleared e) Mark)) unasked
+mark-again : (d : Data) (e : Editor) → e.pasted ≡ None → e.ask ≡ asks.Off → after_key d None e Mark ≡ behind (ended Off (after_mark (cleared e)))
+mark-again d e settled unasked =
+    any-key d None e Mark settled refl ∙ ap (λ a. behind (after_any d None (before e) a e.seek (cleared e) Mark)) unasked
     ∙ ap behind (mark-free d (before e) e.seek (cleared e) unasked refl)
 
 -- once the message is cleared, a question and a selection are over and no column is kept, with a mark and a message
@@ -101,19 +102,19 @@ mark-not-there : (e : Editor) (seek : Seek) → is_at_mark e.mark e.place ≡ fa
     → behind (ended seek (after_mark (cleared e))) ≡ marked e seek (Some e.place) (Some MarkSet)
 mark-not-there e seek is = ap (left e seek) is
 
-twice-there : (d : Data) (e : Editor) → is_at_mark e.mark e.place ≡ true
+twice-there : (d : Data) (e : Editor) → e.pasted ≡ None → is_at_mark e.mark e.place ≡ true
     → after_keys d None e (Mark ∷ Mark ∷ []) ≡ marked e Off (Some e.place) (Some MarkSet)
-twice-there d e is =
-    let one = mark-once d e in
+twice-there d e settled is =
+    let one = mark-once d e settled in
     let once = marked e one.0 None (Some MarkOff) in
-    ap (λ new. after_key d None new Mark) (one.1 ∙ mark-there e one.0 is) ∙ mark-again d once refl ∙ mark-not-there once Off refl
+    ap (λ new. after_key d None new Mark) (one.1 ∙ mark-there e one.0 is) ∙ mark-again d once settled refl ∙ mark-not-there once Off refl
 
-twice-not-there : (d : Data) (e : Editor) → is_at_mark e.mark e.place ≡ false
+twice-not-there : (d : Data) (e : Editor) → e.pasted ≡ None → is_at_mark e.mark e.place ≡ false
     → after_keys d None e (Mark ∷ Mark ∷ []) ≡ marked e Off None (Some MarkOff)
-twice-not-there d e is =
-    let one = mark-once d e in
+twice-not-there d e settled is =
+    let one = mark-once d e settled in
     let once = marked e one.0 (Some e.place) (Some MarkSet) in
-    ap (λ new. after_key d None new Mark) (one.1 ∙ mark-not-there e one.0 is) ∙ mark-again d once refl ∙ mark-there once Off (at-itself e.place)
+    ap (λ new. after_key d None new Mark) (one.1 ∙ mark-not-there e one.0 is) ∙ mark-again d once settled refl ∙ mark-there once Off (at-itself e.place)
 
 -- but for the message
 but-message : (e new : Editor) (mark now : Option ℕ) (message : Option Message) → new ≡ marked e Off now message → mark ≡ now
@@ -121,18 +122,18 @@ but-message : (e new : Editor) (mark now : Option ℕ) (message : Option Message
 but-message e new mark now message is same = is ∙ ap₂ (marked e Off) (sym same) (sym (ap (λ (x : Editor). x.message) is))
 
 pub mark-twice-is-nothing : MarkTwiceIsNothing
-mark-twice-is-nothing d e =
+mark-twice-is-nothing d e settled =
     let new = after_keys d None e (Mark ∷ Mark ∷ []) in
     record {
       here =
           ⊎_elim
-          (λ none. but-message e new e.mark None (Some MarkOff) (twice-not-there d e (ap (λ m. is_at_mark m e.place) none)) none)
+          (λ none. but-message e new e.mark None (Some MarkOff) (twice-not-there d e settled (ap (λ m. is_at_mark m e.place) none)) none)
           (λ there. but-message e new e.mark (Some e.place) (Some MarkSet)
-          (twice-there d e (ap (λ m. is_at_mark m e.place) there ∙ at-itself e.place)) there);
+          (twice-there d e settled (ap (λ m. is_at_mark m e.place) there ∙ at-itself e.place)) there);
       elsewhere =
           λ mark is other.
           let far : (mark == e.place) ≡ false = grind (arith, nat_tests) in
-          but-message e new None None (Some MarkOff) (twice-not-there d e (ap (λ m. is_at_mark m e.place) is ∙ far)) refl;
+          but-message e new None None (Some MarkOff) (twice-not-there d e settled (ap (λ m. is_at_mark m e.place) is ∙ far)) refl;
     }
 
 -- ---- the text's ends
@@ -194,7 +195,7 @@ at place e mark soft = record e {
 }
 
 pub goes-to-both-ends : GoesToBothEnds
-goes-to-both-ends d e =
+goes-to-both-ends d e settled =
     let was = cleared e in
     let left : (place : ℕ) → at place e (mark_left (aged (soft_left e.soft)) (mark_left e.soft e.mark)) (aged (soft_left (aged (soft_left e.soft)))) ≡ only_at place e =
     λ place. ap₂ (at place e) (no-mark e.soft e.mark) (no-selection e.soft) in
@@ -203,8 +204,8 @@ goes-to-both-ends d e =
     let at-end = behind (ended end.0 (with_place (unselected was) (length e.content.text))) in
     let at-start = behind (ended start.0 (with_place (unselected was) 0)) in
     record {
-      start = ap (λ new. after_key d None (behind new) TextStart) end.1
-          ∙ ap behind (start-free d (before at-end) end.0 (cleared at-end) refl refl) ∙ left 0;
-      end = ap (λ new. after_key d None (behind new) TextEnd) start.1
-          ∙ ap behind (end-free d (before at-start) start.0 (cleared at-start) refl refl) ∙ left (length e.content.text);
+      start = ap (λ new. after_key d None new TextStart) (any-key d None e TextEnd settled refl ∙ ap behind end.1)
+          ∙ any-key d None at-end TextStart settled refl ∙ ap behind (start-free d (before at-end) end.0 (cleared at-end) refl refl) ∙ left 0;
+      end = ap (λ new. after_key d None new TextEnd) (any-key d None e TextStart settled refl ∙ ap behind start.1)
+          ∙ any-key d None at-start TextEnd settled refl ∙ ap behind (end-free d (before at-start) start.0 (cleared at-start) refl refl) ∙ left (length e.content.text);
     }

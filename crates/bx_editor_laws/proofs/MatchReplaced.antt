@@ -34,42 +34,46 @@ use Rattle.bx_editor_laws.specs.ReplaceLaws.{IsFull, IsShowing, PassesOver, Repl
 use Rattle.bx_editor.specs.Replacing.{after_ending, after_match_letter, after_passing_over, after_replacing, after_replacing_all, at_match}
 use Rattle.bx_editor.specs.Replacing.{match_stop, matches_on, next_match, on_from, with_matches_replaced}
 use Rattle.bx_editor.specs.Search.{reading, sought}
+use Rattle.bx_editor.proofs.InSearch.{any-key}
 use Rattle.bx_editor_laws.proofs.MatchesApart.{all-lie, apart, are-spans, last-after, last-bound, letters-are}
 use Rattle.bx_editor_laws.proofs.MatchLetters.{all-swapped, end-letters, match-bound, match-letters, match-some, one-swapped, spelt}
 
 -- ---- which key it is
 
-pub entered : (d : Data) (e : Editor) (enter : Key) → e.ask ≡ asks.Off → e.seek ≡ Replacing → is_enter enter ≡ true
+pub entered : (d : Data) (e : Editor) (enter : Key) → e.pasted ≡ None → e.ask ≡ asks.Off → e.seek ≡ Replacing → is_enter enter ≡ true
     → after_key d None e enter ≡ as_left enter (with_typing (after_match_letter d e.typing (cleared e) 0xA) (only_paste e.typing))
-entered d e (Insert c) unasked shown end =
+entered d e (Insert c) settled unasked shown end =
     let same : c ≡ 0xA = grind (arith, nat_tests, end) in
-    ap₂ (λ a s. as_left (Insert c) (after_any d None (before e) a s (cleared e) (Insert c))) unasked shown
+    any-key d None e (Insert c) settled refl ∙ ap₂ (λ a s. as_left (Insert c) (after_any d None (before e) a s (cleared e) (Insert c))) unasked shown
     ∙ ap (λ x. as_left (Insert c) (with_typing (after_match_letter d e.typing (cleared e) x) (only_paste e.typing))) same
-entered d e NewLine unasked shown end = ap₂ (λ a s. as_left NewLine (after_any d None (before e) a s (cleared e) NewLine)) unasked shown
-entered d e _ unasked shown end = absurd (cc end)
+entered d e NewLine settled unasked shown end =
+    any-key d None e NewLine settled refl ∙ ap₂ (λ a s. as_left NewLine (after_any d None (before e) a s (cleared e) NewLine)) unasked shown
+entered d e _ settled unasked shown end = absurd (cc end)
 
-pub replaced-on : (d : Data) (e : Editor) → e.ask ≡ asks.Off → e.seek ≡ Replacing → after_key d None e Replace ≡ as_left Replace (after_replacing_all d (cleared e))
-replaced-on d e unasked shown = ap₂ (λ a s. as_left Replace (after_any d None (before e) a s (cleared e) Replace)) unasked shown
+pub replaced-on : (d : Data) (e : Editor) → e.pasted ≡ None → e.ask ≡ asks.Off → e.seek ≡ Replacing → after_key d None e Replace ≡ as_left Replace (after_replacing_all d (cleared e))
+replaced-on d e settled unasked shown =
+    any-key d None e Replace settled refl ∙ ap₂ (λ a s. as_left Replace (after_any d None (before e) a s (cleared e) Replace)) unasked shown
 
-passed-over : (d : Data) (e : Editor) → e.ask ≡ asks.Off → e.seek ≡ Replacing → after_key d None e Find ≡ as_left Find (after_passing_over d (cleared e))
-passed-over d e unasked shown = ap₂ (λ a s. as_left Find (after_any d None (before e) a s (cleared e) Find)) unasked shown
+passed-over : (d : Data) (e : Editor) → e.pasted ≡ None → e.ask ≡ asks.Off → e.seek ≡ Replacing → after_key d None e Find ≡ as_left Find (after_passing_over d (cleared e))
+passed-over d e settled unasked shown =
+    any-key d None e Find settled refl ∙ ap₂ (λ a s. as_left Find (after_any d None (before e) a s (cleared e) Find)) unasked shown
 
 -- whatever becomes of a match by a line end or by Replace
-pub each-replaces : (P : Editor → Type 0) (d : Data) (e : Editor) (key : Key) → e.ask ≡ asks.Off → e.seek ≡ Replacing → DoesReplace key
+pub each-replaces : (P : Editor → Type 0) (d : Data) (e : Editor) (key : Key) → e.pasted ≡ None → e.ask ≡ asks.Off → e.seek ≡ Replacing → DoesReplace key
     → ((typing : Typing) → P (as_left key (with_typing (cleared e) typing)))
     → ((typing : Typing) → P (as_left key (with_typing (after_replacing d (cleared e)) typing)))
     → P (as_left key (after_replacing_all d (cleared e))) → P (after_key d None e key)
-each-replaces P d e key unasked shown (inl enter) nothing one all =
+each-replaces P d e key settled unasked shown (inl enter) nothing one all =
     let was = cleared e in
     let put = only_paste e.typing in
-    subst P (sym (entered d e key unasked shown enter))
+    subst P (sym (entered d e key settled unasked shown enter))
     (elim ((0xA == 0xA) && not (is_paste e.typing)) as (λ b. P (as_left key (with_typing (if b then after_replacing d was else was) put))) [
       | true ↦ one put
       | false ↦ nothing put
     ])
-each-replaces P d e key unasked shown (inr is) nothing one all =
+each-replaces P d e key settled unasked shown (inr is) nothing one all =
     subst (λ k. P (as_left k (after_replacing_all d (cleared e))) → P (after_key d None e k)) (sym is)
-    (λ h. subst P (sym (replaced-on d e unasked shown)) h) all
+    (λ h. subst P (sym (replaced-on d e settled unasked shown)) h) all
 
 -- ---- a stretch of the text gives way
 
@@ -296,14 +300,14 @@ enter-replaces d e enter h plain end =
     let was = cleared e in
     let put = only_paste e.typing in
     subst (ReplacesMatch d e)
-    (sym (entered d e enter h.unasked h.shown end
+    (sym (entered d e enter h.settled h.unasked h.shown end
     ∙ ap (λ b. as_left enter (with_typing (if (0xA == 0xA) && not b then after_replacing d was else was) put)) plain))
     (one-replaced d e h enter put)
 
 pub find-passes-over : FindPassesOver
 find-passes-over d e h =
     let went = went-on d (cleared e) (behind_character e.content.text e.at) h.text h.stands.aim_is in
-    subst (PassesOver d e) (sym (passed-over d e h.unasked h.shown))
+    subst (PassesOver d e) (sym (passed-over d e h.settled h.unasked h.shown))
     (record { content_is = went.content_is; count_is = went.count_is; goes_on = went.goes_on; ended = went.ended })
 
 pub replace-replaces-all : ReplaceReplacesAll
@@ -312,7 +316,7 @@ replace-replaces-all d e h =
     let new = swapped e.at e.content.text e.other (matches_on d e) in
     let order = all-order d e h in
     let inside = (all-ends d e h).0 in
-    subst (ReplacesMatches d e) (sym (replaced-on d e h.unasked h.shown))
+    subst (ReplacesMatches d e) (sym (replaced-on d e h.settled h.unasked h.shown))
     (record {
       spans = matches_on d e;
       are = are-matches d e h;
@@ -323,6 +327,6 @@ replace-replaces-all d e h =
 pub same-letters-stay : SameLettersStay
 same-letters-stay d e key h does same =
     let was = cleared e in
-    each-replaces (λ (new : Editor). spelt d new.content.text ≡ spelt d e.content.text) d e key h.unasked h.shown does (λ typing. refl)
+    each-replaces (λ (new : Editor). spelt d new.content.text ≡ spelt d e.content.text) d e key h.settled h.unasked h.shown does (λ typing. refl)
     (λ typing. one-same d e h same (fits e.content.text e.at (match_stop d e) e.other))
     (all-same d e h same (fits e.content.text e.at (last_stop e.at (matches_on d e)) (swapped e.at e.content.text e.other (matches_on d e))))

@@ -32,19 +32,19 @@ ran-to e new t now place there changed is same at =
     subst (IsUnmarked t place) (sym is) (record { content_is = same; unmarked = record { place_is = at; mark_is = refl } })
 
 -- a run is redone from an editor of any history that has enough edits
-redo-any : (d : Data) (e : Editor) (n : ℕ) (text : List ℕ) (past future : List Edit) → suc n ≤ length future
+redo-any : (d : Data) (e : Editor) (n : ℕ) (text : List ℕ) (past future : List Edit) → e.pasted ≡ None → suc n ≤ length future
     → let t : Edited = version text past future in let now : Editor = record e { content = t } in run_length steps.Redo now ≡ suc n
     → after_key d None now RedoRun
     ≡ run_to e (redone_times (suc n) t) ((iterate again (suc n) (t, e.place)).1) (is_changed_at (run_goal steps.Redo now) e.stored)
-redo-any d e n text past [] few long = absurd (omega (arith, few))
-redo-any d e n text past (edit ∷ future) few long = redo-run d e n text edit past future long
+redo-any d e n text past [] settled few long = absurd (omega (arith, few))
+redo-any d e n text past (edit ∷ future) settled few long = redo-run d e n text edit past future settled long
 
-undo-any : (d : Data) (e : Editor) (n : ℕ) (text : List ℕ) (past future : List Edit) → suc n ≤ length past
+undo-any : (d : Data) (e : Editor) (n : ℕ) (text : List ℕ) (past future : List Edit) → e.pasted ≡ None → suc n ≤ length past
     → let t : Edited = version text past future in let now : Editor = record e { content = t } in run_length steps.Undo now ≡ suc n
     → after_key d None now UndoRun
     ≡ run_to e (undone_times (suc n) t) ((iterate back (suc n) (t, e.place)).1) (is_changed_at (run_goal steps.Undo now) e.stored)
-undo-any d e n text [] future few long = absurd (omega (arith, few))
-undo-any d e n text (edit ∷ past) future few long = undo-run d e n text edit past future long
+undo-any d e n text [] future settled few long = absurd (omega (arith, few))
+undo-any d e n text (edit ∷ past) future settled few long = undo-run d e n text edit past future settled long
 
 redo-lasts : (numbers : List ℕ) (p f q g n : ℕ) → EndsAt numbers (p + f) p → q ≡ run_start numbers p → p - run_start numbers p ≡ suc n → g ≡ suc n + f
     → run_end numbers q (q + g) - q ≡ suc n
@@ -59,10 +59,10 @@ undo-lasts numbers p f q n begins to long =
     let from : run_start numbers q ≡ p = ap (run_start numbers) to ∙ undo-then-redo.undone numbers (p + f) p begins in
     omega (arith, from, to, long)
 
-undo-and-redo : (d : Data) (e : Editor) (text : List ℕ) (edit : Edit) (past future : List Edit) → IsPastOf text (edit ∷ past)
+undo-and-redo : (d : Data) (e : Editor) (text : List ℕ) (edit : Edit) (past future : List Edit) → e.pasted ≡ None → IsPastOf text (edit ∷ past)
     → EndsAt e.runs (suc (length past) + length future) (suc (length past))
     → let t : Edited = version text (edit ∷ past) future in IsUnmarked t edit.after.place (after_keys d None (record e { content = t }) (UndoRun ∷ RedoRun ∷ []))
-undo-and-redo d e text edit past future h ends =
+undo-and-redo d e text edit past future settled h ends =
     let p = suc (length past) in
     let t : Edited = version text (edit ∷ past) future in
     let now : Editor = record e { content = t } in
@@ -75,16 +75,16 @@ undo-and-redo d e text edit past future h ends =
     let left : length undone.future ≡ suc n + length future = future-back (suc n) text (edit ∷ past) future (omega (arith, few)) in
     let from : length undone.past ≡ run_start e.runs p = past-back (suc n) text (edit ∷ past) future ∙ omega (arith, long, start-bound e.runs p) in
     let lasts : run_length steps.Redo first ≡ suc n = redo-lasts e.runs p (length future) (length undone.past) (length undone.future) n ends from long left in
-    let second = redo-any d first n undone.text undone.past undone.future (omega (arith, left)) lasts in
+    let second = redo-any d first n undone.text undone.past undone.future settled (omega (arith, left)) lasts in
     ran-to first (after_keys d None now (UndoRun ∷ RedoRun ∷ [])) t (redone_times (suc n) undone) edit.after.place
     ((iterate again (suc n) (undone, place)).1) (is_changed_at (run_goal steps.Redo first) e.stored)
-    (ap (λ new. after_key d None new RedoRun) (undo-run d e n text edit past future long) ∙ second)
+    (ap (λ new. after_key d None new RedoRun) (undo-run d e n text edit past future settled long) ∙ second)
     (back-and-again (suc n) text (edit ∷ past) future (omega (arith, few)) h) (again-place n text past future edit place few h)
 
-redo-and-undo : (d : Data) (e : Editor) (text : List ℕ) (edit : Edit) (past future : List Edit) → IsFutureOf text (edit ∷ future)
+redo-and-undo : (d : Data) (e : Editor) (text : List ℕ) (edit : Edit) (past future : List Edit) → e.pasted ≡ None → IsFutureOf text (edit ∷ future)
     → BeginsAt e.runs (length past + suc (length future)) (length past)
     → let t : Edited = version text past (edit ∷ future) in IsUnmarked t edit.before.place (after_keys d None (record e { content = t }) (RedoRun ∷ UndoRun ∷ []))
-redo-and-undo d e text edit past future h begins =
+redo-and-undo d e text edit past future settled h begins =
     let p = length past in
     let last = p + suc (length future) in
     let t : Edited = version text past (edit ∷ future) in
@@ -98,39 +98,39 @@ redo-and-undo d e text edit past future h begins =
     let size : length redone.past ≡ p + suc n = past-again (suc n) text past (edit ∷ future) (omega (arith, few)) in
     let to : length redone.past ≡ run_end e.runs p last = size ∙ omega (arith, long) in
     let lasts : run_length steps.Undo first ≡ suc n = undo-lasts e.runs p (suc (length future)) (length redone.past) n begins to long in
-    let second = undo-any d first n redone.text redone.past redone.future (omega (arith, size)) lasts in
+    let second = undo-any d first n redone.text redone.past redone.future settled (omega (arith, size)) lasts in
     ran-to first (after_keys d None now (RedoRun ∷ UndoRun ∷ [])) t (undone_times (suc n) redone) edit.before.place
     ((iterate back (suc n) (redone, place)).1) (is_changed_at (run_goal steps.Undo first) e.stored)
-    (ap (λ new. after_key d None new UndoRun) (redo-run d e n text edit past future long) ∙ second)
+    (ap (λ new. after_key d None new UndoRun) (redo-run d e n text edit past future settled long) ∙ second)
     (again-and-back (suc n) text past (edit ∷ future) (omega (arith, few)) h) (back-place n text past future edit place few h)
 
 -- ---- whatever the history
 
-redo-mirrors : (d : Data) (e : Editor) (text : List ℕ) (past future : List Edit) → IsPastOf text past → EndsAt e.runs (length past + length future) (length past)
+redo-mirrors : (d : Data) (e : Editor) (text : List ℕ) (past future : List Edit) → e.pasted ≡ None → IsPastOf text past → EndsAt e.runs (length past + length future) (length past)
     → let t : Edited = version text past future in let new = after_keys d None (record e { content = t }) (UndoRun ∷ RedoRun ∷ []) in
     (new.content ≡ t) × ((edit : Edit) (rest : List Edit) → past ≡ edit ∷ rest → IsUnmarkedAt edit.after.place new)
-redo-mirrors d e text [] future h ends = absurd (omega (arith, ends.0))
-redo-mirrors d e text (latest ∷ past) future h ends =
-    let there = undo-and-redo d e text latest past future h ends in
+redo-mirrors d e text [] future settled h ends = absurd (omega (arith, ends.0))
+redo-mirrors d e text (latest ∷ past) future settled h ends =
+    let there = undo-and-redo d e text latest past future settled h ends in
     let new = after_keys d None (record e { content = version text (latest ∷ past) future }) (UndoRun ∷ RedoRun ∷ []) in
     (there.content_is, λ edit rest is. let same : latest ≡ edit = cc in subst (λ (x : Edit). IsUnmarkedAt x.after.place new) same there.unmarked)
 
-undo-mirrors : (d : Data) (e : Editor) (text : List ℕ) (past future : List Edit) → IsFutureOf text future → BeginsAt e.runs (length past + length future) (length past)
+undo-mirrors : (d : Data) (e : Editor) (text : List ℕ) (past future : List Edit) → e.pasted ≡ None → IsFutureOf text future → BeginsAt e.runs (length past + length future) (length past)
     → let t : Edited = version text past future in let new = after_keys d None (record e { content = t }) (RedoRun ∷ UndoRun ∷ []) in
     (new.content ≡ t) × ((edit : Edit) (rest : List Edit) → future ≡ edit ∷ rest → IsUnmarkedAt edit.before.place new)
-undo-mirrors d e text past [] h begins = absurd (omega (arith, begins.0))
-undo-mirrors d e text past (next ∷ future) h begins =
-    let there = redo-and-undo d e text next past future h begins in
+undo-mirrors d e text past [] settled h begins = absurd (omega (arith, begins.0))
+undo-mirrors d e text past (next ∷ future) settled h begins =
+    let there = redo-and-undo d e text next past future settled h begins in
     let new = after_keys d None (record e { content = version text past (next ∷ future) }) (RedoRun ∷ UndoRun ∷ []) in
     (there.content_is, λ edit rest is. let same : next ≡ edit = cc in subst (λ (x : Edit). IsUnmarkedAt x.before.place new) same there.unmarked)
 
 pub redo-run-mirrors-undo-run : RedoRunMirrorsUndoRun
-redo-run-mirrors-undo-run d text height width base typed =
+redo-run-mirrors-undo-run d text height width base typed settled =
     let e = after_typing d (at_start text height width base) typed in
     let chain = (typed-has d text height width base typed).chain in
     record {
-      redo = λ ends. (redo-mirrors d e e.content.text e.content.past e.content.future chain.past ends).0;
-      redo_place = λ ends. (redo-mirrors d e e.content.text e.content.past e.content.future chain.past ends).1;
-      undo = λ begins. (undo-mirrors d e e.content.text e.content.past e.content.future chain.future begins).0;
-      undo_place = λ begins. (undo-mirrors d e e.content.text e.content.past e.content.future chain.future begins).1;
+      redo = λ ends. (redo-mirrors d e e.content.text e.content.past e.content.future settled chain.past ends).0;
+      redo_place = λ ends. (redo-mirrors d e e.content.text e.content.past e.content.future settled chain.past ends).1;
+      undo = λ begins. (undo-mirrors d e e.content.text e.content.past e.content.future settled chain.future begins).0;
+      undo_place = λ begins. (undo-mirrors d e e.content.text e.content.past e.content.future settled chain.future begins).1;
     }

@@ -1,12 +1,12 @@
 -- A move takes an old selection off; behind Select it leaves the mark.
-use Rattle.std.proofs.Common.{◌≡◌, ℕ, Bool, true, false, length, refl, sym, ap, ◌∙◌, if◌then◌else◌}
+use Rattle.std.proofs.Common.{◌≡◌, ℕ, Bool, true, false, length, refl, sym, ap, subst, ◌∙◌, if◌then◌else◌}
 use Rattle.std.specs.Prelude.{◌≢◌, ◌==◌, unwrap_or, Option, Some, None}
 use Rattle.bx_keys.specs.declared.key.Key.{Key}
 use Rattle.bx_keys.specs.declared.key.Key.TheVariants.{Insert, Erase, Delete, Back, Forward, Up, Down, Right, Left, RowHome, RowEnd, PageUp, PageDown, Save}
 use Rattle.bx_keys.specs.declared.key.Key.TheVariants.{Quit, Undo, Redo, Repaint, Direction, Size, Mark, Copy, Cut, Put}
 use Rattle.bx_keys.specs.declared.key.Key.TheVariants.{Find, FindBack, WordLeft, WordRight, TextStart, TextEnd, Help, Notice}
 use Rattle.bx_keys.specs.declared.key.Key.TheVariants.{EraseWord, DeleteWord, ErasePoint, NewLine, FindNext, Cancel, LineUp, LineDown, PageBack, PageOn}
-use Rattle.bx_keys.specs.declared.key.Key.TheVariants.{Select, UndoRun, RedoRun, GoTo, Replace, Name, Tell, PasteStart, PasteEnd}
+use Rattle.bx_keys.specs.declared.key.Key.TheVariants.{Select, UndoRun, RedoRun, GoTo, Replace, Name, Tell, PasteStart, PasteEnd, Point}
 use Rattle.bx_ucd.specs.Data.{Data}
 use Rattle.bx_asking.specs.declared.question.Ask.{Ask}
 use Rattle.bx_asking.specs.declared.question.Ask.TheVariants as asks
@@ -83,6 +83,7 @@ each d e Name is = absurd (cc is)
 each d e Tell is = absurd (cc is)
 each d e PasteStart is = absurd (cc is)
 each d e PasteEnd is = absurd (cc is)
+each d e (Point row column) is = (refl, (refl, refl))
 each d e (Size height width) is = absurd (cc is)
 each d e (Notice notice) is = absurd (cc is)
 
@@ -141,9 +142,9 @@ any d was asks.Line seek e key is = in-question d was e key is
 any d was asks.Name seek e key is = in-question d was e key is
 any d was asks.Code seek e key is = in-question d was e key is
 
-moved : (d : Data) (e : Editor) (key : Key) → is_move key ≡ true → (after_key d None e key).mark ≡ mark_left e.soft e.mark
-moved d e key is =
-    ap (λ (new : Editor). new.mark) (any-key d None e key ((each d e key is).1.1)) ∙ any d (before e) e.ask e.seek (cleared e) key is
+moved : (d : Data) (e : Editor) (key : Key) → e.pasted ≡ None → is_move key ≡ true → (after_key d None e key).mark ≡ mark_left e.soft e.mark
+moved d e key settled is =
+    ap (λ (new : Editor). new.mark) (any-key d None e key settled ((each d e key is).1.1)) ∙ any d (before e) e.ask e.seek (cleared e) key is
 
 not-old : (soft : Soft) (mark : Option ℕ) → soft ≢ Old → mark_left soft mark ≡ mark
 not-old Off mark other = refl
@@ -183,9 +184,31 @@ select-off-any d was asks.Line e = selecting-seek (without_ask e) e.mark e.soft
 select-off-any d was asks.Name e = selecting-seek (without_ask e) e.mark e.soft
 select-off-any d was asks.Code e = selecting-seek (without_ask e) e.mark e.soft
 
-select-off : (d : Data) (e : Editor) → e.seek ≡ searches.Off → (after_key d None e Select).seek ≡ searches.Off
-select-off d e off =
-    ap (λ s. (after_any d None (before e) e.ask s (cleared e) Select).seek) off ∙ select-off-any d (before e) e.ask (cleared e) ∙ off
+select-off : (d : Data) (e : Editor) → e.pasted ≡ None → e.seek ≡ searches.Off → (after_key d None e Select).seek ≡ searches.Off
+select-off d e settled off =
+    ap (λ (new : Editor). new.seek) (any-key d None e Select settled refl)
+    ∙ ap (λ s. (after_any d None (before e) e.ask s (cleared e) Select).seek) off ∙ select-off-any d (before e) e.ask (cleared e) ∙ off
+
+selecting-pasted : (e : Editor) (mark : Option ℕ) (soft : Soft) → (selecting e mark soft).pasted ≡ e.pasted
+selecting-pasted e None soft = refl
+selecting-pasted e (Some mark) Off = refl
+selecting-pasted e (Some mark) Fresh = refl
+selecting-pasted e (Some mark) Old = refl
+
+select-pasted-any : (d : Data) (was : Before) (ask : Ask) (seek : Seek) (e : Editor) → (after_any d None was ask seek e Select).pasted ≡ e.pasted
+select-pasted-any d was asks.Off searches.Off e = selecting-pasted e e.mark e.soft
+select-pasted-any d was asks.Off searches.Begun e = selecting-pasted e e.mark e.soft
+select-pasted-any d was asks.Off searches.Typed e = selecting-pasted e e.mark e.soft
+select-pasted-any d was asks.Off searches.WithBegun e = selecting-pasted (without_search e) e.mark e.soft
+select-pasted-any d was asks.Off searches.WithTyped e = selecting-pasted (without_search e) e.mark e.soft
+select-pasted-any d was asks.Off searches.Replacing e = selecting-pasted (without_search e) e.mark e.soft
+select-pasted-any d was asks.Line seek e = selecting-pasted (without_ask e) e.mark e.soft
+select-pasted-any d was asks.Name seek e = selecting-pasted (without_ask e) e.mark e.soft
+select-pasted-any d was asks.Code seek e = selecting-pasted (without_ask e) e.mark e.soft
+
+select-settled : (d : Data) (e : Editor) → e.pasted ≡ None → (after_key d None e Select).pasted ≡ None
+select-settled d e settled =
+    ap (λ (new : Editor). new.pasted) (any-key d None e Select settled refl) ∙ select-pasted-any d (before e) e.ask e.seek (cleared e) ∙ settled
 
 -- ---- a key that seeks
 
@@ -222,70 +245,77 @@ next-mark d was asks.Line e = next-mark-by d (without_ask e)
 next-mark d was asks.Name e = next-mark-by d (without_ask e)
 next-mark d was asks.Code e = next-mark-by d (without_ask e)
 
-sought-mark : (d : Data) (e : Editor) (key : Key) → e.seek ≡ searches.Off → seeks key ≡ true → (after_key d None e key).mark ≡ mark_left e.soft e.mark
-sought-mark d e (Insert c) off is = absurd (cc is)
-sought-mark d e Erase off is = absurd (cc is)
-sought-mark d e Delete off is = absurd (cc is)
-sought-mark d e Back off is = absurd (cc is)
-sought-mark d e Forward off is = absurd (cc is)
-sought-mark d e Up off is = absurd (cc is)
-sought-mark d e Down off is = absurd (cc is)
-sought-mark d e Right off is = absurd (cc is)
-sought-mark d e Left off is = absurd (cc is)
-sought-mark d e RowHome off is = absurd (cc is)
-sought-mark d e RowEnd off is = absurd (cc is)
-sought-mark d e PageUp off is = absurd (cc is)
-sought-mark d e PageDown off is = absurd (cc is)
-sought-mark d e Save off is = absurd (cc is)
-sought-mark d e Quit off is = absurd (cc is)
-sought-mark d e Undo off is = absurd (cc is)
-sought-mark d e Redo off is = absurd (cc is)
-sought-mark d e Repaint off is = absurd (cc is)
-sought-mark d e Direction off is = absurd (cc is)
-sought-mark d e Mark off is = absurd (cc is)
-sought-mark d e Copy off is = absurd (cc is)
-sought-mark d e Cut off is = absurd (cc is)
-sought-mark d e Put off is = absurd (cc is)
-sought-mark d e Find off is =
-    ap (λ s. (after_any d None (before e) e.ask s (cleared e) Find).mark) off ∙ find-mark d (before e) e.ask (cleared e)
-sought-mark d e FindBack off is =
-    ap (λ s. (after_any d None (before e) e.ask s (cleared e) FindBack).mark) off ∙ find-back-mark d (before e) e.ask (cleared e)
-sought-mark d e WordLeft off is = absurd (cc is)
-sought-mark d e WordRight off is = absurd (cc is)
-sought-mark d e TextStart off is = absurd (cc is)
-sought-mark d e TextEnd off is = absurd (cc is)
-sought-mark d e Help off is = absurd (cc is)
-sought-mark d e EraseWord off is = absurd (cc is)
-sought-mark d e DeleteWord off is = absurd (cc is)
-sought-mark d e ErasePoint off is = absurd (cc is)
-sought-mark d e NewLine off is = absurd (cc is)
-sought-mark d e FindNext off is =
-    ap (λ s. (after_any d None (before e) e.ask s (cleared e) FindNext).mark) off ∙ next-mark d (before e) e.ask (cleared e)
-sought-mark d e Cancel off is = absurd (cc is)
-sought-mark d e LineUp off is = absurd (cc is)
-sought-mark d e LineDown off is = absurd (cc is)
-sought-mark d e PageBack off is = absurd (cc is)
-sought-mark d e PageOn off is = absurd (cc is)
-sought-mark d e Select off is = absurd (cc is)
-sought-mark d e UndoRun off is = absurd (cc is)
-sought-mark d e RedoRun off is = absurd (cc is)
-sought-mark d e GoTo off is = absurd (cc is)
-sought-mark d e Replace off is =
-    ap (λ s. (after_any d None (before e) e.ask s (cleared e) Replace).mark) off ∙ replace-mark d (before e) e.ask (cleared e)
-sought-mark d e Name off is = absurd (cc is)
-sought-mark d e Tell off is = absurd (cc is)
-sought-mark d e PasteStart off is = absurd (cc is)
-sought-mark d e PasteEnd off is = absurd (cc is)
-sought-mark d e (Size height width) off is = absurd (cc is)
-sought-mark d e (Notice notice) off is = absurd (cc is)
+sought-mark : (d : Data) (e : Editor) (key : Key) → e.seek ≡ searches.Off → e.pasted ≡ None → seeks key ≡ true → (after_key d None e key).mark ≡ mark_left e.soft e.mark
+sought-mark d e (Insert c) off settled is = absurd (cc is)
+sought-mark d e Erase off settled is = absurd (cc is)
+sought-mark d e Delete off settled is = absurd (cc is)
+sought-mark d e Back off settled is = absurd (cc is)
+sought-mark d e Forward off settled is = absurd (cc is)
+sought-mark d e Up off settled is = absurd (cc is)
+sought-mark d e Down off settled is = absurd (cc is)
+sought-mark d e Right off settled is = absurd (cc is)
+sought-mark d e Left off settled is = absurd (cc is)
+sought-mark d e RowHome off settled is = absurd (cc is)
+sought-mark d e RowEnd off settled is = absurd (cc is)
+sought-mark d e PageUp off settled is = absurd (cc is)
+sought-mark d e PageDown off settled is = absurd (cc is)
+sought-mark d e Save off settled is = absurd (cc is)
+sought-mark d e Quit off settled is = absurd (cc is)
+sought-mark d e Undo off settled is = absurd (cc is)
+sought-mark d e Redo off settled is = absurd (cc is)
+sought-mark d e Repaint off settled is = absurd (cc is)
+sought-mark d e Direction off settled is = absurd (cc is)
+sought-mark d e Mark off settled is = absurd (cc is)
+sought-mark d e Copy off settled is = absurd (cc is)
+sought-mark d e Cut off settled is = absurd (cc is)
+sought-mark d e Put off settled is = absurd (cc is)
+sought-mark d e Find off settled is =
+    ap (λ (new : Editor). new.mark) (any-key d None e Find settled refl)
+    ∙ ap (λ s. (after_any d None (before e) e.ask s (cleared e) Find).mark) off ∙ find-mark d (before e) e.ask (cleared e)
+sought-mark d e FindBack off settled is =
+    ap (λ (new : Editor). new.mark) (any-key d None e FindBack settled refl)
+    ∙ ap (λ s. (after_any d None (before e) e.ask s (cleared e) FindBack).mark) off ∙ find-back-mark d (before e) e.ask (cleared e)
+sought-mark d e WordLeft off settled is = absurd (cc is)
+sought-mark d e WordRight off settled is = absurd (cc is)
+sought-mark d e TextStart off settled is = absurd (cc is)
+sought-mark d e TextEnd off settled is = absurd (cc is)
+sought-mark d e Help off settled is = absurd (cc is)
+sought-mark d e EraseWord off settled is = absurd (cc is)
+sought-mark d e DeleteWord off settled is = absurd (cc is)
+sought-mark d e ErasePoint off settled is = absurd (cc is)
+sought-mark d e NewLine off settled is = absurd (cc is)
+sought-mark d e FindNext off settled is =
+    ap (λ (new : Editor). new.mark) (any-key d None e FindNext settled refl)
+    ∙ ap (λ s. (after_any d None (before e) e.ask s (cleared e) FindNext).mark) off ∙ next-mark d (before e) e.ask (cleared e)
+sought-mark d e Cancel off settled is = absurd (cc is)
+sought-mark d e LineUp off settled is = absurd (cc is)
+sought-mark d e LineDown off settled is = absurd (cc is)
+sought-mark d e PageBack off settled is = absurd (cc is)
+sought-mark d e PageOn off settled is = absurd (cc is)
+sought-mark d e Select off settled is = absurd (cc is)
+sought-mark d e UndoRun off settled is = absurd (cc is)
+sought-mark d e RedoRun off settled is = absurd (cc is)
+sought-mark d e GoTo off settled is = absurd (cc is)
+sought-mark d e Replace off settled is =
+    ap (λ (new : Editor). new.mark) (any-key d None e Replace settled refl)
+    ∙ ap (λ s. (after_any d None (before e) e.ask s (cleared e) Replace).mark) off ∙ replace-mark d (before e) e.ask (cleared e)
+sought-mark d e Name off settled is = absurd (cc is)
+sought-mark d e Tell off settled is = absurd (cc is)
+sought-mark d e PasteStart off settled is = absurd (cc is)
+sought-mark d e PasteEnd off settled is = absurd (cc is)
+sought-mark d e (Point row column) off settled is = absurd (cc is)
+sought-mark d e (Size height width) off settled is = absurd (cc is)
+sought-mark d e (Notice notice) off settled is = absurd (cc is)
 
 -- ---- the laws
 
-leaves : (d : Data) (e : Editor) (key : Key) → (after_key d None e key).mark ≡ mark_left e.soft e.mark
+leaves : (d : Data) (e : Editor) (key : Key) → e.pasted ≡ None → (after_key d None e key).mark ≡ mark_left e.soft e.mark
     → (let first = after_key d None e Select in (after_key d None first key).mark ≡ mark_left first.soft first.mark) → LeavesMark d e key
-leaves d e key now behind =
+leaves d e key settled now behind =
     let first = after_key d None e Select in
-    let chosen = select-any d (before e) e.ask e.seek (cleared e) in
+    let chosen : (first.mark ≡ Some (unwrap_or e.mark e.place)) × (first.soft ≢ Old) =
+    subst (λ (new : Editor). (new.mark ≡ Some (unwrap_or e.mark e.place)) × (new.soft ≢ Old)) (sym (any-key d None e Select settled refl))
+    (select-any d (before e) e.ask e.seek (cleared e)) in
     record {
       old = λ soft. now ∙ ap (λ s. mark_left s e.mark) soft;
       other = λ soft. now ∙ not-old e.soft e.mark soft;
@@ -293,8 +323,10 @@ leaves d e key now behind =
     }
 
 pub move-takes-selection-off : MoveTakesSelectionOff
-move-takes-selection-off d e key is = leaves d e key (moved d e key is) (moved d (after_key d None e Select) key is)
+move-takes-selection-off d e key settled is =
+    leaves d e key settled (moved d e key settled is) (moved d (after_key d None e Select) key (select-settled d e settled) is)
 
 pub seeking-takes-selection-off : SeekingTakesSelectionOff
-seeking-takes-selection-off d e key off is =
-    leaves d e key (sought-mark d e key off is) (sought-mark d (after_key d None e Select) key (select-off d e off) is)
+seeking-takes-selection-off d e key off settled is =
+    leaves d e key settled (sought-mark d e key off settled is)
+    (sought-mark d (after_key d None e Select) key (select-off d e settled off) (select-settled d e settled) is)

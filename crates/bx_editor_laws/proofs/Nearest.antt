@@ -1,5 +1,5 @@
 -- Find and FindBack go to the nearest match.
-use Rattle.std.proofs.Common.{◌≡◌, ◌⊎◌, inl, inr, ℕ, true, length, Option, Some, None, ap}
+use Rattle.std.proofs.Common.{◌≡◌, ◌⊎◌, inl, inr, ℕ, true, length, Option, Some, None, refl, sym, ap, subst}
 use Rattle.std.specs.Prelude.{MatchOption, unwrap_or}
 use Rattle.bx_ucd.specs.Data.{Data}
 use Rattle.bx_asking.specs.declared.question.Ask.{Ask}
@@ -18,6 +18,7 @@ use Rattle.bx_editor.specs.Keys.{after_any}
 use Rattle.bx_editor.specs.Search.{after_find, after_find_back, backward, forward, landed, match_or, next_or_start, not_found, reading, sought}
 use Rattle.bx_editor.specs.Origin.{is_queried}
 use Rattle.bx_editor_laws.specs.Laws.{FindBackGoesToPrevious, FindGoesToNext, NoneBefore, NoneFrom, Stayed, WentTo}
+use Rattle.bx_editor.proofs.InSearch.{any-key}
 use Rattle.bx_editor.proofs.Sought.{backward-some, forward-some}
 
 -- in a search
@@ -83,9 +84,10 @@ find-goes-to-next d e seeks =
     let ls = sought d e in
     let text = e.content.text in
     let x = next_or_start d e in
-    on-find d e (before e) e.ask e.seek (GoesNext d e) seeks.unasked seeks.on
+    subst (GoesNext d e) (sym (any-key d None e Find seeks.settled refl))
+    (on-find d e (before e) e.ask e.seek (GoesNext d e) seeks.unasked seeks.on
     (next-of d e (forward d r (rows d e) text x ls) (first_from d r ls text x) (first_from d r ls text 0) (first_is d r ls text x seeks.text)
-    (first_is d r ls text 0 seeks.text) (forward-some d r (rows d e) text x ls seeks.letters))
+    (first_is d r ls text 0 seeks.text) (forward-some d r (rows d e) text x ls seeks.letters)))
 
 pub find-back-goes-to-previous : FindBackGoesToPrevious
 find-back-goes-to-previous d e seeks =
@@ -93,6 +95,7 @@ find-back-goes-to-previous d e seeks =
     let ls = sought d e in
     let text = e.content.text in
     let n = length text in
-    on-find-back d e (before e) e.ask e.seek (GoesBack d e) seeks.unasked seeks.on
+    subst (GoesBack d e) (sym (any-key d None e FindBack seeks.settled refl))
+    (on-find-back d e (before e) e.ask e.seek (GoesBack d e) seeks.unasked seeks.on
     (previous-of d e (backward d r (rows d e) text e.place ls) (last_before d r ls text e.place) (last_before d r ls text n)
-    (last_is d r ls text e.place seeks.text) (last_is d r ls text n seeks.text) (backward-some d r (rows d e) text e.place ls seeks.letters))
+    (last_is d r ls text e.place seeks.text) (last_is d r ls text n seeks.text) (backward-some d r (rows d e) text e.place ls seeks.letters)))

@@ -1,6 +1,6 @@
 -- FindNext leads to where Find and then Find lead, and no search is on behind it.
-use Rattle.std.proofs.Common.{◌≡◌, ℕ, false, List, [], ◌∷◌, length, refl, sym, ap, ◌∙◌, arith, ne_eqb}
-use Rattle.std.specs.Prelude.{◌≢◌, ◌==◌, None, if◌then◌else◌}
+use Rattle.std.proofs.Common.{◌≡◌, ℕ, false, List, [], ◌∷◌, length, refl, sym, ap, ap₂, ◌∙◌, arith, ne_eqb}
+use Rattle.std.specs.Prelude.{◌≢◌, ◌==◌, chars, None, if◌then◌else◌}
 use Rattle.bx_keys.specs.declared.key.Key.TheVariants.{Find, FindNext}
 use Rattle.bx_editor.specs.declared.aim.Aim.TheVariants as aims
 use Rattle.bx_editor.specs.declared.seek.Seek.TheVariants.{Off, Typed}
@@ -13,10 +13,13 @@ use Rattle.bx_editor.specs.Asking.{without_ask}
 use Rattle.bx_editor.specs.Editor.{Editor, cleared}
 use Rattle.bx_editor.specs.Effects.{Before, before}
 use Rattle.bx_editor.specs.Keys.{after_any, after_key, after_keys}
-use Rattle.bx_editor.specs.Search.{after_beginning, after_find_next, next_or_start, search_from, sought}
+use Rattle.bx_find.specs.Letters.{letters}
+use Rattle.bx_editor.specs.Pasting.{paste_ended}
+use Rattle.bx_editor.specs.Search.{after_beginning, after_find_next, next_or_start, reading, search_from, sought}
 use Rattle.bx_editor.specs.Selecting.{aged, soft_left, unselected}
 use Rattle.bx_editor_laws.proofs.GivenUp.{find-begins}
-use Rattle.bx_editor.proofs.InSearch.{behind}
+use Rattle.bx_editor.proofs.InSearch.{any-key, behind}
+use Rattle.bx_editor_laws.proofs.PasteEnded.{ended-by, ends-first, over}
 use Rattle.bx_editor_laws.specs.WorkLaws.{FindNextIsFindTwice}
 
 some-letters : (ls : List ℕ) → ls ≢ [] → (length ls == 0) ≡ false
@@ -35,17 +38,31 @@ next-any d was asks.Line e is = refl
 next-any d was asks.Name e is = refl
 next-any d was asks.Code e is = refl
 
-pub find-next-is-find-twice : FindNextIsFindTwice
-find-next-is-find-twice d e off some =
+-- where no paste is under way
+settled-twice : (d : Data) (e : Editor) → e.pasted ≡ None → e.seek ≡ Off → sought d e ≢ []
+    → after_key d None e FindNext ≡ record (after_keys d None e (Find ∷ Find ∷ [])) { seek = Off; origin = e.origin }
+settled-twice d e settled off some =
     let was = unselected (without_ask (cleared e)) in
     let gone = search_from d (next_or_start d was) (record was { seek = Off; aim = aims.Find }) in
     let pressed : after_key d None e FindNext ≡ behind gone =
-    ap (λ s. behind (after_any d None (before e) e.ask s (cleared e) FindNext)) off
+    any-key d None e FindNext settled refl ∙ ap (λ s. behind (after_any d None (before e) e.ask s (cleared e) FindNext)) off
     ∙ ap behind (next-any d (before e) e.ask (cleared e) refl)
     ∙ ap (λ b. behind (if b then after_beginning aims.Find was else gone)) (some-letters (sought d e) some) in
-    let begun : after_key d None e Find ≡ behind (after_beginning aims.Find was) = find-begins d e off in
+    let once = behind (after_beginning aims.Find was) in
+    let begun : after_key d None e Find ≡ once = find-begins d e settled off in
     let twice : after_keys d None e (Find ∷ Find ∷ [])
     ≡ record gone { seek = Typed; origin = e.place; goal = None; soft = aged (aged (soft_left e.soft)) } =
-    ap (λ new. after_key d None new Find) begun in
+    ap (λ new. after_key d None new Find) begun ∙ any-key d None once Find settled refl in
     pressed ∙ ap (λ s. record gone { seek = Off; goal = None; soft = s }) (sym (aged-twice (soft_left e.soft)))
     ∙ sym (ap (λ (new : Editor). record new { seek = Off; origin = e.origin }) twice)
+
+pub find-next-is-find-twice : FindNextIsFindTwice
+find-next-is-find-twice d e off some =
+    let ended = paste_ended d e in
+    let origin : ended.origin ≡ e.origin = ended-by d e (λ (x : Editor). x.origin ≡ e.origin) refl refl (λ list. refl) (λ list. refl) refl in
+    let query : ended.query ≡ e.query = ended-by d e (λ (x : Editor). x.query ≡ e.query) refl refl (λ list. refl) (λ list. refl) refl in
+    let aim : ended.aim ≡ e.aim = ended-by d e (λ (x : Editor). x.aim ≡ e.aim) refl refl (λ list. refl) (λ list. refl) refl in
+    let unsought : ended.seek ≡ Off = ended-by d e (λ (x : Editor). x.seek ≡ Off) off off (λ list. refl) (λ list. refl) off in
+    let same : sought d ended ≡ sought d e = ap₂ (λ q a. letters d (reading a) (chars q)) query aim in
+    ends-first d None e FindNext refl ∙ settled-twice d ended (over d e) unsought (λ none. some (sym same ∙ none))
+    ∙ ap₂ (λ (x : Editor) start. record x { seek = Off; origin = start }) (ap (λ x. after_key d None x Find) (sym (ends-first d None e Find refl))) origin

@@ -1,7 +1,7 @@
 -- Characters that go on with each other are one run, which one UndoRun takes back.
 use Rattle.std.proofs.Common.{◌≡◌, ℕ, zero, suc, ◌+◌, ◌-◌, ◌≤◌, ◌<◌, Bool, true, false, List, [], ◌∷◌, ◌++◌, length, map, take, drop, refl, sym, ap}
 use Rattle.std.proofs.Common.{ap₂, subst, ◌∙◌, arith, inl, inr, if◌then◌else◌, length-append}
-use Rattle.std.specs.Prelude.{◌≢◌, ◌⊎◌, ◌==◌, ◌&&◌, not, nat_le, encode_utf8, encode_utf8_all, Some, None}
+use Rattle.std.specs.Prelude.{◌≢◌, ◌⊎◌, ◌==◌, ◌&&◌, not, nat_le, encode_utf8, encode_utf8_all, Option, Some, None}
 use Rattle.std.specs.Fn.{iterate}
 use Rattle.std.proofs.lemmas.Bool.Decides.{nat_tests}
 use Rattle.std.proofs.lemmas.List.{length-drop, length-take}
@@ -13,7 +13,7 @@ use Rattle.bx_document.specs.declared.history.HistoryStep.TheVariants as steps
 use Rattle.bx_runs.specs.Runs.{edited, run_start}
 use Rattle.bx_runs.specs.Typing.{after_insertion, goes_on, kind_of}
 use Rattle.bx_runs.specs.declared.typing.Kind.{Kind}
-use Rattle.bx_runs.specs.declared.typing.Kind.TheVariants.{Blank, Letter, Separator}
+use Rattle.bx_runs.specs.declared.typing.Kind.TheVariants.{Blank, Letter}
 use Rattle.bx_runs.specs.declared.typing.Typing.{Typing}
 use Rattle.bx_runs.specs.declared.typing.Typing.TheVariants as typings
 use Rattle.bx_runs.proofs.RunLaws.{edit-is-of-its-run}
@@ -24,13 +24,17 @@ use Rattle.bx_editor.specs.declared.seek.Seek.TheVariants as seeks
 use Rattle.bx_editor.specs.declared.soft.Soft.TheVariants as softness
 use Rattle.bx_editor.specs.Editor.{Editor, cleared, with_insertion, with_removal, with_typing}
 use Rattle.bx_editor.specs.Effects.{before}
-use Rattle.bx_editor.specs.Keys.{after_any, after_key, after_keys, as_left}
-use Rattle.bx_editor.specs.Putting.{after_character, after_new_line, has_room, is_paste, line_end, only_paste, typed, with_selection_replaced, yielding}
+use Rattle.bx_editor.specs.Keys.{after_any, after_key, after_keys, after_press, as_left}
+use Rattle.bx_editor.specs.PasteLaws.{after_paste}
+use Rattle.bx_editor.specs.Pasting.{after_paste_start, ended_with, longer, paste_begun, pasted_with, pastes_crlf, with_pasted, without_paste}
+use Rattle.bx_editor.specs.Putting.{after_character, has_room, only_paste, put_in, typed, with_selection_replaced, yielding}
 use Rattle.bx_editor.specs.Region.{is_empty, region}
-use Rattle.bx_editor_laws.specs.RunLaws.{pasted, AreOfKind, IsBackBefore, PasteIsARun, WordIsARun}
+use Rattle.bx_editor_laws.specs.RunLaws.{AreOfKind, IsBackBefore, PasteIsARun, WordIsARun}
 use Rattle.bx_editor.specs.Runs.{run_length}
 use Rattle.bx_editor.specs.Selecting.{is_selection, is_soft}
+use Rattle.bx_editor.proofs.InSearch.{any-key}
 use Rattle.bx_editor.proofs.ManySteps.{back, undone-back, version}
+use Rattle.bx_editor.proofs.Pasted.{ended-none}
 use Rattle.bx_editor_laws.proofs.RunKeys.{undo-run}
 
 -- ---- the latest edits
@@ -63,15 +67,15 @@ pub record Going (first : Editor) (t : Edited) (place : ℕ) (runs : List ℕ) :
 abbrev pub IsOneRun : Editor → Editor → Type 0
 IsOneRun first e = Going first e.content e.place e.runs
 
-undo-going : (d : Data) (first e : Editor) (text : List ℕ) (past future : List Edit) → let now : Editor = record e { content = version text past future } in IsOneRun first now
+undo-going : (d : Data) (first e : Editor) (text : List ℕ) (past future : List Edit) → e.pasted ≡ None → let now : Editor = record e { content = version text past future } in IsOneRun first now
     → IsBackBefore first (after_key d None now UndoRun)
-undo-going d first e text [] future h = let no = h.over in absurd (cc no)
-undo-going d first e text (edit ∷ past) future h =
+undo-going d first e text [] future settled h = let no = h.over in absurd (cc no)
+undo-going d first e text (edit ∷ past) future settled h =
     let t : Edited = version text (edit ∷ past) future in
     let now : Editor = record e { content = t } in
     let n = h.more in
     let long : run_length steps.Undo now ≡ suc n = omega (arith, over-length first (suc n) text e.place (edit ∷ past) h.over, h.start) in
-    let ran = undo-run d e n text edit past future long in
+    let ran = undo-run d e n text edit past future settled long in
     let led = over-back first (suc n) text e.place (edit ∷ past) future h.over in
     let all = undone-back (suc n) t e.place in
     record {
@@ -81,8 +85,8 @@ undo-going d first e text (edit ∷ past) future h =
     }
 
 -- from any history
-pub goes-back : (d : Data) (first e : Editor) → IsOneRun first e → IsBackBefore first (after_key d None e UndoRun)
-goes-back d first e h = undo-going d first e e.content.text e.content.past e.content.future h
+pub goes-back : (d : Data) (first e : Editor) → e.pasted ≡ None → IsOneRun first e → IsBackBefore first (after_key d None e UndoRun)
+goes-back d first e settled h = undo-going d first e e.content.text e.content.past e.content.future settled h
 
 -- ---- an edit
 
@@ -123,100 +127,83 @@ replacement-begins d first e new h =
 abbrev shaped : Data → Typing → Editor → List ℕ → Kind → Bool → Bool → Bool → Editor
 shaped d typing e new kind room selected on =
     record (if room then (if selected then with_selection_replaced d e new else with_insertion d e new on) else record e { message = Some TextFull }) {
-      typing = if room then after_insertion typing kind else only_paste typing;
+      typing = if room then after_insertion kind else only_paste typing;
     }
 
-insert-is : (d : Data) (e : Editor) (c : ℕ) → e.ask ≡ asks.Off → e.seek ≡ seeks.Off
+pub insert-is : (d : Data) (e : Editor) (c : ℕ) → e.pasted ≡ None → e.ask ≡ asks.Off → e.seek ≡ seeks.Off
     → after_key d None e (Insert c) ≡ as_left (Insert c) (after_character d e.typing (cleared e) c)
-insert-is d e c unasked off = ap₂ (λ a s. as_left (Insert c) (after_any d None (before e) a s (cleared e) (Insert c))) unasked off
+insert-is d e c settled unasked off = any-key d None e (Insert c) settled refl ∙ ap₂ (λ a s. as_left (Insert c) (after_any d None (before e) a s (cleared e) (Insert c))) unasked off
 
-no-selection : (e : Editor) → e.soft ≡ softness.Off → is_selection e ≡ false
+pub no-selection : (e : Editor) → e.soft ≡ softness.Off → is_selection e ≡ false
 no-selection e off = ap (λ s. is_soft s && not (is_empty (region e))) off
 
 -- ---- a paste
 
--- a paste of which nothing is in the text yet, and one of which something is
+-- while a paste is under way nothing of it is in the text
 record Waits (first e : Editor) : Type 0 where
   pub nothing : Nothing first e
-  pub typing : e.typing ≡ typings.Paste
-  pub ask : e.ask ≡ asks.Off
-  pub seek : e.seek ≡ seeks.Off
+  pub list : List ℕ
+  pub pasted : e.pasted ≡ Some list
 
-record Pastes (first e : Editor) : Type 0 where
-  pub goes : IsOneRun first e
-  pub typing : e.typing ≡ typings.Pasting
-  pub ask : e.ask ≡ asks.Off
-  pub seek : e.seek ≡ seeks.Off
-  pub soft : e.soft ≡ softness.Off
+begun-waits : (first e : Editor) (pasted : Option (List ℕ)) → e.pasted ≡ pasted → Nothing first e
+    → Waits first (with_typing (paste_begun asks.Off seeks.Off pasted e) typings.Paste)
+begun-waits first e None is h = record { nothing = h; list = []; pasted = refl }
+begun-waits first e (Some list) is h = record { nothing = h; list = list; pasted = is }
 
-abbrev InPaste : Editor → Editor → Type 0
-InPaste first e = Waits first e ⊎ Pastes first e
+start-waits : (first e : Editor) → e.ask ≡ asks.Off → e.seek ≡ seeks.Off → Nothing first e → Waits first (after_paste_start e)
+start-waits first e unasked off h =
+    subst (λ a. Waits first (with_typing (paste_begun a e.seek e.pasted e) typings.Paste)) (sym unasked)
+    (subst (λ s. Waits first (with_typing (paste_begun asks.Off s e.pasted e) typings.Paste)) (sym off) (begun-waits first e e.pasted refl h))
 
-wait-typed : (d : Data) (first e : Editor) (c : ℕ) (new : List ℕ) (kind : Kind) (room selected : Bool) → Nothing first e → e.ask ≡ asks.Off → e.seek ≡ seeks.Off
-    → InPaste first (as_left (Insert c) (shaped d typings.Paste e new kind room selected false))
-wait-typed d first e c new kind false selected h unasked off = inl (record { nothing = h; typing = refl; ask = unasked; seek = off })
-wait-typed d first e c new kind true true h unasked off =
-    let goes = replacement-begins d first e new h in
-    inr (record { goes = record { more = goes.more; over = goes.over; start = goes.start }; typing = refl; ask = unasked; seek = refl; soft = refl })
-wait-typed d first e c new kind true false h unasked off =
-    let goes = insertion-begins d first e new h in
-    inr (record { goes = record { more = goes.more; over = goes.over; start = goes.start }; typing = refl; ask = unasked; seek = refl; soft = refl })
+letter-waits : (d : Data) (first e : Editor) (c : ℕ) → Waits first e → Waits first (after_key d None e (Insert c))
+letter-waits d first e c h =
+    let is_crlf = pastes_crlf d e.content.text c in
+    subst (Waits first) (sym (ap (λ pasted. after_press d None pasted e (Insert c)) h.pasted))
+    (record { nothing = h.nothing; list = longer is_crlf h.list c; pasted = ap (λ pasted. pasted_with is_crlf pasted c) h.pasted })
 
-paste-typed : (d : Data) (first e : Editor) (c : ℕ) (new : List ℕ) (kind : Kind) (room selected : Bool) → selected ≡ false → IsOneRun first e → e.ask ≡ asks.Off → e.seek ≡ seeks.Off
-    → e.soft ≡ softness.Off → InPaste first (as_left (Insert c) (shaped d typings.Pasting e new kind room selected true))
-paste-typed d first e c new kind false selected none h unasked off hard =
-    inr (record { goes = h; typing = refl; ask = unasked; seek = off; soft = ap (λ s. (as_left (Insert c) (record e { soft = s })).soft) hard })
-paste-typed d first e c new kind true true none h unasked off hard = absurd (cc none)
-paste-typed d first e c new kind true false none h unasked off hard =
-    let goes = insertion-goes d first e new h in
-    inr (record { goes = record { more = goes.more; over = goes.over; start = goes.start }; typing = refl; ask = unasked; seek = refl; soft = refl })
+-- nothing was put in, or edits of one run were made
+abbrev InRun : Editor → Editor → Type 0
+InRun first e = Nothing first e ⊎ IsOneRun first e
 
 -- whichever it is
 by-cases : (P : Editor → Type 0) (b : Bool) (p q : Editor) → P p → P q → P (if b then p else q)
 by-cases P true p q h k = h
 by-cases P false p q h k = k
 
--- a character puts in its bytes, or a line end
-each-character : (P : Editor → Type 0) (d : Data) (typing : Typing) (e : Editor) (c : ℕ) → ((new : List ℕ) (kind : Kind) → P (typed d typing e new kind))
-    → P (after_character d typing e c)
-each-character P d typing e c h =
-    let line = line_end d (splice e.content.text (yielding e).0 (yielding e).1 []) in
-    by-cases P ((c == 0xA) && is_paste typing) (after_new_line d typing e) (typed d typing e (encode_utf8 c) (kind_of (d.class c)))
-    (h line Separator) (h (encode_utf8 c) (kind_of (d.class c)))
+list-in : (d : Data) (first e : Editor) (list : List ℕ) → Nothing first e → InRun first (with_typing (with_pasted d e list) typings.Off)
+list-in d first e list h =
+    let left = without_paste e in
+    let two = with_selection_replaced d left list in
+    let one = with_insertion d left list false in
+    let P = λ (new : Editor). InRun first (with_typing new typings.Off) in
+    let replaced = replacement-begins d first left list h in
+    let begun = insertion-begins d first left list h in
+    by-cases P (length list == 0) left (put_in d left list false) (inl h)
+    (by-cases P (has_room left list) (if is_selection left then two else one) (record left { message = Some TextFull })
+    (by-cases P (is_selection left) two one (inr (record { more = replaced.more; over = replaced.over; start = replaced.start }))
+    (inr (record { more = begun.more; over = begun.over; start = begun.start })))
+    (inl h))
 
-paste-on : (d : Data) (first e : Editor) (c : ℕ) → InPaste first e → InPaste first (after_key d None e (Insert c))
-paste-on d first e c (inl h) =
-    let was = cleared e in
-    let P = λ (new : Editor). InPaste first (as_left (Insert c) new) in
-    subst (InPaste first) (sym (insert-is d e c h.ask h.seek))
-    (subst (λ t. P (after_character d t was c)) (sym h.typing)
-    (each-character P d typings.Paste was c
-    (λ new kind. wait-typed d first was c new kind (has_room was new) (is_selection was) h.nothing h.ask h.seek)))
-paste-on d first e c (inr h) =
-    let was = cleared e in
-    let P = λ (new : Editor). InPaste first (as_left (Insert c) new) in
-    let goes : IsOneRun first was = record { more = h.goes.more; over = h.goes.over; start = h.goes.start } in
-    subst (InPaste first) (sym (insert-is d e c h.ask h.seek))
-    (subst (λ t. P (after_character d t was c)) (sym h.typing)
-    (each-character P d typings.Pasting was c
-    (λ new kind. paste-typed d first was c new kind (has_room was new) (is_selection was) (no-selection was h.soft) goes h.ask h.seek h.soft)))
+paste-ends : (d : Data) (first e : Editor) (cs : List ℕ) → Waits first e → InRun first (after_keys d None e (map Insert cs ++ PasteEnd ∷ []))
+paste-ends d first e [] h =
+    subst (λ pasted. InRun first (with_typing (ended_with d e pasted) typings.Off)) (sym h.pasted) (list-in d first e h.list h.nothing)
+paste-ends d first e (c ∷ cs) h = paste-ends d first (after_key d None e (Insert c)) cs (letter-waits d first e c h)
 
-paste-ends : (d : Data) (first e : Editor) (cs : List ℕ) → InPaste first e
-    → let new = after_keys d None e (map Insert cs ++ PasteEnd ∷ []) in Nothing first new ⊎ IsOneRun first new
-paste-ends d first e [] (inl h) = inl h.nothing
-paste-ends d first e [] (inr h) = inr h.goes
-paste-ends d first e (c ∷ cs) h = paste-ends d first (after_key d None e (Insert c)) cs (paste-on d first e c h)
+-- no paste is under way after one
+pub paste-over : (d : Data) (e : Editor) (cs : List ℕ) → (after_keys d None e (map Insert cs ++ PasteEnd ∷ [])).pasted ≡ None
+paste-over d e [] = ended-none d e e.pasted refl
+paste-over d e (c ∷ cs) = paste-over d (after_key d None e (Insert c)) cs
 
-paste-back : (d : Data) (first e : Editor) → Nothing first e ⊎ IsOneRun first e → length first.content.past < length e.content.past
+paste-back : (d : Data) (first e : Editor) → e.pasted ≡ None → InRun first e → length first.content.past < length e.content.past
     → IsBackBefore first (after_key d None e UndoRun)
-paste-back d first e (inl h) more = absurd (omega (arith, more, over-length first 0 e.content.text e.place e.content.past h))
-paste-back d first e (inr h) more = goes-back d first e h
+paste-back d first e settled (inl h) more = absurd (omega (arith, more, over-length first 0 e.content.text e.place e.content.past h))
+paste-back d first e settled (inr h) more = goes-back d first e settled h
 
 pub paste-is-a-run : PasteIsARun
 paste-is-a-run d e cs unasked off more =
-    let begun = with_typing e typings.Paste in
-    paste-back d e (pasted d e cs)
-    (paste-ends d e begun cs (inl (record { nothing = (refl, (refl, refl)); typing = refl; ask = unasked; seek = off }))) more
+    let begun = after_paste_start e in
+    paste-back d e (after_paste d e cs) (paste-over d begun cs)
+    (paste-ends d e begun cs (start-waits e e unasked off (refl, (refl, refl)))) more
 
 -- ---- a word and the blanks behind it
 
@@ -227,6 +214,7 @@ record Types (first e : Editor) (typing : Typing) (left : ℕ) : Type 0 where
   pub ask : e.ask ≡ asks.Off
   pub seek : e.seek ≡ seeks.Off
   pub soft : e.soft ≡ softness.Off
+  pub settled : e.pasted ≡ None
   pub room : length e.content.text + left ≤ largest_text
 
 short-fits : (size start stop new limit : ℕ) → size + new ≤ limit → nat_le (size - (stop - start) + new) limit ≡ true
@@ -240,15 +228,9 @@ spliced : (text : List ℕ) (start stop : ℕ) (new : List ℕ) → start ≤ st
 spliced text start stop new order =
     omega (arith, length-append (take start text ++ new) (drop stop text), length-append (take start text) new, length-take start text, length-drop stop text, order)
 
-and-false : (a b : Bool) → b ≡ false → (a && b) ≡ false
-and-false true b none = none
-and-false false b none = refl
-
-character-is : (d : Data) (typing : Typing) (e : Editor) (c : ℕ) (kind : Kind) → is_paste typing ≡ false → kind_of (d.class c) ≡ kind
+character-is : (d : Data) (typing : Typing) (e : Editor) (c : ℕ) (kind : Kind) → kind_of (d.class c) ≡ kind
     → after_character d typing e c ≡ typed d typing e (encode_utf8 c) kind
-character-is d typing e c kind plain is =
-    ap (λ b. if b then after_new_line d typing e else typed d typing e (encode_utf8 c) (kind_of (d.class c))) (and-false (c == 0xA) (is_paste typing) plain)
-    ∙ ap (typed d typing e (encode_utf8 c)) is
+character-is d typing e c kind is = ap (typed d typing e (encode_utf8 c)) is
 
 typed-is : (d : Data) (typing : Typing) (e : Editor) (new : List ℕ) (kind : Kind) → has_room e new ≡ true → is_selection e ≡ false
     → goes_on typing kind ≡ true → typed d typing e new kind ≡ shaped d typing e new kind true false true
@@ -256,30 +238,30 @@ typed-is d typing e new kind room none on =
     ap (λ r. shaped d typing e new kind r (is_selection e) (goes_on typing kind)) room
     ∙ ap (λ s. shaped d typing e new kind true s (goes_on typing kind)) none ∙ ap (shaped d typing e new kind true false) on
 
-type-on : (d : Data) (first e : Editor) (c : ℕ) (typing : Typing) (kind : Kind) (left : ℕ) → is_paste typing ≡ false → goes_on typing kind ≡ true
-    → kind_of (d.class c) ≡ kind → Types first e typing (length (encode_utf8 c) + left)
-    → Types first (after_key d None e (Insert c)) (after_insertion typing kind) left
-type-on d first e c typing kind left plain on is h =
+type-on : (d : Data) (first e : Editor) (c : ℕ) (typing : Typing) (kind : Kind) (left : ℕ) → goes_on typing kind ≡ true → kind_of (d.class c) ≡ kind
+    → Types first e typing (length (encode_utf8 c) + left) → Types first (after_key d None e (Insert c)) (after_insertion kind) left
+type-on d first e c typing kind left on is h =
     let was = cleared e in
     let new = encode_utf8 c in
     let there : after_key d None e (Insert c) ≡ as_left (Insert c) (shaped d typing was new kind true false true) =
-    insert-is d e c h.ask h.seek
-    ∙ ap (as_left (Insert c)) (ap (λ t. after_character d t was c) h.typing_is ∙ character-is d typing was c kind plain is
+    insert-is d e c h.settled h.ask h.seek
+    ∙ ap (as_left (Insert c)) (ap (λ t. after_character d t was c) h.typing_is ∙ character-is d typing was c kind is
     ∙ typed-is d typing was new kind (room-for was new left h.room) (no-selection was h.soft) on) in
     let goes = insertion-goes d first was new (record { more = h.goes.more; over = h.goes.over; start = h.goes.start }) in
-    subst (λ (x : Editor). Types first x (after_insertion typing kind) left) (sym there)
+    subst (λ (x : Editor). Types first x (after_insertion kind) left) (sym there)
     (record {
       goes = record { more = goes.more; over = goes.over; start = goes.start };
       typing_is = refl;
       ask = h.ask;
       seek = refl;
       soft = refl;
+      settled = h.settled;
       room = omega (arith, h.room, spliced e.content.text e.place e.place new (omega arith));
     })
 
-first-typed : (d : Data) (first e : Editor) (c : ℕ) (left : ℕ) (selected : Bool) → Nothing first e → e.ask ≡ asks.Off → length e.content.text + (length (encode_utf8 c) + left) ≤ largest_text
+first-typed : (d : Data) (first e : Editor) (c : ℕ) (left : ℕ) (selected : Bool) → e.pasted ≡ None → Nothing first e → e.ask ≡ asks.Off → length e.content.text + (length (encode_utf8 c) + left) ≤ largest_text
     → Types first (as_left (Insert c) (shaped d typings.Off e (encode_utf8 c) Letter true selected false)) typings.Word left
-first-typed d first e c left true h unasked room =
+first-typed d first e c left true settled h unasked room =
     let new = encode_utf8 c in
     let goes = replacement-begins d first e new h in
     let without = with_removal d e (region e).0 (region e).1 false in
@@ -290,6 +272,7 @@ first-typed d first e c left true h unasked room =
       ask = unasked;
       seek = refl;
       soft = refl;
+      settled = settled;
       room = omega (
         arith,
         room,
@@ -297,7 +280,7 @@ first-typed d first e c left true h unasked room =
         spliced without.content.text without.place without.place new (omega arith),
       );
     }
-first-typed d first e c left false h unasked room =
+first-typed d first e c left false settled h unasked room =
     let new = encode_utf8 c in
     let goes = insertion-begins d first e new h in
     record {
@@ -306,62 +289,67 @@ first-typed d first e c left false h unasked room =
       ask = unasked;
       seek = refl;
       soft = refl;
+      settled = settled;
       room = omega (arith, room, spliced e.content.text e.place e.place new (omega arith));
     }
 
-type-first : (d : Data) (e : Editor) (c : ℕ) (left : ℕ) → e.ask ≡ asks.Off → e.seek ≡ seeks.Off → e.typing ≡ typings.Off → kind_of (d.class c) ≡ Letter
+type-first : (d : Data) (e : Editor) (c : ℕ) (left : ℕ) → e.pasted ≡ None → e.ask ≡ asks.Off → e.seek ≡ seeks.Off → e.typing ≡ typings.Off → kind_of (d.class c) ≡ Letter
     → length e.content.text + (length (encode_utf8 c) + left) ≤ largest_text → Types e (after_key d None e (Insert c)) typings.Word left
-type-first d e c left unasked off none is room =
+type-first d e c left settled unasked off none is room =
     let was = cleared e in
     let new = encode_utf8 c in
     let there : after_key d None e (Insert c) ≡ as_left (Insert c) (shaped d typings.Off was new Letter true (is_selection was) false) =
-    insert-is d e c unasked off
-    ∙ ap (as_left (Insert c)) (ap (λ t. after_character d t was c) none ∙ character-is d typings.Off was c Letter refl is
+    insert-is d e c settled unasked off
+    ∙ ap (as_left (Insert c)) (ap (λ t. after_character d t was c) none ∙ character-is d typings.Off was c Letter is
     ∙ ap (λ r. shaped d typings.Off was new Letter r (is_selection was) false) (room-for was new left room)) in
-    subst (λ (x : Editor). Types e x typings.Word left) (sym there) (first-typed d e was c left (is_selection was) (refl, (refl, refl)) unasked room)
+    subst (λ (x : Editor). Types e x typings.Word left) (sym there) (first-typed d e was c left (is_selection was) settled (refl, (refl, refl)) unasked room)
 
 with-size : (first e : Editor) (typing : Typing) (c : ℕ) (cs : List ℕ) → Types first e typing (length (encode_utf8_all (c ∷ cs)))
     → Types first e typing (length (encode_utf8 c) + length (encode_utf8_all cs))
 with-size first e typing c cs h = subst (Types first e typing) (length-append (encode_utf8 c) (encode_utf8_all cs)) h
 
+-- what was typed is one run, and no paste is under way
+abbrev Ran : Editor → Editor → Type 0
+Ran first e = IsOneRun first e × (e.pasted ≡ None)
+
 blanks-on : (d : Data) (first e : Editor) (cs : List ℕ) → AreOfKind d Blank cs → Types first e typings.Blanks (length (encode_utf8_all cs))
-    → IsOneRun first (after_keys d None e (map Insert cs))
-blanks-on d first e [] all h = h.goes
+    → Ran first (after_keys d None e (map Insert cs))
+blanks-on d first e [] all h = (h.goes, h.settled)
 blanks-on d first e (c ∷ cs) all h =
     let Is = λ (c : ℕ). kind_of (d.class c) ≡ Blank in
     blanks-on d first (after_key d None e (Insert c)) cs (All-tail Is c cs all)
-    (type-on d first e c typings.Blanks Blank (length (encode_utf8_all cs)) refl refl (All-head Is c cs all) (with-size first e typings.Blanks c cs h))
+    (type-on d first e c typings.Blanks Blank (length (encode_utf8_all cs)) refl (All-head Is c cs all) (with-size first e typings.Blanks c cs h))
 
 blanks-behind : (d : Data) (first e : Editor) (cs : List ℕ) → AreOfKind d Blank cs → Types first e typings.Word (length (encode_utf8_all cs))
-    → IsOneRun first (after_keys d None e (map Insert cs))
-blanks-behind d first e [] all h = h.goes
+    → Ran first (after_keys d None e (map Insert cs))
+blanks-behind d first e [] all h = (h.goes, h.settled)
 blanks-behind d first e (c ∷ cs) all h =
     let Is = λ (c : ℕ). kind_of (d.class c) ≡ Blank in
     blanks-on d first (after_key d None e (Insert c)) cs (All-tail Is c cs all)
-    (type-on d first e c typings.Word Blank (length (encode_utf8_all cs)) refl refl (All-head Is c cs all) (with-size first e typings.Word c cs h))
+    (type-on d first e c typings.Word Blank (length (encode_utf8_all cs)) refl (All-head Is c cs all) (with-size first e typings.Word c cs h))
 
 letters-on : (d : Data) (first e : Editor) (cs blanks : List ℕ) → AreOfKind d Letter cs → AreOfKind d Blank blanks
-    → Types first e typings.Word (length (encode_utf8_all (cs ++ blanks))) → IsOneRun first (after_keys d None e (map Insert (cs ++ blanks)))
+    → Types first e typings.Word (length (encode_utf8_all (cs ++ blanks))) → Ran first (after_keys d None e (map Insert (cs ++ blanks)))
 letters-on d first e [] blanks all behind h = blanks-behind d first e blanks behind h
 letters-on d first e (c ∷ cs) blanks all behind h =
     let Is = λ (c : ℕ). kind_of (d.class c) ≡ Letter in
     letters-on d first (after_key d None e (Insert c)) cs blanks (All-tail Is c cs all) behind
-    (type-on d first e c typings.Word Letter (length (encode_utf8_all (cs ++ blanks))) refl refl (All-head Is c cs all)
+    (type-on d first e c typings.Word Letter (length (encode_utf8_all (cs ++ blanks))) refl (All-head Is c cs all)
     (with-size first e typings.Word c (cs ++ blanks) h))
 
-word-goes : (d : Data) (e : Editor) (letters blanks : List ℕ) → e.ask ≡ asks.Off → e.seek ≡ seeks.Off → e.typing ≡ typings.Off → letters ≢ [] → AreOfKind d Letter letters
+word-goes : (d : Data) (e : Editor) (letters blanks : List ℕ) → e.pasted ≡ None → e.ask ≡ asks.Off → e.seek ≡ seeks.Off → e.typing ≡ typings.Off → letters ≢ [] → AreOfKind d Letter letters
     → AreOfKind d Blank blanks → length e.content.text + length (encode_utf8_all (letters ++ blanks)) ≤ largest_text
-    → IsOneRun e (after_keys d None e (map Insert (letters ++ blanks)))
-word-goes d e [] blanks unasked off none some all behind room = absurd (some refl)
-word-goes d e (c ∷ cs) blanks unasked off none some all behind room =
+    → Ran e (after_keys d None e (map Insert (letters ++ blanks)))
+word-goes d e [] blanks settled unasked off none some all behind room = absurd (some refl)
+word-goes d e (c ∷ cs) blanks settled unasked off none some all behind room =
     let Is = λ (c : ℕ). kind_of (d.class c) ≡ Letter in
     let left = length (encode_utf8_all (cs ++ blanks)) in
     letters-on d e (after_key d None e (Insert c)) cs blanks (All-tail Is c cs all) behind
-    (type-first d e c left unasked off none (All-head Is c cs all)
+    (type-first d e c left settled unasked off none (All-head Is c cs all)
     (omega (arith, room, length-append (encode_utf8 c) (encode_utf8_all (cs ++ blanks)))))
 
 pub word-is-a-run : WordIsARun
-word-is-a-run d e letters blanks unasked off none word room =
+word-is-a-run d e letters blanks unasked off settled none word room =
     let new = after_keys d None e (map Insert (letters ++ blanks)) in
-    goes-back d e new
-    (word-goes d e letters blanks unasked off none word.some word.are_letters word.are_blanks room)
+    let goes = word-goes d e letters blanks settled unasked off none word.some word.are_letters word.are_blanks room in
+    goes-back d e new goes.1 goes.0

@@ -25,7 +25,7 @@ use Rattle.bx_runs.specs.Typing.{after_removal, goes_on_removing}
 use Rattle.bx_editor.specs.Keys.{after_any, after_key}
 use Rattle.bx_editor_laws.specs.WorkLaws.{ErasePointLeavesBeginning}
 use Rattle.bx_editor.proofs.StepOrder.{between-back}
-use Rattle.bx_editor.proofs.InSearch.{behind}
+use Rattle.bx_editor.proofs.InSearch.{any-key, behind}
 
 -- ---- where a point begins in a unit
 
@@ -56,7 +56,7 @@ removed-by d typing e start true same =
 removed-by d typing e start false other = ap (λ xs. xs ++ drop e.place e.content.text) (append-nil (take start e.content.text))
 
 pub erase-point-leaves-beginning : ErasePointLeavesBeginning
-erase-point-leaves-beginning d e has unasked off unselected place =
+erase-point-leaves-beginning d e has unasked off settled unselected place =
     let text = e.content.text in
     let was = cleared e in
     let some = side-some e.width has.columns in
@@ -69,7 +69,8 @@ erase-point-leaves-beginning d e has unasked off unselected place =
     let size : length (slice_range text unit e.place) ≡ e.place - unit = length-slice_range text unit e.place here.0 in
     let few = point-few d (slice_range text unit e.place) utf8 in
     let pressed : (after_key d None e ErasePoint).content.text ≡ take (point_before d e) text ++ drop e.place text =
-    ap₂ (λ a s. (behind (after_any d None (before e) a s was ErasePoint)).content.text) unasked off
+    ap (λ (new : Editor). new.content.text) (any-key d None e ErasePoint settled refl)
+    ∙ ap₂ (λ a s. (behind (after_any d None (before e) a s was ErasePoint)).content.text) unasked off
     ∙ ap (λ b. (if b then with_removal d was (region e).0 (region e).1 false else removed_on d e.typing Erase was (point_before d e) e.place).content.text)
     unselected
     ∙ removed-by d e.typing was (point_before d e) (point_before d e == e.place) refl in

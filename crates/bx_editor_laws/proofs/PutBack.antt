@@ -20,9 +20,9 @@ use Rattle.bx_editor.specs.declared.soft.Soft.TheVariants as softness
 use Rattle.bx_editor.specs.Effects.{Before, before}
 use Rattle.bx_editor.specs.Putting.{after_put, put_in, with_selection_replaced}
 use Rattle.bx_editor.specs.Selecting.{is_selection}
-use Rattle.bx_editor.proofs.InSearch.{behind as left_behind}
+use Rattle.bx_editor.proofs.InSearch.{any-key, behind as left_behind}
 use Rattle.bx_editor.specs.Keys.{after_any, after_key, after_keys}
-use Rattle.bx_editor.specs.Region.{after_copy, after_cut, bytes_in, is_empty, line, region, taken}
+use Rattle.bx_editor.specs.Region.{after_copy, after_cut, bytes_in, held_message, is_empty, line, region, taken, with_held}
 use Rattle.bx_editor.specs.Search.{without_search}
 use Rattle.bx_editor_laws.specs.Laws.{CopyPutsTwice, HasPut, IsPart, PutRestoresCut, twice}
 
@@ -100,15 +100,15 @@ is-there e (a, b) h = let less : a < b = h.some in grind (arith, nat_tests)
 -- ---- Copy and Put
 
 pub copy-puts-twice : CopyPutsTwice
-copy-puts-twice d e unasked off is fit =
+copy-puts-twice d e unasked off settled is fit =
     let text = e.content.text in
     let a = (region e).0 in
     let b = (region e).1 in
     let r = bytes_in e (region e) in
     let was = cleared e in
     let none : Editor = record was { mark = None; soft = softness.Off; message = Some NothingToCopy } in
-    let one : Editor = record was { mark = None; soft = softness.Off; held = bytes_in e (line d e); message = Some LineCopied } in
-    let copy : Editor = record was { mark = None; soft = softness.Off; held = r; message = Some Copied } in
+    let one = with_held was (bytes_in e (line d e)) LineCopied in
+    let copy = with_held was r Copied in
     let held = left_behind copy in
     let order : a ≤ b = omega (arith, is.some) in
     let long : length r ≡ b - a = part-length text a b order is.inside in
@@ -132,10 +132,11 @@ copy-puts-twice d e unasked off is fit =
       length-drop b text,
     ) in
     let copied : after_key d None e Copy ≡ held =
-    ap₂ (λ a s. left_behind (after_any d None (before e) a s was Copy)) unasked off
+    any-key d None e Copy settled refl ∙ ap₂ (λ a s. left_behind (after_any d None (before e) a s was Copy)) unasked off
     ∙ ap (λ x. left_behind (if x then (if is_empty (line d e) then none else one) else copy)) (is-there e (region e) is) in
     let pressed : after_keys d None e (Copy ∷ Put ∷ []) ≡ left_behind (after_put d (cleared held)) =
-    ap (λ new. after_key d None new Put) copied ∙ ap₂ (λ a s. left_behind (after_any d None (before held) a s (cleared held) Put)) unasked off in
+    ap (λ new. after_key d None new Put) copied ∙ any-key d None held Put settled refl
+    ∙ ap₂ (λ a s. left_behind (after_any d None (before held) a s (cleared held) Put)) unasked off in
     let room = has-room text e.place r (omega (arith, size, fit)) in
     let done = put-has d (cleared held) (twice e (region e)) (e.place + length r) refl (omega (arith, long, is.some)) room put refl in
     subst (HasPut d e (twice e (region e)) (e.place + length r)) (sym pressed)
@@ -160,7 +161,7 @@ cut-any d was asks.Name seek e cut asked is over = is asks.Off e.seek
 cut-any d was asks.Code seek e cut asked is over = is asks.Off e.seek
 
 pub put-restores-cut : PutRestoresCut
-put-restores-cut d e is short there =
+put-restores-cut d e settled is short there =
     let text = e.content.text in
     let a = (taken d e).0 in
     let b = (taken d e).1 in
@@ -168,15 +169,17 @@ put-restores-cut d e is short there =
     let was = cleared e in
     let after = place_after d was (splice text a b []) a in
     let without = with_removal d was a b false in
-    let taken-out : Editor = record without { held = r } in
+    let taken-out : Editor = record without { held = r; message = held_message e.clipboard r None } in
     let cut = left_behind (without_ask taken-out) in
     let order : a ≤ b = omega (arith, is.some) in
     let long : length r ≡ b - a = part-length text a b order is.inside in
     let same : after_key d None e Cut ≡ cut =
-    ap left_behind
+    any-key d None e Cut settled refl
+    ∙ ap left_behind
     (cut-any d (before e) e.ask e.seek was taken-out refl
     (λ ask seek. (let asked : Editor = record was { ask = ask; seek = seek } in
-    ap (λ x. if x then after_copy d asked else record (with_removal d asked a b false) { held = r }) (is-there e (taken d e) is))) refl) in
+    ap (λ x. if x then after_copy d asked else record (with_removal d asked a b false) { held = r; message = held_message e.clipboard r None })
+    (is-there e (taken d e) is))) refl) in
     let at : after ≡ a = sym (ap (λ (c : Editor). c.place) same) ∙ there in
     let size : length (splice text a b []) + length r ≡ length text =
     omega (
@@ -189,7 +192,8 @@ put-restores-cut d e is short there =
       length-append (take a text) (drop b text),
       length-drop b text,
     ) in
-    let pressed : after_keys d None e (Cut ∷ Put ∷ []) ≡ left_behind (after_put d (cleared cut)) = ap (λ c. after_key d None c Put) same in
+    let pressed : after_keys d None e (Cut ∷ Put ∷ []) ≡ left_behind (after_put d (cleared cut)) =
+    ap (λ c. after_key d None c Put) same ∙ any-key d None cut Put settled refl in
     let put : splice (splice text a b []) after after r ≡ text =
     ap (λ k. splice (splice text a b []) k k r) at ∙ back text a b order is.inside in
     let room = has-room (splice text a b []) after r (omega (arith, size, short)) in

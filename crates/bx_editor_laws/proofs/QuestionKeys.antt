@@ -25,13 +25,16 @@ use Rattle.bx_editor_laws.specs.AskingLaws.{IsUntouched, QuestionsChangeThemselv
 use Rattle.bx_editor.specs.Editor.{Editor, cleared, with_insertion, with_typing}
 use Rattle.bx_editor.specs.Effects.{Effect}
 use Rattle.bx_editor.specs.Effects.{AsksLine, AsksName, Before, before, by}
-use Rattle.bx_editor.specs.Keys.{Answer, Letter, Shortens, GoesBack, Stays, after_any, after_asking, after_key, after_user, answer_of, answered_question, as_left, effect_of, is_told_key}
+use Rattle.bx_editor.specs.Keys.{Answer, Letter, Shortens, GoesBack, Stays, after_any, after_asking, after_key, answer_of, answered_question, as_left, effect_of, is_told_key}
 use Rattle.bx_editor_laws.specs.Laws.{after_typing}
+use Rattle.bx_editor.specs.Pasting.{paste_begun, paste_ended}
 use Rattle.bx_editor.specs.Putting.{is_paste, only_paste}
 use Rattle.bx_editor.specs.Region.{is_empty, region}
 use Rattle.bx_editor.specs.Selecting.{aged, mark_left, soft_behind, soft_left}
 use Rattle.bx_editor.specs.Wrapping.{after_wrapping, spans_lines, with_wrap}
+use Rattle.bx_editor.proofs.InSearch.{any-key}
 use Rattle.bx_editor.proofs.QuestionKept.{effect-keeps}
+use Rattle.bx_editor_laws.proofs.PasteEnded.{none-ended}
 
 -- ---- a question takes the keys
 
@@ -42,13 +45,6 @@ asked-any d fault was Line seek e key on = refl
 asked-any d fault was Name seek e key on = refl
 asked-any d fault was Code seek e key on = refl
 
-pub user-key : (d : Data) (fault : Option StoreFault) (e : Editor) (key : Key) → is_told_key key ≡ false → after_key d fault e key ≡ after_user d fault e key
-user-key d fault e (keys.Size height width) told = absurd (cc told)
-user-key d fault e (keys.Notice notice) told = absurd (cc told)
-user-key d fault e keys.PasteStart told = absurd (cc told)
-user-key d fault e keys.PasteEnd told = absurd (cc told)
-user-key d fault e _ told = refl
-
 -- ---- no question is on behind what an answer puts in
 
 either-off : (b : Bool) (p q : Editor) → p.ask ≡ Off → q.ask ≡ Off → (if b then p else q).ask ≡ Off
@@ -58,7 +54,7 @@ either-off false p q h k = k
 character-off : (d : Data) (e : Editor) (c : ℕ) → e.ask ≡ Off → (with_character d e c).ask ≡ Off
 character-off d e c h =
     either-off (fits e.content.text e.place e.place (encode_utf8 c))
-    (with_typing (with_insertion d e (encode_utf8 c) false) (after_insertion typings.Off (kind_of (d.class c))))
+    (with_typing (with_insertion d e (encode_utf8 c) false) (after_insertion (kind_of (d.class c))))
     (record e { message = Some messages.TextFull }) h h
 
 wrapping-off : (d : Data) (e : Editor) (opener closer : ℕ) → e.ask ≡ Off → (after_wrapping d e opener closer).ask ≡ Off
@@ -171,48 +167,49 @@ alone d fault e keys.Delete new h is kept = subst (IsAlone e) (sym is) (ap (as_l
 alone d fault e _ new h is kept = absurd (cc h)
 
 -- the answered key, while a question is on
-pub asked-key : (d : Data) (fault : Option StoreFault) (e : Editor) (key : Key) → e.ask ≢ Off → is_told_key key ≡ false
+pub asked-key : (d : Data) (fault : Option StoreFault) (e : Editor) (key : Key) → e.pasted ≡ None → e.ask ≢ Off → is_told_key key ≡ false
     → after_key d fault e key ≡ as_left key (answered_question d fault (before e) (cleared e) key (answer_of key))
-asked-key d fault e key on told = user-key d fault e key told ∙ ap (as_left key) (asked-any d fault (before e) e.ask e.seek (cleared e) key on)
+asked-key d fault e key settled on told = any-key d fault e key settled told ∙ ap (as_left key) (asked-any d fault (before e) e.ask e.seek (cleared e) key on)
 
 still-on : (e new : Editor) (key : Key) → e ≡ as_left key new → e.ask ≢ Off → new.ask ≢ Off
 still-on e new key is on none = on (ap (λ (x : Editor). x.ask) is ∙ none)
 
-answer-alone : (d : Data) (fault : Option StoreFault) (e : Editor) (key : Key) → e.ask ≢ Off → (types key || erases key) ≡ true
+answer-alone : (d : Data) (fault : Option StoreFault) (e : Editor) (key : Key) → e.pasted ≡ None → e.ask ≢ Off → (types key || erases key) ≡ true
     → (after_key d fault e key).ask ≢ Off → IsAlone e (after_key d fault e key)
-answer-alone d fault e (keys.Insert c) on h stays =
+answer-alone d fault e (keys.Insert c) settled on h stays =
     let new = after_answer_letter d e.typing e.ask (cleared e) c in
-    let is = asked-key d fault e (keys.Insert c) on refl in
+    let is = asked-key d fault e (keys.Insert c) settled on refl in
     alone d fault e (keys.Insert c) new h is (letter-on d e.typing e.ask (cleared e) c (still-on (after_key d fault e (keys.Insert c)) new (keys.Insert c) is stays))
-answer-alone d fault e keys.NewLine on h stays =
+answer-alone d fault e keys.NewLine settled on h stays =
     let new = after_answer_letter d e.typing e.ask (cleared e) 0xA in
-    let is = asked-key d fault e keys.NewLine on refl in
+    let is = asked-key d fault e keys.NewLine settled on refl in
     alone d fault e keys.NewLine new h is (letter-on d e.typing e.ask (cleared e) 0xA (still-on (after_key d fault e keys.NewLine) new keys.NewLine is stays))
-answer-alone d fault e keys.Erase on h stays =
-    alone d fault e keys.Erase (after_shorter_answer e.ask (cleared e)) h (asked-key d fault e keys.Erase on refl) (shorter-on e.ask (cleared e))
-answer-alone d fault e keys.ErasePoint on h stays =
-    alone d fault e keys.ErasePoint (after_shorter_answer e.ask (cleared e)) h (asked-key d fault e keys.ErasePoint on refl) (shorter-on e.ask (cleared e))
-answer-alone d fault e keys.Delete on h stays =
-    alone d fault e keys.Delete (after_shorter_answer e.ask (cleared e)) h (asked-key d fault e keys.Delete on refl) (shorter-on e.ask (cleared e))
-answer-alone d fault e _ on h stays = absurd (cc h)
+answer-alone d fault e keys.Erase settled on h stays =
+    alone d fault e keys.Erase (after_shorter_answer e.ask (cleared e)) h (asked-key d fault e keys.Erase settled on refl) (shorter-on e.ask (cleared e))
+answer-alone d fault e keys.ErasePoint settled on h stays =
+    alone d fault e keys.ErasePoint (after_shorter_answer e.ask (cleared e)) h (asked-key d fault e keys.ErasePoint settled on refl) (shorter-on e.ask (cleared e))
+answer-alone d fault e keys.Delete settled on h stays =
+    alone d fault e keys.Delete (after_shorter_answer e.ask (cleared e)) h (asked-key d fault e keys.Delete settled on refl) (shorter-on e.ask (cleared e))
+answer-alone d fault e _ settled on h stays = absurd (cc h)
 
 -- ---- whatever is typed
 
--- a step leaves text, place and held text, and a mark that no selection set
+-- a step leaves text, place and held text, what a paste has brought, and a mark that no selection set
 pub record Leaves (e new : Editor) : Type 0 where
   pub content : new.content ≡ e.content
+  pub pasted : new.pasted ≡ e.pasted
   pub place : new.place ≡ e.place
   pub held : new.held ≡ e.held
   pub hard : e.soft ≡ softness.Off → (new.mark ≡ e.mark) × (new.soft ≡ softness.Off)
 
 kept-leaves : (e new : Editor) → IsKept e new → Leaves e new
-kept-leaves e new kept = subst (Leaves e) (sym kept) (record { content = refl; place = refl; held = refl; hard = λ h. (refl, h) })
+kept-leaves e new kept = subst (Leaves e) (sym kept) (record { content = refl; pasted = refl; place = refl; held = refl; hard = λ h. (refl, h) })
 
 effect-leaves : (d : Data) (fault : Option StoreFault) (was : Before) (e : Editor) (one : Effect) → e.ask ≡ Off → (by d fault was e one).ask ≢ Off
     → Leaves e (by d fault was e one)
 effect-leaves d fault was e AsksLine none on =
-    record { content = refl; place = refl; held = refl; hard = λ h. (ap (λ s. mark_left s e.mark) h, ap soft_left h) }
-effect-leaves d fault was e AsksName none on = record { content = refl; place = refl; held = refl; hard = λ h. (refl, h) }
+    record { content = refl; pasted = refl; place = refl; held = refl; hard = λ h. (ap (λ s. mark_left s e.mark) h, ap soft_left h) }
+effect-leaves d fault was e AsksName none on = record { content = refl; pasted = refl; place = refl; held = refl; hard = λ h. (refl, h) }
 effect-leaves d fault was e one none on = absurd (on ((effect-keeps d fault was e one refl).0 ∙ none))
 
 answer-leaves : (d : Data) (fault : Option StoreFault) (was : Before) (e : Editor) (key : Key) (answer : Answer)
@@ -221,11 +218,11 @@ answer-leaves d fault was e key (Letter c) on =
     kept-leaves e (after_answer_letter d was.typing e.ask e c) (letter-on d was.typing e.ask e c on)
 answer-leaves d fault was e key Shortens on = kept-leaves e (after_shorter_answer e.ask e) (shorter-on e.ask e)
 answer-leaves d fault was e key GoesBack on = absurd (on refl)
-answer-leaves d fault was e key Stays on = record { content = refl; place = refl; held = refl; hard = λ h. (refl, h) }
+answer-leaves d fault was e key Stays on = record { content = refl; pasted = refl; place = refl; held = refl; hard = λ h. (refl, h) }
 answer-leaves d fault was e key _ on =
     let free = without_ask e in
     let left = effect-leaves d fault was free (effect_of d free key) refl on in
-    record { content = left.content; place = left.place; held = left.held; hard = left.hard }
+    record { content = left.content; pasted = left.pasted; place = left.place; held = left.held; hard = left.hard }
 
 soft-off : (key : Key) → soft_behind key softness.Off ≡ softness.Off
 soft-off keys.Select = refl
@@ -234,29 +231,46 @@ soft-off _ = refl
 pub left-leaves : (e new : Editor) (key : Key) → Leaves (cleared e) new → Leaves e (as_left key new)
 left-leaves e new key left = record {
   content = left.content;
+  pasted = left.pasted;
   place = left.place;
   held = left.held;
   hard = λ h. let still = left.hard h in (still.0, ap (soft_behind key) still.1 ∙ soft-off key);
 }
 
-user-leaves : (d : Data) (fault : Option StoreFault) (e : Editor) (key : Key) → is_told_key key ≡ false → e.ask ≢ Off → (after_key d fault e key).ask ≢ Off
+user-leaves : (d : Data) (fault : Option StoreFault) (e : Editor) (key : Key) → is_told_key key ≡ false → e.pasted ≡ None → e.ask ≢ Off → (after_key d fault e key).ask ≢ Off
     → Leaves e (after_key d fault e key)
-user-leaves d fault e key told on stays =
+user-leaves d fault e key told settled on stays =
     let new = answered_question d fault (before e) (cleared e) key (answer_of key) in
-    let is = asked-key d fault e key on told in
+    let is = asked-key d fault e key settled on told in
     subst (Leaves e) (sym is)
     (left-leaves e new key (answer-leaves d fault (before e) (cleared e) key (answer_of key) (still-on (after_key d fault e key) new key is stays)))
 
-key-leaves : (d : Data) (fault : Option StoreFault) (e : Editor) (key : Key) → e.ask ≢ Off → (after_key d fault e key).ask ≢ Off → Leaves e (after_key d fault e key)
-key-leaves d fault e (keys.Size height width) on stays = record { content = refl; place = refl; held = refl; hard = λ h. (refl, h) }
-key-leaves d fault e (keys.Notice notice) on stays = record { content = refl; place = refl; held = refl; hard = λ h. (refl, h) }
-key-leaves d fault e keys.PasteStart on stays = record { content = refl; place = refl; held = refl; hard = λ h. (refl, h) }
-key-leaves d fault e keys.PasteEnd on stays = record { content = refl; place = refl; held = refl; hard = λ h. (refl, h) }
-key-leaves d fault e key on stays = user-leaves d fault e key refl on stays
+-- while a question is on PasteStart begins no paste into the text
+begun-leaves : (e : Editor) (ask : Ask) (seek : Seek) (pasted : Option (List ℕ)) → ask ≢ Off → paste_begun ask seek pasted e ≡ e
+begun-leaves e Off seek pasted on = absurd (on refl)
+begun-leaves e Line seek pasted on = refl
+begun-leaves e Name seek pasted on = refl
+begun-leaves e Code seek pasted on = refl
+
+typing-leaves : (e new : Editor) (typing : Typing) → new ≡ e → Leaves e (with_typing new typing)
+typing-leaves e new typing is =
+    subst (λ (x : Editor). Leaves e (with_typing x typing)) (sym is) (record { content = refl; pasted = refl; place = refl; held = refl; hard = λ h. (refl, h) })
+
+key-leaves : (d : Data) (fault : Option StoreFault) (e : Editor) (key : Key) → e.pasted ≡ None → e.ask ≢ Off → (after_key d fault e key).ask ≢ Off
+    → Leaves e (after_key d fault e key)
+key-leaves d fault e (keys.Size height width) settled on stays =
+    record { content = refl; pasted = refl; place = refl; held = refl; hard = λ h. (refl, h) }
+key-leaves d fault e (keys.Notice notice) settled on stays =
+    record { content = refl; pasted = refl; place = refl; held = refl; hard = λ h. (refl, h) }
+key-leaves d fault e keys.PasteStart settled on stays =
+    typing-leaves e (paste_begun e.ask e.seek e.pasted e) typings.Paste (begun-leaves e e.ask e.seek e.pasted on)
+key-leaves d fault e keys.PasteEnd settled on stays = typing-leaves e (paste_ended d e) typings.Off (none-ended d e settled)
+key-leaves d fault e key settled on stays = user-leaves d fault e key refl settled on stays
 
 pub leaves-trans : (e mid new : Editor) → Leaves e mid → Leaves mid new → Leaves e new
 leaves-trans e mid new a b = record {
   content = b.content ∙ a.content;
+  pasted = b.pasted ∙ a.pasted;
   place = b.place ∙ a.place;
   held = b.held ∙ a.held;
   hard = λ h. let first = a.hard h in let second = b.hard first.1 in (second.0 ∙ first.0, second.1);
@@ -266,11 +280,13 @@ stays-first : (d : Data) (e : Editor) (typed : List (Key × Option StoreFault)) 
 stays-first d e [] h = h
 stays-first d e (key ∷ typed) h = h.0
 
-pub typed-leaves : (d : Data) (e : Editor) (typed : List (Key × Option StoreFault)) → StaysAsked d e typed → Leaves e (after_typing d e typed)
-typed-leaves d e [] h = record { content = refl; place = refl; held = refl; hard = λ h. (refl, h) }
-typed-leaves d e (key ∷ typed) h =
+pub typed-leaves : (d : Data) (e : Editor) (typed : List (Key × Option StoreFault)) → e.pasted ≡ None → StaysAsked d e typed
+    → Leaves e (after_typing d e typed)
+typed-leaves d e [] settled h = record { content = refl; pasted = refl; place = refl; held = refl; hard = λ h. (refl, h) }
+typed-leaves d e (key ∷ typed) settled h =
     let next = after_key d key.1 e key.0 in
-    leaves-trans e next (after_typing d next typed) (key-leaves d key.1 e key.0 h.0 (stays-first d next typed h.1)) (typed-leaves d next typed h.1)
+    let one = key-leaves d key.1 e key.0 settled h.0 (stays-first d next typed h.1) in
+    leaves-trans e next (after_typing d next typed) one (typed-leaves d next typed (one.pasted ∙ settled) h.1)
 
 pub last-asked : (d : Data) (e : Editor) (typed : List (Key × Option StoreFault)) → StaysAsked d e typed → (after_typing d e typed).ask ≢ Off
 last-asked d e [] h = h
@@ -280,7 +296,7 @@ pub untouched : (e new : Editor) → Leaves e new → IsUntouched e new
 untouched e new left = record { content_is = left.content; place_is = left.place; held_is = left.held; mark_is = λ h. (left.hard h).0 }
 
 pub questions-change-themselves : QuestionsChangeThemselves
-questions-change-themselves d e on = record {
-  key = λ key fault h stays. answer-alone d fault e key on h stays;
-  keys = λ typed h. untouched e (after_typing d e typed) (typed-leaves d e typed h);
+questions-change-themselves d e on settled = record {
+  key = λ key fault h stays. answer-alone d fault e key settled on h stays;
+  keys = λ typed h. untouched e (after_typing d e typed) (typed-leaves d e typed settled h);
 }

@@ -44,7 +44,7 @@ copy_puts_two_letters law =
     let less : 0 < 2 = omega arith in
     let within : 2 ≤ 3 = omega arith in
     let fit : 5 ≤ largest_text = omega arith in
-    let done = law tables two_of_three refl refl (record { some = less; inside = within }) fit in
+    let done = law tables two_of_three refl refl refl (record { some = less; inside = within }) fit in
     same_now (after two_of_three (Copy ∷ Put ∷ [])) (codes "ababc") 4 None done.text_is done.place_is done.mark_is
 
 -- the mark at 2, the cursor at 0: the cursor is behind the first one
@@ -57,7 +57,7 @@ copy_puts_before law =
     let less : 0 < 2 = omega arith in
     let within : 2 ≤ 3 = omega arith in
     let fit : 5 ≤ largest_text = omega arith in
-    let done = law tables from_behind refl refl (record { some = less; inside = within }) fit in
+    let done = law tables from_behind refl refl refl (record { some = less; inside = within }) fit in
     same_now (after from_behind (Copy ∷ Put ∷ [])) (codes "ababc") 2 None done.text_is done.place_is done.mark_is
 
 -- the text is as before, and the cursor at the end of what was cut, whichever end it was at
@@ -67,7 +67,7 @@ put_restores_two_letters law =
     let less : 0 < 2 = omega arith in
     let within : 2 ≤ 3 = omega arith in
     let fit : 3 ≤ largest_text = omega arith in
-    let done = law tables from_behind (record { some = less; inside = within }) fit refl in
+    let done = law tables from_behind refl (record { some = less; inside = within }) fit refl in
     same_now (after from_behind (Cut ∷ Put ∷ [])) (codes "abc") 2 None done.text_is done.place_is done.mark_is
 
 -- with no mark a line is cut
@@ -80,39 +80,39 @@ put_restores_a_line law =
     let less : 0 < 3 = omega arith in
     let within : 3 ≤ 4 = omega arith in
     let fit : 4 ≤ largest_text = omega arith in
-    let done = law tables in_the_first_line (record { some = less; inside = within }) fit refl in
+    let done = law tables in_the_first_line refl (record { some = less; inside = within }) fit refl in
     same_now (after in_the_first_line (Cut ∷ Put ∷ [])) (codes "ab\nc") 3 None done.text_is done.place_is done.mark_is
 
 -- ---- Mark
 
-module _ (law : MarkTwiceIsNothing) (d : Data) (e : Editor) where
+module _ (law : MarkTwiceIsNothing) (d : Data) (e : Editor) (settled : e.pasted ≡ None) where
   -- whatever the editor and the tables
   no_mark_is_left : e.mark ≡ None → (after_keys d None e (Mark ∷ Mark ∷ [])).mark ≡ None
-  no_mark_is_left none = ap (λ (x : Editor). x.mark) ((law d e).here (inl none)) ∙ none
+  no_mark_is_left none = ap (λ (x : Editor). x.mark) ((law d e settled).here (inl none)) ∙ none
 
   the_mark_is_there_again : e.mark ≡ Some e.place → (after_keys d None e (Mark ∷ Mark ∷ [])).mark ≡ Some e.place
-  the_mark_is_there_again there = ap (λ (x : Editor). x.mark) ((law d e).here (inr there)) ∙ there
+  the_mark_is_there_again there = ap (λ (x : Editor). x.mark) ((law d e settled).here (inr there)) ∙ there
 
   the_place_is_the_same : e.mark ≡ None → (after_keys d None e (Mark ∷ Mark ∷ [])).place ≡ e.place
-  the_place_is_the_same none = ap (λ (x : Editor). x.place) ((law d e).here (inl none))
+  the_place_is_the_same none = ap (λ (x : Editor). x.place) ((law d e settled).here (inl none))
 
 -- a mark at 0 is gone after Mark twice at 2
 pub a_mark_elsewhere_is_gone : MarkTwiceIsNothing → now (after two_of_three (Mark ∷ Mark ∷ [])) ≡ (codes "abc", 2, None)
 unfolding unicode_segmentation unicode_width digits
-a_mark_elsewhere_is_gone law = ap now ((law tables two_of_three).elsewhere 0 refl (λ same. absurd (omega (arith, same))))
+a_mark_elsewhere_is_gone law = ap now ((law tables two_of_three refl).elsewhere 0 refl (λ same. absurd (omega (arith, same))))
 
 -- ---- the text's ends
 
-module _ (law : GoesToBothEnds) (d : Data) (e : Editor) where
+module _ (law : GoesToBothEnds) (d : Data) (e : Editor) (settled : e.pasted ≡ None) where
   -- whatever the editor and the tables
   back_at_0 : (after_keys d None e (TextEnd ∷ TextStart ∷ [])).place ≡ 0
-  back_at_0 = ap (λ (x : Editor). x.place) (law d e).start
+  back_at_0 = ap (λ (x : Editor). x.place) (law d e settled).start
 
   at_the_end : (after_keys d None e (TextStart ∷ TextEnd ∷ [])).place ≡ length e.content.text
-  at_the_end = ap (λ (x : Editor). x.place) (law d e).end
+  at_the_end = ap (λ (x : Editor). x.place) (law d e settled).end
 
   a_hard_mark_stays : e.soft ≡ softness.Off → (after_keys d None e (TextEnd ∷ TextStart ∷ [])).mark ≡ e.mark
-  a_hard_mark_stays hard = ap (λ (x : Editor). x.mark) (law d e).start ∙ ap (λ s. hard_mark s e.mark) hard
+  a_hard_mark_stays hard = ap (λ (x : Editor). x.mark) (law d e settled).start ∙ ap (λ s. hard_mark s e.mark) hard
 
 -- ---- a search that is given up
 
@@ -145,10 +145,10 @@ pub quit_goes_back : GivingUpGoesBack → now (given_up_by Find Quit) ≡ (codes
 unfolding unicode_segmentation unicode_width digits unicode_normalization ucd_case
 quit_goes_back law =
     given_up_now marked_at_1 (given_up_by Find Quit) refl
-    (law tables marked_at_1 Find Quit in_search refl (inl refl) (inl refl) stays_on_after_find)
+    (law tables marked_at_1 Find Quit in_search refl refl (inl refl) (inl refl) stays_on_after_find)
 
 pub copy_goes_back : GivingUpGoesBack → now (given_up_by FindBack Copy) ≡ (codes "abcc", 1, Some 1)
 unfolding unicode_segmentation unicode_width digits unicode_normalization ucd_case
 copy_goes_back law =
     given_up_now marked_at_1 (given_up_by FindBack Copy) refl
-    (law tables marked_at_1 FindBack Copy in_search refl (inr (inl refl)) (inr (inl refl)) stays_on_after_find_back)
+    (law tables marked_at_1 FindBack Copy in_search refl refl (inr (inl refl)) (inr (inl refl)) stays_on_after_find_back)

@@ -61,6 +61,7 @@ b_is_shown = record {
   text = (codes "abcb", (refl, refl));
   other = (codes "XY", (refl, refl));
   unasked = refl;
+  settled = refl;
   shown = refl;
   stands = record { aim_is = refl; here = ((omega arith, λ inside high. absurd (omega (arith, high))), refl); place_is = refl };
 }
@@ -79,6 +80,7 @@ alef_is_shown = record {
   text = (0x5d0 ∷ 0x200f ∷ 0x5d1 ∷ 0x200f ∷ 0x79 ∷ [], (refl, refl));
   other = (codes "z", (refl, refl));
   unasked = refl;
+  settled = refl;
   shown = refl;
   stands = record { aim_is = refl; here = ((omega arith, λ inside high. omega arith), refl); place_is = refl };
 }
@@ -124,11 +126,11 @@ the_next_b_is_at_three law =
 
 pub xy_is_taken_back : ReplacedComesBack → let e = after at_b (enter ∷ UndoRun ∷ []) in (e.content.text ≡ codes "abcb") × (e.place ≡ 1)
 unfolding unicode_segmentation unicode_width digits
-xy_is_taken_back law = let back = law tables at_b enter refl refl (inl refl) (omega arith) in (back.text_is, back.unmarked.place_is)
+xy_is_taken_back law = let back = law tables at_b enter refl refl refl (inl refl) (omega arith) in (back.text_is, back.unmarked.place_is)
 
 pub both_are_taken_back : ReplacedComesBack → let e = after at_b (Replace ∷ UndoRun ∷ []) in (e.content.text ≡ codes "abcb") × (e.place ≡ 1)
 unfolding unicode_segmentation unicode_width digits
-both_are_taken_back law = let back = law tables at_b Replace refl refl (inr refl) (omega arith) in (back.text_is, back.unmarked.place_is)
+both_are_taken_back law = let back = law tables at_b Replace refl refl refl (inr refl) (omega arith) in (back.text_is, back.unmarked.place_is)
 
 -- alef and bet with points, for alef and bet with others
 abbrev at_points : Editor
@@ -140,6 +142,7 @@ points_are_shown = record {
   text = (0x78 ∷ 0x5d0 ∷ 0x301 ∷ 0x5d1 ∷ 0x301 ∷ 0x79 ∷ [], (refl, refl));
   other = (0x5d0 ∷ 0x5d1 ∷ [], (refl, refl));
   unasked = refl;
+  settled = refl;
   shown = refl;
   stands = record { aim_is = refl; here = ((omega arith, λ inside high. omega arith), refl); place_is = refl };
 }
@@ -164,6 +167,7 @@ both_are_shown = record {
   text = (codes "bb", (refl, refl));
   other = (codes "x", (refl, refl));
   unasked = refl;
+  settled = refl;
   shown = refl;
   stands = record { aim_is = refl; here = ((omega arith, λ inside high. absurd (omega (arith, high))), refl); place_is = refl };
 }

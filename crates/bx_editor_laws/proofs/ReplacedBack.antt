@@ -62,19 +62,47 @@ module _ (d : Data) (first e : Editor) (h : Nothing first e) where
   all-in-run stop n new false = inl h
   all-in-run stop n new true = let goes = replaces stop n new in inr (record { more = goes.more; over = goes.over; start = goes.start })
 
-came-back : (d : Data) (first e : Editor) → InRun first e → length first.content.past < length e.content.past → IsBackBefore first (after_key d None e UndoRun)
-came-back d first e (inl h) more = absurd (omega (arith, more, ap length h.1.1))
-came-back d first e (inr h) more = goes-back d first e h
+-- ---- no paste begins
+
+pub exchange-settled : (d : Data) (e : Editor) (start stop : ℕ) (new : List ℕ) → (with_exchange d e start stop new).pasted ≡ e.pasted
+exchange-settled d e start stop [] = refl
+exchange-settled d e start stop (b ∷ bs) = refl
+
+pub match-settled : (d : Data) (e : Editor) (o : Option ℕ) → (at_match d e o).pasted ≡ e.pasted
+match-settled d e None = refl
+match-settled d e (Some at) = refl
+
+module _ (d : Data) (e : Editor) (settled : e.pasted ≡ None) where
+  pub one-settled : (room : Bool) → let now = with_matches_replaced d e (match_stop d e) e.other 1 in
+      (if room then on_from d (e.at + length e.other) now else record e { message = Some TextFull }).pasted ≡ None
+  one-settled false = settled
+  one-settled true =
+      let now = with_matches_replaced d e (match_stop d e) e.other 1 in
+      match-settled d now (next_match d now (e.at + length e.other)) ∙ exchange-settled d e e.at (match_stop d e) e.other ∙ settled
+
+  pub all-settled : (stop n : ℕ) (new : List ℕ) (room : Bool)
+      → (if room then after_ending (with_matches_replaced d e stop new n) else record e { message = Some TextFull }).pasted ≡ None
+  all-settled stop n new false = settled
+  all-settled stop n new true = exchange-settled d e e.at stop new ∙ settled
+
+-- ---- the law
+
+came-back : (d : Data) (first e : Editor) → e.pasted ≡ None → InRun first e → length first.content.past < length e.content.past → IsBackBefore first (after_key d None e UndoRun)
+came-back d first e settled (inl h) more = absurd (omega (arith, more, ap length h.1.1))
+came-back d first e settled (inr h) more = goes-back d first e settled h
 
 pub replaced-comes-back : ReplacedComesBack
-replaced-comes-back d e key unasked shown does more =
+replaced-comes-back d e key unasked shown settled does more =
     let was = cleared e in
     let all = matches_on d e in
     let stop = last_stop e.at all in
     let new = swapped e.at e.content.text e.other all in
     let none : Nothing e was = (refl, (refl, refl)) in
-    came-back d e (after_key d None e key)
-    (each-replaces (InRun e) d e key unasked shown does (λ typing. inl none)
+    let unpasted = each-replaces (λ (x : Editor). x.pasted ≡ None) d e key settled unasked shown does (λ typing. settled)
+    (λ typing. one-settled d was settled (fits e.content.text e.at (match_stop d e) e.other))
+    (all-settled d was settled stop (length all) new (fits e.content.text e.at stop new)) in
+    came-back d e (after_key d None e key) unpasted
+    (each-replaces (InRun e) d e key settled unasked shown does (λ typing. inl none)
     (λ typing. one-in-run d e was none (fits e.content.text e.at (match_stop d e) e.other))
     (all-in-run d e was none stop (length all) new (fits e.content.text e.at stop new)))
     more

@@ -25,6 +25,7 @@ use Rattle.bx_editor.specs.Keys.{after_any, after_key, after_keys, as_left}
 use Rattle.bx_editor_laws.specs.RunLaws.{redos, undos, IsManySteps, RunKeysAreSteps}
 use Rattle.bx_editor.specs.Runs.{after_run_step, by_run, is_changed_at, run_goal, run_length}
 use Rattle.bx_editor.specs.Search.{without_search}
+use Rattle.bx_editor.proofs.InSearch.{any-key}
 use Rattle.bx_editor.proofs.ManySteps.{again, back, place-again, place-back, redone-again, undone-back, version}
 
 -- an editor once a key has led to another text of its history
@@ -63,35 +64,41 @@ redo-first d was asks.Line seek e text edit past future is = refl
 redo-first d was asks.Name seek e text edit past future is = refl
 redo-first d was asks.Code seek e text edit past future is = refl
 
-after-undos : (d : Data) (e : Editor) (n : ℕ) (text : List ℕ) (past future : List Edit) (place : ℕ) → n ≤ length past
+after-undos : (d : Data) (e : Editor) (n : ℕ) (text : List ℕ) (past future : List Edit) (place : ℕ) → e.pasted ≡ None → n ≤ length past
     → let at = iterate back n (version text past future, place) in
     after_keys d None (stepped_to e (version text past future) place) (replicate n Undo) ≡ stepped_to e at.0 at.1
-after-undos d e zero text past future place few = refl
-after-undos d e (suc n) text [] future place few = absurd (omega (arith, few))
-after-undos d e (suc n) text (edit ∷ past) future place few =
-    after-undos d e n edit.before.text past (edit ∷ future) edit.before.place (omega (arith, few))
+after-undos d e zero text past future place settled few = refl
+after-undos d e (suc n) text [] future place settled few = absurd (omega (arith, few))
+after-undos d e (suc n) text (edit ∷ past) future place settled few =
+    ap (λ new. after_keys d None new (replicate n Undo)) (any-key d None (stepped_to e (version text (edit ∷ past) future) place) Undo settled refl)
+    ∙ after-undos d e n edit.before.text past (edit ∷ future) edit.before.place settled (omega (arith, few))
 
-after-redos : (d : Data) (e : Editor) (n : ℕ) (text : List ℕ) (past future : List Edit) (place : ℕ) → n ≤ length future
+after-redos : (d : Data) (e : Editor) (n : ℕ) (text : List ℕ) (past future : List Edit) (place : ℕ) → e.pasted ≡ None → n ≤ length future
     → let at = iterate again n (version text past future, place) in
     after_keys d None (stepped_to e (version text past future) place) (replicate n Redo) ≡ stepped_to e at.0 at.1
-after-redos d e zero text past future place few = refl
-after-redos d e (suc n) text past [] place few = absurd (omega (arith, few))
-after-redos d e (suc n) text past (edit ∷ future) place few =
-    after-redos d e n edit.after.text (edit ∷ past) future edit.after.place (omega (arith, few))
+after-redos d e zero text past future place settled few = refl
+after-redos d e (suc n) text past [] place settled few = absurd (omega (arith, few))
+after-redos d e (suc n) text past (edit ∷ future) place settled few =
+    ap (λ new. after_keys d None new (replicate n Redo)) (any-key d None (stepped_to e (version text past (edit ∷ future)) place) Redo settled refl)
+    ∙ after-redos d e n edit.after.text (edit ∷ past) future edit.after.place settled (omega (arith, few))
 
-all-undos : (d : Data) (e : Editor) (n : ℕ) (text : List ℕ) (edit : Edit) (past future : List Edit) → n ≤ length past
+all-undos : (d : Data) (e : Editor) (n : ℕ) (text : List ℕ) (edit : Edit) (past future : List Edit) → e.pasted ≡ None → n ≤ length past
     → let at = iterate back (suc n) (version text (edit ∷ past) future, e.place) in
     after_keys d None (record e { content = version text (edit ∷ past) future }) (replicate (suc n) Undo) ≡ stepped_to e at.0 at.1
-all-undos d e n text edit past future few =
-    ap (λ new. after_keys d None new (replicate n Undo)) (undo-first d (before e) e.ask e.seek e text edit past future refl)
-    ∙ after-undos d e n edit.before.text past (edit ∷ future) edit.before.place few
+all-undos d e n text edit past future settled few =
+    ap (λ new. after_keys d None new (replicate n Undo))
+    (any-key d None (record e { content = version text (edit ∷ past) future }) Undo settled refl
+    ∙ undo-first d (before e) e.ask e.seek e text edit past future refl)
+    ∙ after-undos d e n edit.before.text past (edit ∷ future) edit.before.place settled few
 
-all-redos : (d : Data) (e : Editor) (n : ℕ) (text : List ℕ) (edit : Edit) (past future : List Edit) → n ≤ length future
+all-redos : (d : Data) (e : Editor) (n : ℕ) (text : List ℕ) (edit : Edit) (past future : List Edit) → e.pasted ≡ None → n ≤ length future
     → let at = iterate again (suc n) (version text past (edit ∷ future), e.place) in
     after_keys d None (record e { content = version text past (edit ∷ future) }) (replicate (suc n) Redo) ≡ stepped_to e at.0 at.1
-all-redos d e n text edit past future few =
-    ap (λ new. after_keys d None new (replicate n Redo)) (redo-first d (before e) e.ask e.seek e text edit past future refl)
-    ∙ after-redos d e n edit.after.text (edit ∷ past) future edit.after.place few
+all-redos d e n text edit past future settled few =
+    ap (λ new. after_keys d None new (replicate n Redo))
+    (any-key d None (record e { content = version text past (edit ∷ future) }) Redo settled refl
+    ∙ redo-first d (before e) e.ask e.seek e text edit past future refl)
+    ∙ after-redos d e n edit.after.text (edit ∷ past) future edit.after.place settled few
 
 -- ---- a run at once
 
@@ -133,11 +140,11 @@ redo-found d was asks.Line seek e content place changed asked h = h asks.Off e.s
 redo-found d was asks.Name seek e content place changed asked h = h asks.Off e.seek
 redo-found d was asks.Code seek e content place changed asked h = h asks.Off e.seek
 
-pub undo-run : (d : Data) (e : Editor) (n : ℕ) (text : List ℕ) (edit : Edit) (past future : List Edit)
+pub undo-run : (d : Data) (e : Editor) (n : ℕ) (text : List ℕ) (edit : Edit) (past future : List Edit) → e.pasted ≡ None
     → let t : Edited = version text (edit ∷ past) future in let now : Editor = record e { content = t } in run_length steps.Undo now ≡ suc n
     → after_key d None now UndoRun
     ≡ run_to e (undone_times (suc n) t) ((iterate back (suc n) (t, e.place)).1) (is_changed_at (run_goal steps.Undo now) e.stored)
-undo-run d e n text edit past future long =
+undo-run d e n text edit past future settled long =
     let t : Edited = version text (edit ∷ past) future in
     let was : Editor = cleared (record e { content = t }) in
     let whole = fold merged (change_back edit) (map change_back (take n past)) in
@@ -149,13 +156,14 @@ undo-run d e n text edit past future long =
     ≡ with_step (record was { ask = a; seek = s }) (undone_times (suc n) t) ((iterate back (suc n) (t, e.place)).1) changed =
     λ a s. ap (by_run steps.Undo (record was { ask = a; seek = s })) one
     ∙ ap₂ (λ k p. with_step (record was { ask = a; seek = s }) (undone_times k t) p changed) long place in
-    ap (as_left UndoRun) (undo-found d (before e) e.ask e.seek was (undone_times (suc n) t) ((iterate back (suc n) (t, e.place)).1) changed refl stepped)
+    any-key d None (record e { content = t }) UndoRun settled refl
+    ∙ ap (as_left UndoRun) (undo-found d (before e) e.ask e.seek was (undone_times (suc n) t) ((iterate back (suc n) (t, e.place)).1) changed refl stepped)
 
-pub redo-run : (d : Data) (e : Editor) (n : ℕ) (text : List ℕ) (edit : Edit) (past future : List Edit)
+pub redo-run : (d : Data) (e : Editor) (n : ℕ) (text : List ℕ) (edit : Edit) (past future : List Edit) → e.pasted ≡ None
     → let t : Edited = version text past (edit ∷ future) in let now : Editor = record e { content = t } in run_length steps.Redo now ≡ suc n
     → after_key d None now RedoRun
     ≡ run_to e (redone_times (suc n) t) ((iterate again (suc n) (t, e.place)).1) (is_changed_at (run_goal steps.Redo now) e.stored)
-redo-run d e n text edit past future long =
+redo-run d e n text edit past future settled long =
     let t : Edited = version text past (edit ∷ future) in
     let was : Editor = cleared (record e { content = t }) in
     let whole = fold merged (change_of edit) (map change_of (take n future)) in
@@ -167,7 +175,8 @@ redo-run d e n text edit past future long =
     ≡ with_step (record was { ask = a; seek = s }) (redone_times (suc n) t) ((iterate again (suc n) (t, e.place)).1) changed =
     λ a s. ap (by_run steps.Redo (record was { ask = a; seek = s })) one
     ∙ ap₂ (λ k p. with_step (record was { ask = a; seek = s }) (redone_times k t) p changed) long place in
-    ap (as_left RedoRun) (redo-found d (before e) e.ask e.seek was (redone_times (suc n) t) ((iterate again (suc n) (t, e.place)).1) changed refl stepped)
+    any-key d None (record e { content = t }) RedoRun settled refl
+    ∙ ap (as_left RedoRun) (redo-found d (before e) e.ask e.seek was (redone_times (suc n) t) ((iterate again (suc n) (t, e.place)).1) changed refl stepped)
 
 -- ---- nothing to undo, or to redo
 
@@ -224,40 +233,42 @@ but-changed new many to changed is same =
 no-steps : (d : Data) (e : Editor) (key one : Key) (n : ℕ) → after_key d None e key ≡ after_key d None e one → IsManySteps d e key one n []
 no-steps d e key one n same = record { many = λ some. absurd (some refl); some = λ some. absurd (some refl); none = λ is. same }
 
-undo-steps : (d : Data) (e : Editor) (text : List ℕ) (past future : List Edit) → let now : Editor = record e { content = version text past future } in
+undo-steps : (d : Data) (e : Editor) (text : List ℕ) (past future : List Edit) → e.pasted ≡ None → let now : Editor = record e { content = version text past future } in
     IsManySteps d now UndoRun Undo (undos now) past
-undo-steps d e text [] future =
+undo-steps d e text [] future settled =
     let now : Editor = record e { content = version text [] future } in
     let was = cleared now in
     no-steps d now UndoRun Undo (undos now)
-    (ap (as_left Undo) (undo-either d (before e) e.ask e.seek was
-    (λ a s. ap (by_run steps.Undo (record was { ask = a; seek = s })) (no-undos (run_length steps.Undo was) text future))))
-undo-steps d e text (edit ∷ past) future =
+    (any-key d None now UndoRun settled refl ∙ ap (as_left Undo) (undo-either d (before e) e.ask e.seek was
+    (λ a s. ap (by_run steps.Undo (record was { ask = a; seek = s })) (no-undos (run_length steps.Undo was) text future)))
+    ∙ sym (any-key d None now Undo settled refl))
+undo-steps d e text (edit ∷ past) future settled =
     let now : Editor = record e { content = version text (edit ∷ past) future } in
     let n = length past - run_start e.runs (suc (length past)) in
     let long : run_length steps.Undo now ≡ suc n = undo-length e.runs (length past) in
     let same : undos now ≡ suc n = ap (λ k. suc (length past) - k) (sym (undo-ends e.runs (suc (length past)))) ∙ long in
     let at = iterate back (suc n) (version text (edit ∷ past) future, e.place) in
-    let ran = undo-run d e n text edit past future long in
+    let ran = undo-run d e n text edit past future settled long in
     let whole = ap (λ t. run_to e t at.1 (is_changed_at (run_goal steps.Undo now) e.stored)) (undone-back (suc n) (version text (edit ∷ past) future) e.place) in
     record {
       many = λ some.
           but-changed (after_key d None now UndoRun) (after_keys d None now (replicate (undos now) Undo)) (stepped_to e at.0 at.1)
           (is_changed_at (run_goal steps.Undo now) e.stored) (ran ∙ whole)
-          (ap (λ k. after_keys d None now (replicate k Undo)) same ∙ all-undos d e n text edit past future (omega arith));
+          (ap (λ k. after_keys d None now (replicate k Undo)) same ∙ all-undos d e n text edit past future settled (omega arith));
       some = λ some. omega (arith, same);
       none = λ is. absurd (cc is);
     }
 
-redo-steps : (d : Data) (e : Editor) (text : List ℕ) (past future : List Edit) → let now : Editor = record e { content = version text past future } in
+redo-steps : (d : Data) (e : Editor) (text : List ℕ) (past future : List Edit) → e.pasted ≡ None → let now : Editor = record e { content = version text past future } in
     IsManySteps d now RedoRun Redo (redos now) future
-redo-steps d e text past [] =
+redo-steps d e text past [] settled =
     let now : Editor = record e { content = version text past [] } in
     let was = cleared now in
     no-steps d now RedoRun Redo (redos now)
-    (ap (as_left Redo) (redo-either d (before e) e.ask e.seek was
-    (λ a s. ap (by_run steps.Redo (record was { ask = a; seek = s })) (no-redos (run_length steps.Redo was) text past))))
-redo-steps d e text past (edit ∷ future) =
+    (any-key d None now RedoRun settled refl ∙ ap (as_left Redo) (redo-either d (before e) e.ask e.seek was
+    (λ a s. ap (by_run steps.Redo (record was { ask = a; seek = s })) (no-redos (run_length steps.Redo was) text past)))
+    ∙ sym (any-key d None now Redo settled refl))
+redo-steps d e text past (edit ∷ future) settled =
     let now : Editor = record e { content = version text past (edit ∷ future) } in
     let last = length past + suc (length future) in
     let n = run_end e.runs (length past) last - length past - 1 in
@@ -265,19 +276,19 @@ redo-steps d e text past (edit ∷ future) =
     let same : redos now ≡ suc n = ap (λ k. k - length past) (sym (redo-ends e.runs (length past) (suc (length future)))) ∙ long in
     let few : n ≤ length future = omega (arith, end-last e.runs (length past) last) in
     let at = iterate again (suc n) (version text past (edit ∷ future), e.place) in
-    let ran = redo-run d e n text edit past future long in
+    let ran = redo-run d e n text edit past future settled long in
     let whole = ap (λ t. run_to e t at.1 (is_changed_at (run_goal steps.Redo now) e.stored)) (redone-again (suc n) (version text past (edit ∷ future)) e.place) in
     record {
       many = λ some.
           but-changed (after_key d None now RedoRun) (after_keys d None now (replicate (redos now) Redo)) (stepped_to e at.0 at.1)
           (is_changed_at (run_goal steps.Redo now) e.stored) (ran ∙ whole)
-          (ap (λ k. after_keys d None now (replicate k Redo)) same ∙ all-redos d e n text edit past future few);
+          (ap (λ k. after_keys d None now (replicate k Redo)) same ∙ all-redos d e n text edit past future settled few);
       some = λ some. omega (arith, same);
       none = λ is. absurd (cc is);
     }
 
 pub run-keys-are-steps : RunKeysAreSteps
-run-keys-are-steps d e = record {
-  undo = undo-steps d e e.content.text e.content.past e.content.future;
-  redo = redo-steps d e e.content.text e.content.past e.content.future;
+run-keys-are-steps d e settled = record {
+  undo = undo-steps d e e.content.text e.content.past e.content.future settled;
+  redo = redo-steps d e e.content.text e.content.past e.content.future settled;
 }

@@ -93,7 +93,7 @@ both_are_none_together = refl
 abbrev a_paste : List Key
 a_paste = letters (codes "a") ++ PasteStart ∷ letters (codes "b c\n\nd") ++ PasteEnd ∷ letters (codes "e")
 
-pub a_paste_is_a_run : run_at [] a_paste ≡ (0 ∷ 1 ∷ 7 ∷ [], Word)
+pub a_paste_is_a_run : run_at [] a_paste ≡ (0 ∷ 1 ∷ 2 ∷ [], Word)
 unfolding unicode_segmentation unicode_width digits
 a_paste_is_a_run = refl
 
@@ -117,7 +117,7 @@ pub letters_of_a_query_are_of_no_run : run_at (codes "ab") (Insert 0x78 ∷ Find
 unfolding unicode_segmentation unicode_width digits unicode_normalization ucd_case
 letters_of_a_query_are_of_no_run = refl
 
-pub each_paste_is_a_run : run_at [] (PasteStart ∷ letters (codes "a") ++ Repaint ∷ letters (codes "b") ++ PasteEnd ∷ PasteStart ∷ letters (codes "c") ++ PasteEnd ∷ []) ≡ (0 ∷ 2 ∷ [], Off)
+pub each_paste_is_a_run : run_at [] (PasteStart ∷ letters (codes "a") ++ Repaint ∷ letters (codes "b") ++ PasteEnd ∷ PasteStart ∷ letters (codes "c") ++ PasteEnd ∷ []) ≡ (0 ∷ 1 ∷ [], Off)
 unfolding unicode_segmentation unicode_width digits
 each_paste_is_a_run = refl
 
@@ -196,12 +196,12 @@ behind_a_word = after (start [] 5 40) (letters (codes "abc"))
 pub a_run_is_three_undos : RunKeysAreSteps → let e = after behind_a_word (UndoRun ∷ []) in (e.content.text ≡ []) × (e.place ≡ 0)
 unfolding unicode_segmentation unicode_width digits
 a_run_is_three_undos law =
-    let many = (law tables behind_a_word).undo.many (λ none. let three : 3 ≡ 0 = ap length none in cc three) in
+    let many = (law tables behind_a_word refl).undo.many (λ none. let three : 3 ≡ 0 = ap length none in cc three) in
     (ap (λ (e : Editor). e.content.text) many, ap (λ (e : Editor). e.place) many)
 
 pub without_an_edit_the_message_is_that_of_undo : RunKeysAreSteps → (after (start (codes "a") 5 40) (UndoRun ∷ [])).message ≡ Some NothingToUndo
 unfolding unicode_segmentation unicode_width digits
-without_an_edit_the_message_is_that_of_undo law = ap (λ (e : Editor). e.message) ((law tables (start (codes "a") 5 40)).undo.none refl)
+without_an_edit_the_message_is_that_of_undo law = ap (λ (e : Editor). e.message) ((law tables (start (codes "a") 5 40) refl).undo.none refl)
 
 abbrev typed : List Key → List (Key × Option StoreFault)
 typed keys = map (λ key. (key, None)) keys
@@ -211,12 +211,12 @@ unfolding unicode_segmentation unicode_width digits
 undone_and_made_again law =
     let some : 0 < 5 = omega arith in
     let all : 5 ≤ 5 = omega arith in
-    ap (λ (t : Edited). t.text) ((law tables [] 5 40 Auto (typed two_words)).redo (some, all, inr refl))
+    ap (λ (t : Edited). t.text) ((law tables [] 5 40 Auto (typed two_words) refl).redo (some, all, inr refl))
 
 pub pasted_text_is_taken_back : PasteIsARun → (after (start (codes "xy") 5 40) (Forward ∷ PasteStart ∷ letters (codes "b\nc") ++ PasteEnd ∷ UndoRun ∷ [])).content.text ≡ codes "xy"
 unfolding unicode_segmentation unicode_width digits
 pasted_text_is_taken_back law =
-    let more : 0 < 3 = omega arith in
+    let more : 0 < 1 = omega arith in
     (law tables (after (start (codes "xy") 5 40) (Forward ∷ [])) (codes "b\nc") refl refl more).text_is
 
 pub a_pasted_over_selection_comes_back : PasteIsARun
@@ -224,7 +224,7 @@ pub a_pasted_over_selection_comes_back : PasteIsARun
     (e.content.text ≡ codes "abcd") × (e.place ≡ 2)
 unfolding unicode_segmentation unicode_width digits
 a_pasted_over_selection_comes_back law =
-    let more : 0 < 5 = omega arith in
+    let more : 0 < 2 = omega arith in
     let back = law tables (after (start (codes "abcd") 5 40) (Select ∷ Forward ∷ Select ∷ Forward ∷ [])) (codes "xy z") refl refl more in
     (back.text_is, back.unmarked.place_is)
 
@@ -239,7 +239,7 @@ a_word_and_its_blank_are_taken_back law =
       are_letters = All-cons IsLetter 0x61 (0x62 ∷ []) refl (All-cons IsLetter 0x62 [] refl (All-nil IsLetter));
       are_blanks = All-cons IsBlank 0x20 [] refl (All-nil IsBlank);
     } in
-    (law tables (start (codes "x") 5 40) (codes "ab") (codes " ") refl refl refl word fit).text_is
+    (law tables (start (codes "x") 5 40) (codes "ab") (codes " ") refl refl refl refl word fit).text_is
 
 pub unchanged_at_the_saved_text : UnchangedIsStored → (after (start [] 5 40) (saved_in_the_middle ++ UndoRun ∷ UndoRun ∷ [])).content.text ≡ codes "ab"
 unfolding unicode_segmentation unicode_width digits

@@ -1,5 +1,5 @@
 -- Worked examples: selections, from the definitions and each from a law alone.
-use Rattle.std.proofs.Common.{◌≡◌, ℕ, ◌<◌, ◌≤◌, List, [], ◌∷◌, ◌++◌, refl, ap, arith}
+use Rattle.std.proofs.Common.{◌≡◌, ℕ, ◌<◌, ◌≤◌, List, [], ◌∷◌, ◌++◌, refl, arith}
 use Rattle.std.specs.Prelude.{codes, Option, Some, None}
 use Rattle.std.specs.Fmt.{digits}
 use Rattle.ucd_case.proofs.Computing.{ucd_case}
@@ -10,11 +10,11 @@ use Rattle.bx_terms.specs.Sizes.{largest_text}
 use Rattle.bx_keys.specs.declared.key.Key.{Key}
 use Rattle.bx_keys.specs.declared.key.Key.TheVariants.{Insert, Erase, Delete, Back, Forward, Mark, Copy, Cancel, Find, Put, TextEnd, EraseWord, DeleteWord, ErasePoint, NewLine}
 use Rattle.bx_keys.specs.declared.key.Key.TheVariants.{Select, UndoRun, PasteStart, PasteEnd, Help}
-use Rattle.bx_editor.specs.declared.message.Message.TheVariants.{MarkSet}
+use Rattle.bx_editor.specs.declared.message.Message.TheVariants.{Pasting}
 use Rattle.bx_editor.specs.declared.soft.Soft.{Soft}
 use Rattle.bx_editor.specs.declared.soft.Soft.TheVariants.{Off, Fresh, Old}
 use Rattle.bx_editor.specs.Editor.{Editor}
-use Rattle.bx_editor_laws.specs.SelectionLaws.{HasSelection, MoveTakesSelectionOff, PasteMarksAreUnseen, SeekingTakesSelectionOff, SelectionComesBack, SelectionGivesWay, SelectionIsRemoved}
+use Rattle.bx_editor_laws.specs.SelectionLaws.{HasSelection, MoveTakesSelectionOff, SeekingTakesSelectionOff, SelectionComesBack, SelectionGivesWay, SelectionIsRemoved}
 use Rattle.bx_editor.proofs.Computed.{tables, start, after, letters}
 
 abbrev edited : List ℕ → List Key → List ℕ × (ℕ × Option ℕ)
@@ -163,9 +163,13 @@ the_next_erasure_is_another_run = refl
 
 -- ---- the marks of a paste
 
-pub a_message_stays : (after (start (codes "ab") 2 40) (Mark ∷ PasteStart ∷ [])).message ≡ Some MarkSet
+pub it_is_told : (after (start (codes "ab") 2 40) (Mark ∷ PasteStart ∷ [])).message ≡ Some Pasting
 unfolding unicode_segmentation unicode_width digits
-a_message_stays = refl
+it_is_told = refl
+
+pub a_mark_stays : (after (start (codes "ab") 2 40) (Mark ∷ PasteStart ∷ PasteEnd ∷ [])).mark ≡ Some 0
+unfolding unicode_segmentation unicode_width digits
+a_mark_stays = refl
 
 -- ---- from the laws
 
@@ -178,15 +182,15 @@ unfolding unicode_segmentation unicode_width digits
 two_are_a_selection =
     let some : 1 < 3 = omega arith in
     let inside : 3 ≤ 4 = omega arith in
-    record { no_question = refl; no_search = refl; soft = λ off. cc off; part = record { some = some; inside = inside } }
+    record { no_question = refl; no_search = refl; no_paste = refl; soft = λ off. cc off; part = record { some = some; inside = inside } }
 
 pub the_move_takes_it_off : MoveTakesSelectionOff → (after two_selected (Forward ∷ [])).mark ≡ None
 unfolding unicode_segmentation unicode_width digits
-the_move_takes_it_off law = (law tables two_selected Forward refl).old refl
+the_move_takes_it_off law = (law tables two_selected Forward refl refl).old refl
 
 pub behind_select_it_stays : MoveTakesSelectionOff → (after two_selected (Select ∷ Forward ∷ [])).mark ≡ Some 1
 unfolding unicode_segmentation unicode_width digits
-behind_select_it_stays law = (law tables two_selected Forward refl).selecting
+behind_select_it_stays law = (law tables two_selected Forward refl refl).selecting
 
 pub a_word_key_removes_it_alone : SelectionIsRemoved → (after two_selected (DeleteWord ∷ [])).content.text ≡ codes "ad"
 unfolding unicode_segmentation unicode_width digits
@@ -198,13 +202,9 @@ a_letter_stands_in_its_place law =
     let fit : 3 ≤ largest_text = omega arith in
     ((law tables two_selected (Insert 0x78) two_are_a_selection (λ none. cc none)).fits fit).text_is
 
-pub a_paste_starts_unseen : PasteMarksAreUnseen → (after two_selected (PasteStart ∷ [])).mark ≡ Some 1
-unfolding unicode_segmentation unicode_width digits
-a_paste_starts_unseen law = ap (λ (e : Editor). e.mark) (law tables None two_selected).start.rest_is
-
 pub a_search_takes_it_off : SeekingTakesSelectionOff → (after two_selected (Find ∷ [])).mark ≡ None
 unfolding unicode_segmentation unicode_width digits
-a_search_takes_it_off law = (law tables two_selected Find refl refl).old refl
+a_search_takes_it_off law = (law tables two_selected Find refl refl refl).old refl
 
 pub a_replaced_one_comes_back : SelectionComesBack → let e = after two_selected (Insert 0x78 ∷ UndoRun ∷ []) in (e.content.text ≡ codes "abcd") × (e.place ≡ 3)
 unfolding unicode_segmentation unicode_width digits

@@ -1,9 +1,10 @@
 -- Whatever is typed, a match is shown only where the query stands.
 use Rattle.std.proofs.lemmas.Bool.Decides.{nat_tests}
-use Rattle.std.proofs.Common.{◌≡◌, ℕ, ◌+◌, ◌≤◌, Bool, true, false, List, [], ◌∷◌, length, Option, Some, None, unwrap_or, refl, sym, ap, subst, ◌∙◌, if◌then◌else◌, arith}
+use Rattle.std.proofs.Common.{◌≡◌, ℕ, ◌+◌, ◌≤◌, Bool, true, false, List, [], ◌∷◌, length, Option, Some, None, unwrap_or, refl, sym, ap, subst, ◌∙◌, inl, if◌then◌else◌, arith}
 use Rattle.std.specs.Prelude.{◌≢◌, ◌==◌, ◌&&◌, find, not, nat_le, reverse, MatchOption, IsUtf8}
 use Rattle.bx_terms.specs.Sizes.{is_side}
 use Rattle.bx_keys.specs.declared.key.Key.{Key}
+use Rattle.bx_keys.specs.declared.key.Key.TheVariants.{Insert, Repaint}
 use Rattle.bx_store.specs.declared.store.StoreFault.{StoreFault}
 use Rattle.bx_text.specs.Edits.{fits}
 use Rattle.bx_runs.specs.declared.typing.Typing.{Typing}
@@ -25,19 +26,23 @@ use Rattle.bx_editor.specs.declared.message.Message.TheVariants.{FromStart, Text
 use Rattle.bx_editor.specs.declared.seek.Seek.{Seek}
 use Rattle.bx_editor.specs.declared.seek.Seek.TheVariants.{Off, Begun, Typed, WithBegun, WithTyped, Replacing}
 use Rattle.bx_editor.specs.Asking.{without_ask}
-use Rattle.bx_editor.specs.Editor.{Editor, at_start, cleared, rows, with_exchange, with_size, with_typing, HasRows}
+use Rattle.bx_editor.specs.Editor.{Editor, at_start, cleared, rows, with_exchange, with_insertion, with_size, with_typing, HasRows}
 use Rattle.bx_editor.specs.Effects.{Before, before}
-use Rattle.bx_editor.specs.Keys.{Answer, Letter, Shortens, GoesBack, Next, Previous, Replaces, Stays, Ends, after_any, after_asking, after_key}
-use Rattle.bx_editor.specs.Keys.{after_pressing, answer_of, answered, answered_match, answered_other, effect_of}
+use Rattle.bx_editor.specs.Keys.{Answer, Letter, Shortens, GoesBack, Next, Previous, Replaces, Stays, Ends, after_any, after_asking, after_in_paste, after_key}
+use Rattle.bx_editor.specs.Keys.{after_press, after_pressing, after_user, answer_of, answered, answered_match, answered_other, effect_of}
 use Rattle.bx_editor_laws.specs.Laws.{after_typing}
-use Rattle.bx_editor.specs.Putting.{is_paste}
+use Rattle.bx_editor.specs.Pasting.{after_paste_start, paste_ended, with_paste, without_paste}
+use Rattle.bx_editor.specs.Putting.{is_paste, with_selection_replaced}
 use Rattle.bx_editor_laws.specs.ReplaceLaws.{HaveRows, ShownStands}
 use Rattle.bx_editor.specs.Replacing.{after_asking_other, after_ending, after_other_letter, after_replacing, after_replacing_all}
-use Rattle.bx_editor.specs.Replacing.{after_shorter_other, after_showing, after_sought_letter, asked_at, at_match, is_replacing, longest_other}
+use Rattle.bx_editor.specs.Replacing.{after_shorter_other, after_showing, after_sought_end, after_sought_letter, asked_at, at_match, is_replacing, longest_other}
 use Rattle.bx_editor.specs.Replacing.{match_stop, matches_on, next_match, on_from, shown_at, with_matches_replaced, with_other}
-use Rattle.bx_editor.specs.Search.{forward, is_no_letter, kept, landed, landing_from, lengthened, longest_query, match_or, not_found, reading}
+use Rattle.bx_editor.specs.Search.{after_letter, forward, is_no_letter, kept, landed, landing_from, lengthened, longest_query, match_or, not_found, reading}
 use Rattle.bx_editor.specs.Search.{search_from, sought, with_query, without_search}
+use Rattle.bx_editor.proofs.EffectsKept.{start-keeps}
 use Rattle.bx_editor.proofs.InSearch.{each-key}
+use Rattle.bx_editor_laws.proofs.PasteAlone.{free-in-paste, key-alone, IsAlone}
+use Rattle.bx_editor_laws.proofs.PasteEnded.{ended-by}
 use Rattle.bx_editor_laws.proofs.PlacesBetween.{place-before, place-between}
 use Rattle.bx_editor.proofs.Questions.{question-keeps, IsKept}
 use Rattle.bx_editor_laws.proofs.QuietSearch.{effect-quiet, is_quiet, IsQuiet}
@@ -122,12 +127,18 @@ module _ (d : Data) (e : Editor) (u : IsUtf8 e.content.text) (unasked : e.ask �
       either d (length (sought d aimed) == 0) aimed (asked_at landing.place (landed aimed landing)) (quiet-sound d aimed h)
       (asked-sound landing landing.place refl (lands d (sought d aimed) (rows d aimed) e.content.text e.place u))
 
+  end-sound : (typing : Typing) → IsQuiet e → IsSound d (after_sought_end d typing e)
+  end-sound typing h =
+      let left = without_search e in
+      either d (is_replacing e.aim) (if is_paste typing then e else after_asking_other d e) (if is_paste typing then with_paste left else left)
+      (either d (is_paste typing) e (after_asking_other d e) (quiet-sound d e h) (asking-sound h))
+      (either d (is_paste typing) (with_paste left) left (quiet-sound d (with_paste left) refl) (quiet-sound d left refl))
+
   letter-sound : (typing : Typing) (c : ℕ) → IsQuiet e → IsSound d (after_sought_letter d typing e c)
   letter-sound typing c h =
       let longer : Editor = search_from d e.place (with_query e (lengthened longest_query (kept e.seek e.query) c)) in
-      either d ((c == 0xA) && is_replacing e.aim) _ _ (either d (is_paste typing) e (after_asking_other d e) (quiet-sound d e h) (asking-sound h))
-      (either d (c == 0xA) (without_search e) _ (quiet-sound d (without_search e) refl)
-      (either d (is_no_letter d c) e longer (quiet-sound d e h) (quiet-sound d longer refl)))
+      either d (c == 0xA) (after_sought_end d typing e) (after_letter d e c) (end-sound typing h)
+      (either d (is_no_letter d c) e longer (quiet-sound d e h) (quiet-sound d longer refl))
 
   answer-sound : (fault : Option StoreFault) (was : Before) (key : Key) (answer : Answer) → IsQuiet e → IsSound d (answered d fault was e key answer)
   answer-sound fault was key (Letter c) h = letter-sound was.typing c h
@@ -294,18 +305,62 @@ module _ (d : Data) (e : Editor) (height width : ℕ) (old : HasRows e) (side : 
   sized-stands WithTyped h = (h.0, (h.1.0, h.1.1, h.1.2 ∙ same-place h.1.0))
   sized-stands Replacing h = (h.0, (h.1.0, h.1.1 ∙ same-place e.at))
 
-key-sound : (d : Data) (fault : Option StoreFault) (e : Editor) (key : Key) → HasRows e → HasRows (after_key d fault e key) → IsSound d e → IsSound d (after_key d fault e key)
-key-sound d fault e key old new h =
+-- ---- a paste, in which no search is on
+
+-- outside a search no key shows a match, whatever the text
+quiet-any : (d : Data) (fault : Option StoreFault) (was : Before) (ask : Ask) (seek : Seek) (e : Editor) (key : Key) → e.seek ≡ seek → seek ≡ Off
+    → IsQuiet (after_any d fault was ask seek e key)
+quiet-any d fault was asks.Off Off e key is off = effect-quiet d fault was e (effect_of d e key) (ap is_quiet is)
+quiet-any d fault was asks.Off Begun e key is off = absurd (cc off)
+quiet-any d fault was asks.Off Typed e key is off = absurd (cc off)
+quiet-any d fault was asks.Off WithBegun e key is off = absurd (cc off)
+quiet-any d fault was asks.Off WithTyped e key is off = absurd (cc off)
+quiet-any d fault was asks.Off Replacing e key is off = absurd (cc off)
+quiet-any d fault was asks.Line seek e key is off = question-quiet d fault was e key (ap is_quiet (is ∙ off))
+quiet-any d fault was asks.Name seek e key is off = question-quiet d fault was e key (ap is_quiet (is ∙ off))
+quiet-any d fault was asks.Code seek e key is off = question-quiet d fault was e key (ap is_quiet (is ∙ off))
+
+quiet-user : (d : Data) (fault : Option StoreFault) (e : Editor) (key : Key) → e.seek ≡ Off → IsQuiet (after_user d fault e key)
+quiet-user d fault e key off = quiet-any d fault (before e) e.ask e.seek (cleared e) key refl off
+
+ended-off : (d : Data) (e : Editor) → e.seek ≡ Off → (paste_ended d e).seek ≡ Off
+ended-off d e off = ended-by d e (λ (x : Editor). x.seek ≡ Off) off off (λ list. refl) (λ list. refl) off
+
+quiet-in-paste : (d : Data) (fault : Option StoreFault) (e : Editor) (key : Key) → e.seek ≡ Off → IsQuiet (after_in_paste d fault e key)
+quiet-in-paste d fault e (Insert c) off = ap is_quiet off
+quiet-in-paste d fault e Repaint off = quiet-user d fault e Repaint off
+quiet-in-paste d fault e key off = quiet-user d fault (paste_ended d e) key (ended-off d e off)
+
+press-sound : (d : Data) (fault : Option StoreFault) (e : Editor) (key : Key) (pasted : Option (List ℕ)) → e.pasted ≡ pasted → IsAlone e → IsUtf8 e.content.text
+    → IsUtf8 (after_press d fault pasted e key).content.text → IsSound d e → IsSound d (after_press d fault pasted e key)
+press-sound d fault e key None is alone u v h = any-sound d fault (before e) e.ask e.seek (cleared e) key refl refl u v h
+press-sound d fault e key (Some list) is alone u v h =
+    quiet-sound d (after_in_paste d fault e key) (quiet-in-paste d fault e key (free-in-paste e list is alone).1)
+
+-- a paste may begin, or end
+begun-sound : (d : Data) (e : Editor) → IsSound d e → IsSound d (after_paste_start e)
+begun-sound d e h = start-keeps (IsSound d) (record { pasted = λ e pasted message typing h. h; lengthened = λ e pasted soft h. h }) e h
+
+end-sound-by : (d : Data) (e : Editor) → IsSound d e → IsSound d (paste_ended d e)
+end-sound-by d e h =
+    let left = without_paste e in
+    ended-by d e (IsSound d) h h (λ list. quiet-sound d (with_selection_replaced d left list) refl) (λ list. quiet-sound d (with_insertion d left list false) refl) h
+
+key-sound : (d : Data) (fault : Option StoreFault) (e : Editor) (key : Key) → IsAlone e → HasRows e → HasRows (after_key d fault e key) → IsSound d e
+    → IsSound d (after_key d fault e key)
+key-sound d fault e key alone old new h =
     each-key d fault e (λ k now. HasRows now → IsSound d now) (λ height width has. (h.0, sized-stands d e height width old has.columns e.seek h.1))
-    (λ notice has. h) (λ has. h, λ has. h)
-    (λ k told has. any-sound d fault (before e) e.ask e.seek (cleared e) k refl refl old.text has.text h) key new
+    (λ notice has. h) (λ has. begun-sound d e h, λ has. end-sound-by d e h)
+    (λ k told has. press-sound d fault e k e.pasted refl alone old.text has.text h) key new
 
 -- ---- whatever is typed
 
-typed-sound : (d : Data) (e : Editor) (typed : List (Key × Option StoreFault)) → HaveRows d e typed → IsSound d e → IsSound d (after_typing d e typed)
-typed-sound d e [] has h = h
-typed-sound d e (key ∷ typed) has h =
-    let new = after_key d key.1 e key.0 in typed-sound d new typed has.1 (key-sound d key.1 e key.0 has.0 (first-rows d new typed has.1) h)
+typed-sound : (d : Data) (e : Editor) (typed : List (Key × Option StoreFault)) → IsAlone e → HaveRows d e typed → IsSound d e
+    → IsSound d (after_typing d e typed)
+typed-sound d e [] alone has h = h
+typed-sound d e (key ∷ typed) alone has h =
+    let new = after_key d key.1 e key.0 in
+    typed-sound d new typed (key-alone d key.1 e key.0 alone) has.1 (key-sound d key.1 e key.0 alone has.0 (first-rows d new typed has.1) h)
   where
     first-rows : (d : Data) (e : Editor) (typed : List (Key × Option StoreFault)) → HaveRows d e typed → HasRows e
     first-rows d e [] has = has
@@ -315,6 +370,6 @@ pub shown-stands : ShownStands
 shown-stands d text height width base typed has shown =
     let start = at_start text height width base in
     let e = after_typing d start typed in
-    let sound = typed-sound d start typed has (quiet-sound d start refl) in
+    let sound = typed-sound d start typed (inl refl) has (quiet-sound d start refl) in
     let there : IsThere d e = subst (Stands d e) shown sound.1 in
     record { aim_is = there.0; here = there.1.0; place_is = there.1.1 }

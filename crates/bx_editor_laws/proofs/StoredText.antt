@@ -4,11 +4,7 @@ use Rattle.std.specs.Prelude.{◌&&◌, ◌||◌, ◌==◌, not, encode_utf8, Op
 use Rattle.std.proofs.lemmas.Bool.Decides.{nat_tests}
 use Rattle.bx_terms.specs.declared.base.Base.{Base}
 use Rattle.bx_keys.specs.declared.key.Key.{Key}
-use Rattle.bx_keys.specs.declared.key.Key.TheVariants.{Insert, Erase, Delete, Back, Forward, Up, Down, Right, Left, RowHome, RowEnd, PageUp, PageDown, Save}
-use Rattle.bx_keys.specs.declared.key.Key.TheVariants.{Quit, Undo, Redo, Repaint, Direction, Size, Mark, Copy, Cut, Put}
-use Rattle.bx_keys.specs.declared.key.Key.TheVariants.{Find, FindBack, WordLeft, WordRight, TextStart, TextEnd, Help, Notice}
-use Rattle.bx_keys.specs.declared.key.Key.TheVariants.{EraseWord, DeleteWord, ErasePoint, NewLine, FindNext, Cancel, LineUp, LineDown, PageBack, PageOn}
-use Rattle.bx_keys.specs.declared.key.Key.TheVariants.{Select, UndoRun, RedoRun, GoTo, Replace, Name, Tell, PasteStart, PasteEnd}
+use Rattle.bx_keys.specs.declared.key.Key.TheVariants.{Insert, Repaint, Save}
 use Rattle.bx_store.specs.declared.store.StoreFault.{StoreFault}
 use Rattle.bx_text.specs.declared.change.Change.{Change}
 use Rattle.bx_text.specs.Edits.{Edit, Edited}
@@ -37,17 +33,20 @@ use Rattle.bx_editor.specs.Editor.{with_exchange, with_insertion, with_insertion
 use Rattle.bx_editor.specs.Effects.{Effect, Types, BeginsLine, Puts, Removes, RemovesWord, Steps, StepsRun, Goes, GoesByRows, Marks, Selects}
 use Rattle.bx_editor.specs.Effects.{Unmarks, Copies, Cuts, Seeks, SeeksNext, Saves, Quits, Turns, Helps, AsksLine, AsksName, Tells, Rests, Before, before, by}
 use Rattle.bx_editor.specs.Erasing.{after_erasing, after_erasing_word, after_removing, removed_on}
-use Rattle.bx_editor.specs.Keys.{Answer, Letter, Shortens, GoesBack, Stays, Ends, after_any, after_asking, after_key, after_pressing}
+use Rattle.bx_editor.specs.Keys.{Answer, Letter, Shortens, GoesBack, Stays, Ends, after_any, after_asking, after_in_paste, after_key, after_press, after_pressing, after_user}
 use Rattle.bx_editor.specs.Keys.{answer_of, answered, answered_match, answered_other, answered_question, effect_of, is_save}
 use Rattle.bx_editor_laws.specs.Laws.{after_typing}
-use Rattle.bx_editor.specs.Putting.{after_character, after_new_line, after_put, has_room, is_paste, line_end, put_in, typed, with_selection_replaced, yielding}
-use Rattle.bx_editor.specs.Region.{after_copy, after_cut, bytes_in, is_at_mark, is_empty, line, region, taken}
+use Rattle.bx_editor.specs.Pasting.{paste_ended, without_paste}
+use Rattle.bx_editor.specs.Putting.{after_character, after_new_line, after_put, has_room, line_end, put_in, typed, with_selection_replaced, yielding}
+use Rattle.bx_editor.specs.Region.{after_copy, after_cut, bytes_in, held_message, is_at_mark, is_empty, line, region, taken, with_held}
 use Rattle.bx_editor_laws.specs.RunLaws.{stored_last, UnchangedIsStored}
 use Rattle.bx_editor.specs.Runs.{by_run, is_changed_at, run_goal, run_length}
 use Rattle.bx_editor.specs.Search.{after_beginning, next_or_start, search_from, sought, without_search}
 use Rattle.bx_editor.specs.Selecting.{is_selection, selecting, unselected}
+use Rattle.bx_editor_laws.proofs.PasteEnded.{ended-by, none-ended}
 use Rattle.bx_editor_laws.proofs.Chains.{Chain, opened-chain, redone-chain, replaced-chain, stored-chain, undone-chain}
 use Rattle.bx_editor.specs.Wrapping.{with_wrap}
+use Rattle.bx_editor.proofs.EffectsKept.{IsKeptPasting, start-keeps}
 use Rattle.bx_editor.proofs.InSearch.{each-key}
 use Rattle.bx_editor.proofs.Questions.{IsKept, letter-keeps, shorter-keeps}
 use Rattle.bx_editor.proofs.Searches.{IsKeptSeeking, is_end, match-keeps, other-keeps, query-keeps}
@@ -80,13 +79,17 @@ removal s d e start stop on h = record {
   unchanged = λ is. absurd (cc is);
 }
 
+replacing : (s : List ℕ) (d : Data) (e : Editor) (new : List ℕ) → Has s e → Has s (with_selection_replaced d e new)
+replacing s d e new h =
+    let without = with_removal d e (region e).0 (region e).1 false in
+    insertion s d without without.place new true (removal s d e (region e).0 (region e).1 false h)
+
 putting : (s : List ℕ) (d : Data) (e : Editor) (new : List ℕ) (on : Bool) → Has s e → Has s (put_in d e new on)
 putting s d e new on h =
     let two = with_selection_replaced d e new in
     let one = with_insertion d e new on in
-    let without = with_removal d e (region e).0 (region e).1 false in
     either (has_room e new) s (if is_selection e then two else one) (record e { message = Some messages.TextFull })
-    (either (is_selection e) s two one (insertion s d without without.place new true (removal s d e (region e).0 (region e).1 false h)) (insertion s d e e.place new on h)) h
+    (either (is_selection e) s two one (replacing s d e new h) (insertion s d e e.place new on h)) h
 
 typing-has : (s : List ℕ) (d : Data) (typing : Typing) (e : Editor) (new : List ℕ) (kind : Kind) → Has s e → Has s (typed d typing e new kind)
 typing-has s d typing e new kind h = putting s d e new (goes_on typing kind) h
@@ -95,10 +98,7 @@ new-line : (s : List ℕ) (d : Data) (typing : Typing) (e : Editor) → Has s e 
 new-line s d typing e h = typing-has s d typing e (line_end d (splice e.content.text (yielding e).0 (yielding e).1 [])) kinds.Separator h
 
 character : (s : List ℕ) (d : Data) (typing : Typing) (e : Editor) (c : ℕ) → Has s e → Has s (after_character d typing e c)
-character s d typing e c h =
-    let kind = kind_of (d.class c) in
-    either ((c == 0xA) && is_paste typing) s (after_new_line d typing e) (typed d typing e (encode_utf8 c) kind) (new-line s d typing e h)
-    (typing-has s d typing e (encode_utf8 c) kind h)
+character s d typing e c h = typing-has s d typing e (encode_utf8 c) (kind_of (d.class c)) h
 
 put : (s : List ℕ) (d : Data) (e : Editor) → Has s e → Has s (after_put d e)
 put s d e h =
@@ -122,14 +122,16 @@ erasing-word s d e start stop h =
 copy : (s : List ℕ) (d : Data) (e : Editor) → Has s e → Has s (after_copy d e)
 copy s d e h =
     let none : Editor = record e { mark = None; soft = softness.Off; message = Some messages.NothingToCopy } in
-    let one : Editor = record e { mark = None; soft = softness.Off; held = bytes_in e (line d e); message = Some messages.LineCopied } in
-    either (is_empty (region e)) s (if is_empty (line d e) then none else one)
-    (record e { mark = None; soft = softness.Off; held = bytes_in e (region e); message = Some messages.Copied }) (either (is_empty (line d e)) s none one h h) h
+    let one = with_held e (bytes_in e (line d e)) messages.LineCopied in
+    either (is_empty (region e)) s (if is_empty (line d e) then none else one) (with_held e (bytes_in e (region e)) messages.Copied)
+    (either (is_empty (line d e)) s none one h h) h
 
 cut : (s : List ℕ) (d : Data) (e : Editor) → Has s e → Has s (after_cut d e)
 cut s d e h =
     let part = taken d e in
-    either (is_empty part) s (after_copy d e) (record (with_removal d e (part.0) (part.1) false) { held = bytes_in e part }) (copy s d e h)
+    let held = bytes_in e part in
+    either (is_empty part) s (after_copy d e)
+    (record (with_removal d e (part.0) (part.1) false) { held = held; message = held_message e.clipboard held e.message }) (copy s d e h)
     (removal s d e (part.0) (part.1) false h)
 
 -- ---- steps
@@ -220,57 +222,8 @@ effect s d fault was e Rests h = h
 
 -- Save alone saves, and it ends a search
 each : (d : Data) (e : Editor) (key : Key) → (is_saves (effect_of d e key) ≡ is_save key) × ((is_end (answer_of key) || not (is_save key)) ≡ true)
-each d e (Insert c) = (refl, refl)
-each d e Erase = (refl, refl)
-each d e Delete = (refl, refl)
-each d e Back = (refl, refl)
-each d e Forward = (refl, refl)
-each d e Up = (refl, refl)
-each d e Down = (refl, refl)
-each d e Right = (refl, refl)
-each d e Left = (refl, refl)
-each d e RowHome = (refl, refl)
-each d e RowEnd = (refl, refl)
-each d e PageUp = (refl, refl)
-each d e PageDown = (refl, refl)
 each d e Save = (refl, refl)
-each d e Quit = (refl, refl)
-each d e Undo = (refl, refl)
-each d e Redo = (refl, refl)
-each d e Repaint = (refl, refl)
-each d e Direction = (refl, refl)
-each d e Mark = (refl, refl)
-each d e Copy = (refl, refl)
-each d e Cut = (refl, refl)
-each d e Put = (refl, refl)
-each d e Find = (refl, refl)
-each d e FindBack = (refl, refl)
-each d e WordLeft = (refl, refl)
-each d e WordRight = (refl, refl)
-each d e TextStart = (refl, refl)
-each d e TextEnd = (refl, refl)
-each d e Help = (refl, refl)
-each d e EraseWord = (refl, refl)
-each d e DeleteWord = (refl, refl)
-each d e ErasePoint = (refl, refl)
-each d e NewLine = (refl, refl)
-each d e FindNext = (refl, refl)
-each d e Cancel = (refl, refl)
-each d e LineUp = (refl, refl)
-each d e LineDown = (refl, refl)
-each d e PageBack = (refl, refl)
-each d e PageOn = (refl, refl)
-each d e Select = (refl, refl)
-each d e UndoRun = (refl, refl)
-each d e RedoRun = (refl, refl)
-each d e GoTo = (refl, refl)
-each d e Replace = (refl, refl)
-each d e Name = (refl, refl)
-each d e Tell = (refl, refl)
-each d e PasteStart = (refl, refl)
-each d e PasteEnd = (refl, refl)
-each d e (Size height width) = (refl, refl)
-each d e (Notice notice) = (refl, refl)
+each d e _ = (refl, refl)
 
 no-save : (s : List ℕ) (e new : Editor) (fault : Option StoreFault) (saves : Bool) → (false || not saves) ≡ true → Has s new
     → Has (stored_by s e saves fault) new
@@ -294,6 +247,7 @@ sought-has s d = record {
   told = λ e message h. h;
   placed = λ e place h. h;
   typed = λ e typing h. h;
+  begun = λ e h. h;
   sought = λ e seek aim origin query other at count h. h;
 }
 
@@ -369,17 +323,41 @@ any s d fault was asks.Line seek e key h = asking s d fault was e key h
 any s d fault was asks.Name seek e key h = asking s d fault was e key h
 any s d fault was asks.Code seek e key h = asking s d fault was e key h
 
+-- ---- in a paste
+
+ended : (s : List ℕ) (d : Data) (e : Editor) → Has s e → Has s (paste_ended d e)
+ended s d e h =
+    let left = without_paste e in
+    ended-by d e (Has s) h h (λ list. replacing s d left list h) (λ list. insertion s d left left.place list false h) h
+
+in-paste : (s : List ℕ) (d : Data) (fault : Option StoreFault) (e : Editor) (key : Key) → Has s e
+    → Has (stored_by s (paste_ended d e) (is_save key) fault) (after_in_paste d fault e key)
+in-paste s d fault e (Insert c) h = h
+in-paste s d fault e Repaint h = any s d fault (before e) e.ask e.seek (cleared e) Repaint h
+in-paste s d fault e key h = let x = paste_ended d e in any s d fault (before x) x.ask x.seek (cleared x) key (ended s d e h)
+
+press : (s : List ℕ) (d : Data) (fault : Option StoreFault) (e : Editor) (key : Key) (pasted : Option (List ℕ)) → e.pasted ≡ pasted → Has s e
+    → Has (stored_by s (paste_ended d e) (is_save key) fault) (after_press d fault pasted e key)
+press s d fault e key None none h =
+    subst (λ (x : Editor). Has (stored_by s x (is_save key) fault) (after_user d fault e key)) (sym (none-ended d e none))
+    (any s d fault (before e) e.ask e.seek (cleared e) key h)
+press s d fault e key (Some list) is h = in-paste s d fault e key h
+
+begun : (s : List ℕ) → IsKeptPasting (Has s)
+begun s = record { pasted = λ e pasted message typing h. h; lengthened = λ e pasted soft h. h }
+
 key-has : (s : List ℕ) (d : Data) (fault : Option StoreFault) (e : Editor) (key : Key) → Has s e
-    → Has (stored_by s e (is_save key) fault) (after_key d fault e key)
+    → Has (stored_by s (paste_ended d e) (is_save key) fault) (after_key d fault e key)
 key-has s d fault e key h =
-    each-key d fault e (λ k new. Has (stored_by s e (is_save k) fault) new) (λ height width. h) (λ notice. h) (h, h)
-    (λ k other. any s d fault (before e) e.ask e.seek (cleared e) k h) key
+    each-key d fault e (λ k new. Has (stored_by s (paste_ended d e) (is_save k) fault) new) (λ height width. h) (λ notice. h)
+    (start-keeps (Has s) (begun s) e h, ended s d e h)
+    (λ k other. press s d fault e k e.pasted refl h) key
 
 all-typed : (s : List ℕ) (d : Data) (e : Editor) (typed : List (Key × Option StoreFault)) → Has s e
     → Has (stored_last d s e typed) (after_typing d e typed)
 all-typed s d e [] h = h
 all-typed s d e (key ∷ typed) h =
-    all-typed (stored_by s e (is_save key.0) key.1) d (after_key d key.1 e key.0) typed (key-has s d key.1 e key.0 h)
+    all-typed (stored_by s (paste_ended d e) (is_save key.0) key.1) d (after_key d key.1 e key.0) typed (key-has s d key.1 e key.0 h)
 
 pub typed-has : (d : Data) (text : List ℕ) (height width : ℕ) (base : Base) (typed : List (Key × Option StoreFault))
     → let start = at_start text height width base in Has (stored_last d text start typed) (after_typing d start typed)

@@ -26,8 +26,8 @@ use Rattle.bx_editor.specs.Runs.{by_run, run_length}
 use Rattle.bx_editor.specs.Search.{after_beginning, next_or_start, search_from, sought, without_search}
 use Rattle.bx_editor.specs.Selecting.{unselected}
 use Rattle.bx_editor_laws.specs.Laws.{after_typing, IsBackAt, IsUnmarkedAt, mark_behind, UndoGivesBack, RedoMirrorsUndo}
-use Rattle.bx_editor.proofs.EffectsKept.{IsKeptPressing, asks_or_seeks, effect-keeps}
-use Rattle.bx_editor.proofs.InSearch.{behind, each-key}
+use Rattle.bx_editor.proofs.EffectsKept.{IsKeptPasting, IsKeptPressing, asks_or_seeks, effect-keeps, ended-keeps, paste-end-keeps, start-keeps}
+use Rattle.bx_editor.proofs.InSearch.{any-key, behind, each-key, press-keeps}
 use Rattle.bx_editor.proofs.Questions.{IsKept, question-keeps}
 use Rattle.bx_editor.proofs.Searches.{IsKeptSeeking, match-keeps, other-keeps, query-keeps}
 
@@ -158,6 +158,7 @@ sought_has d first = record {
   told = λ e message h. h;
   placed = λ e place h. h;
   typed = λ e typing h. h;
+  begun = λ e h. h;
   sought = λ e seek aim origin query other at count h. h;
 }
 
@@ -208,11 +209,20 @@ any_has d fault was first asks.Line seek e key h = asked_has d fault was first e
 any_has d fault was first asks.Name seek e key h = asked_has d fault was first e key h
 any_has d fault was first asks.Code seek e key h = asked_has d fault was first e key h
 
+-- in a paste
+pasting_has : (first : List ℕ) → IsKeptPasting (λ e. HasVersions first e.content)
+pasting_has first = record { pasted = λ e pasted message typing h. h; lengthened = λ e pasted soft h. h }
+
 key_has : (d : Data) (fault : Option StoreFault) (first : List ℕ) (e : Editor) (key : Key) → HasVersions first e.content
     → HasVersions first (after_key d fault e key).content
 key_has d fault first e key h =
-    each-key d fault e (λ k new. HasVersions first new.content) (λ height width. h) (λ notice. h) (h, h)
-    (λ k other. any_has d fault (before e) first e.ask e.seek (cleared e) k h) key
+    let P = λ (x : Editor). HasVersions first x.content in
+    each-key d fault e (λ k new. P new) (λ height width. h) (λ notice. h)
+    (start-keeps P (pasting_has first) e h, paste-end-keeps d P (pressing_has d first) (pasting_has first) e h)
+    (λ k other.
+    press-keeps d fault e P k (λ x has. any_has d fault (before x) first x.ask x.seek (cleared x) k has)
+    (λ x has. ended-keeps d P (pressing_has d first) (pasting_has first) x has) (λ c. h) h)
+    key
 
 typing_has : (d : Data) (first : List ℕ) (e : Editor) (typed : List (Key × Option StoreFault)) → HasVersions first e.content
     → HasVersions first (after_typing d e typed).content
@@ -259,68 +269,93 @@ none_behind : (past : List Edit) → mark_behind None past ≡ None
 none_behind [] = refl
 none_behind (edit ∷ past) = refl
 
-all_back : (d : Data) (first : List ℕ) (e : Editor) (text : List ℕ) (past future : List Edit) → IsPastOf first text past
+all_back : (d : Data) (first : List ℕ) (e : Editor) (text : List ℕ) (past future : List Edit) → e.pasted ≡ None → IsPastOf first text past
     → let now : Editor = record e { content = version text past future } in IsBackAt first now (after_keys d None now (replicate (length past) Undo))
-all_back d first e text [] future h = record { text_is = h; past_is = refl; place_is = refl; mark_is = refl }
-all_back d first e text (edit ∷ past) future h =
+all_back d first e text [] future settled h = record { text_is = h; past_is = refl; place_is = refl; mark_is = refl }
+all_back d first e text (edit ∷ past) future settled h =
     let now : Editor = record e { content = version text (edit ∷ past) future } in
     let taken_back : Editor = record (cleared e) { place = edit.before.place; mark = None; soft = softness.Off; seek = Off; ask = asks.Off; changed = true; goal = None } in
-    let back = all_back d first taken_back edit.before.text past (edit ∷ future) h.1 in
+    let back = all_back d first taken_back edit.before.text past (edit ∷ future) settled h.1 in
     subst (λ new. IsBackAt first now (after_keys d None new (replicate (length past) Undo)))
-    (sym (ap behind (undone_is d (before e) e.ask e.seek (cleared e) text edit past future refl)))
+    (sym (any-key d None now Undo settled refl ∙ ap behind (undone_is d (before e) e.ask e.seek (cleared e) text edit past future refl)))
     (record { text_is = back.text_is; past_is = back.past_is; place_is = back.place_is; mark_is = back.mark_is ∙ none_behind past })
 
-redo_back : (d : Data) (first : List ℕ) (e : Editor) (text : List ℕ) (past future : List Edit) → IsPastOf first text past → past ≢ []
+-- an editor of any text after one Undo, and after one Redo
+abbrev undone_once : Editor → List ℕ → Edit → List Edit → List Edit → Editor
+undone_once e text edit past future = behind (stepped (cleared e) (version edit.before.text past (edit ∷ future)) edit.before.place)
+
+abbrev redone_once : Editor → List ℕ → Edit → List Edit → List Edit → Editor
+redone_once e text edit past future = behind (stepped (cleared e) (version edit.after.text (edit ∷ past) future) edit.after.place)
+
+undo_once : (d : Data) (e : Editor) (text : List ℕ) (edit : Edit) (past future : List Edit) → e.pasted ≡ None
+    → after_key d None (record e { content = version text (edit ∷ past) future }) Undo ≡ undone_once e text edit past future
+undo_once d e text edit past future settled =
+    any-key d None (record e { content = version text (edit ∷ past) future }) Undo settled refl
+    ∙ ap behind (undone_is d (before e) e.ask e.seek (cleared e) text edit past future refl)
+
+redo_once : (d : Data) (e : Editor) (text : List ℕ) (edit : Edit) (past future : List Edit) → e.pasted ≡ None
+    → after_key d None (record e { content = version text past (edit ∷ future) }) Redo ≡ redone_once e text edit past future
+redo_once d e text edit past future settled =
+    any-key d None (record e { content = version text past (edit ∷ future) }) Redo settled refl
+    ∙ ap behind (redone_is d (before e) e.ask e.seek (cleared e) text edit past future refl)
+
+redo_back : (d : Data) (first : List ℕ) (e : Editor) (text : List ℕ) (past future : List Edit) → e.pasted ≡ None → IsPastOf first text past → past ≢ []
     → (after_keys d None (record e { content = version text past future }) (Undo ∷ Redo ∷ [])).content ≡ version text past future
-redo_back d first e text [] future h some = absurd (some refl)
-redo_back d first e text (edit ∷ past) future h some =
-    ap (λ new. (after_key d None (behind new) Redo).content) (undone_is d (before e) e.ask e.seek (cleared e) text edit past future refl)
+redo_back d first e text [] future settled h some = absurd (some refl)
+redo_back d first e text (edit ∷ past) future settled h some =
+    ap (λ new. (after_key d None new Redo).content) (undo_once d e text edit past future settled)
+    ∙ ap (λ (new : Editor). new.content) (any-key d None (undone_once e text edit past future) Redo settled refl)
     ∙ ap (λ t. version t (edit ∷ past) future) h.0
 
-undo_back : (d : Data) (e : Editor) (text : List ℕ) (past future : List Edit) → IsFutureOf text future → future ≢ []
+undo_back : (d : Data) (e : Editor) (text : List ℕ) (past future : List Edit) → e.pasted ≡ None → IsFutureOf text future → future ≢ []
     → (after_keys d None (record e { content = version text past future }) (Redo ∷ Undo ∷ [])).content ≡ version text past future
-undo_back d e text past [] h some = absurd (some refl)
-undo_back d e text past (edit ∷ future) h some =
-    ap (λ new. (after_key d None (behind new) Undo).content) (redone_is d (before e) e.ask e.seek (cleared e) text edit past future refl)
+undo_back d e text past [] settled h some = absurd (some refl)
+undo_back d e text past (edit ∷ future) settled h some =
+    ap (λ new. (after_key d None new Undo).content) (redo_once d e text edit past future settled)
+    ∙ ap (λ (new : Editor). new.content) (any-key d None (redone_once e text edit past future) Undo settled refl)
     ∙ ap (λ t. version t past (edit ∷ future)) h.0
 
 -- ---- place and mark behind both
 
-redo_place : (d : Data) (e : Editor) (text : List ℕ) (past future : List Edit) (edit : Edit) (rest : List Edit) → past ≡ edit ∷ rest
+redo_place : (d : Data) (e : Editor) (text : List ℕ) (past future : List Edit) → e.pasted ≡ None → (edit : Edit) (rest : List Edit) → past ≡ edit ∷ rest
     → IsUnmarkedAt edit.after.place (after_keys d None (record e { content = version text past future }) (Undo ∷ Redo ∷ []))
-redo_place d e text [] future edit rest is = absurd (cc)
-redo_place d e text (latest ∷ past) future edit rest is =
+redo_place d e text [] future settled edit rest is = absurd (cc)
+redo_place d e text (latest ∷ past) future settled edit rest is =
     let same : latest ≡ edit = cc in
-    let undone = ap behind (undone_is d (before e) e.ask e.seek (cleared e) text latest past future refl) in
+    let undone = undo_once d e text latest past future settled in
+    let again = any-key d None (undone_once e text latest past future) Redo settled refl in
     let there : IsUnmarkedAt latest.after.place (after_keys d None (record e { content = version text (latest ∷ past) future }) (Undo ∷ Redo ∷ [])) =
-    subst (λ new. IsUnmarkedAt latest.after.place (after_key d None new Redo)) (sym undone) (record { place_is = refl; mark_is = refl }) in
+    subst (λ new. IsUnmarkedAt latest.after.place (after_key d None new Redo)) (sym undone)
+    (subst (IsUnmarkedAt latest.after.place) (sym again) (record { place_is = refl; mark_is = refl })) in
     subst (λ (x : Edit). IsUnmarkedAt x.after.place (after_keys d None (record e { content = version text (latest ∷ past) future }) (Undo ∷ Redo ∷ [])))
     same there
 
-undo_place : (d : Data) (e : Editor) (text : List ℕ) (past future : List Edit) (edit : Edit) (rest : List Edit) → future ≡ edit ∷ rest
+undo_place : (d : Data) (e : Editor) (text : List ℕ) (past future : List Edit) → e.pasted ≡ None → (edit : Edit) (rest : List Edit) → future ≡ edit ∷ rest
     → IsUnmarkedAt edit.before.place (after_keys d None (record e { content = version text past future }) (Redo ∷ Undo ∷ []))
-undo_place d e text past [] edit rest is = absurd (cc)
-undo_place d e text past (next ∷ future) edit rest is =
+undo_place d e text past [] settled edit rest is = absurd (cc)
+undo_place d e text past (next ∷ future) settled edit rest is =
     let same : next ≡ edit = cc in
-    let redone = ap behind (redone_is d (before e) e.ask e.seek (cleared e) text next past future refl) in
+    let redone = redo_once d e text next past future settled in
+    let again = any-key d None (redone_once e text next past future) Undo settled refl in
     let there : IsUnmarkedAt next.before.place (after_keys d None (record e { content = version text past (next ∷ future) }) (Redo ∷ Undo ∷ [])) =
-    subst (λ new. IsUnmarkedAt next.before.place (after_key d None new Undo)) (sym redone) (record { place_is = refl; mark_is = refl }) in
+    subst (λ new. IsUnmarkedAt next.before.place (after_key d None new Undo)) (sym redone)
+    (subst (IsUnmarkedAt next.before.place) (sym again) (record { place_is = refl; mark_is = refl })) in
     subst (λ (x : Edit). IsUnmarkedAt x.before.place (after_keys d None (record e { content = version text past (next ∷ future) }) (Redo ∷ Undo ∷ [])))
     same there
 
 pub undo_gives_back : UndoGivesBack
-undo_gives_back d text height width base typed =
+undo_gives_back d text height width base typed settled =
     let e = after_typing d (at_start text height width base) typed in
     let has = all_typed_has d text height width base typed in
-    all_back d text e e.content.text e.content.past e.content.future has.past
+    all_back d text e e.content.text e.content.past e.content.future settled has.past
 
 pub redo_mirrors_undo : RedoMirrorsUndo
-redo_mirrors_undo d text height width base typed =
+redo_mirrors_undo d text height width base typed settled =
     let e = after_typing d (at_start text height width base) typed in
     let has = all_typed_has d text height width base typed in
     record {
-      redo = redo_back d text e e.content.text e.content.past e.content.future has.past;
-      redo_place = redo_place d e e.content.text e.content.past e.content.future;
-      undo_place = undo_place d e e.content.text e.content.past e.content.future;
-      undo = undo_back d e e.content.text e.content.past e.content.future has.future;
+      redo = redo_back d text e e.content.text e.content.past e.content.future settled has.past;
+      redo_place = redo_place d e e.content.text e.content.past e.content.future settled;
+      undo_place = undo_place d e e.content.text e.content.past e.content.future settled;
+      undo = undo_back d e e.content.text e.content.past e.content.future settled has.future;
     }

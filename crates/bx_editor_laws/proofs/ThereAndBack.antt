@@ -38,6 +38,7 @@ use Rattle.bx_editor.specs.Goal.{after_row_move}
 use Rattle.bx_editor.specs.Keys.{after_any, after_key, after_keys, as_left}
 use Rattle.bx_editor.specs.Selecting.{aged, mark_left, soft_left, unselected}
 use Rattle.bx_editor_laws.specs.WorkLaws.{LeadsBack, LineMovesGoBack, own_row}
+use Rattle.bx_editor.proofs.InSearch.{any-key}
 use Rattle.bx_editor_laws.proofs.EnteredAgain.{IsEnteredBy, IsFull, entered-again, entered-at-edge}
 use Rattle.bx_editor_laws.proofs.UnitColumns.{rows-have-columns}
 
@@ -129,7 +130,7 @@ down-any d was asks.Line e is = refl
 down-any d was asks.Name e is = refl
 down-any d was asks.Code e is = refl
 
-module _ (d : Data) (e : Editor) (off : e.seek ≡ Off) (column : ℕ) where
+module _ (d : Data) (e : Editor) (off : e.seek ≡ Off) (settled : e.pasted ≡ None) (column : ℕ) where
   -- at a place, with the column kept
   abbrev kept-at : Marks → ℕ → Editor
   kept-at m place = record e { place = place; mark = m.0; soft = m.1; ask = asks.Off; typing = typings.Off; message = None; quit_before = false; goal = Some column }
@@ -137,9 +138,9 @@ module _ (d : Data) (e : Editor) (off : e.seek ≡ Off) (column : ℕ) where
   key-moves : (way : Vertical) (m : Marks) (place : ℕ)
       → after_key d None (kept-at m place) (row_key way) ≡ kept-at (left m) (rows_away e.width (rows d e) way 1 column place)
   key-moves Up m place =
-      ap (λ s. as_left LineUp (after_any d None (before (kept-at m place)) asks.Off s (kept-at m place) LineUp)) off
+      any-key d None (kept-at m place) LineUp settled refl ∙ ap (λ s. as_left LineUp (after_any d None (before (kept-at m place)) asks.Off s (kept-at m place) LineUp)) off
   key-moves Down m place =
-      ap (λ s. as_left LineDown (after_any d None (before (kept-at m place)) asks.Off s (kept-at m place) LineDown)) off
+      any-key d None (kept-at m place) LineDown settled refl ∙ ap (λ s. as_left LineDown (after_any d None (before (kept-at m place)) asks.Off s (kept-at m place) LineDown)) off
 
   -- the first one keeps the cursor's column
   abbrev first-at : Vertical → Option ℕ → Editor
@@ -159,9 +160,9 @@ module _ (d : Data) (e : Editor) (off : e.seek ≡ Off) (column : ℕ) where
 
   first-key : (way : Vertical) → after_key d None e (row_key way) ≡ first-at way e.goal
   first-key Up =
-      ap (λ s. as_left LineUp (after_any d None (before e) e.ask s (cleared e) LineUp)) off ∙ ap (as_left LineUp) (up-any d (before e) e.ask (cleared e) refl)
+      any-key d None e LineUp settled refl ∙ ap (λ s. as_left LineUp (after_any d None (before e) e.ask s (cleared e) LineUp)) off ∙ ap (as_left LineUp) (up-any d (before e) e.ask (cleared e) refl)
   first-key Down =
-      ap (λ s. as_left LineDown (after_any d None (before e) e.ask s (cleared e) LineDown)) off ∙ ap (as_left LineDown) (down-any d (before e) e.ask (cleared e) refl)
+      any-key d None e LineDown settled refl ∙ ap (λ s. as_left LineDown (after_any d None (before e) e.ask s (cleared e) LineDown)) off ∙ ap (as_left LineDown) (down-any d (before e) e.ask (cleared e) refl)
 
   -- the marks at first
   abbrev own : Marks
@@ -275,7 +276,7 @@ module _ (d : Data) (e : Editor) (has : HasRows e) (place : IsTextPlace d e.cont
   stays : LeadsBack d e 0 e
   stays = record { to_place = λ not. refl; to_edge = λ full more. absurd (omega (arith, more)) }
 
-  module _ (off : e.seek ≡ Off) (none : e.goal ≡ None) where
+  module _ (off : e.seek ≡ Off) (settled : e.pasted ≡ None) (none : e.goal ≡ None) where
     down-and-up : (n : ℕ) → k + n < length (rows d e) → LeadsBack d e n (after_keys d None e (replicate n LineDown ++ replicate n LineUp))
     down-and-up zero below = stays
     down-and-up (suc m) below =
@@ -286,11 +287,11 @@ module _ (d : Data) (e : Editor) (has : HasRows e) (place : IsTextPlace d e.cont
         let last = left_after (suc m) first in
         leads-back (suc m) new
         (ap (λ (x : Editor). x.place)
-        (there-and-back d e off column some has.text Down Up m far first last none refl
-        (goes-down d e off column some has.text m k e.place (e.mark, e.soft) refl below)
-        (goes-up d e off column some has.text m far (enter d e.base e.width some e.content.text has.text column far) first
+        (there-and-back d e off settled column some has.text Down Up m far first last none refl
+        (goes-down d e off settled column some has.text m k e.place (e.mark, e.soft) refl below)
+        (goes-up d e off settled column some has.text m far (enter d e.base e.width some e.content.text has.text column far) first
         (falls-there d e.base e.width some e.content.text has.text column far below) (omega arith) below
-        ∙ ap (at-row d e off column some has.text last) same)))
+        ∙ ap (at-row d e off settled column some has.text last) same)))
 
     up-and-down : (n : ℕ) → n ≤ k → LeadsBack d e n (after_keys d None e (replicate n LineUp ++ replicate n LineDown))
     up-and-down zero above = stays
@@ -303,11 +304,12 @@ module _ (d : Data) (e : Editor) (has : HasRows e) (place : IsTextPlace d e.cont
         let last = left_after (suc m) first in
         leads-back (suc m) new
         (ap (λ (x : Editor). x.place)
-        (there-and-back d e off column some has.text Up Down m far first last none refl
-        (goes-up d e off column some has.text m k e.place (e.mark, e.soft) refl above one.row)
-        (goes-down d e off column some has.text m far (enter d e.base e.width some e.content.text has.text column far) first
+        (there-and-back d e off settled column some has.text Up Down m far first last none refl
+        (goes-up d e off settled column some has.text m k e.place (e.mark, e.soft) refl above one.row)
+        (goes-down d e off settled column some has.text m far (enter d e.base e.width some e.content.text has.text column far) first
         (falls-there d e.base e.width some e.content.text has.text column far within) (omega (arith, above, one.row))
-        ∙ ap (at-row d e off column some has.text last) same)))
+        ∙ ap (at-row d e off settled column some has.text last) same)))
 
 pub line-moves-go-back : LineMovesGoBack
-line-moves-go-back d e n has off none place = record { below = down-and-up d e has place off none n; above = up-and-down d e has place off none n }
+line-moves-go-back d e n has off settled none place =
+    record { below = down-and-up d e has place off settled none n; above = up-and-down d e has place off settled none n }

@@ -81,6 +81,7 @@ record IsTyping (first e : Editor) (answer : List ℕ) : Type 0 where
   pub ask : e.ask ≡ Line
   pub typing : e.typing ≡ typings.Off
   pub answer_is : e.answer ≡ answer
+  pub settled : e.pasted ≡ None
   pub leaves : Leaves first e
 
 no-end-by : (c : ℕ) (b : Bool) → (c == 0xA) ≡ b → is_line_letter c ≡ true → b ≡ false
@@ -106,7 +107,7 @@ type-on d first e answer c h all letter room =
     let was = cleared e in
     let typed = with_answer was (lengthened longest_line e.answer c) in
     let is : after_key d None e (keys.Insert c) ≡ as_left (keys.Insert c) (with_typing (with_answer was (answer ++ c ∷ [])) typings.Off) =
-    asked-key d None e (keys.Insert c) (on-line e h.ask) refl
+    asked-key d None e (keys.Insert c) h.settled (on-line e h.ask) refl
     ∙ ap₂ (λ t a. as_left (keys.Insert c) (after_answer_letter d t a was c)) h.typing h.ask
     ∙ ap (λ b. as_left (keys.Insert c) (with_typing (if b then after_going d was else (if is_line_letter c then typed else was)) typings.Off))
     (no-end-by c (c == 0xA) refl letter.line)
@@ -118,8 +119,10 @@ type-on d first e answer c h all letter room =
       ask = h.ask;
       typing = refl;
       answer_is = refl;
+      settled = h.settled;
       leaves = record {
         content = h.leaves.content;
+        pasted = h.leaves.pasted;
         place = h.leaves.place;
         held = h.leaves.held;
         hard = λ s. let still = h.leaves.hard s in (still.0, ap aged still.1);
@@ -160,12 +163,12 @@ ended : (d : Data) (first e : Editor) (key : Key) → after_key d None e key ≡
     → IsTyping first e (told_numbers d first) → HasTextPlace d first → IsUntouched first (after_key d None e key) × ((after_key d None e key).ask ≡ Off)
 ended d first e key is h has =
     let was = cleared e in
-    let left : Leaves first was = record { content = h.leaves.content; place = h.leaves.place; held = h.leaves.held; hard = h.leaves.hard } in
+    let left : Leaves first was = record { content = h.leaves.content; pasted = h.leaves.pasted; place = h.leaves.place; held = h.leaves.held; hard = h.leaves.hard } in
     let there = stays-there d was (has-still d first was left has) (h.answer_is ∙ told-still d first was left) in
     let new = with_typing (without_ask was) typings.Off in
     let whole : after_key d None e key ≡ as_left key new =
     is ∙ ap₂ (λ t a. as_left key (after_answer_letter d t a was 0xA)) h.typing h.ask ∙ ap (λ x. as_left key (with_typing x typings.Off)) there in
-    let stays : Leaves was new = record { content = refl; place = refl; held = refl; hard = λ s. (refl, s) } in
+    let stays : Leaves was new = record { content = refl; pasted = refl; place = refl; held = refl; hard = λ s. (refl, s) } in
     subst (λ (x : Editor). IsUntouched first x × (x.ask ≡ Off)) (sym whole)
     (untouched first (as_left key new) (leaves-trans first e (as_left key new) h.leaves (left-leaves e new key stays)), refl)
 
@@ -174,20 +177,21 @@ entered : (d : Data) (first e : Editor) (enter : Key) → is_enter enter ≡ tru
 entered d first e (keys.Insert c) end h has =
     let same : c ≡ 0xA = grind (arith, nat_tests, end) in
     ended d first e (keys.Insert c)
-    (asked-key d None e (keys.Insert c) (on-line e h.ask) refl ∙ ap (λ x. as_left (keys.Insert c) (after_answer_letter d e.typing e.ask (cleared e) x)) same) h has
-entered d first e keys.NewLine end h has = ended d first e keys.NewLine (asked-key d None e keys.NewLine (on-line e h.ask) refl) h has
+    (asked-key d None e (keys.Insert c) h.settled (on-line e h.ask) refl ∙ ap (λ x. as_left (keys.Insert c) (after_answer_letter d e.typing e.ask (cleared e) x)) same) h has
+entered d first e keys.NewLine end h has = ended d first e keys.NewLine (asked-key d None e keys.NewLine h.settled (on-line e h.ask) refl) h has
 entered d first e _ end h has = absurd (cc end)
 
 -- ---- the law
 
-begun : (d : Data) (e : Editor) → IsTyping e (after_key d None e keys.GoTo) []
-begun d e =
-    subst (λ (x : Editor). IsTyping e x []) (sym (line-is d e))
+begun : (d : Data) (e : Editor) → e.pasted ≡ None → IsTyping e (after_key d None e keys.GoTo) []
+begun d e settled =
+    subst (λ (x : Editor). IsTyping e x []) (sym (line-is d e settled))
     (record {
       ask = refl;
       typing = refl;
       answer_is = refl;
-      leaves = record { content = refl; place = refl; held = refl; hard = λ h. (ap (λ s. mark_left s e.mark) h, ap (λ s. aged (soft_left s)) h) };
+      settled = settled;
+      leaves = record { content = refl; pasted = refl; place = refl; held = refl; hard = λ h. (ap (λ s. mark_left s e.mark) h, ap (λ s. aged (soft_left s)) h) };
     })
 
 asked-with : (d : Data) (e : Editor) → HasTextPlace d e → HasTextPlace d (with_answer e (told_numbers d e))
@@ -197,8 +201,8 @@ pub told-numbers-lead-back : ToldNumbersLeadBack
 told-numbers-lead-back d e has = record {
   told = append_assoc (if e.changed then codes "* " else codes "- ") (told_numbers d e) (message_part (told_at_place d e) e.message);
   answered = stays-there d (with_answer e (told_numbers d e)) (asked-with d e has) refl;
-  typed = λ enter end.
+  typed = λ settled enter end.
       let told = told_numbers d e in
-      let all = all-typed d e (after_key d None e keys.GoTo) [] told (enter ∷ []) (begun d e) tt (letters-told d e has) (omega (arith, short-told d e has)) in
+      let all = all-typed d e (after_key d None e keys.GoTo) [] told (enter ∷ []) (begun d e settled) tt (letters-told d e has) (omega (arith, short-told d e has)) in
       subst (λ (x : Editor). IsUntouched e x × (x.ask ≡ Off)) (sym all.keys) (entered d e all.there enter end all.typing has);
 }

@@ -35,6 +35,7 @@ use Rattle.bx_editor.specs.Keys.{after_any, as_left}
 use Rattle.bx_editor.specs.Selecting.{aged}
 use Rattle.bx_editor.specs.Status.{paragraph_number, status_line, status_text, unit_number}
 use Rattle.bx_editor.specs.Telling.{told_at_place}
+use Rattle.bx_editor.proofs.InSearch.{any-key}
 use Rattle.bx_editor_laws.proofs.UnitBytes.{is-inside, unit-bytes, unit-step}
 
 -- ---- a unit
@@ -149,8 +150,8 @@ tell-any d was asks.Name seek e = refl
 tell-any d was asks.Code seek e = refl
 
 pub tell-shows : TellShows
-tell-shows d e =
+tell-shows d e settled =
     subst (λ (new : Editor). (status_text d new ≡ status_line e.changed (paragraph_number d e.content.text e.place + 1) (unit_number d e.content.text e.place)
     ++ (codes " " ++ told_at_place d e)) × IsUntouched e new)
-    (sym (tell-any d (before e) e.ask e.seek e))
+    (sym (any-key d None e Tell settled refl ∙ tell-any d (before e) e.ask e.seek e))
     (refl, record { content_is = refl; place_is = refl; held_is = refl; mark_is = λ h. refl })

@@ -23,7 +23,7 @@ behind_a_point = after (start (0x5d0 ∷ 0x301 ∷ 0x5d1 ∷ []) 2 20) (Forward 
 pub the_letter_and_the_rest_stay : ErasePointLeavesBeginning → (after behind_a_point (ErasePoint ∷ [])).content.text ≡ 0xd7 ∷ 0x90 ∷ 0xd7 ∷ 0x91 ∷ []
 unfolding unicode_segmentation unicode_width digits
 the_letter_and_the_rest_stay law =
-    (law tables behind_a_point (record { text = (0x5d0 ∷ 0x301 ∷ 0x5d1 ∷ [], (refl, refl)); columns = refl }) refl refl refl (1, omega arith, refl)).text_is
+    (law tables behind_a_point (record { text = (0x5d0 ∷ 0x301 ∷ 0x5d1 ∷ [], (refl, refl)); columns = refl }) refl refl refl refl (1, omega arith, refl)).text_is
 
 -- ---- the next match
 
@@ -53,7 +53,7 @@ at_a_rows_end = after (start (codes "abcdef\nab\nabcdef") 4 20) (RowEnd ∷ [])
 pub two_down_and_up : LineMovesGoBack → (after at_a_rows_end (LineDown ∷ LineDown ∷ LineUp ∷ LineUp ∷ [])).place ≡ 6
 unfolding unicode_segmentation unicode_width digits
 two_down_and_up law =
-    ((law tables at_a_rows_end 2 (record { text = (codes "abcdef\nab\nabcdef", (refl, refl)); columns = refl }) refl refl (6, omega arith, refl)).below
+    ((law tables at_a_rows_end 2 (record { text = (codes "abcdef\nab\nabcdef", (refl, refl)); columns = refl }) refl refl refl (6, omega arith, refl)).below
     (omega arith)).to_place (λ end. cc end.full)
 
 -- at the end of the third
@@ -63,7 +63,7 @@ at_the_last_end = after (start (codes "abcdef\nab\nabcdef") 4 20) (Down ∷ Down
 pub two_up_and_down : LineMovesGoBack → (after at_the_last_end (LineUp ∷ LineUp ∷ LineDown ∷ LineDown ∷ [])).place ≡ 16
 unfolding unicode_segmentation unicode_width digits
 two_up_and_down law =
-    ((law tables at_the_last_end 2 (record { text = (codes "abcdef\nab\nabcdef", (refl, refl)); columns = refl }) refl refl (16, omega arith, refl)).above
+    ((law tables at_the_last_end 2 (record { text = (codes "abcdef\nab\nabcdef", (refl, refl)); columns = refl }) refl refl refl (16, omega arith, refl)).above
     (omega arith)).to_place (λ end. cc end.full)
 
 -- in two columns the end of ab has the column of b
@@ -81,6 +81,6 @@ the_slot_of_b (suc (suc (suc i))) s inside is covered = absurd (omega (arith, in
 pub from_a_full_end_to_the_unit_at_the_edge : LineMovesGoBack → (after at_a_full_end (LineDown ∷ LineUp ∷ [])).place ≡ 1
 unfolding unicode_segmentation unicode_width digits
 from_a_full_end_to_the_unit_at_the_edge law =
-    let back = (law tables at_a_full_end 1 (record { text = (codes "ab\nab", (refl, refl)); columns = refl }) refl refl (2, omega arith, refl)).below (omega arith) in
+    let back = (law tables at_a_full_end 1 (record { text = (codes "ab\nab", (refl, refl)); columns = refl }) refl refl refl (2, omega arith, refl)).below (omega arith) in
     let edge = back.to_edge (record { last = refl; at_end = refl; full = refl }) (omega arith) in
     edge.place_is ∙ the_slot_of_b edge.is_slot.0 edge.slot edge.is_slot.1 edge.is_slot.2 edge.covered

@@ -87,7 +87,7 @@ pub record ChangesItself (d : Data) (e : Editor) : Type 0 where
   pub keys : (typed : List (Key × Option StoreFault)) → StaysAsked d e typed → IsUntouched e (after_typing d e typed)
 
 abbrev pub QuestionsChangeThemselves : Type 0
-QuestionsChangeThemselves = (d : Data) (e : Editor) → e.ask ≢ Off → ChangesItself d e
+QuestionsChangeThemselves = (d : Data) (e : Editor) → e.ask ≢ Off → e.pasted ≡ None → ChangesItself d e
 
 -- ---- going to the line that is told
 
@@ -108,22 +108,23 @@ pub record HasTextPlace (d : Data) (e : Editor) : Type 0 where
   pub place : IsTextPlace d e.content.text e.place
 
 -- The status row tells these numbers. They are an answer that leads to the place where the cursor is already, and one that
--- is short enough to be typed.
+-- is short enough to be typed, where no paste is under way.
 pub record LeadsToItself (d : Data) (e : Editor) : Type 0 where
   pub told : status_text d e ≡ (if e.changed then codes "* " else codes "- ") ++ (told_numbers d e ++ message_part (told_at_place d e) e.message)
   pub answered : let asked = with_answer e (told_numbers d e) in after_going d asked ≡ without_ask asked
-  pub typed : (enter : Key) → is_enter enter ≡ true → let new = after_keys d None e (GoTo ∷ (map Insert (told_numbers d e) ++ enter ∷ [])) in
-      IsUntouched e new × (new.ask ≡ Off)
+  pub typed : e.pasted ≡ None → (enter : Key) → is_enter enter ≡ true
+      → let new = after_keys d None e (GoTo ∷ (map Insert (told_numbers d e) ++ enter ∷ [])) in IsUntouched e new × (new.ask ≡ Off)
 
 abbrev pub ToldNumbersLeadBack : Type 0
 ToldNumbersLeadBack = (d : Data) (e : Editor) → HasTextPlace d e → LeadsToItself d e
 
 -- ---- what an answer puts in
 
--- One UndoRun takes back all that the answer to Name put in, whatever was typed before it while the question was on.
+-- Where Name was pressed outside a paste, one UndoRun takes back all that the answer put in, whatever was typed before it while
+-- the question was on.
 abbrev pub AnswerIsARun : Type 0
 AnswerIsARun =
-    (d : Data) (e : Editor) (typed : List (Key × Option StoreFault)) (key : Key) → let asked = after_key d None e Name in
+    (d : Data) (e : Editor) (typed : List (Key × Option StoreFault)) (key : Key) → e.pasted ≡ None → let asked = after_key d None e Name in
     StaysAsked d asked typed → types key ≡ true
     → let answered = after_typing d asked typed in length e.content.past < length (after_key d None answered key).content.past
     → IsBackBefore e (after_keys d None answered (key ∷ UndoRun ∷ []))
@@ -134,18 +135,19 @@ pub record IsPutIn (d : Data) (e : Editor) (bytes : List ℕ) (new : Editor) : T
   pub place_is : new.place ≡ place_after d e new.content.text (e.place + length bytes)
   pub ask_is : new.ask ≡ Off
 
--- Name and a letter put the letter's character in, if there is room; but where the character begins what another one ends,
--- only without a region
+-- outside a paste Name and a letter put the letter's character in, if there is room; but where the character begins what another
+-- one ends, only without a region
 abbrev pub LetterPutsIn : Type 0
 LetterPutsIn =
-    (d : Data) (e : Editor) (letter c : ℕ) → named letter ≡ Some c → ((closing letter ≡ None) ⊎ (is_empty (region e) ≡ true))
+    (d : Data) (e : Editor) (letter c : ℕ) → e.pasted ≡ None → named letter ≡ Some c → ((closing letter ≡ None) ⊎ (is_empty (region e) ≡ true))
     → length e.content.text + length (encode_utf8 c) ≤ largest_text → IsPutIn d e (encode_utf8 c) (after_keys d None e (Name ∷ Insert letter ∷ []))
 
--- Name, a letter that asks for a code, its digits and the end of a line put the code's character in, if there is room
+-- outside a paste Name, a letter that asks for a code, its digits and the end of a line put the code's character in, if there is
+-- room
 abbrev pub CodePutsIn : Type 0
 CodePutsIn =
-    (d : Data) (e : Editor) (letter : ℕ) (code : List ℕ) (c : ℕ) (enter : Key) → asks_code letter ≡ true → coded code ≡ Some c → length code ≤ longest_code
-    → is_enter enter ≡ true → length e.content.text + length (encode_utf8 c) ≤ largest_text
+    (d : Data) (e : Editor) (letter : ℕ) (code : List ℕ) (c : ℕ) (enter : Key) → e.pasted ≡ None → asks_code letter ≡ true → coded code ≡ Some c
+    → length code ≤ longest_code → is_enter enter ≡ true → length e.content.text + length (encode_utf8 c) ≤ largest_text
     → IsPutIn d e (encode_utf8 c) (after_keys d None e (Name ∷ Insert letter ∷ (map Insert code ++ enter ∷ [])))
 
 -- ---- a region that is wrapped
@@ -177,10 +179,10 @@ pub record WrapsRegion (d : Data) (e : Editor) (opener closer : ℕ) (new : Edit
   pub full : spans_lines d e ≡ false → largest_text < length e.content.text + length (encode_utf8 opener) + length (encode_utf8 closer)
       → IsRefusedWith TextFull e new
 
--- Name and the letter of a character that begins what another one ends wrap the region
+-- outside a paste Name and the letter of a character that begins what another one ends wrap the region
 abbrev pub LetterWraps : Type 0
 LetterWraps =
-    (d : Data) (e : Editor) (letter opener closer : ℕ) → named letter ≡ Some opener → closing letter ≡ Some closer → IsPart e (region e)
+    (d : Data) (e : Editor) (letter opener closer : ℕ) → e.pasted ≡ None → named letter ≡ Some opener → closing letter ≡ Some closer → IsPart e (region e)
     → WrapsRegion d e opener closer (after_keys d None e (Name ∷ Insert letter ∷ []))
 
 -- the classes of characters that begin a level (X2 to X5c)
@@ -237,8 +239,9 @@ pub record Isolates (d : Data) (e : Editor) (opener closer : ℕ) (new : Editor)
       IsAbove (embedding_at d e.base cs (length front)) (level_at d e.base cs (length front + 1 + i))
 
 -- A letter names an isolate initiator, which a PDI ends. The text is UTF-8 and the region's ends are character boundaries, as
--- in every editor of the code; the region is in one line, and there is room.
+-- in every editor of the code; the region is in one line, there is room, and no paste is under way.
 pub record CanIsolate (d : Data) (e : Editor) (letter opener closer : ℕ) : Type 0 where
+  pub settled : e.pasted ≡ None
   pub opener_is : named letter ≡ Some opener
   pub closer_is : closing letter ≡ Some closer
   pub begins : is_initiator (d.class opener) ≡ true
@@ -294,9 +297,10 @@ pub record TellsUnit (d : Data) (e : Editor) : Type 0 where
 abbrev pub TellsWhatStands : Type 0
 TellsWhatStands = (d : Data) (e : Editor) → HasRows e → TellsUnit d e
 
--- Tell shows what is told of the place after the numbers on the status row, and leaves text, place, held text and mark
+-- outside a paste Tell shows what is told of the place after the numbers on the status row, and leaves text, place, held text and
+-- mark
 abbrev pub TellShows : Type 0
 TellShows =
-    (d : Data) (e : Editor) → let new = after_key d None e Tell in
+    (d : Data) (e : Editor) → e.pasted ≡ None → let new = after_key d None e Tell in
     (status_text d new ≡ status_line e.changed (paragraph_number d e.content.text e.place + 1) (unit_number d e.content.text e.place) ++ (codes " " ++ told_at_place d e))
     × IsUntouched e new

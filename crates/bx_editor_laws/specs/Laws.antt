@@ -61,11 +61,11 @@ pub record IsBackAt (text : List ℕ) (e new : Editor) : Type 0 where
   pub place_is : new.place ≡ oldest_place e.place e.content.past
   pub mark_is : new.mark ≡ mark_behind e.mark e.content.past
 
--- undoing everything restores the opened text, whatever was typed
+-- undoing everything restores the opened text, whatever was typed, unless a paste is under way
 abbrev pub UndoGivesBack : Type 0
 UndoGivesBack =
     (d : Data) (text : List ℕ) (height width : ℕ) (base : Base) (typed : List (Key × Option StoreFault))
-    → let e = after_typing d (at_start text height width base) typed in IsBackAt text e (after_all_undone d e)
+    → let e = after_typing d (at_start text height width base) typed in e.pasted ≡ None → IsBackAt text e (after_all_undone d e)
 
 -- the cursor is at this place, and no mark is set
 pub record IsUnmarkedAt (place : ℕ) (e : Editor) : Type 0 where
@@ -82,11 +82,11 @@ pub record AreMirrored (d : Data) (e : Editor) : Type 0 where
   pub undo_place : (edit : Edit) (future : List Edit) → e.content.future ≡ edit ∷ future
       → IsUnmarkedAt edit.before.place (after_keys d None e (Redo ∷ Undo ∷ []))
 
--- undo and redo mirror each other after anything that was typed over an opened text
+-- undo and redo mirror each other after anything that was typed over an opened text, unless a paste is under way
 abbrev pub RedoMirrorsUndo : Type 0
 RedoMirrorsUndo =
     (d : Data) (text : List ℕ) (height width : ℕ) (base : Base) (typed : List (Key × Option StoreFault))
-    → AreMirrored d (after_typing d (at_start text height width base) typed)
+    → let e = after_typing d (at_start text height width base) typed in e.pasted ≡ None → AreMirrored d e
 
 -- ---- the region
 
@@ -105,23 +105,23 @@ pub record HasPut (d : Data) (e : Editor) (text : List ℕ) (offset : ℕ) (new 
   pub place_is : new.place ≡ place_after d e text offset
   pub mark_is : new.mark ≡ None
 
--- outside a search and a question, copying the region and putting it back at once leaves the text with the region twice, if
--- there is room, and the cursor at the end of what was put
+-- outside a search, a question and a paste, copying the region and putting it back at once leaves the text with the region
+-- twice, if there is room, and the cursor at the end of what was put
 abbrev pub CopyPutsTwice : Type 0
 CopyPutsTwice =
-    (d : Data) (e : Editor) → e.ask ≡ asks.Off → e.seek ≡ Off → IsPart e (region e) → length (twice e (region e)) ≤ largest_text
+    (d : Data) (e : Editor) → e.ask ≡ asks.Off → e.seek ≡ Off → e.pasted ≡ None → IsPart e (region e) → length (twice e (region e)) ≤ largest_text
     → HasPut d e (twice e (region e)) (e.place + length (bytes_in e (region e))) (after_keys d None e (Copy ∷ Put ∷ []))
 
--- cutting and putting back at once leaves the text unchanged, if the cut leaves the cursor where the cut text began, and the
--- cursor at the end of that text
+-- outside a paste, cutting and putting back at once leaves the text unchanged, if the cut leaves the cursor where the cut text
+-- began, and the cursor at the end of that text
 abbrev pub PutRestoresCut : Type 0
 PutRestoresCut =
-    (d : Data) (e : Editor) → IsPart e (taken d e) → length e.content.text ≤ largest_text
+    (d : Data) (e : Editor) → e.pasted ≡ None → IsPart e (taken d e) → length e.content.text ≤ largest_text
     → (after_key d None e Cut).place ≡ (taken d e).0
     → HasPut d e e.content.text ((taken d e).1) (after_keys d None e (Cut ∷ Put ∷ []))
 
--- Mark twice at one place changes nothing but the message, if the mark was there or nowhere; a mark elsewhere is gone. A
--- search, a question and a selection end, nothing goes on, and an earlier Quit and a kept column are forgotten.
+-- Outside a paste, Mark twice at one place changes nothing but the message, if the mark was there or nowhere; a mark elsewhere is
+-- gone. A search, a question and a selection end, nothing goes on, and an earlier Quit and a kept column are forgotten.
 pub record AreTwoMarks (e new : Editor) : Type 0 where
   pub here : (e.mark ≡ None) ⊎ (e.mark ≡ Some e.place)
       → new ≡ record e { soft = softness.Off; seek = Off; ask = asks.Off; typing = typings.Off; message = new.message; quit_before = false; goal = None }
@@ -129,7 +129,7 @@ pub record AreTwoMarks (e new : Editor) : Type 0 where
       → new ≡ record e { mark = None; soft = softness.Off; seek = Off; ask = asks.Off; typing = typings.Off; message = new.message; quit_before = false; goal = None }
 
 abbrev pub MarkTwiceIsNothing : Type 0
-MarkTwiceIsNothing = (d : Data) (e : Editor) → AreTwoMarks e (after_keys d None e (Mark ∷ Mark ∷ []))
+MarkTwiceIsNothing = (d : Data) (e : Editor) → e.pasted ≡ None → AreTwoMarks e (after_keys d None e (Mark ∷ Mark ∷ []))
 
 -- ---- the text's ends
 
@@ -153,20 +153,23 @@ only_at place e = record e {
   goal = None;
 }
 
--- TextEnd then TextStart leads to the text's start, TextStart then TextEnd to its end; else they change only what any move ends
+-- Outside a paste, TextEnd then TextStart leads to the text's start, TextStart then TextEnd to its end; else they change only what
+-- any move ends.
 pub record ReachesBothEnds (d : Data) (e : Editor) : Type 0 where
   pub start : after_keys d None e (TextEnd ∷ TextStart ∷ []) ≡ only_at 0 e
   pub end : after_keys d None e (TextStart ∷ TextEnd ∷ []) ≡ only_at (length e.content.text) e
 
 abbrev pub GoesToBothEnds : Type 0
-GoesToBothEnds = (d : Data) (e : Editor) → ReachesBothEnds d e
+GoesToBothEnds = (d : Data) (e : Editor) → e.pasted ≡ None → ReachesBothEnds d e
 
 -- ---- a search
 
--- the query of a search is asked for, it has letters, and there is no question; the text is UTF-8, as in every editor of the code
+-- the query of a search is asked for, it has letters, and there is no question and no paste; the text is UTF-8, as in every
+-- editor of the code
 pub record Seeks (d : Data) (e : Editor) : Type 0 where
   pub text : IsUtf8 e.content.text
   pub unasked : e.ask ≡ asks.Off
+  pub settled : e.pasted ≡ None
   pub on : is_queried e.seek ≡ true
   pub letters : sought d e ≢ []
 
@@ -240,8 +243,8 @@ pub record IsGivenUp (e new : Editor) : Type 0 where
   pub mark_is : new.mark ≡ mark_left e.soft e.mark
   pub content_is : new.content ≡ e.content
 
--- giving a search up puts the cursor back where it was when the search began, whatever was typed in the search
+-- giving up a search that began outside a paste puts the cursor back where it was then, whatever was typed in the search
 abbrev pub GivingUpGoesBack : Type 0
 GivingUpGoesBack =
-    (d : Data) (e : Editor) (begin give : Key) (typed : List (Key × Option StoreFault)) → e.seek ≡ Off → BeginsSearch begin → GivesUp give
+    (d : Data) (e : Editor) (begin give : Key) (typed : List (Key × Option StoreFault)) → e.seek ≡ Off → e.pasted ≡ None → BeginsSearch begin → GivesUp give
     → let begun = after_key d None e begin in StaysOn d begun typed → IsGivenUp e (after_key d None (after_typing d begun typed) give)

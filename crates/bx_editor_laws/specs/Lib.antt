@@ -4,3 +4,5 @@ pub mod RunLaws
 pub mod SelectionLaws
 pub mod AskingLaws
 pub mod ReplaceLaws
+pub mod PastingLaws
+pub mod PointingLaws

@@ -46,11 +46,12 @@ ShownStands =
     → let start = at_start text height width base in HaveRows d start typed
     → let e = after_typing d start typed in e.seek ≡ Replacing → StandsThere d e
 
--- a match is shown, as in an editor of the code
+-- a match is shown, as in an editor of the code, and no paste is under way
 pub record IsShowing (d : Data) (e : Editor) : Type 0 where
   pub text : IsUtf8 e.content.text
   pub other : IsUtf8 e.other
   pub unasked : e.ask ≡ asks.Off
+  pub settled : e.pasted ≡ None
   pub shown : e.seek ≡ Replacing
   pub stands : StandsThere d e
 
@@ -158,11 +159,11 @@ ReplaceReplacesAll = (d : Data) (e : Editor) → IsShowing d e → ReplacesMatch
 abbrev pub DoesReplace : Key → Type 0
 DoesReplace key = (is_enter key ≡ true) ⊎ (key ≡ Replace)
 
--- one UndoRun takes back all that a key replaced
+-- outside a paste one UndoRun takes back all that a key replaced
 abbrev pub ReplacedComesBack : Type 0
 ReplacedComesBack =
-    (d : Data) (e : Editor) (key : Key) → e.ask ≡ asks.Off → e.seek ≡ Replacing → DoesReplace key → length e.content.past < length (after_key d None e key).content.past
-    → IsBackBefore e (after_keys d None e (key ∷ UndoRun ∷ []))
+    (d : Data) (e : Editor) (key : Key) → e.ask ≡ asks.Off → e.seek ≡ Replacing → e.pasted ≡ None → DoesReplace key
+    → length e.content.past < length (after_key d None e key).content.past → IsBackBefore e (after_keys d None e (key ∷ UndoRun ∷ []))
 
 -- ---- replacing by the same letters
 

@@ -3,7 +3,7 @@ use Rattle.std.specs.Prelude.{◌≡◌, ◌≢◌, ℕ, ◌+◌, ◌-◌, ◌&&
 use Rattle.bx_terms.specs.Sizes.{largest_text}
 use Rattle.bx_terms.specs.declared.base.Base.{Base}
 use Rattle.bx_keys.specs.declared.key.Key.{Key}
-use Rattle.bx_keys.specs.declared.key.Key.TheVariants.{Insert, PasteEnd, PasteStart, Redo, RedoRun, Undo, UndoRun}
+use Rattle.bx_keys.specs.declared.key.Key.TheVariants.{Insert, Redo, RedoRun, Undo, UndoRun}
 use Rattle.bx_store.specs.declared.store.StoreFault.{StoreFault}
 use Rattle.bx_text.specs.Edits.{Edit}
 use Rattle.bx_runs.specs.Laws.{BeginsAt, EndsAt, redone, undone}
@@ -16,6 +16,8 @@ use Rattle.bx_asking.specs.declared.question.Ask.TheVariants as asks
 use Rattle.bx_editor.specs.declared.seek.Seek.TheVariants.{Off}
 use Rattle.bx_editor.specs.Editor.{Editor, at_start}
 use Rattle.bx_editor.specs.Keys.{after_key, after_keys, is_save}
+use Rattle.bx_editor.specs.PasteLaws.{after_paste}
+use Rattle.bx_editor.specs.Pasting.{paste_ended}
 use Rattle.bx_editor_laws.specs.Laws.{after_typing, IsUnmarkedAt}
 
 -- ---- a run, edit by edit
@@ -40,9 +42,9 @@ pub record RunsAreSteps (d : Data) (e : Editor) : Type 0 where
   pub undo : IsManySteps d e UndoRun Undo (undos e) e.content.past
   pub redo : IsManySteps d e RedoRun Redo (redos e) e.content.future
 
--- UndoRun does what `undos` presses of Undo do, RedoRun what `redos` presses of Redo do, but for `changed`
+-- outside a paste UndoRun does what `undos` presses of Undo do, RedoRun what `redos` presses of Redo do, but for `changed`
 abbrev pub RunKeysAreSteps : Type 0
-RunKeysAreSteps = (d : Data) (e : Editor) → RunsAreSteps d e
+RunKeysAreSteps = (d : Data) (e : Editor) → e.pasted ≡ None → RunsAreSteps d e
 
 -- ---- there and back
 
@@ -60,11 +62,11 @@ pub record RunsAreMirrored (d : Data) (e : Editor) : Type 0 where
   pub undo_place : BeginsAt e.runs (all_edits e) (length e.content.past) → (edit : Edit) (future : List Edit) → e.content.future ≡ edit ∷ future
       → IsUnmarkedAt edit.before.place (after_keys d None e (RedoRun ∷ UndoRun ∷ []))
 
--- UndoRun and RedoRun mirror each other so after anything that was typed over an opened text
+-- UndoRun and RedoRun mirror each other so after anything that was typed over an opened text, unless a paste is under way
 abbrev pub RedoRunMirrorsUndoRun : Type 0
 RedoRunMirrorsUndoRun =
     (d : Data) (text : List ℕ) (height width : ℕ) (base : Base) (typed : List (Key × Option StoreFault))
-    → RunsAreMirrored d (after_typing d (at_start text height width base) typed)
+    → let e = after_typing d (at_start text height width base) typed in e.pasted ≡ None → RunsAreMirrored d e
 
 -- ---- what is one run
 
@@ -74,15 +76,11 @@ pub record IsBackBefore (e new : Editor) : Type 0 where
   pub past_is : new.content.past ≡ e.content.past
   pub unmarked : IsUnmarkedAt e.place new
 
--- the editor after characters are pasted
-abbrev pub pasted : Data → Editor → List ℕ → Editor
-pasted d e cs = after_keys d None e (PasteStart ∷ (map Insert cs ++ PasteEnd ∷ []))
-
 -- outside a search and a question one UndoRun takes back all that a paste put in, and puts back the selection that gave way to it
 abbrev pub PasteIsARun : Type 0
 PasteIsARun =
-    (d : Data) (e : Editor) (cs : List ℕ) → e.ask ≡ asks.Off → e.seek ≡ Off → length e.content.past < length (pasted d e cs).content.past
-    → IsBackBefore e (after_key d None (pasted d e cs) UndoRun)
+    (d : Data) (e : Editor) (cs : List ℕ) → e.ask ≡ asks.Off → e.seek ≡ Off → length e.content.past < length (after_paste d e cs).content.past
+    → IsBackBefore e (after_key d None (after_paste d e cs) UndoRun)
 
 -- each character is of a kind, by its class: a letter, or a blank
 abbrev pub AreOfKind : Data → Kind → List ℕ → Type 0
@@ -94,24 +92,25 @@ pub record IsWord (d : Data) (letters blanks : List ℕ) : Type 0 where
   pub are_letters : AreOfKind d Letter letters
   pub are_blanks : AreOfKind d Blank blanks
 
--- outside a search and a question, and where the first letter goes on with no run, one UndoRun takes back a typed word and the
--- blanks after it, if there was room for them
+-- outside a search, a question and a paste, and where the first letter goes on with no run, one UndoRun takes back a typed word
+-- and the blanks after it, if there was room for them
 abbrev pub WordIsARun : Type 0
 WordIsARun =
-    (d : Data) (e : Editor) (letters blanks : List ℕ) → e.ask ≡ asks.Off → e.seek ≡ Off → e.typing ≡ typings.Off → IsWord d letters blanks
+    (d : Data) (e : Editor) (letters blanks : List ℕ) → e.ask ≡ asks.Off → e.seek ≡ Off → e.pasted ≡ None → e.typing ≡ typings.Off → IsWord d letters blanks
     → length e.content.text + length (encode_utf8_all (letters ++ blanks)) ≤ largest_text
     → IsBackBefore e (after_key d None (after_keys d None e (map Insert (letters ++ blanks))) UndoRun)
 
 -- ---- what counts as changed
 
--- the text that was stored last, after a key: the editor's own if the key is a Save that succeeds, else `text`, the one before
-abbrev pub stored_by : List ℕ → Editor → Key → Option StoreFault → List ℕ
-stored_by text e key fault = if is_save key && is_none fault then e.content.text else text
+-- the text that was stored last, after a key: the editor's own if the key is a Save that succeeds, with what a paste has brought
+-- that is under way, else `text`, the one before
+abbrev pub stored_by : Data → List ℕ → Editor → Key → Option StoreFault → List ℕ
+stored_by d text e key fault = if is_save key && is_none fault then (paste_ended d e).content.text else text
 
 -- the text that was stored last, while these keys are typed; `text` was stored, or opened, before them
 abbrev pub stored_last : Data → List ℕ → Editor → List (Key × Option StoreFault) → List ℕ
 stored_last d text e [] = text
-stored_last d text e (key ∷ typed) = stored_last d (stored_by text e key.0 key.1) (after_key d key.1 e key.0) typed
+stored_last d text e (key ∷ typed) = stored_last d (stored_by d text e key.0 key.1) (after_key d key.1 e key.0) typed
 
 -- whatever was typed over an opened text, it counts as unchanged only if it is the text that was stored or opened last
 abbrev pub UnchangedIsStored : Type 0

@@ -1,11 +1,10 @@
--- Laws of selections, and of the keys PasteStart and PasteEnd, the marks of a paste. `d`, `e` and `new` are as in Laws.antt.
-use Rattle.std.specs.Prelude.{◌≡◌, ◌≢◌, ℕ, ◌+◌, ◌==◌, ◌&&◌, ◌≤◌, ◌<◌, Bool, true, false, List, [], ◌∷◌, ◌++◌, length, take, drop, encode_utf8, unwrap_or, Option, Some, None, if◌then◌else◌}
+-- Laws of selections. `d`, `e` and `new` are as in Laws.antt.
+use Rattle.std.specs.Prelude.{◌≡◌, ◌≢◌, ℕ, ◌+◌, ◌≤◌, ◌<◌, Bool, true, false, List, [], ◌∷◌, ◌++◌, length, take, drop, encode_utf8, unwrap_or, Some, None}
 use Rattle.bx_terms.specs.Sizes.{largest_text}
 use Rattle.bx_keys.specs.declared.key.Key.{Key}
 use Rattle.bx_keys.specs.declared.key.Key.TheVariants.{Insert, Erase, Delete, Back, Forward, Up, Down, Right, Left, RowHome, RowEnd, PageUp, PageDown, Put}
 use Rattle.bx_keys.specs.declared.key.Key.TheVariants.{WordLeft, WordRight, TextStart, TextEnd, Find, FindBack, FindNext, Replace, EraseWord, DeleteWord, ErasePoint, NewLine}
-use Rattle.bx_keys.specs.declared.key.Key.TheVariants.{LineUp, LineDown, PageBack, PageOn, Select, UndoRun, PasteStart, PasteEnd}
-use Rattle.bx_store.specs.declared.store.StoreFault.{StoreFault}
+use Rattle.bx_keys.specs.declared.key.Key.TheVariants.{LineUp, LineDown, PageBack, PageOn, Point, Select, UndoRun}
 use Rattle.bx_ucd.specs.Data.{Data}
 use Rattle.bx_asking.specs.declared.question.Ask.TheVariants as asks
 use Rattle.bx_editor.specs.declared.message.Message.TheVariants.{TextFull}
@@ -14,8 +13,7 @@ use Rattle.bx_editor.specs.declared.soft.Soft.TheVariants.{Off, Old}
 use Rattle.bx_editor.specs.Editor.{Editor, place_after}
 use Rattle.bx_editor.specs.Keys.{after_key, after_keys}
 use Rattle.bx_editor_laws.specs.Laws.{IsPart}
-use Rattle.bx_editor.specs.Picture.{picture}
-use Rattle.bx_editor.specs.Putting.{is_paste, line_end}
+use Rattle.bx_editor.specs.Putting.{line_end}
 use Rattle.bx_editor.specs.Region.{region}
 use Rattle.bx_editor_laws.specs.RunLaws.{IsBackBefore}
 
@@ -41,17 +39,18 @@ is_move WordLeft = true
 is_move WordRight = true
 is_move TextStart = true
 is_move TextEnd = true
+is_move (Point row column) = true
 is_move _ = false
 
--- A move takes an old selection (`Soft`) off, and leaves any other mark. Right after Select there is a mark, the one before or
--- one at the place, and the move leaves it.
+-- Outside a paste, a move takes an old selection (`Soft`) off, and leaves any other mark. Right after Select there is a mark, the
+-- one before or one at the place, and the move leaves it.
 pub record LeavesMark (d : Data) (e : Editor) (move : Key) : Type 0 where
   pub old : e.soft ≡ Old → (after_key d None e move).mark ≡ None
   pub other : e.soft ≢ Old → (after_key d None e move).mark ≡ e.mark
   pub selecting : (after_keys d None e (Select ∷ move ∷ [])).mark ≡ Some (unwrap_or e.mark e.place)
 
 abbrev pub MoveTakesSelectionOff : Type 0
-MoveTakesSelectionOff = (d : Data) (e : Editor) (move : Key) → is_move move ≡ true → LeavesMark d e move
+MoveTakesSelectionOff = (d : Data) (e : Editor) (move : Key) → e.pasted ≡ None → is_move move ≡ true → LeavesMark d e move
 
 -- a key that begins a search or goes to the next match
 abbrev pub seeks : Key → Bool
@@ -61,16 +60,17 @@ seeks FindNext = true
 seeks Replace = true
 seeks _ = false
 
--- outside a search, a key that seeks leaves or removes the mark as a move does
+-- outside a search and a paste, a key that seeks leaves or removes the mark as a move does
 abbrev pub SeekingTakesSelectionOff : Type 0
-SeekingTakesSelectionOff = (d : Data) (e : Editor) (key : Key) → e.seek ≡ searches.Off → seeks key ≡ true → LeavesMark d e key
+SeekingTakesSelectionOff = (d : Data) (e : Editor) (key : Key) → e.seek ≡ searches.Off → e.pasted ≡ None → seeks key ≡ true → LeavesMark d e key
 
 -- ---- a selection gives way
 
--- nothing is asked, no search is on, and the region is a selection
+-- nothing is asked, no search is on, no paste is under way, and the region is a selection
 pub record HasSelection (e : Editor) : Type 0 where
   pub no_question : e.ask ≡ asks.Off
   pub no_search : e.seek ≡ searches.Off
+  pub no_paste : e.pasted ≡ None
   pub soft : e.soft ≢ Off
   pub part : IsPart e (region e)
 
@@ -103,7 +103,7 @@ SelectionIsRemoved = (d : Data) (e : Editor) (key : Key) → HasSelection e → 
 
 -- the bytes that a key puts in; empty for a key that neither types nor puts
 abbrev pub bytes_put : Data → Editor → Key → List ℕ
-bytes_put d e (Insert c) = if (c == 0xA) && is_paste e.typing then line_end d (rest e) else encode_utf8 c
+bytes_put d e (Insert c) = encode_utf8 c
 bytes_put d e NewLine = line_end d (rest e)
 bytes_put d e Put = e.held
 bytes_put d e _ = []
@@ -141,18 +141,3 @@ pub record ComesBack (d : Data) (e : Editor) (key : Key) : Type 0 where
 
 abbrev pub SelectionComesBack : Type 0
 SelectionComesBack = (d : Data) (e : Editor) (key : Key) → HasSelection e → ComesBack d e key
-
--- ---- the marks of a paste
-
--- all but `typing` is as before, and so is what can be seen
-pub record ChangesTypingAlone (d : Data) (e new : Editor) : Type 0 where
-  pub rest_is : new ≡ record e { typing = new.typing }
-  pub picture_is : (top : ℕ) → picture d new top ≡ picture d e top
-
--- the keys at the start and the end of a paste change `typing` alone
-pub record PasteMarksChangeTyping (d : Data) (fault : Option StoreFault) (e : Editor) : Type 0 where
-  pub start : ChangesTypingAlone d e (after_key d fault e PasteStart)
-  pub end : ChangesTypingAlone d e (after_key d fault e PasteEnd)
-
-abbrev pub PasteMarksAreUnseen : Type 0
-PasteMarksAreUnseen = (d : Data) (fault : Option StoreFault) (e : Editor) → PasteMarksChangeTyping d fault e

@@ -26,10 +26,12 @@ pub record ErasesEnd (d : Data) (e new : Editor) : Type 0 where
   pub in_unit : step_logical (rows d e) Back e.place ≤ point_before d e
   pub before_place : point_before d e ≤ e.place
 
--- outside a search and a question, and without a selection, ErasePoint leaves all before the point, and all after the place
+-- outside a search, a question and a paste, and without a selection, ErasePoint leaves all before the point, and all after the
+-- place
 abbrev pub ErasePointLeavesBeginning : Type 0
 ErasePointLeavesBeginning =
-    (d : Data) (e : Editor) → HasRows e → e.ask ≡ asks.Off → e.seek ≡ Off → is_selection e ≡ false → IsTextPlace d e.content.text e.place → ErasesEnd d e (after_key d None e ErasePoint)
+    (d : Data) (e : Editor) → HasRows e → e.ask ≡ asks.Off → e.seek ≡ Off → e.pasted ≡ None → is_selection e ≡ false → IsTextPlace d e.content.text e.place
+    → ErasesEnd d e (after_key d None e ErasePoint)
 
 -- ---- the next match
 
@@ -74,7 +76,8 @@ pub record LineMovesLeadBack (d : Data) (e : Editor) (n : ℕ) : Type 0 where
   pub above : n ≤ row_of (rows d e) e.place
       → LeadsBack d e n (after_keys d None e (replicate n LineUp ++ replicate n LineDown))
 
--- these moves lead back so outside a search, where no column is kept
+-- these moves lead back so outside a search and a paste, where no column is kept
 abbrev pub LineMovesGoBack : Type 0
 LineMovesGoBack =
-    (d : Data) (e : Editor) (n : ℕ) → HasRows e → e.seek ≡ Off → e.goal ≡ None → IsTextPlace d e.content.text e.place → LineMovesLeadBack d e n
+    (d : Data) (e : Editor) (n : ℕ) → HasRows e → e.seek ≡ Off → e.pasted ≡ None → e.goal ≡ None → IsTextPlace d e.content.text e.place
+    → LineMovesLeadBack d e n

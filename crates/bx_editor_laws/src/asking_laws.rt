@@ -55,7 +55,7 @@ pub fn tells_what_stands()
     ensures { TellsWhatStands }
 {}
 
-/// Tell shows what is told of the unit at the place on the status row, and leaves text, place, held text and mark.
+/// Outside a paste, Tell shows what is told of the unit at the place on the status row, and leaves text, place, held text and mark.
 pub fn tell_shows()
     ensures { TellShows }
 {}

@@ -9,25 +9,26 @@ pub fn top_stays()
     ensures { TopStays }
 {}
 
-/// Undoing everything restores the opened text, whatever was typed, with the cursor where it was before the oldest edit.
+/// Undoing everything outside a paste restores the opened text, whatever was typed, with the cursor where it was before the oldest
+/// edit.
 pub fn undo_gives_back()
     ensures { UndoGivesBack }
 {}
 
-/// Undo then Redo leaves text, past and future unchanged, and the cursor at its place after the edit. Redo then Undo leaves
-/// them unchanged, and the cursor at its place before the edit.
+/// Outside a paste, Undo then Redo leaves text, past and future unchanged, and the cursor at its place after the edit. Redo then Undo
+/// leaves them unchanged, and the cursor at its place before the edit.
 pub fn redo_mirrors_undo()
     ensures { RedoMirrorsUndo }
 {}
 
-/// Outside a search and a question, copying a region and putting it at once leaves the text with the region twice, if there is
-/// room, and the cursor at the end of what was put.
+/// Outside a search, a question and a paste, copying a region and putting it at once leaves the text with the region twice, if there
+/// is room, and the cursor at the end of what was put.
 pub fn copy_puts_twice()
     ensures { CopyPutsTwice }
 {}
 
-/// If a cut leaves the cursor where the cut text began, then cutting and putting back at once leaves the text as it was, and the
-/// cursor at the end of the cut text.
+/// If a cut outside a paste leaves the cursor where the cut text began, then cutting and putting back at once leaves the text as it
+/// was, and the cursor at the end of the cut text.
 pub fn put_restores_cut()
     ensures { PutRestoresCut }
 {}
@@ -42,19 +43,20 @@ pub fn find_back_goes_to_previous()
     ensures { FindBackGoesToPrevious }
 {}
 
-/// Giving a search up puts place and mark back as they were when it began, whatever was typed in it; an old selection is taken
-/// off.
+/// Giving up a search that began outside a paste puts place and mark back as they were then, whatever was typed in it; an old
+/// selection is taken off.
 pub fn giving_up_goes_back()
     ensures { GivingUpGoesBack }
 {}
 
-/// Mark twice at one place changes only the message and what one Mark ends, as a search; but a mark that was elsewhere is gone.
+/// Outside a paste, Mark twice at one place changes only the message and what one Mark ends, as a search; but a mark that was
+/// elsewhere is gone.
 pub fn mark_twice_is_nothing()
     ensures { MarkTwiceIsNothing }
 {}
 
-/// TextEnd then TextStart leads to the text's start, TextStart then TextEnd to its end; else they change only what any move ends,
-/// as a search or a selection.
+/// Outside a paste, TextEnd then TextStart leads to the text's start, TextStart then TextEnd to its end; else they change only what
+/// any move ends, as a search or a selection.
 pub fn goes_to_both_ends()
     ensures { GoesToBothEnds }
 {}

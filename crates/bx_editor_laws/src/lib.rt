@@ -3,6 +3,8 @@
 
 mod asking_laws;
 mod laws;
+mod pasting_laws;
+mod pointing_laws;
 mod replace_laws;
 mod run_laws;
 mod selection_laws;
@@ -18,6 +20,8 @@ pub use laws::{
     goes_to_both_ends, mark_twice_is_nothing, put_restores_cut, redo_mirrors_undo, top_stays,
     undo_gives_back,
 };
+pub use pasting_laws::{keys_end_pastes, paste_comes_back, paste_is_typing, pastes_are_alone};
+pub use pointing_laws::{point_stays, point_takes_units, point_twice_is_once};
 pub use replace_laws::{
     enter_replaces, find_passes_over, replace_replaces_all, replaced_comes_back, same_letters_stay,
     shown_stands,
@@ -27,7 +31,7 @@ pub use run_laws::{
     word_is_a_run,
 };
 pub use selection_laws::{
-    move_takes_selection_off, paste_marks_are_unseen, seeking_takes_selection_off,
-    selection_comes_back, selection_gives_way, selection_is_removed,
+    move_takes_selection_off, seeking_takes_selection_off, selection_comes_back,
+    selection_gives_way, selection_is_removed,
 };
 pub use work_laws::{erase_point_leaves_beginning, find_next_is_find_twice, line_moves_go_back};

@@ -2,14 +2,14 @@
 
 ghost use Rattle.bx_editor_laws.specs.RunLaws.{PasteIsARun, RedoRunMirrorsUndoRun, RunKeysAreSteps, UnchangedIsStored, WordIsARun};
 
-/// UndoRun does what Undo does once for each edit since a run began, and RedoRun what Redo does once for each edit up to the
-/// next run. They differ in whether the text counts as changed, and in nothing else.
+/// Outside a paste, UndoRun does what Undo does once for each edit since a run began, and RedoRun what Redo does once for each edit
+/// up to the next run. They differ in whether the text counts as changed, and in nothing else.
 pub fn run_keys_are_steps()
     ensures { RunKeysAreSteps }
 {}
 
-/// After anything that was typed over an opened text: UndoRun then RedoRun leaves text, past and future unchanged, if a run
-/// ends at the text. RedoRun then UndoRun leaves them unchanged, if a run begins there.
+/// After anything that was typed over an opened text, outside a paste: UndoRun then RedoRun leaves text, past and future unchanged,
+/// if a run ends at the text. RedoRun then UndoRun leaves them unchanged, if a run begins there.
 pub fn redo_run_mirrors_undo_run()
     ensures { RedoRunMirrorsUndoRun }
 {}
@@ -20,7 +20,7 @@ pub fn paste_is_a_run()
     ensures { PasteIsARun }
 {}
 
-/// Outside a search and a question, one UndoRun takes back a typed word and the blanks typed after it.
+/// Outside a search, a question and a paste, one UndoRun takes back a typed word and the blanks typed after it.
 pub fn word_is_a_run()
     ensures { WordIsARun }
 {}

@@ -2,7 +2,7 @@
 
 ghost use Rattle.bx_editor_laws.specs.WorkLaws.{ErasePointLeavesBeginning, FindNextIsFindTwice, LineMovesGoBack};
 
-/// Outside a search and a question, without a selection, ErasePoint removes the end of the unit before the place, from the start
+/// Outside a search, a question and a paste, without a selection, ErasePoint removes the end of the unit before the place, from the start
 /// of its last point on, and leaves all text before and after that.
 pub fn erase_point_leaves_beginning()
     ensures { ErasePointLeavesBeginning }
@@ -14,7 +14,7 @@ pub fn find_next_is_find_twice()
     ensures { FindNextIsFindTwice }
 {}
 
-/// Outside a search, with no column kept: LineDown `n` times and then LineUp `n` times lead back to the place, if there are `n`
+/// Outside a search and a paste, with no column kept: LineDown `n` times and then LineUp `n` times lead back to the place, if there are `n`
 /// rows below; LineUp and then LineDown likewise, if there are `n` above. From the end of a paragraph that fills its last row
 /// they lead to the unit at the window's edge, whose column the cursor has.
 pub fn line_moves_go_back()

@@ -1,0 +1,86 @@
+-- Worked examples, each from a law of pointing alone.
+use Rattle.std.proofs.Common.{◌≡◌, ℕ, ◌≤◌, ◌<◌, List, [], ◌∷◌, drop, refl, ap, arith, ⊎_elim}
+use Rattle.std.specs.Prelude.{codes, None}
+use Rattle.std.specs.Fmt.{digits}
+use Rattle.unicode_segmentation.proofs.Computing.{unicode_segmentation}
+use Rattle.unicode_width.proofs.Computing.{unicode_width}
+use Rattle.bx_keys.specs.declared.key.Key.TheVariants.{Forward, Point, Select}
+use Rattle.bx_view.specs.TextRows.{TextRow, row_at, text_row_glyphs}
+use Rattle.bx_view_laws.specs.Pointed.{ShowsUnit}
+use Rattle.bx_editor.specs.Editor.{Editor, rows}
+use Rattle.bx_editor_laws.specs.PointingLaws.{after_point, cursor_column, followed, IsShown, PointStays, PointTakesUnits, PointTwiceIsOnce}
+use Rattle.bx_editor.proofs.Computed.{tables, start, after}
+
+-- ---- at the cursor
+
+-- at the third of four letters, whose cell is in the third column
+abbrev at_c : Editor
+at_c = after (start (codes "abcd") 2 10) (Forward ∷ Forward ∷ [])
+
+pub its_own_cell_leaves_it : PointStays → (after at_c (Point 1 3 ∷ [])).place ≡ 2
+unfolding unicode_segmentation unicode_width digits
+its_own_cell_leaves_it law =
+    let above : 0 ≤ 0 = omega arith in
+    let below : 0 < 1 = omega arith in
+    ⊎_elim (λ same. same) (λ full. absurd (cc full.full))
+    (law tables at_c (record { has = record { text = (codes "abcd", (refl, refl)); columns = refl }; on = refl; settled = refl }) (2, omega arith, refl)
+    (record { above = above; below = below }))
+
+-- ---- at a unit
+
+abbrev wide : ℕ
+wide = 0x4e16
+
+-- a letter between two wide characters
+abbrev wide_ones : Editor
+wide_ones = start (wide ∷ 0x78 ∷ wide ∷ []) 2 6
+
+abbrev only_row : TextRow
+only_row = row_at (rows tables wide_ones) 0
+
+-- the second wide one has columns 4 and 5
+the_second_is_shown : ShowsUnit tables 6 only_row 4 4 6
+unfolding unicode_segmentation unicode_width digits
+the_second_is_shown =
+    let third : 2 < 3 = omega arith in
+    record {
+      cell = record {
+        number = 2;
+        within = third;
+        place_is = λ none. refl;
+        before = 0 ∷ 1 ∷ [];
+        behind = [];
+        order = refl;
+        rest = drop 3 (text_row_glyphs tables 6 only_row);
+        shown = refl;
+        column_is = refl;
+      };
+      stop_is = refl;
+    }
+
+pub its_second_column_leads_to_its_first : PointTakesUnits
+    → let e = after wide_ones (Point 1 5 ∷ []) in (e.place ≡ 4) × (cursor_column tables (followed tables e) ≡ 4)
+unfolding unicode_segmentation unicode_width digits
+its_second_column_leads_to_its_first law =
+    let low : 0 ≤ 0 = omega arith in
+    let within : 0 < 1 = omega arith in
+    let high : 1 ≤ 1 = omega arith in
+    let shown = record {
+      has = record { text = (wide ∷ 0x78 ∷ wide ∷ [], (refl, refl)); columns = refl };
+      on = refl;
+      settled = refl;
+    } in
+    let stands = law tables wide_ones 0 4 4 6 5 shown low within high the_second_is_shown (omega arith) (omega arith) in (stands.place_is, stands.column_is)
+
+-- ---- twice
+
+-- a selection has just begun at the first of six letters
+abbrev just_selected : Editor
+just_selected = after (start (codes "abcdef") 2 20) (Select ∷ [])
+
+pub the_second_time_takes_it_off : PointTwiceIsOnce
+    → let e = after_point tables (after_point tables just_selected 1 4) 1 4 in (e.place ≡ 3) × (e.mark ≡ None)
+unfolding unicode_segmentation unicode_width digits
+the_second_time_takes_it_off law =
+    let twice = (law tables just_selected 1 4 (record { text = (codes "abcdef", (refl, refl)); columns = refl }) refl (λ asked. refl)).fresh refl in
+    (ap (λ (e : Editor). e.place) twice, ap (λ (e : Editor). e.mark) twice)
