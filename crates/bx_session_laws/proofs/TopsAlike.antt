@@ -1,7 +1,7 @@
 -- A replay has the same row first as the session that was run, until a painting is refused.
 use Rattle.std.proofs.Common.{◌≡◌, ℕ, Bool, true, false, not, List, [], ◌∷◌, ◌++◌, Option, Some, None, Result, Ok, Err, refl, sym, ap, subst, ◌∙◌, inl, inr}
-use Rattle.std.proofs.Common.{arith, if◌then◌else◌}
-use Rattle.std.specs.Prelude.{◌≢◌, ◌⊎◌, ◌||◌, ◌&&◌, is_some, option_to_list, All}
+use Rattle.std.proofs.Common.{if◌then◌else◌}
+use Rattle.std.specs.Prelude.{◌≢◌, ◌||◌, ◌&&◌, is_some, option_to_list, All}
 use Rattle.std.proofs.lemmas.List.Elements.{All-head, All-tail}
 use Rattle.bx_keys.specs.declared.key.Key.{Key}
 use Rattle.bx_keys.specs.declared.key.Key.TheVariants.{Insert, PasteStart}
@@ -179,10 +179,12 @@ none_points d s r store store' (a ∷ answered) new feeds none keys =
     let some = All-head (λ (x : ByteAnswer). x.1 ≢ Err refused.Edit) a answered none in
     let next = head_of (rest_after s.rest a.0) in
     let both = split_points s.editor.top (scrolled d r.editor).top (key_after s.rest a.0) (keys_from next (bytes_of answered)) keys in
-    let leaves = byte_leaves d feeds.3.0 s a.0 a.1 feeds.0 feeds.2 some feeds.3.2 in
-    (both.0, none_points d feeds.0 (after_replay d r a.0) feeds.1 store' answered new feeds.5
-    (All-tail (λ (x : ByteAnswer). x.1 ≢ Err refused.Edit) a answered none)
-    (subst (λ rest. All NotPoint (keys_from rest (bytes_of answered))) (sym leaves.rest_is) both.1))
+    let leaves = byte_leaves d feeds.3.0 s a.0 a.1 feeds.0 feeds.2 some feeds.3.2 in (
+      both.0,
+      none_points d feeds.0 (after_replay d r a.0) feeds.1 store' answered new feeds.5
+          (All-tail (λ (x : ByteAnswer). x.1 ≢ Err refused.Edit) a answered none)
+          (subst (λ rest. All NotPoint (keys_from rest (bytes_of answered))) (sym leaves.rest_is) both.1),
+    )
 
 -- in both cases; `first`: what a start has whose text and window are sound
 pub points_on : (d : Data) (s r : Session) (store store' : StoreState) (answered : List ByteAnswer) (new : Session) → Follows s r
