@@ -66,7 +66,7 @@ same_lasts e f content runs place mark soft held query seek aim origin other at 
     ∙ ap (λ x. record sought { base = f.base; goal = f.goal; height = x }) (sym height)
     ∙ ap (λ x. record sought { base = f.base; goal = f.goal; height = f.height; width = x }) (sym width)
 
-pub follows : (s r : Session) → HasBackMidway s r → Follows s r
+follows : (s r : Session) → HasBackMidway s r → Follows s r
 follows s r h =
     let p = h.parts in record {
       lasts = same_lasts s.editor r.editor p.content p.runs p.place p.mark p.soft p.held p.query h.seek p.aim h.origin p.other h.at h.count h.ask h.answer p.pasted h.typing p.base p.goal p.height p.width;
@@ -112,7 +112,7 @@ pub over_none : (d : Data) (e : Editor) → e.pasted ≡ None → paste_ended d 
 over_none d e none = ap (ended_with d e) none
 
 -- it leaves the same of two editors of which the same lasts
-pub over_lasts : (d : Data) (e f : Editor) → lasting e ≡ lasting f → lasting (paste_ended d e) ≡ lasting (paste_ended d f)
+over_lasts : (d : Data) (e f : Editor) → lasting e ≡ lasting f → lasting (paste_ended d e) ≡ lasting (paste_ended d f)
 over_lasts d e f same = (ended_alike d e f).lasts ∙ ap (λ (l : Lasting). lasting (paste_ended d (having l f))) same
 
 pub ended_back : (d : Data) (s r : Session) → Follows s r → HasBack (once_pasted d s) (at_replay_end d r)

@@ -62,7 +62,7 @@ unseen d fault e key h = subst (LooksAs d e) (any_fault d fault e key h) (paste-
 abbrev TopIs : Data → Session → Editor → Type 0
 TopIs d had e = (had.painting_owed ≡ false) × (had.editor.ended ≡ false → (scrolled d e).top ≡ had.editor.top)
 
-pub not_owed : (owed needs : Bool) → owed ≡ false → (owed || needs) ≡ needs
+not_owed : (owed needs : Bool) → owed ≡ false → (owed || needs) ≡ needs
 not_owed true needs h = absurd (cc h)
 not_owed false needs h = refl
 
@@ -70,7 +70,7 @@ pub not_not : (b : Bool) → not b ≡ false → b ≡ true
 not_not true h = refl
 not_not false h = absurd (cc h)
 
-pub points_any : (top other : ℕ) (key : Option Key) → other ≡ top → PointsAny top other key
+points_any : (top other : ℕ) (key : Option Key) → other ≡ top → PointsAny top other key
 points_any top other None same = tt
 points_any top other (Some key) same = inr same
 
@@ -171,7 +171,7 @@ split_points : (top other : ℕ) (key : Option Key) (rest : List Key) → All No
 split_points top other None rest h = (tt, h)
 split_points top other (Some key) rest h = (inl (All-head NotPoint key rest h), All-tail NotPoint key rest h)
 
-pub none_points : (d : Data) (s r : Session) (store store' : StoreState) (answered : List ByteAnswer) (new : Session)
+none_points : (d : Data) (s r : Session) (store store' : StoreState) (answered : List ByteAnswer) (new : Session)
     → (feeds : FeedsAll d s store answered new store') → RefusesNoKey answered → All NotPoint (keys_from s.rest (bytes_of answered))
     → PointsOn d s r store answered new store' feeds
 none_points d s r store store' [] new feeds none keys = tt
