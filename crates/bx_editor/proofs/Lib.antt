@@ -30,6 +30,9 @@ pub mod HeldApart
 pub mod ManySteps
 pub mod QuestionKept
 pub mod Pasted
+pub mod Refused
+pub mod Copied
+pub mod Pointed
 pub mod Unseen
 pub mod OnePaste
 pub mod SentOut

@@ -4,12 +4,12 @@ use Rattle.std.specs.Prelude.{◌==◌, Some, None}
 use Rattle.bx_ucd.specs.Data.{Data}
 use Rattle.bx_editor.specs.declared.message.Message.TheVariants.{TextFull}
 use Rattle.bx_editor.specs.Editor.{Editor, cleared, with_insertion}
-use Rattle.bx_editor.specs.Pasting.{as_before, ended_with, with_pasted, without_paste}
+use Rattle.bx_editor.specs.Pasting.{as_before, ended_with, paste_ended, with_pasted, without_paste}
 use Rattle.bx_editor.specs.Putting.{has_room, put_in, with_selection_replaced}
 use Rattle.bx_editor.specs.Selecting.{is_selection}
 
 -- with another key before, and no paste under way
-abbrev settled : Bool → Editor → Editor
+abbrev pub settled : Bool → Editor → Editor
 settled again e = record e { quit_before = again; pasted = None }
 
 each : (b c : Bool) (x y z : Editor) (again : Bool) → settled again (if b then (if c then x else y) else z)
@@ -61,3 +61,14 @@ back-by d e list false = back-from e (has_room (without_paste e) list) (is_selec
 
 pub taken-back : (d : Data) (e : Editor) (list : List ℕ) → as_before e (with_pasted d e list) ≡ e
 taken-back d e list = back-by d e list (length list == 0)
+
+-- the same where the paste was taken out before
+pub back-again : (e new : Editor) (pasted : Option (List ℕ)) → as_before (record e { pasted = pasted }) new ≡ record e { pasted = pasted }
+    → as_before e new ≡ e
+back-again e new pasted back = ap (λ (x : Editor). (let y : Editor = record x { pasted = e.pasted } in y)) back
+
+-- where no paste is under way nothing ends
+pub none-ended : (d : Data) (e : Editor) (left : Option (List ℕ)) → e.pasted ≡ None → left ≡ None
+    → record e { pasted = left } ≡ paste_ended d e
+none-ended d e left none taken =
+    ap (λ pasted. (let x : Editor = record e { pasted = pasted } in x)) (taken ∙ sym none) ∙ ap (λ pasted. ended_with d e pasted) (sym none)

@@ -1,8 +1,9 @@
 -- Laws of a paste, and of what goes out to a clipboard. `d` is Unicode's data, `e` the editor before, `new` the editor after.
-use Rattle.std.specs.Prelude.{◌≡◌, ◌≢◌, ℕ, ◌<◌, ◌≤◌, ◌⊎◌, true, false, List, [], ◌∷◌, ◌++◌, length, map, Some, None}
+use Rattle.std.specs.Prelude.{◌≡◌, ◌≢◌, ℕ, ◌+◌, ◌<◌, ◌≤◌, ◌⊎◌, true, false, List, [], ◌∷◌, ◌++◌, length, map, Option, Some, None, if◌then◌else◌}
 use Rattle.bx_keys.specs.declared.key.Key.{Key}
 use Rattle.bx_keys.specs.declared.key.Key.TheVariants.{Copy, Cut, Insert, PasteEnd, PasteStart}
 use Rattle.bx_runs.specs.Runs.{edited}
+use Rattle.bx_store.specs.declared.store.StoreFault.{StoreFault}
 use Rattle.bx_text.specs.Edits.{exchanged, inserted, splice}
 use Rattle.bx_ucd.specs.Data.{Data}
 use Rattle.bx_asking.specs.declared.question.Ask.TheVariants as asks
@@ -12,17 +13,22 @@ use Rattle.bx_editor.specs.Clipboard.{clip_of}
 use Rattle.bx_editor.specs.Editor.{Editor, place_after}
 use Rattle.bx_editor.specs.Keys.{after_key, after_keys, needs_no_painting}
 use Rattle.bx_editor.specs.Picture.{LooksAs}
-use Rattle.bx_editor.specs.Pasting.{longer, pastes_crlf}
+use Rattle.bx_editor.specs.Pasting.{longer, paste_ended, pasted_bytes, pastes_crlf}
 use Rattle.bx_editor.specs.Putting.{has_room}
 use Rattle.bx_editor.specs.Region.{bytes_in, is_empty, largest_clip, region, taken}
 use Rattle.bx_editor.specs.Selecting.{is_selection}
 
 -- ---- a paste
 
--- a list with more characters, each in UTF-8, and LF as the text's line end
+-- what a paste has brought: a list with more characters, until it is longer than any text
 abbrev pub brought : Data → List ℕ → List ℕ → List ℕ → List ℕ
 brought d text list [] = list
 brought d text list (c ∷ cs) = brought d text (longer (pastes_crlf d text c) list c) cs
+
+-- these characters in UTF-8, and LF as the text's line end
+abbrev pub written : Data → List ℕ → List ℕ → List ℕ
+written d text [] = []
+written d text (c ∷ cs) = pasted_bytes (pastes_crlf d text c) c ++ written d text cs
 
 -- the editor after characters are pasted
 abbrev pub after_paste : Data → Editor → List ℕ → Editor
@@ -32,20 +38,28 @@ after_paste d e cs = after_keys d None e (PasteStart ∷ (map Insert cs ++ Paste
 abbrev pub place_between : Data → Editor → ℕ
 place_between d e = place_after d e (splice e.content.text (region e).0 (region e).1 []) (region e).0
 
--- `list` was put in as one edit that begins a run; where a selection gave way, as two of one run
+-- `list` was put in as one edit that begins a run; where a selection gave way, as two of one run. The cursor is at the first
+-- place at or after its end
 pub record IsOneEdit (d : Data) (e : Editor) (list : List ℕ) (new : Editor) : Type 0 where
   pub alone : is_selection e ≡ false → new.content ≡ inserted e.content e.place list e.place new.place
   pub instead : is_selection e ≡ true
       → new.content ≡ exchanged e.content (region e).0 (region e).1 (place_between d e) list e.place (place_between d e) new.place
   pub begins : new.runs ≡ edited e.runs (length e.content.past) false
+  pub place : new.place ≡ place_after d e new.content.text ((if is_selection e then place_between d e else e.place) + length list)
 
 -- the text, with its past and future, and the cursor's place stay
 pub record StaysAsText (e new : Editor) : Type 0 where
   pub content : new.content ≡ e.content
   pub place : new.place ≡ e.place
 
--- of the characters that a paste brings nothing is lost, and none is put in alone
-pub record IsPaste (d : Data) (e : Editor) (list : List ℕ) (new : Editor) : Type 0 where
+-- `list` is all of these characters where it has room, and it has room exactly where they do
+pub record HasAll (d : Data) (e : Editor) (cs list : List ℕ) : Type 0 where
+  pub whole : has_room e list ≡ true → list ≡ written d e.content.text cs
+  pub same_room : has_room e list ≡ has_room e (written d e.content.text cs)
+
+-- of the characters that a paste brings, as `list`, nothing is lost, and none is put in alone
+pub record IsPaste (d : Data) (e : Editor) (cs list : List ℕ) (new : Editor) : Type 0 where
+  pub all : HasAll d e cs list
   pub put : list ≢ [] → has_room e list ≡ true → IsOneEdit d e list new
   pub full : list ≢ [] → has_room e list ≡ false → StaysAsText e new × (new.message ≡ Some TextFull)
   pub empty : list ≡ [] → StaysAsText e new
@@ -55,7 +69,7 @@ pub record IsPaste (d : Data) (e : Editor) (list : List ℕ) (new : Editor) : Ty
 abbrev pub PasteIsOneEdit : Type 0
 PasteIsOneEdit =
     (d : Data) (e : Editor) (cs : List ℕ) → e.ask ≡ asks.Off → e.seek ≡ Off → e.pasted ≡ None
-    → IsPaste d e (brought d e.content.text [] cs) (after_paste d e cs)
+    → IsPaste d e cs (brought d e.content.text [] cs) (after_paste d e cs)
 
 -- a character that goes into a paste, and PasteStart once more, leave the picture as it is
 abbrev pub PasteIsUnseen : Type 0
@@ -63,15 +77,30 @@ PasteIsUnseen = (d : Data) (e : Editor) (key : Key) → needs_no_painting e key 
 
 -- ---- a clipboard
 
--- a part of the text goes out by a key unless it is empty or too long; that it is too long is told
+-- nothing goes out by a key, and the held text stays
+pub record SendsNothing (e : Editor) (key : Key) (new : Editor) : Type 0 where
+  pub none : clip_of new key ≡ None
+  pub stays : new.held ≡ e.held
+
+-- a part of the text is held and goes out by a key, unless it is empty or too long to go out; that it is too long is told
 pub record SendsHeld (e : Editor) (part : ℕ × ℕ) (key : Key) (new : Editor) : Type 0 where
+  pub held : is_empty part ≡ false → new.held ≡ bytes_in e part
   pub sent : is_empty part ≡ false → length (bytes_in e part) ≤ largest_clip → clip_of new key ≡ Some (bytes_in e part)
   pub too_long : is_empty part ≡ false → largest_clip < length (bytes_in e part)
       → (clip_of new key ≡ None) × (new.message ≡ Some TooLongForClipboard)
-  pub nothing : is_empty part ≡ true → clip_of new key ≡ None
+  pub nothing : is_empty part ≡ true → SendsNothing e key new
 
--- with a clipboard, outside a search and a question and with no paste under way, Copy and Cut send what they take
+-- what Copy and Cut send where no paste is under way: Copy gives up a search or a question and then sends nothing
+pub record SendsCopies (d : Data) (e by_copy by_cut : Editor) : Type 0 where
+  pub copy : e.ask ≡ asks.Off → e.seek ≡ Off → SendsHeld e (taken d e) Copy by_copy
+  pub given_up : (e.ask ≢ asks.Off) ⊎ (e.seek ≢ Off) → SendsNothing e Copy by_copy
+  pub cut : SendsHeld e (taken d e) Cut by_cut
+
+-- with a clipboard Copy and Cut, which first end a paste, send what they take; nothing else is sent
+pub record SendsCopiesAlone (d : Data) (fault : Option StoreFault) (e : Editor) : Type 0 where
+  pub copies : e.clipboard ≡ true → SendsCopies d (paste_ended d e) (after_key d fault e Copy) (after_key d fault e Cut)
+  pub others : (key : Key) → key ≢ Copy → key ≢ Cut → clip_of (after_key d fault e key) key ≡ None
+  pub without_one : e.clipboard ≡ false → (key : Key) → clip_of (after_key d fault e key) key ≡ None
+
 abbrev pub CopiesGoOut : Type 0
-CopiesGoOut =
-    (d : Data) (e : Editor) (key : Key) → (key ≡ Copy) ⊎ (key ≡ Cut) → e.clipboard ≡ true → e.ask ≡ asks.Off → e.seek ≡ Off → e.pasted ≡ None
-    → SendsHeld e (taken d e) key (after_key d None e key)
+CopiesGoOut = (d : Data) (fault : Option StoreFault) (e : Editor) → SendsCopiesAlone d fault e
