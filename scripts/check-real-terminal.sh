@@ -26,9 +26,9 @@ export LC_ALL=C.UTF-8
 passed=0 failed=0
 trap 'tmux -L "$socket" kill-server 2> /dev/null; rm -rf "$folder"' EXIT
 
-# Compares the pane after these pictures. ROWS are joined by | and have no blanks at their ends; < and > enclose negative parts.
-# CURSOR is its column and row from 0. PICTURES are those of a line of paint: the line and column of the cursor from 1, and rows, in
-# which _ is a blank, braces have one glyph and a backquote stands before a negative one.
+# Paints PICTURES into the pane, and compares what it shows. PICTURES are written as in the player's `paint` lines (crates/player
+# describes them). ROWS are the rows that the pane must show, joined by |, without blanks at their ends; < and > enclose cells in
+# reverse video. CURSOR is the column and the row of the cursor, counted from 0.
 check() { # NAME HEIGHT WIDTH ROWS CURSOR PICTURES..
     name=$1 height=$2 width=$3 rows=$4 cursor=$5
     shift 5

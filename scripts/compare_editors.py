@@ -359,4 +359,5 @@ def main():
     print_table(figures, found)
 
 
-main()
+if __name__ == '__main__':
+    main()

@@ -1,8 +1,11 @@
 //! The program's command line.
 
-use bx_cli::{UnicodePaths, add_tables, direction, direction_of, parse, paths_of, side, side_of};
+use bx_cli::{
+    UnicodePaths, direction, direction_of, flag, is_given, missing_value, paths_of, side, side_of,
+    value_of, with_tables,
+};
 use bx_print::{Marks, Style};
-use clap::{Arg, ArgAction, ArgMatches, Command};
+use clap::{Arg, ArgMatches, Command};
 use std::alloc::{AllocError, Global};
 use std::convert::AsStr;
 
@@ -17,13 +20,6 @@ pub struct Options<'a> {
     pub file: &'a str,
 }
 
-/// The flag for marks.
-fn marks<'a>(alloc: Global) -> Arg<'a> {
-    Arg::new(alloc, "marks")
-        .long("marks")
-        .action(ArgAction::SetTrue)
-}
-
 /// FILE.
 fn file<'a>(alloc: Global) -> Arg<'a> {
     Arg::new(alloc, "file").value_name("FILE").required(true)
@@ -31,26 +27,20 @@ fn file<'a>(alloc: Global) -> Arg<'a> {
 
 /// The program's command line. Without `--cols` a row has 80 columns, as a usual terminal does.
 fn command<'a>(alloc: Global) -> Result<Command<'a>, AllocError> {
-    let mut args = Vec::new(alloc);
-    add_tables(&mut args, alloc)?;
-    for arg in [
-        side(alloc, "cols", "80"),
-        direction(alloc),
-        marks(alloc),
-        file(alloc),
-    ] {
-        args.push(arg)?;
-    }
-    Command::new(alloc, "bidi_print")
+    let bare = Command::new(alloc, "bidi_print")
         .no_binary_name(true)
         .disable_help_flag(true)
-        .disable_version_flag(true)
-        .args(args)
+        .disable_version_flag(true);
+    with_tables(bare, alloc)?
+        .arg(side(alloc, "cols", "80"))?
+        .arg(direction(alloc))?
+        .arg(flag(alloc, "marks"))?
+        .arg(file(alloc))
 }
 
 /// How marks are printed, by the flag `--marks`.
 fn marks_of(matches: &ArgMatches<'_>) -> Marks {
-    if matches.get_flag("marks") {
+    if is_given(matches, "marks") {
         Marks::Bracketed
     } else {
         Marks::LeftOut
@@ -69,7 +59,7 @@ fn options_of<'a>(matches: &ArgMatches<'a>) -> Option<Options<'a>> {
             marks,
         },
         unicode: paths_of(matches)?,
-        file: matches.get_str("file")?,
+        file: value_of(matches, "file")?,
     })
 }
 
@@ -80,5 +70,10 @@ pub fn command_line<'a, S: AsStr>(
     alloc: Global,
     words: &'a [S],
 ) -> Result<Options<'a>, clap::Error> {
-    parse(command(alloc)?, words, |matches| options_of(matches))
+    let mut command = command(alloc)?;
+    let matches = command.try_get_matches_from_mut(words)?;
+    match options_of(&matches) {
+        Some(options) => Ok(options),
+        None => Err(missing_value(&mut command)?),
+    }
 }

@@ -2,12 +2,11 @@
 use Rattle.std.proofs.Common.{◌≡◌, ℕ, List, refl, ap, ◌∙◌, arith, slice_index}
 use Rattle.std.specs.Prelude.{codes, Option, Some, None}
 use Rattle.std.specs.Str.Parse.{digits_value, without_leading_plus}
-use Rattle.clap.specs.Words.{found_of, one_text}
-use Rattle.clap.specs.declared.parser.matches.ArgMatches.{ArgMatches}
+use Rattle.clap.specs.Words.{Row}
 use Rattle.bx_terms.specs.Directions.{word_of}
 use Rattle.bx_terms.specs.declared.base.Base.{Base}
 use Rattle.bx_terms.specs.declared.base.Base.TheVariants.{Auto, Ltr, Rtl}
-use Rattle.bx_cli.specs.Arguments.{GivesDirection, GivesPaths, IsSideIn, text_of}
+use Rattle.bx_cli.specs.Arguments.{GivesDirection, GivesPaths, IsSideIn, value_in}
 use Rattle.bx_cli.specs.Files.{AreLent}
 use Rattle.bx_cli.specs.declared.unicode.UnicodeBytes.{UnicodeBytes}
 use Rattle.bx_cli.specs.declared.unicode.UnicodeFiles.{UnicodeFiles}
@@ -25,29 +24,29 @@ rtl_names Ltr is = let no : 114 ≡ 108 = same_first (codes "rtl") (codes "ltr")
 rtl_names Rtl is = refl
 
 -- --direction rtl gives Rtl
-pub rtl_is_given : (matches : ArgMatches) (direction : Option Base) → GivesDirection matches direction
-    → text_of matches (codes "direction") ≡ Some (codes "rtl") → direction ≡ Some Rtl
-rtl_is_given matches None none is = absurd (none Rtl is)
-rtl_is_given matches (Some base) names is =
-    ap Some (rtl_names base (same_text (text_of matches (codes "direction")) (codes "rtl") (word_of base) is names))
+pub rtl_is_given : (rows : List Row) (direction : Option Base) → GivesDirection rows direction
+    → value_in rows (codes "direction") ≡ Some (codes "rtl") → direction ≡ Some Rtl
+rtl_is_given rows None none is = absurd (none Rtl is)
+rtl_is_given rows (Some base) names is =
+    ap Some (rtl_names base (same_text (value_in rows (codes "direction")) (codes "rtl") (word_of base) is names))
 
 -- --rows +80 gives 80
-pub eighty_is_given : (matches : ArgMatches) (n : ℕ) → IsSideIn matches (codes "rows") n
-    → one_text (found_of matches) (codes "rows") ≡ Some (codes "+80") → n ≡ 80
-eighty_is_given matches n given is =
+pub eighty_is_given : (rows : List Row) (n : ℕ) → IsSideIn rows (codes "rows") n
+    → value_in rows (codes "rows") ≡ Some (codes "+80") → n ≡ 80
+eighty_is_given rows n given is =
     given.value
     ∙ ap (λ text. digits_value 10 (without_leading_plus text))
-    (same_text (one_text (found_of matches) (codes "rows")) given.text (codes "+80") given.is_text is)
+    (same_text (value_in rows (codes "rows")) given.text (codes "+80") given.is_text is)
 
 no_text : (option : Option (List ℕ)) (text : List ℕ) → option ≡ None → ¬ (option ≡ Some text)
 no_text option text none some = absurd (cc)
 
 -- without --brackets there are no paths
-pub brackets_are_required : (matches : ArgMatches) (paths : Option UnicodePaths) → GivesPaths matches paths
-    → text_of matches (codes "brackets") ≡ None → paths ≡ None
-brackets_are_required matches None given missing = refl
-brackets_are_required matches (Some paths) given missing =
-    absurd (no_text (text_of matches (codes "brackets")) paths.brackets.now missing given.brackets)
+pub brackets_are_required : (rows : List Row) (paths : Option UnicodePaths) → GivesPaths rows paths
+    → value_in rows (codes "brackets") ≡ None → paths ≡ None
+brackets_are_required rows None given missing = refl
+brackets_are_required rows (Some paths) given missing =
+    absurd (no_text (value_in rows (codes "brackets")) paths.brackets.now missing given.brackets)
 
 -- the mirrors are lent from the bytes of the mirrors
 pub mirrors_are_lent : (bytes : UnicodeBytes) (files : UnicodeFiles) (text : List ℕ) → AreLent bytes files → bytes.mirroring.items ≡ text

@@ -1,3 +1,4 @@
 pub mod Arguments
 pub mod Files
+pub mod Rules
 pub mod Shown

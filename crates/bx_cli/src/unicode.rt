@@ -1,12 +1,15 @@
 //! Unicode's files: the options that name them, their paths and their bytes.
 
-ghost use Rattle.std.specs.Prelude.{◌≡◌};
-ghost use Rattle.bx_cli.specs.Arguments.{GivesJoining, GivesPaths};
+ghost use Rattle.std.specs.Prelude.{◌≡◌, IfOk};
+ghost use Rattle.clap.specs.Words.{app_of, rule_of};
+ghost use Rattle.bx_cli.specs.Arguments.{GivesJoining, GivesPaths, rows_in};
 ghost use Rattle.bx_cli.specs.Files.{AreLent, kept_pair, lent_pair};
+ghost use Rattle.bx_cli.specs.Rules.{bound, option_rule, required, table_rules, with_rules};
 
+use crate::arguments::{option, value_of};
 use crate::files::{FileFault, bytes_of};
 use bx_ucd::JoiningFiles;
-use clap::{Arg, ArgMatches};
+use clap::{Arg, ArgMatches, Command};
 use std::alloc::{AllocError, Global};
 
 /// The paths of the two files by which letters are joined.
@@ -66,40 +69,50 @@ pub struct UnicodeBytes {
     joining: Option<JoiningBytes>,
 }
 
-/// An option that names a file.
-fn table<'a>(alloc: Global, name: &'a str) -> Arg<'a> {
-    Arg::new(alloc, name).long(name).value_name("F")
+/// An option that names a file, which must be given.
+fn table<'a>(alloc: Global, name: &'a str) -> Arg<'a>
+    ensures { rule_of result ≡ required (option_rule name.entry.now) }
+{
+    option(alloc, name, "F").required(true)
+}
+
+/// An option that names a file, and is given together with another.
+fn half<'a>(alloc: Global, name: &'a str, other: &'a str) -> Result<Arg<'a>, AllocError>
+    ensures { IfOk result (λ arg. rule_of arg ≡ bound (option_rule name.entry.now)) }
+{
+    option(alloc, name, "F").requires_arg(other)
 }
 
 /// Adds the options that name Unicode's files. The two by which letters are joined are given together, or not at all.
-pub fn add_tables<'a>(args: &mut Vec<Arg<'a>>, alloc: Global) -> Result<(), AllocError> {
-    for name in ["classes", "brackets", "mirroring"] {
-        args.push(table(alloc, name).required(true))?;
-    }
-    for (name, other) in [("joining", "characters"), ("characters", "joining")] {
-        args.push(table(alloc, name).requires_arg(other)?)?;
-    }
-    Ok(())
+pub fn with_tables<'a>(command: Command<'a>, alloc: Global) -> Result<Command<'a>, AllocError>
+    ensures { IfOk result (λ more. app_of more ≡ with_rules (app_of command.entry) table_rules) }
+{
+    command
+        .arg(table(alloc, "classes"))?
+        .arg(table(alloc, "brackets"))?
+        .arg(table(alloc, "mirroring"))?
+        .arg(half(alloc, "joining", "characters")?)?
+        .arg(half(alloc, "characters", "joining")?)
 }
 
 /// The paths of the two files by which letters are joined; None if one of them is missing.
 fn joining_paths_of<'a>(matches: &ArgMatches<'a>) -> Option<JoiningPaths<'a>>
-    ensures { GivesJoining matches.now result }
+    ensures { GivesJoining (rows_in matches.now) result }
 {
     Some(JoiningPaths {
-        joining: matches.get_str("joining")?,
-        characters: matches.get_str("characters")?,
+        joining: value_of(matches, "joining")?,
+        characters: value_of(matches, "characters")?,
     })
 }
 
 /// The paths of Unicode's files, from their options; None if a required one is missing.
 pub fn paths_of<'a>(matches: &ArgMatches<'a>) -> Option<UnicodePaths<'a>>
-    ensures { GivesPaths matches.now result }
+    ensures { GivesPaths (rows_in matches.now) result }
 {
     Some(UnicodePaths {
-        classes: matches.get_str("classes")?,
-        brackets: matches.get_str("brackets")?,
-        mirroring: matches.get_str("mirroring")?,
+        classes: value_of(matches, "classes")?,
+        brackets: value_of(matches, "brackets")?,
+        mirroring: value_of(matches, "mirroring")?,
         joining: joining_paths_of(matches),
     })
 }

@@ -1,2 +1,4 @@
 pub mod Starts
 pub mod Examples
+pub mod CommandExamples
+pub mod ByWords

@@ -1,3 +1,4 @@
 pub mod Check
+pub mod Command
 pub mod Lines
 pub mod Options

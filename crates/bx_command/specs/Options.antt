@@ -1,38 +1,52 @@
--- The options of the editor's command line.
-use Rattle.std.specs.Prelude.{◌≡◌, ℕ, Bool, true, false, List, Option, Some, None, option_map, codes}
+-- The editor's options, by the words of its command line.
+use Rattle.std.specs.Prelude.{◌≡◌, ℕ, Bool, false, List, Option, Some, None, option_map, map, codes}
+use Rattle.std.specs.Char.{to_ascii_lowercase}
 use Rattle.std.specs.Borrow.{Bor}
-use Rattle.clap.specs.Words.{found_of, one_text}
-use Rattle.clap.specs.declared.parser.matches.ArgMatches.{ArgMatches}
+use Rattle.std.specs.Str.{bytes_eq}
+use Rattle.std.specs.Str.Parse.{IsNumeral, digits_value, without_leading_plus}
+use Rattle.clap.specs.Words.{Row, Text, matches_of}
 use Rattle.bx_terms.specs.Directions.{word_of}
-use Rattle.bx_cli.specs.Arguments.{ArePathsIn, IsSideIn, text_of}
+use Rattle.bx_cli.specs.Arguments.{ArePathsIn, IsSideIn, is_given, value_in}
+use Rattle.bx_cli.specs.Rules.{DirectionWords}
+use Rattle.bx_command.specs.Command.{editor_app}
 use Rattle.bx_command.specs.declared.parsed.Options.{Options}
 
 -- the text of an option that may be missing
 abbrev pub text_in : Option (Bor (List ℕ)) → Option (List ℕ)
 text_in text = option_map (λ t. t.now) text
 
--- a flag is on if its text is true, and off if its text is false or it has none
-pub record IsFlagIn (matches : ArgMatches) (name : List ℕ) (is_on : Bool) : Type 0 where
-  pub on : one_text (found_of matches) name ≡ Some (codes "true") → is_on ≡ true
-  pub off : one_text (found_of matches) name ≡ Some (codes "false") → is_on ≡ false
-  pub none : one_text (found_of matches) name ≡ None → is_on ≡ false
+-- the line that the value of --line says, a decimal number, maybe after a plus; none without --line
+abbrev pub IsLine : Option Text → Option ℕ → Type 0
+IsLine None line = line ≡ None
+IsLine (Some text) line = IsNumeral 10 (without_leading_plus text) × (line ≡ Some (digits_value 10 (without_leading_plus text)))
 
--- each flag, and each option that has a text, is given by the argument of its name
-pub record AreOptionsIn (matches : ArgMatches) (options : Options) : Type 0 where
-  pub rows : IsSideIn matches (codes "rows") options.rows
-  pub cols : IsSideIn matches (codes "cols") options.cols
-  pub unicode : ArePathsIn matches options.unicode
-  pub file : text_of matches (codes "file") ≡ Some options.file.now
-  pub opened : text_of matches (codes "text") ≡ text_in options.text
-  pub journal : text_of matches (codes "journal") ≡ text_in options.journal
-  pub replay : text_of matches (codes "replay") ≡ text_in options.replay
-  pub to : text_of matches (codes "to") ≡ text_in options.to
-  pub against : text_of matches (codes "against") ≡ text_in options.against
-  pub saves : text_of matches (codes "saves") ≡ text_in options.saves
-  pub before : text_of matches (codes "before") ≡ text_in options.before
-  pub new : IsFlagIn matches (codes "new") options.is_new
-  pub check : IsFlagIn matches (codes "check") options.check
-  pub unsaved : IsFlagIn matches (codes "unsaved") options.unsaved
-  pub frames : IsFlagIn matches (codes "frames") options.frames
-  pub clipboard : IsFlagIn matches (codes "clipboard") options.clipboard
-  pub direction : text_of matches (codes "direction") ≡ Some (word_of options.direction)
+-- the value of --erase is DELETE, 7F, in any case
+abbrev pub is_delete : Option Text → Bool
+is_delete None = false
+is_delete (Some code) = bytes_eq (map to_ascii_lowercase code) (codes "7f")
+
+-- each option is what the argument of its name says
+pub record AreOptionsIn (found : List Row) (options : Options) : Type 0 where
+  pub rows : IsSideIn found (codes "rows") options.rows
+  pub cols : IsSideIn found (codes "cols") options.cols
+  pub unicode : ArePathsIn found options.unicode
+  pub file : value_in found (codes "file") ≡ Some options.file.now
+  pub opened : value_in found (codes "text") ≡ text_in options.text
+  pub is_new : options.is_new ≡ is_given found (codes "new")
+  pub check : options.check ≡ is_given found (codes "check")
+  pub unsaved : options.unsaved ≡ is_given found (codes "unsaved")
+  pub clipboard : options.clipboard ≡ is_given found (codes "clipboard")
+  pub journal : value_in found (codes "journal") ≡ text_in options.journal
+  pub replay : value_in found (codes "replay") ≡ text_in options.replay
+  pub to : value_in found (codes "to") ≡ text_in options.to
+  pub against : value_in found (codes "against") ≡ text_in options.against
+  pub line : IsLine (value_in found (codes "line")) options.line
+  pub direction : value_in found (codes "direction") ≡ Some (word_of options.direction)
+  pub before : value_in found (codes "before") ≡ text_in options.before
+  pub frames : options.frames ≡ is_given found (codes "frames")
+  pub saves : value_in found (codes "saves") ≡ text_in options.saves
+  pub erase : options.erases_by_delete ≡ is_delete (value_in found (codes "erase"))
+
+-- the options that these words give
+abbrev pub AreOptionsOf : List Text → Options → Type 0
+AreOptionsOf words options = (directions : DirectionWords) × AreOptionsIn (matches_of (editor_app directions) words) options

@@ -25,6 +25,8 @@ pub struct Options<'a> {
     pub check: bool,
     /// Whether the text counts as changed from the start.
     pub unsaved: bool,
+    /// Whether text that is copied or cut also goes out to the terminal's clipboard.
+    pub clipboard: bool,
     /// The path of the journal that keys are appended to; None if none is kept.
     pub journal: Option<&'a str>,
     /// The path of the journal to replay; None if none is.
@@ -44,8 +46,6 @@ pub struct Options<'a> {
     /// The host's two pipes for saves, for requests and for answers, divided by a comma: each a descriptor's number or a path. None
     /// if the program saves by itself.
     pub saves: Option<&'a str>,
-    /// Whether text that is copied or cut goes out to the terminal's clipboard too.
-    pub clipboard: bool,
     /// Whether the terminal's own erase character is DELETE, 7F.
     pub erases_by_delete: bool,
     pub ghost has_rows: { is_side rows ≡ true },

@@ -1,44 +1,53 @@
 //! The options of the editor's command line, and how they are parsed.
 
-ghost use Rattle.std.specs.Prelude.{IfSome};
-ghost use Rattle.bx_command.specs.Options.{AreOptionsIn};
+ghost use Rattle.std.specs.Prelude.{◌≡◌, IfOk, IfSome, codes, map, option_map};
+ghost use Rattle.clap.specs.Words.{app_of, rule_of, with_rule};
+ghost use Rattle.bx_cli.specs.Arguments.{rows_in, value_in};
+ghost use Rattle.bx_cli.specs.Rules.{DirectionWords, bound, flag_rule, option_rule, with_rules};
+ghost use Rattle.bx_command.specs.Command.{bare_app, bound_rules, editor_app, file_rule, line_rule, plain_rules};
+ghost use Rattle.bx_command.specs.Options.{AreOptionsIn, AreOptionsOf, IsLine, is_delete, text_in};
 
 use crate::parsed::Options;
-use bx_cli::{add_tables, direction, direction_of, parse, paths_of, side, side_of};
-use clap::{Arg, ArgAction, ArgMatches, Command, value_parser};
+use bx_cli::{
+    direction, direction_of, flag, is_given, missing_value, option, paths_of, side, side_of,
+    value_of, with_tables,
+};
+use clap::{Arg, ArgMatches, Command, value_parser};
 use std::alloc::{AllocError, Global};
 use std::convert::AsStr;
 
 /// An option whose value is the path of another file.
-fn path<'a>(alloc: Global, name: &'a str) -> Arg<'a> {
-    Arg::new(alloc, name).long(name).value_name("PATH")
+fn path<'a>(alloc: Global, name: &'a str) -> Arg<'a>
+    ensures { rule_of result ≡ option_rule name.entry.now }
+{
+    option(alloc, name, "PATH")
 }
 
 /// The option for the cursor's first line.
-fn line<'a>(alloc: Global) -> Arg<'a> {
-    Arg::new(alloc, "line")
-        .long("line")
-        .value_name("N")
-        .value_parser(value_parser!(u64).range(1..))
-}
-
-/// A flag.
-fn flag<'a>(alloc: Global, name: &'a str) -> Arg<'a> {
-    Arg::new(alloc, name).long(name).action(ArgAction::SetTrue)
+fn line<'a>(alloc: Global) -> Arg<'a>
+    ensures { rule_of result ≡ line_rule }
+{
+    option(alloc, "line", "N").value_parser(value_parser!(u64).range(1..))
 }
 
 /// The option for a text to write before the first painting.
-fn before<'a>(alloc: Global) -> Arg<'a> {
-    Arg::new(alloc, "before").long("before").value_name("TEXT")
+fn before<'a>(alloc: Global) -> Arg<'a>
+    ensures { rule_of result ≡ option_rule (codes "before") }
+{
+    option(alloc, "before", "TEXT")
 }
 
 /// FILE.
-fn file<'a>(alloc: Global) -> Arg<'a> {
+fn file<'a>(alloc: Global) -> Arg<'a>
+    ensures { rule_of result ≡ file_rule }
+{
     Arg::new(alloc, "file").value_name("FILE").required(true)
 }
 
 /// The flag for a check of FILE without a session.
-fn check<'a>(alloc: Global) -> Result<Arg<'a>, AllocError> {
+fn check<'a>(alloc: Global) -> Result<Arg<'a>, AllocError>
+    ensures { IfOk result (λ arg. rule_of arg ≡ bound (flag_rule (codes "check"))) }
+{
     flag(alloc, "check")
         .conflicts_with("text")?
         .conflicts_with("journal")?
@@ -48,31 +57,40 @@ fn check<'a>(alloc: Global) -> Result<Arg<'a>, AllocError> {
 }
 
 /// The flag for a FILE that does not exist.
-fn new<'a>(alloc: Global) -> Result<Arg<'a>, AllocError> {
+fn new<'a>(alloc: Global) -> Result<Arg<'a>, AllocError>
+    ensures { IfOk result (λ arg. rule_of arg ≡ bound (flag_rule (codes "new"))) }
+{
     flag(alloc, "new").conflicts_with("text")
 }
 
 /// The option for the host's pipes for saves.
-fn saves<'a>(alloc: Global) -> Result<Arg<'a>, AllocError> {
-    Arg::new(alloc, "saves")
-        .long("saves")
-        .value_name("REQUEST,ANSWER")
-        .requires_arg("frames")
+fn saves<'a>(alloc: Global) -> Result<Arg<'a>, AllocError>
+    ensures { IfOk result (λ arg. rule_of arg ≡ bound (option_rule (codes "saves"))) }
+{
+    option(alloc, "saves", "REQUEST,ANSWER").requires_arg("frames")
 }
 
 /// The option for the terminal's own erase character, in hexadecimal.
-fn erase<'a>(alloc: Global) -> Result<Arg<'a>, AllocError> {
-    Arg::new(alloc, "erase")
-        .long("erase")
-        .value_name("XX")
-        .requires_arg("frames")
+fn erase<'a>(alloc: Global) -> Result<Arg<'a>, AllocError>
+    ensures { IfOk result (λ arg. rule_of arg ≡ bound (option_rule (codes "erase"))) }
+{
+    option(alloc, "erase", "XX").requires_arg("frames")
+}
+
+/// An option whose value is a path, and which requires another option.
+fn further_path<'a>(alloc: Global, name: &'a str, other: &'a str) -> Result<Arg<'a>, AllocError>
+    ensures { IfOk result (λ arg. rule_of arg ≡ bound (option_rule name.entry.now)) }
+{
+    path(alloc, name).requires_arg(other)
 }
 
 /// The value of --erase for DELETE.
 const DELETE: &str = "7f";
 
 /// Whether a value of --erase is DELETE.
-fn is_delete(erase: Option<&str>) -> bool {
+fn is_delete(erase: Option<&str>) -> bool
+    ensures { result ≡ is_delete (text_in erase.entry) }
+{
     match erase {
         Some(code) => code.eq_ignore_ascii_case(DELETE),
         None => false,
@@ -80,79 +98,103 @@ fn is_delete(erase: Option<&str>) -> bool {
 }
 
 /// Adds the options that stand alone, and FILE.
-fn add_options<'a>(args: &mut Vec<Arg<'a>>, alloc: Global) -> Result<(), AllocError> {
-    for (name, default) in [("rows", "24"), ("cols", "80")] {
-        args.push(side(alloc, name, default))?;
-    }
-    for name in ["text", "journal", "replay"] {
-        args.push(path(alloc, name))?;
-    }
-    for name in ["unsaved", "frames", "clipboard"] {
-        args.push(flag(alloc, name))?;
-    }
-    for arg in [direction(alloc), line(alloc), before(alloc), file(alloc)] {
-        args.push(arg)?;
-    }
-    Ok(())
+fn with_plain<'a>(command: Command<'a>, alloc: Global) -> Result<Command<'a>, AllocError>
+    ensures { IfOk result (λ more. (directions : DirectionWords) × (app_of more ≡ with_rules (app_of command.entry) (plain_rules directions))) }
+{
+    command
+        .arg(side(alloc, "rows", "24"))?
+        .arg(side(alloc, "cols", "80"))?
+        .arg(path(alloc, "text"))?
+        .arg(path(alloc, "journal"))?
+        .arg(path(alloc, "replay"))?
+        .arg(flag(alloc, "unsaved"))?
+        .arg(flag(alloc, "frames"))?
+        .arg(flag(alloc, "clipboard"))?
+        .arg(direction(alloc))?
+        .arg(line(alloc))?
+        .arg(before(alloc))?
+        .arg(file(alloc))
 }
 
 /// Adds the options that require others or exclude them.
-fn add_bound_options<'a>(args: &mut Vec<Arg<'a>>, alloc: Global) -> Result<(), AllocError> {
-    args.push(check(alloc)?)?;
-    args.push(new(alloc)?)?;
-    args.push(saves(alloc)?)?;
-    args.push(erase(alloc)?)?;
-    args.push(path(alloc, "to").requires_arg("replay")?)?;
-    args.push(path(alloc, "against").requires_arg("to")?)?;
-    Ok(())
+fn with_bound<'a>(command: Command<'a>, alloc: Global) -> Result<Command<'a>, AllocError>
+    ensures { IfOk result (λ more. app_of more ≡ with_rules (app_of command.entry) bound_rules) }
+{
+    command
+        .arg(check(alloc)?)?
+        .arg(new(alloc)?)?
+        .arg(saves(alloc)?)?
+        .arg(erase(alloc)?)?
+        .arg(further_path(alloc, "to", "replay")?)?
+        .arg(further_path(alloc, "against", "to")?)
 }
 
-/// The program's command line.
-fn command<'a>(alloc: Global) -> Result<Command<'a>, AllocError> {
-    let mut args = Vec::new(alloc);
-    add_tables(&mut args, alloc)?;
-    add_options(&mut args, alloc)?;
-    add_bound_options(&mut args, alloc)?;
+/// The program's command line before its options.
+fn bare<'a>(alloc: Global) -> Command<'a>
+    ensures { app_of result ≡ bare_app }
+{
     Command::new(alloc, "bidi_edit")
         .no_binary_name(true)
         .disable_help_flag(true)
         .disable_version_flag(true)
-        .args(args)
+}
+
+/// The program's command line.
+fn command<'a>(alloc: Global) -> Result<Command<'a>, AllocError>
+    ensures { IfOk result (λ made. (directions : DirectionWords) × (app_of made ≡ editor_app directions)) }
+{
+    let command = with_tables(bare(alloc), alloc)?;
+    let command = with_plain(command, alloc)?;
+    with_bound(command, alloc)
+}
+
+/// The cursor's first line, maybe none; None if the value of --line is no number.
+fn line_of(matches: &ArgMatches<'_>) -> Option<Option<u64>>
+    ensures { IfSome result (IsLine (value_in (rows_in matches.now) (codes "line"))) }
+{
+    match value_of(matches, "line") {
+        Some(text) => text.parse().ok().map(Some),
+        None => Some(None),
+    }
 }
 
 /// The options that clap matched; None if a value is missing or out of range.
 fn options_of<'a>(matches: &ArgMatches<'a>) -> Option<Options<'a>>
-    ensures { IfSome result (AreOptionsIn matches.now) }
+    ensures { IfSome result (AreOptionsIn (rows_in matches.now)) }
 {
     Some(Options {
         rows: side_of(matches, "rows")?,
         cols: side_of(matches, "cols")?,
         unicode: paths_of(matches)?,
-        file: matches.get_str("file")?,
-        text: matches.get_str("text"),
-        is_new: matches.get_flag("new"),
-        check: matches.get_flag("check"),
-        unsaved: matches.get_flag("unsaved"),
-        journal: matches.get_str("journal"),
-        replay: matches.get_str("replay"),
-        to: matches.get_str("to"),
-        against: matches.get_str("against"),
-        line: matches.get_one::<u64>("line"),
+        file: value_of(matches, "file")?,
+        text: value_of(matches, "text"),
+        is_new: is_given(matches, "new"),
+        check: is_given(matches, "check"),
+        unsaved: is_given(matches, "unsaved"),
+        clipboard: is_given(matches, "clipboard"),
+        journal: value_of(matches, "journal"),
+        replay: value_of(matches, "replay"),
+        to: value_of(matches, "to"),
+        against: value_of(matches, "against"),
+        line: line_of(matches)?,
         direction: direction_of(matches)?,
-        before: matches.get_str("before"),
-        frames: matches.get_flag("frames"),
-        saves: matches.get_str("saves"),
-        clipboard: matches.get_flag("clipboard"),
-        erases_by_delete: is_delete(matches.get_str("erase")),
+        before: value_of(matches, "before"),
+        frames: is_given(matches, "frames"),
+        saves: value_of(matches, "saves"),
+        erases_by_delete: is_delete(value_of(matches, "erase")),
     })
 }
 
 /// Parses the words after the program's name.
 ///
 /// Errors: clap's, with a message for the user.
-pub fn command_line<'a, S: AsStr>(
-    alloc: Global,
-    words: &'a [S],
-) -> Result<Options<'a>, clap::Error> {
-    parse(command(alloc)?, words, |matches| options_of(matches))
+pub fn command_line<'a, S: AsStr>(alloc: Global, words: &'a [S]) -> Result<Options<'a>, clap::Error>
+    ensures { IfOk result (AreOptionsOf (map S.text words.entry.now)) }
+{
+    let mut command = command(alloc)?;
+    let matches = command.try_get_matches_from_mut(words)?;
+    match options_of(&matches) {
+        Some(options) => Ok(options),
+        None => Err(missing_value(&mut command)?),
+    }
 }

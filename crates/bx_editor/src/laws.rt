@@ -2,8 +2,8 @@
 
 ghost use Rattle.bx_editor.specs.PasteLaws.{CopiesGoOut, PasteIsOneEdit, PasteIsUnseen};
 
-/// Outside a search and a question, a paste is one edit of all that it brings, or two of one run where a selection gives way to it. If
-/// the text has no room for all, nothing is put in.
+/// Outside a search and a question, a paste is one edit of all that it brings, or two of one run where a selection gives way to it, and
+/// the cursor is after it. If the text has no room for all, nothing is put in.
 pub fn paste_is_one_edit()
     ensures { PasteIsOneEdit }
 {}
@@ -13,7 +13,8 @@ pub fn paste_is_unseen()
     ensures { PasteIsUnseen }
 {}
 
-/// With a clipboard, outside a search and a question, the text that Copy and Cut take goes out, unless it is too long, which is told.
+/// With a clipboard, the text that Copy and Cut take goes out, unless it is too long, which the message says. A Copy that cancels a
+/// search or a question sends nothing, nor does any other key.
 pub fn copies_go_out()
     ensures { CopiesGoOut }
 {}

@@ -100,9 +100,9 @@ pub enum Key {
     Name,
     /// Tells what stands at the place.
     Tell,
-    /// A paste begins. It changes nothing that is seen.
+    /// A paste begins: the characters up to its end are put into the text at once, when it ends.
     PasteStart,
-    /// A paste ends. It changes nothing that is seen.
+    /// A paste ends.
     PasteEnd,
     /// The window's size in rows and columns, each from 1 to 500.
     Size(u16, u16),

@@ -73,10 +73,10 @@ fn append_both(
     ensures updates { Updates (known_if is_known painted.now) (painting (known_if is_known painted.now) picture.now) picture.now }
     ensures tokens { AreWholeTokens (painting (known_if is_known painted.now) picture.now) }
     ensures is_picture { IsPicture picture.now }
-    ensures shows { (t : Terminal) (painting : List ℕ) (p : PictureState) → Shows (reads t painting) p
-        → Shows (reads t (then_clip painting (text_in clip.entry))) p }
-    ensures whole { (painting : List ℕ) → AreWholeTokens painting → AreWholeTokens (then_clip painting (text_in clip.entry)) }
-    ensures gives { IfSome (text_in clip.entry) (λ text. decode_of standard (encode_of standard text) ≡ Ok text) }
+    ensures shows { OnOk result ((t : Terminal) (painting : List ℕ) (p : PictureState) → Shows (reads t painting) p
+        → Shows (reads t (then_clip painting (text_in clip.entry))) p) }
+    ensures whole { OnOk result ((painting : List ℕ) → AreWholeTokens painting → AreWholeTokens (then_clip painting (text_in clip.entry))) }
+    ensures gives { OnOk result (IfSome (text_in clip.entry) (λ text. decode_of standard (encode_of standard text) ≡ Ok text)) }
 {
     let count = queue.len();
     append(queue, painted, is_known, picture)?;

@@ -41,7 +41,7 @@ impl<D: BidiData + Drop> Alone<D> {
             match act {
                 Act::Take(step) => self.take(*step, answers)?,
                 Act::Replay(byte) => self.replay(*byte, answers)?,
-                Act::EndReplay => self.session.end_replay(),
+                Act::EndReplay => self.end_replay(answers)?,
                 Act::Look(look) => self.look(look, &scene.file, &mut answers.looks)?,
             }
         }
@@ -82,6 +82,15 @@ impl<D: BidiData + Drop> Alone<D> {
             Err(refused) => letter_of_refusal(refused),
         };
         answers.letters.push(letter)?;
+        Ok(())
+    }
+
+    /// Ends a replay, and notes an answer only where that is refused.
+    fn end_replay(&mut self, answers: &mut Answers) -> Result<(), AllocError> {
+        match self.session.end_replay() {
+            Ok(()) => {}
+            Err(refused) => answers.letters.push(letter_of_refusal(refused))?,
+        }
         Ok(())
     }
 

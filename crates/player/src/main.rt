@@ -45,8 +45,8 @@
 //!
 //! # Keys, pictures and command lines
 //!
-//! - `keys` answers the keys that the bytes make, an insert with the character's code, a size with rows and columns, and after a tab
-//!   the bytes that wait for more.
+//! - `keys` answers the keys that the bytes make, an insert with the character's code, a size with rows and columns, a point with its
+//!   row and column, and after a tab the bytes that wait for more.
 //! - `paint` answers the bytes that paint the first PICTURE whole, and those that change each to the next. A PICTURE is as `rows=` in a
 //!   scene.
 //! - `screen` has steps with blanks between: `R1b5b6d` reads bytes; `W2,5` is a window, answered by `o`, or by `w` if it is refused;
@@ -65,6 +65,7 @@
 //!     S38           at most 38 of the pending bytes go to the line
 //!     R11           the terminal reads at most 11 bytes of the line
 //!     J6178         a journal of these bytes is replayed; each byte is a step
+//!     clipboard     from the beginning, what is copied or cut also goes out to the clipboard; wherever the word stands, no step
 //!
 //! and words that only look:
 //!

@@ -61,7 +61,14 @@ fn stage_of<'a>(
     let file = scene.copy_of_file(alloc)?;
     let terminal = terminal_of(alloc, scene)?;
     let (height, width, base) = (scene.height, scene.width, scene.base);
-    Ok(World::open(file, Lent { tables }, height, width, base).map(|world| Stage {
+    let mut world = match World::open(file, Lent { tables }, height, width, base) {
+        Ok(world) => world,
+        Err(error) => return Ok(Err(error)),
+    };
+    if scene.has_clipboard {
+        world.use_clipboard();
+    }
+    Ok(Ok(Stage {
         alloc,
         world,
         store: scene.store(alloc),
@@ -110,7 +117,10 @@ fn play_alone(
     let file = scene.copy_of_file(alloc)?;
     let (height, width, base) = (scene.height, scene.width, scene.base);
     match Session::open(file, Lent { tables }, height, width, base) {
-        Ok(session) => {
+        Ok(mut session) => {
+            if scene.has_clipboard {
+                session.use_clipboard();
+            }
             let mut alone = Alone {
                 alloc,
                 session,

@@ -87,6 +87,8 @@ pub struct Scene<'a> {
     pub width: u16,
     /// CALL: the number of the store's call that fails, from 1; None if none does.
     pub failing: Option<u64>,
+    /// Whether text that is copied or cut goes out to a clipboard.
+    pub has_clipboard: bool,
     /// FILE
     pub file: Vec<u8>,
     /// STEPS
@@ -173,12 +175,17 @@ fn add_acts<'a>(acts: &mut Vec<Act<'a>>, word: &'a str) -> Result<(), WordFault>
     Ok(())
 }
 
+/// The word among STEPS that gives the session a clipboard.
+const CLIPBOARD: &str = "clipboard";
+
 /// Parses the field STEPS; a hyphen has no acts.
 fn acts_of(alloc: Global, field: &str) -> Result<Vec<Act<'_>>, WordFault> {
     let mut acts = Vec::new(alloc);
     if field != "-" {
         for word in field.split(' ') {
-            add_acts(&mut acts, word)?;
+            if word != CLIPBOARD {
+                add_acts(&mut acts, word)?;
+            }
         }
     }
     Ok(acts)
@@ -231,7 +238,9 @@ impl<'a> Scene<'a> {
         let width = side_of(fields.next().ok_or(missing)?)?;
         let failing = call_of(fields.next().ok_or(missing)?)?;
         let file = bytes_of(alloc, fields.next().ok_or(missing)?)?;
-        let acts = acts_of(alloc, fields.next().ok_or(missing)?)?;
+        let steps = fields.next().ok_or(missing)?;
+        let has_clipboard = steps.split(' ').any(|word| word == CLIPBOARD);
+        let acts = acts_of(alloc, steps)?;
         let mode = mode_of(fields.next().unwrap_or("both"))?;
         if !acts.iter().all(|act| act.is_of(mode)) {
             return Err(WordFault::Bad("a word is none of this mode"));
@@ -244,6 +253,7 @@ impl<'a> Scene<'a> {
             height,
             width,
             failing,
+            has_clipboard,
             file,
             acts,
             mode,

@@ -53,8 +53,10 @@ fn add_options(line: &mut String, options: &Options<'_>) -> Result<(), AllocErro
     for (name, is_given) in [
         ("check", options.check),
         ("unsaved", options.unsaved),
+        ("clipboard", options.clipboard),
         ("new", options.is_new),
         ("frames", options.frames),
+        ("clipboard", options.clipboard),
         ("erases-by-delete", options.erases_by_delete),
     ] {
         if is_given {

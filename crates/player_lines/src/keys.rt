@@ -10,6 +10,7 @@ fn name_of(key: Key) -> &'static str {
     match key {
         Key::Insert(_) => "insert",
         Key::Size(_, _) => "size",
+        Key::Point(_, _) => "point",
         Key::Erase => "erase",
         Key::Delete => "delete",
         Key::Back => "back",
@@ -125,6 +126,7 @@ pub fn keys_line(alloc: Global, fields: &[&str]) -> Result<String, WordFault> {
                 write!(line, "/{code:04X}")?;
             }
             Key::Size(rows, columns) => write!(line, "/{rows}/{columns}")?,
+            Key::Point(row, column) => write!(line, "/{row}/{column}")?,
             _ => {}
         }
     }
