@@ -58,7 +58,7 @@ check_closed_folder() {
     same 'in place, a closed folder' "$(cat closed/note)" xab
     expect_in first 'in place, a closed folder: it is said' 'closed/note is in a folder where you cannot replace it: saves overwrite it in place'
     open_editor first '' closed/new
-    expect_in first 'in place, a closed folder: a new file is refused' 'closed is a folder that you cannot write'
+    expect_in first 'in place, a closed folder: a new file is refused' 'you cannot write to the folder closed'
     close_editors first
     chmod 755 closed
     rm -rf closed
