@@ -1,14 +1,23 @@
 -- A key that ends a paste: the same key after the end of the paste.
-use Rattle.std.proofs.Common.{◌≡◌, ℕ, Bool, true, List, Option, Some, None, refl, sym, ap, ◌∙◌}
+use Rattle.std.proofs.Common.{◌≡◌, ℕ, Bool, true, List, Option, Some, None, refl, sym, ap, subst, ◌∙◌}
 use Rattle.std.specs.Prelude.{◌≢◌, is_some}
 use Rattle.bx_keys.specs.declared.key.Key.{Key}
 use Rattle.bx_keys.specs.declared.key.Key.TheVariants.{Save, Quit}
+use Rattle.bx_grid.specs.Picture.{PictureState}
 use Rattle.bx_store.specs.declared.store.StoreFault.{StoreFault}
 use Rattle.bx_ucd.specs.Data.{Data}
-use Rattle.bx_editor.specs.Editor.{Editor, EditorState}
+use Rattle.bx_asking.specs.declared.question.Ask.{Ask}
+use Rattle.bx_asking.specs.declared.question.Ask.TheVariants as asks
+use Rattle.bx_editor.specs.declared.seek.Seek.{Seek}
+use Rattle.bx_editor.specs.declared.seek.Seek.TheVariants.{Off}
+use Rattle.bx_editor.specs.Editor.{Editor}
 use Rattle.bx_editor.specs.Keys.{after_key, after_press, after_user}
 use Rattle.bx_editor.specs.Pasting.{ended_with, paste_ended}
+use Rattle.bx_editor.specs.Replay.{after_passed_quit, after_passed_save}
 use Rattle.bx_editor.proofs.Pasted.{ended-none}
+use Rattle.bx_session.specs.Painting.{FitsEditor}
+use Rattle.bx_session.specs.Session.{Session, SessionState, after_replayed_key, known_after, session_after_replayed, session_replayed_on, session_scrolled}
+use Rattle.bx_session.proofs.KeySizes.{SameSize, ended_goes_on, fits_still, still_fits}
 
 -- no paste is under way any more
 pub over : (d : Data) (e : Editor) → (paste_ended d e).pasted ≡ None
@@ -50,3 +59,54 @@ refused_paste e some = by e.pasted some where
   by : (pasted : Option (List ℕ)) → pasted ≢ None → is_some pasted ≡ true
   by None none = absurd (none refl)
   by (Some list) none = refl
+
+-- ---- what a replay passes over
+
+pub not_pasting : (d : Data) (e : Editor) → e.pasted ≡ None → paste_ended d e ≡ e
+not_pasting d e none = ap (ended_with d e) none
+
+quit_session : (d : Data) (ask : Ask) (seek : Seek) (s : Session)
+    → session_after_replayed d ask seek (record s { editor = paste_ended d s.editor }) Quit ≡ session_after_replayed d ask seek s Quit
+quit_session d asks.Off Off s =
+    let e : Editor = paste_ended d s.editor in
+    ap (λ (x : Editor). record s { editor = after_passed_quit x }) (not_pasting d e (over d s.editor))
+quit_session d asks.Off seek s = ap (λ (x : Editor). record s { editor = x; known = known_after s.known Quit x }) (quit_ahead d None s.editor)
+quit_session d ask seek s = ap (λ (x : Editor). record s { editor = x; known = known_after s.known Quit x }) (quit_ahead d None s.editor)
+
+-- a Quit, once the paste has ended
+pub quit_passed : {D : Type 0} (says : D → Data) (old mid new : SessionState D)
+    → mid ≡ record old { session = record old.session { editor = paste_ended (says old.tables) old.session.editor } }
+    → new ≡ record mid { session = session_after_replayed (says mid.tables) mid.session.editor.ask mid.session.editor.seek mid.session Quit }
+    → new ≡ record old { session = session_replayed_on (says old.tables) old.session Quit }
+quit_passed {D} says old mid new is passed =
+    let d = says old.tables in
+    let e : Editor = paste_ended d old.session.editor in
+    passed
+    ∙ ap (λ (x : SessionState D). record x { session = session_after_replayed (says x.tables) x.session.editor.ask x.session.editor.seek x.session Quit }) is
+    ∙ ap (λ (s : Session). record old { session = s }) (quit_session d e.ask e.seek old.session)
+
+-- a Save, once the paste has ended
+pub save_passed : {D : Type 0} (says : D → Data) (old mid new : SessionState D)
+    → mid ≡ record old { session = record old.session { editor = paste_ended (says old.tables) old.session.editor } }
+    → new ≡ record mid { session = record mid.session { editor = after_passed_save mid.session.editor } }
+    → new ≡ record old { session = session_replayed_on (says old.tables) old.session Save }
+save_passed {D} says old mid new is passed =
+    passed ∙ ap (λ (x : SessionState D). record x { session = record x.session { editor = after_passed_save x.session.editor } }) is
+
+-- a key, once the session is scrolled
+pub scrolled_first : {D : Type 0} (says : D → Data) (old mid new : SessionState D) (key : Key)
+    → mid ≡ record old { session = session_scrolled (says old.tables) old.session }
+    → new ≡ record mid { session = session_replayed_on (says mid.tables) mid.session key }
+    → new ≡ record old { session = after_replayed_key (says old.tables) old.session (Some key) }
+scrolled_first {D} says old mid new key is pressed =
+    pressed ∙ ap (λ (x : SessionState D). record x { session = session_replayed_on (says x.tables) x.session key }) is
+
+-- ---- the window's size
+
+-- a painted picture fits as before
+pub ended_fits : (d : Data) (painted : Option PictureState) (e new : Editor) → new ≡ paste_ended d e → FitsEditor painted e → FitsEditor painted new
+ended_fits d painted e new is was = fits_still painted e new (subst (SameSize e) (sym is) (ended_goes_on d e).1) was
+
+pub save_fits : (d : Data) (fault : Option StoreFault) (painted : Option PictureState) (e mid new : Editor) → mid ≡ paste_ended d e
+    → new ≡ after_key d fault mid Save → FitsEditor painted e → FitsEditor painted new
+save_fits d fault painted e mid new is saved was = still_fits d fault painted mid new Save refl saved (ended_fits d painted e mid is was)

@@ -330,7 +330,7 @@ key_size d fault e P none =
 pub other_size : (d : Data) (fault : Option StoreFault) (e : Editor) (key : Key) → is_size_key key ≡ false → SameSize e (after_key d fault e key)
 other_size d fault e = key_size d fault e (λ key. is_size_key key ≡ false) (λ height width told. cc told)
 
-fits_still : (painted : Option PictureState) (e new : Editor) → SameSize e new → FitsEditor painted e → FitsEditor painted new
+pub fits_still : (painted : Option PictureState) (e new : Editor) → SameSize e new → FitsEditor painted e → FitsEditor painted new
 fits_still None e new same was = tt
 fits_still (Some p) e new same was = (was.0 ∙ sym same.0, was.1 ∙ sym same.1)
 

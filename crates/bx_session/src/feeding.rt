@@ -100,9 +100,9 @@ impl<D: BidiData + Drop> Session<D> {
         ensures edits { OnErr result (keys.may_refuse self.old.session.editor Key.Save ≡ true) }
         ensures refused { OnErr result (result ≡ Err Refused.Edit) }
     {
-        if self.editor.end_paste().is_err() {
+        let Ok(()) = self.editor.end_paste() else {
             return Err(Refused::Edit);
-        }
+        };
         let fault = save_pieces(self.editor.pieces(), store).err();
         self.editor.finish_save(fault);
         Ok(())

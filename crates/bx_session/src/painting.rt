@@ -45,12 +45,12 @@ fn append(
 ///
 /// Errors: `OutOfMemory`, and nothing is appended.
 fn append_clip(queue: &mut Vec<u8>, clip: Option<&str>) -> Result<(), PaintError>
-    ensures bytes { OnOk result (queue.new.items ≡ then_clip queue.old.items (text_in clip)) }
+    ensures bytes { OnOk result (queue.new.items ≡ then_clip queue.old.items (text_in clip.entry)) }
     ensures err { OnErr result (queue.new.items ≡ queue.old.items) }
     ensures shows { (t : Terminal) (painting : List ℕ) (p : PictureState) → Shows (reads t painting) p
-        → Shows (reads t (then_clip painting (text_in clip))) p }
-    ensures tokens { (painting : List ℕ) → AreWholeTokens painting → AreWholeTokens (then_clip painting (text_in clip)) }
-    ensures gives { IfSome (text_in clip) (λ text. decode_of standard (encode_of standard text) ≡ Ok text) }
+        → Shows (reads t (then_clip painting (text_in clip.entry))) p }
+    ensures tokens { (painting : List ℕ) → AreWholeTokens painting → AreWholeTokens (then_clip painting (text_in clip.entry)) }
+    ensures gives { IfSome (text_in clip.entry) (λ text. decode_of standard (encode_of standard text) ≡ Ok text) }
 {
     match clip {
         Some(text) => clip_into(queue, text.as_bytes()),
@@ -68,15 +68,15 @@ fn append_both(
 ) -> Result<(), PaintError>
     requires fits { IfSome (known_if is_known painted.now) (λ p. (p.height ≡ picture.now.height) × (p.width ≡ picture.now.width)) }
     ensures bytes { OnOk result (queue.new.items
-        ≡ then_clip (queue.old.items ++ painting (known_if is_known painted.now) picture.now) (text_in clip)) }
+        ≡ then_clip (queue.old.items ++ painting (known_if is_known painted.now) picture.now) (text_in clip.entry)) }
     ensures err { OnErr result (queue.new.items ≡ queue.old.items) }
     ensures updates { Updates (known_if is_known painted.now) (painting (known_if is_known painted.now) picture.now) picture.now }
     ensures tokens { AreWholeTokens (painting (known_if is_known painted.now) picture.now) }
     ensures is_picture { IsPicture picture.now }
-    ensures shows { (t : Terminal) (painting : List ℕ) (p : PictureState) → Shows (reads t painting) p
-        → Shows (reads t (then_clip painting (text_in clip))) p }
-    ensures whole { (painting : List ℕ) → AreWholeTokens painting → AreWholeTokens (then_clip painting (text_in clip)) }
-    ensures gives { IfSome (text_in clip) (λ text. decode_of standard (encode_of standard text) ≡ Ok text) }
+    ensures shows { OnOk result ((t : Terminal) (painting : List ℕ) (p : PictureState) → Shows (reads t painting) p
+        → Shows (reads t (then_clip painting (text_in clip.entry))) p) }
+    ensures whole { OnOk result ((painting : List ℕ) → AreWholeTokens painting → AreWholeTokens (then_clip painting (text_in clip.entry))) }
+    ensures gives { OnOk result (IfSome (text_in clip.entry) (λ text. decode_of standard (encode_of standard text) ≡ Ok text)) }
 {
     let count = queue.len();
     append(queue, painted, is_known, picture)?;
@@ -165,7 +165,13 @@ impl<D: BidiData + Drop> Session<D> {
             return Err(Refused::Paint);
         };
         let clip = clip_after(&self.editor, key);
-        let Ok(()) = append_both(&mut self.queue, &self.painted, self.is_known, &picture, clip) else {
+        let Ok(()) = append_both(
+            &mut self.queue,
+            &self.painted,
+            self.is_known,
+            &picture,
+            clip,
+        ) else {
             return Err(Refused::Paint);
         };
         self.editor.set_top(top);

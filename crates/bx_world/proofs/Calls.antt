@@ -72,16 +72,23 @@ clipboard_cursor d s was owed on =
     subst (λ (p : PictureState). StandsOnItsCell d new e.top p) (sym (clipboard_unseen d e true e.top))
     (record { place = h.place; slot = h.slot; cell = h.cell; shown = h.shown; row = h.row; column = h.column })
 
--- a session with a clipboard is in step as before
-pub clipboard_call : (d : Data) (w : World) (new : Session) → IsInStep d w → new ≡ with_clipboard w.session → IsInStep d (record w { session = new })
-clipboard_call d w new was is = rw is (record {
+clipboard_in_step : (d : Data) (w : World) → IsInStep d w → IsInStep d (record w { session = with_clipboard w.session })
+clipboard_in_step d w was = record {
   state = always_shows.clipboard d w.session was.state;
   cursor = clipboard_cursor d w.session was.cursor;
   follows = was.follows;
   whole = was.whole;
   screen = was.screen;
   size = was.size;
-})
+}
+
+-- a session with a clipboard is in step as before
+pub clipboard_call : {D : Type 0} (says : D → Data) (old new : SessionState D) (w : World) → w.session ≡ old.session
+    → new ≡ record old { session = with_clipboard old.session } → IsInStep (says old.tables) w
+    → IsInStep (says new.tables) (record w { session = new.session })
+clipboard_call {D} says old new w same is was =
+    subst (λ (x : SessionState D). IsInStep (says x.tables) (record w { session = x.session })) (sym is)
+    (subst (λ (s : Session). IsInStep (says old.tables) (record w { session = with_clipboard s })) same (clipboard_in_step (says old.tables) w was))
 
 -- ---- a byte
 

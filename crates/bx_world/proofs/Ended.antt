@@ -93,20 +93,20 @@ has_input d owed e [] events are = record {
 }
 has_input d owed e (s ∷ more) events are =
     by_end e.ended refl (has_input d (owed_after owed s.0 s.1) (after_events d e are.0) more are.1 are.4) where
-  by_end : (ended : Bool) → e.ended ≡ ended → HasInput d (after_events d e are.0) more are.1 → HasInput d e (s ∷ more) events
-  by_end true on others =
-      let is = over d owed e (s ∷ more) events on are in record {
-        dropped = bytes_of_schedule (s ∷ more);
-        bytes = sym (ap (λ xs. xs ++ bytes_of_schedule (s ∷ more)) is.input);
-        drops = λ some. is.ended;
-      }
-  by_end false off others =
-      let first : List ℕ = byte_of s.0 in record {
-        dropped = others.dropped;
-        bytes = ap (λ xs. first ++ xs) others.bytes
-            ∙ sym (append_assoc first (input_of are.1) others.dropped)
-            ∙ ap (λ xs. (xs ++ input_of are.1) ++ others.dropped) (sym (step_input owed e s.0 s.1 are.0 off are.3))
-            ∙ ap (λ xs. xs ++ others.dropped) (sym (input_both are.0 are.1))
-            ∙ ap (λ xs. input_of xs ++ others.dropped) (sym are.2);
-        drops = λ some. ap (λ xs. (after_events d e xs).ended) are.2 ∙ ap (λ (x : Editor). x.ended) (after_both d e are.0 are.1) ∙ others.drops some;
-      }
+      by_end : (ended : Bool) → e.ended ≡ ended → HasInput d (after_events d e are.0) more are.1 → HasInput d e (s ∷ more) events
+      by_end true on others =
+          let is = over d owed e (s ∷ more) events on are in record {
+            dropped = bytes_of_schedule (s ∷ more);
+            bytes = sym (ap (λ xs. xs ++ bytes_of_schedule (s ∷ more)) is.input);
+            drops = λ some. is.ended;
+          }
+      by_end false off others =
+          let first : List ℕ = byte_of s.0 in record {
+            dropped = others.dropped;
+            bytes = ap (λ xs. first ++ xs) others.bytes
+                ∙ sym (append_assoc first (input_of are.1) others.dropped)
+                ∙ ap (λ xs. (xs ++ input_of are.1) ++ others.dropped) (sym (step_input owed e s.0 s.1 are.0 off are.3))
+                ∙ ap (λ xs. xs ++ others.dropped) (sym (input_both are.0 are.1))
+                ∙ ap (λ xs. input_of xs ++ others.dropped) (sym are.2);
+            drops = λ some. ap (λ xs. (after_events d e xs).ended) are.2 ∙ ap (λ (x : Editor). x.ended) (after_both d e are.0 are.1) ∙ others.drops some;
+          }

@@ -45,7 +45,7 @@ returns-clause-paints g c =
     let s : Session = value_of c.self.inside in
     let drawn : c.picture.new.self.editor ≡ s.editor = ap (λ (x : EditorState g.row.D.Denot). x.editor) c.in-Ok-picture.ensures.same in
     let unseen : IsUnseen (text_in c.clip_after-clip.result) =
-    record { shows = c.append_both.ensures.shows; tokens = c.append_both.ensures.whole; gives = c.append_both.ensures.gives } in
+    record { shows = c.in-Ok-append_both.ensures.shows; tokens = c.in-Ok-append_both.ensures.whole; gives = c.in-Ok-append_both.ensures.gives } in
     rw (← c.self.view_is)
     (painting_queues d s c.set_top.new.self.editor c.in-Ok-picture.top c.in-Ok-picture.picture (text_in c.clip_after-clip.result)
     (drop c.self.inside.taken c.append_both.new.queue.items)
@@ -61,7 +61,7 @@ returns-clause-appends g c =
     let s : Session = value_of c.self.inside in
     let drawn : c.picture.new.self.editor ≡ s.editor = ap (λ (x : EditorState g.row.D.Denot). x.editor) c.in-Ok-picture.ensures.same in
     let unseen : IsUnseen (text_in c.clip_after-clip.result) =
-    record { shows = c.append_both.ensures.shows; tokens = c.append_both.ensures.whole; gives = c.append_both.ensures.gives } in
+    record { shows = c.in-Ok-append_both.ensures.shows; tokens = c.in-Ok-append_both.ensures.whole; gives = c.in-Ok-append_both.ensures.gives } in
     rw (← c.self.view_is)
     (painting_appends d s c.set_top.new.self.editor c.in-Ok-picture.top c.in-Ok-picture.picture (text_in c.clip_after-clip.result)
     (drop c.self.inside.taken c.append_both.new.queue.items)
