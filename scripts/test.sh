@@ -36,7 +36,6 @@ files 300 check-files.sh
 session-files 300 check-session-files.sh
 keeping 300 check-keeping.sh
 dist 300 check-dist.sh
-built 300 check-built.sh
 words 300 check-words.sh
 TEXT
 }
