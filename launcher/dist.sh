@@ -1,7 +1,7 @@
 # shellcheck shell=sh
 # shellcheck disable=SC2034,SC2154 # words that the scripts give and take
 # The ready programs in dist/: whether they belong to these sources, and the folder that they run from. For the script bidi-edit
-# and those in scripts/. `top` is the repository.
+# and those in scripts/, tests/ and tools/. `top` is the repository.
 #
 # dist/SOURCES has the lines `toolchain WORDS`, `sources DIGEST`, `host DIGEST` and `program NAME SUM`.
 

@@ -1,6 +1,6 @@
 # shellcheck shell=sh
 # Printing of names: quoted for a shell, so that they can be copied, with characters escaped that a terminal obeys or hides. For
-# the scripts here, host/build.sh and scripts/install.sh; host/say.c has the same in C.
+# the scripts here, host/build.sh and tools/install.sh; host/say.c has the same in C.
 
 # Functions in awk, which work on bytes. `told` returns a text with bytes that are not UTF-8 or hidden as octal escapes, and those
 # in `others` too; `has_numbers` says whether there are any of the former. Hidden are control characters, line separators, bidi

@@ -14,8 +14,8 @@ case "$#:${1:-}" in
     exit 2
     ;;
 esac
-# shellcheck source=scripts/report.sh
-. "$top/scripts/report.sh"
+# shellcheck source=tests/report.sh
+. "$top/tests/report.sh"
 # shellcheck source=launcher/dist.sh
 . "$top/launcher/dist.sh"
 room=$(mktemp -d) || exit 1
@@ -59,7 +59,7 @@ compare() { # NAME
 # Compares dist/ with the sources and the toolchain, and its programs with those built here.
 compare_all() {
     [ -f dist/SOURCES ] || {
-        report 'dist/' 1 'it is missing: scripts/make-dist.sh makes it'
+        report 'dist/' 1 'it is missing: tools/make-dist.sh makes it'
         return
     }
     for name in "$dist_archive" SOURCES; do
@@ -83,6 +83,6 @@ prove "$@"
 same 'the sources, unchanged meanwhile' "$(sources_digest)" "$sources"
 [ "$failed" != 0 ] || note_proved
 compare_all
-[ "$failed" = 0 ] || echo 'where dist/ is older than the sources, scripts/make-dist.sh makes it anew of what is proved'
+[ "$failed" = 0 ] || echo 'where dist/ is older than the sources, tools/make-dist.sh makes it anew of what is proved'
 echo "$passed passed, $failed failed"
 [ "$failed" = 0 ]

@@ -7,8 +7,8 @@
 set -u
 
 top=$(CDPATH='' cd -- "$(dirname "$0")/.." && pwd)
-# shellcheck source=scripts/mutants_digest.sh
-. "$top/scripts/mutants_digest.sh"
+# shellcheck source=tools/mutants_digest.sh
+. "$top/tools/mutants_digest.sh"
 
 case ${1:-} in
 --all)

@@ -226,7 +226,7 @@ start_ready() {
     done <"$room/plan"
 }
 
-# Adds what a crate took to one file, a line a crate, which scripts/time-first-start.sh reads: the name, start and end in seconds,
+# Adds what a crate took to one file, a line a crate, which tools/time-first-start.sh reads: the name, start and end in seconds,
 # the jobs, and the processor times that `times` prints.
 keep_times() { # CRATE
     tr '\n' ' ' <"$room/$1.times" && echo

@@ -1,0 +1,58 @@
+#!/bin/sh
+# check-dist.sh [NAME..]: checks how dist/ is made, unpacked and compared, in a small repository with a stand-in for rt and programs
+# that are scripts: starts from dist/, changed sources, archives and sums, two starts at once, checkouts that cannot be written, full
+# disks, no compiler, other machines, installing, and what scripts/prove.sh tells. A NAME selects the checks whose names begin with
+# it. It needs cc and takes half a minute. The last line has the totals. Exit status 1: a check failed.
+set -u
+
+here=$(CDPATH='' cd -- "$(dirname -- "$0")" && pwd)
+# shellcheck source=tests/report.sh
+. "$here/report.sh"
+top=${here%/*}
+# shellcheck source=launcher/dist.sh
+. "$top/launcher/dist.sh"
+folder=$(mktemp -d) || exit 1
+trap 'chmod -R u+w "$folder"; rm -rf -- "$folder"' EXIT
+trap 'exit 1' HUP INT TERM
+passed=0 failed=0 skipped=0
+# shellcheck disable=SC2034 # of the parts
+tree=$folder/tree names=$dist_programs player=$dist_player
+export LC_ALL=C HOME="$folder/home" TOLD="$folder/told"
+unset XDG_CACHE_HOME
+umask 022
+
+skip() { # NAME CAUSE
+    skipped=$((skipped + 1))
+    echo "skipped $1: $2"
+}
+
+for part in tree starts places proofs; do
+    # shellcheck source=/dev/null
+    . "$here/dist/$part.sh"
+done
+
+# Runs the checks of a name, if that is wanted, in a repository of their own.
+run() { # NAME FUNCTION
+    case " ${wanted:-$1} " in *" $1 "*) ;; *) return 0 ;; esac
+    fresh_tree
+    "$2" "$1"
+}
+
+wanted=$*
+make_tools
+make_repository
+run making check_making
+run start check_start
+run sources check_sources
+run sums check_sums
+run machine check_machine
+run compiler check_compiler
+run together check_together
+run killed check_killed
+run unwritable check_unwritable
+run full check_full
+run found check_found
+run installing check_installing
+run prove check_prove
+echo "$passed passed, $failed failed, $skipped skipped"
+[ "$failed" = 0 ]

@@ -1,0 +1,92 @@
+# shellcheck shell=sh
+# shellcheck disable=SC2154 # words that check-dist.sh sets
+# What scripts take from dist/, and what scripts/prove.sh tells of it, for check-dist.sh.
+
+# Prints the program that built.sh finds, without the tree's name. rt notes its calls.
+found() { # CRATE
+    rm -f "$TOLD/calls"
+    # shellcheck disable=SC2016 # of the inner shell
+    (cd "$tree" && PATH=$folder/bin:$PATH sh -c 'top=$1 && . "$1/tests/built.sh" && find_built "$2" && echo "${program#"$1/"}"' check "$tree" "$1") 2>/dev/null
+}
+
+check_found() { # NAME
+    same "$1, from dist/" "$(found "$player")" "out/start/lib/bidi_edit/$player"
+    build_all
+    same "$1, built here" "$(found "$player")" "crates/$player/out/$player"
+    rm -r "$tree/crates/$player/out"
+    echo '// more' >>"$tree/crates/low/proofs/deep/Proof.antt"
+    same "$1, a changed proof" "$(found "$player")" ''
+    same "$1, a changed proof: rt is asked" "$(cat "$TOLD/calls")" run
+    same "$1, a program that dist/ has not" "$(found unused)" ''
+    same "$1, a program that dist/ has not: rt is asked" "$(cat "$TOLD/calls")" run
+}
+
+check_installing() { # NAME
+    (cd "$tree" && sh tools/install.sh "$folder/installed") >"$folder/said" 2>&1
+    same "$1, status" "$? $(cat "$folder/said")" "0 $folder/installed/bin/bidi-edit"
+    same "$1, it runs" "$("$folder/installed/bin/bidi-edit" note | paste -s -d '|')" 'host note|bidi_edit runs'
+    same "$1, the toolchain" "$(cat "$folder/installed/lib/bidi_edit/kit")" 'a toolchain'
+    echo '// more' >>"$tree/crates/low/src/main.rt"
+    (cd "$tree" && sh tools/install.sh "$folder/elsewhere") >"$folder/said" 2>&1
+    same "$1, changed sources" "$? $(grep -c 'the sources are not those that dist/ was built from' "$folder/said") $(ls "$folder/elsewhere" 2>/dev/null)" '1 1 '
+    check_installing_built "$1"
+}
+
+# Installs what is built in crates/, with a toolchain that cannot be run, whose version was noted at the build or was not.
+check_installing_built() { # NAME
+    build_all
+    mkdir -p "$folder/none"
+    printf '#!/bin/sh\nexit 1\n' >"$folder/none/rt"
+    chmod +x "$folder/none/rt"
+    for note in '' 'a noted toolchain'; do
+        [ -z "$note" ] || echo "$note" >"$tree/crates/bidi_edit/out/kit"
+        (cd "$tree" && PATH=$folder/none:$PATH sh tools/install.sh "$folder/built") >"$folder/said" 2>&1
+        same "$1, built here${note:+, $note}" "$? $(cat "$folder/said") $(cat "$folder/built/lib/bidi_edit/kit" 2>/dev/null)" "0 $folder/built/bin/bidi-edit $note"
+    done
+}
+
+# Runs prove.sh, whose failures and last line go to `said`.
+prove() {
+    (cd "$tree" && PATH=$folder/bin:$PATH sh scripts/prove.sh) >"$folder/all" 2>&1
+    status=$?
+    grep -e '^FAILS' -e '^[0-9]* passed' "$folder/all" | sed "s/'[0-9a-f]\{64\}'/SUM/g; s/: it is [0-9a-f]*$//" >"$folder/said"
+}
+
+check_prove() { # NAME
+    prove
+    same "$1, all is the same" "$status $(cat "$folder/said")" '0 22 passed, 0 failed'
+    same "$1, the programs are noted" "$(sed 's/ [0-9a-f]*$//' "$tree/out/proved" | paste -s -d ,)" \
+        'sources,program bidi_edit,program bidi_print,program '"$player"
+    make_dist
+    same "$1, dist/ is made of these" "$status $(diff -r "$tree/dist" "$folder/first/dist")" '0 '
+    fresh_tree
+    cp "$TOLD/built/bidi_print" "$folder/kept"
+    echo x >>"$TOLD/built/bidi_print"
+    prove
+    same "$1, another program" "$status $(sed 's/: [^:]*differ.*//; s/: cmp:.*//' "$folder/said" | paste -s -d '|')" \
+        '1 FAILS bidi_print in dist/, the same as built here|21 passed, 1 failed'
+    rm "$TOLD/built/bidi_print" "$tree/crates/bidi_print/out/bidi_print"
+    prove
+    same "$1, a program that is not left" "$status $(sed 's/, since.*//' "$folder/said" | head -n 1)" '1 FAILS bidi_print in dist/: skipped'
+    mv "$folder/kept" "$TOLD/built/bidi_print"
+    echo '// more' >>"$tree/crates/low/src/main.rt"
+    prove
+    same "$1, a source" "$status $(paste -s -d '|' "$folder/said")" \
+        '1 FAILS dist/SOURCES, the digest of the sources: SUM, and not SUM|21 passed, 1 failed'
+    cp "$folder/first/crates/low/src/main.rt" "$tree/crates/low/src/main.rt"
+    change_byte bidi-edit-x86_64-linux.tar.gz
+    prove
+    same "$1, a byte of the archive" "$status $(head -n 1 "$folder/said")" '1 FAILS dist/bidi-edit-x86_64-linux.tar.gz, its sum in dist/SHA256SUMS'
+    fresh_tree
+    sed -i "s/^\(program $player\) ./\1 g/" "$tree/dist/SOURCES"
+    prove
+    same "$1, a sum" "$status $(sed 's/:.*//' "$folder/said" | paste -s -d '|')" \
+        '1 FAILS dist/SOURCES, its sum in dist/SHA256SUMS|FAILS '"$player"', its sum in dist/SOURCES|20 passed, 2 failed'
+    fresh_tree
+    : >"$TOLD/bad"
+    rm -r "$tree/dist"
+    prove
+    same "$1, a failed proof, no dist/" "$status $(paste -s -d '|' "$folder/said")" \
+        '1 FAILS dist/: it is missing: tools/make-dist.sh makes it|7 passed, 2 failed'
+    same "$1, a failed proof is not noted" "$([ -e "$tree/out/proved" ] && echo noted)" ''
+}

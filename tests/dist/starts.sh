@@ -1,0 +1,138 @@
+# shellcheck shell=sh
+# shellcheck disable=SC2154 # words that check-dist.sh sets
+# How dist/ is made, and starts from it, for check-dist.sh.
+
+make_dist() {
+    (cd "$tree" && PATH=$folder/bin:$PATH sh tools/make-dist.sh) >"$folder/said" 2>&1
+    status=$?
+}
+
+check_making() { # NAME
+    make_dist
+    same "$1, nothing is built" "$status $(cat "$folder/said")" '1 make-dist.sh: bidi_edit is not built: scripts/prove.sh proves and builds all'
+    build_all
+    make_dist
+    cmp "$tree/dist/bidi-edit-x86_64-linux.tar.gz" "$folder/first/dist/bidi-edit-x86_64-linux.tar.gz" >>"$folder/said" 2>&1
+    same "$1, the same archive from the same programs" "$status $?" '0 0'
+    same "$1, the sums" "$(cd "$tree/dist" && sha256sum -c SHA256SUMS | paste -s -d ,)" 'SOURCES: OK,bidi-edit-x86_64-linux.tar.gz: OK'
+    echo '// more' >>"$tree/crates/low/proofs/deep/Proof.antt"
+    make_dist
+    same "$1, a newer source" "$status $(cat "$folder/said")" \
+        '1 make-dist.sh: bidi_edit is not proved and built from these sources: scripts/prove.sh proves and builds all'
+    touch "$tree"/crates/*/out/*.stamp
+    echo 'echo other' >>"$tree/crates/bidi_print/out/bidi_print"
+    make_dist
+    same "$1, a program that is not that of its stamp" "$status $(cat "$folder/said")" \
+        '1 make-dist.sh: bidi_print is not proved and built from these sources: scripts/prove.sh proves and builds all'
+    same "$1, dist/ is as it was" "$(diff -r "$tree/dist" "$folder/first/dist")" ''
+}
+
+# The first start unpacks, and a later one neither reads the sources nor compiles.
+check_start() { # NAME
+    start
+    runs "$1, the first"
+    nothing_beside "$1" "$tree/out" start
+    same "$1, its files" "$(cd "$tree/out/start" && find . -type f | sort | sed 's|^\./||' | paste -s -d ' ')" \
+        "bin/bidi-edit lib/bidi_edit/SOURCES lib/bidi_edit/bidi_edit lib/bidi_edit/bidi_print lib/bidi_edit/host lib/bidi_edit/kit \
+lib/bidi_edit/$player share/bidi_edit/ArabicShaping.txt share/bidi_edit/BidiBrackets.txt share/bidi_edit/BidiMirroring.txt \
+share/bidi_edit/DerivedBidiClass.txt share/bidi_edit/UnicodeData.txt"
+    same "$1, the toolchain" "$(cat "$tree/out/start/lib/bidi_edit/kit")" 'a toolchain'
+    same "$1, compiled here" "$(cmp -s "$tree/out/start/bin/bidi-edit" "$tree/out/start/lib/bidi_edit/host" || echo compiled)" compiled
+    # a source of the same second as the start counts as newer
+    touch "$tree/out/start/lib/bidi_edit/SOURCES"
+    mkdir "$folder/noting"
+    for tool in sha256sum cc tar; do
+        # shellcheck disable=SC2016 # of the stand-in
+        printf '#!/bin/sh\necho %s >>"$TOLD/tools"\n' "$tool" >"$folder/noting/$tool"
+        chmod +x "$folder/noting/$tool"
+    done
+    start PATH="$folder/noting:$PATH"
+    runs "$1, the second"
+    same "$1, the second: neither sums nor compiler" "$(cat "$TOLD/tools" 2>/dev/null)" ''
+    make_host_source "$tree/host/new.c" other
+    mv "$tree/host/new.c" "$tree/host/main.c"
+    start
+    same "$1, another host" "$status $(head -n 1 "$folder/said")" '0 other note'
+    echo '# more' >>"$tree/data/BidiBrackets.txt"
+    touch -d '1 hour' "$tree/data/BidiBrackets.txt"
+    start
+    same "$1, another table" "$status $(tail -n 1 "$tree/out/start/share/bidi_edit/BidiBrackets.txt")" '0 # more'
+    build_all
+    echo 'echo built' >"$tree/crates/bidi_edit/out/bidi_edit"
+    start
+    test -x "$tree/host/out/bidi-edit"
+    report "$1, programs that are built here come first" $? "$(cat "$folder/said")"
+    same "$1, the toolchain is not asked" "$(cat "$TOLD/calls" 2>/dev/null)" ''
+    fresh_tree
+    (cd "$tree" && PATH="$folder/bin:$PATH" ./bidi-edit note) >"$folder/said" 2>&1 </dev/null
+    status=$?
+    runs "$1, in the checkout's folder"
+    same "$1, compiled there" "$(cmp -s "$tree/out/start/bin/bidi-edit" "$tree/out/start/lib/bidi_edit/host" || echo compiled)" compiled
+    same "$1, nothing stays of that" "$(ls "$tree/out/start/bin")" bidi-edit
+}
+
+# A changed source is told before the first start and after it, and one that is changed back is no fault.
+check_sources() { # NAME
+    for file in low/src/main.rt bidi_print/specs/Lib.antt $player/proofs/deep/Proof.antt; do
+        echo '// more' >>"$tree/crates/$file"
+        start
+        refuses "$1, $file" 'the sources are not those that dist/ was built from'
+        cp "$folder/first/crates/$file" "$tree/crates/$file"
+    done
+    sed -i 's/^bidi_print: low/bidi_print opt_level=0: low/' "$tree/crates.txt"
+    start
+    refuses "$1, crates.txt" 'the sources are not those that dist/ was built from'
+    cp "$folder/first/crates.txt" "$tree/crates.txt"
+    echo '// more' >>"$tree/crates/unused/src/main.rt"
+    echo '// more' >>"$tree/crates/low/src/main.rt~"
+    start
+    runs "$1, files that no program is built from"
+    touch "$tree/out/start/lib/bidi_edit/SOURCES"
+    echo '// more' >>"$tree/crates/low/src/main.rt"
+    touch -d '1 hour' "$tree/crates/low/src/main.rt"
+    start
+    same "$1, after the first start" "$(head -n 1 "$folder/said")" 'bidi-edit: the sources are not those that dist/ was built from: proving and building instead'
+    cp -p "$folder/first/crates/low/src/main.rt" "$tree/crates/low/src/main.rt"
+    start
+    runs "$1, changed back"
+}
+
+# Changes the second last byte of a file in dist/.
+change_byte() { # NAME
+    printf x | dd of="$tree/dist/$1" bs=1 seek="$(($(wc -c <"$tree/dist/$1") - 2))" conv=notrunc 2>/dev/null
+}
+
+check_sums() { # NAME
+    for name in bidi-edit-x86_64-linux.tar.gz SOURCES; do
+        change_byte "$name"
+        start
+        refuses "$1, a byte of $name" "dist/$name does not match its checksum in dist/SHA256SUMS"
+        cp "$folder/first/dist/$name" "$tree/dist/$name"
+    done
+    sed -i 's/^\(.*  bidi-edit\)/0\1/; s/^0\(.*\).  bidi-edit/0\1  bidi-edit/' "$tree/dist/SHA256SUMS"
+    start
+    refuses "$1, a sum" 'dist/bidi-edit-x86_64-linux.tar.gz does not match its checksum in dist/SHA256SUMS'
+    rm "$tree/dist/bidi-edit-x86_64-linux.tar.gz" "$tree/dist/SHA256SUMS"
+    start
+    refuses "$1, no archive" 'dist/bidi-edit-x86_64-linux.tar.gz does not match its checksum in dist/SHA256SUMS'
+    rm -r "$tree/dist"
+    start
+    same "$1, no dist/: proofs begin" "$(head -n 1 "$folder/said" | sed 's/, only this once:.*//')" 'bidi-edit: proving and building the editor'
+}
+
+# Another machine, by a stand-in for uname, and one on which the programs cannot be executed.
+check_machine() { # NAME
+    mkdir "$folder/other"
+    printf '#!/bin/sh\necho Linux aarch64\n' >"$folder/other/uname"
+    chmod +x "$folder/other/uname"
+    start PATH="$folder/other:$folder/bin:$PATH"
+    refuses "$1, another" 'the programs in dist/ are for Linux on x86_64, and this is Linux on aarch64'
+    printf '#!/no/such/loader\n' >"$TOLD/built/bidi_edit"
+    build_all
+    make_dist
+    for name in $names; do rm -r "$tree/crates/$name/out"; done
+    rm -rf "$tree/out"
+    start
+    refuses "$1, without a loader" 'the programs in dist/ do not run on this machine'
+    tar -xzf "$folder/first/dist/bidi-edit-x86_64-linux.tar.gz" -C "$TOLD/built" bidi_edit
+}

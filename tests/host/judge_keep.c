@@ -1,0 +1,175 @@
+/* Decisions about a session: tables of cases. Compiled with keep_judge.c. Prints the cases that fail and 'N passed, M failed'; exit
+ * status 1: a case failed. */
+#include <errno.h>
+#include <stdbool.h>
+#include <stdio.h>
+#include <string.h>
+
+#include "../../host/keep_judge.h"
+
+static int passed, failed;
+
+static void same(const char *name, int found, int wanted) {
+    if (found == wanted) passed++;
+    else failed++;
+    if (found != wanted) printf("failed %s: %d, not %d\n", name, found, wanted);
+}
+
+static const struct {
+    const char *answer;
+    enum choice choice;
+} answers[] = {
+    {"r", CHOICE_RECOVER}, {"recover", CHOICE_RECOVER}, {"l", CHOICE_LATER}, {"later", CHOICE_LATER},
+    /* a letter never deletes at once */
+    {"d", CHOICE_ASK_AGAIN}, {"delete", CHOICE_DELETE},
+    {"", CHOICE_NONE}, {"y", CHOICE_NONE}, {"yes", CHOICE_NONE}, {"de", CHOICE_NONE}, {"delet", CHOICE_NONE}, {"deletes", CHOICE_NONE},
+    {"delete it", CHOICE_NONE}, {"rr", CHOICE_NONE}, {"D", CHOICE_NONE},
+};
+
+static const struct {
+    const char *answer, *word;
+    bool is_word;
+} words[] = {{"y", "yes", true}, {"yes", "yes", true}, {"", "yes", false}, {"ye", "yes", false}, {"n", "yes", false}, {"yess", "yes", false}};
+
+static const struct {
+    int error;
+    enum notice notice;
+    const char *words;
+} errors[] = {
+    {ENOSPC, NOTICE_NO_SPACE, ": no space"}, {EDQUOT, NOTICE_NO_SPACE, ": no space"}, {ENOENT, NOTICE_FOLDER_GONE, ": its folder is gone"},
+    {ENOTDIR, NOTICE_FOLDER_GONE, ": its folder is gone"}, {EACCES, NOTICE_NOT_PERMITTED, ": not permitted"},
+    {EPERM, NOTICE_NOT_PERMITTED, ": not permitted"}, {EROFS, NOTICE_READ_ONLY, ": read-only disk"}, {EIO, NOTICE_UNKEPT, ""},
+    {0, NOTICE_UNKEPT, ""},
+};
+
+static const struct {
+    const char *name;
+    struct first_facts facts;
+    enum notice notice;
+} firsts[] = {
+    {"usual", {0}, NOTICE_NONE},
+    {"not kept", {.unkept = NOTICE_NO_SPACE}, NOTICE_NO_SPACE},
+    {"not kept, in place", {.unkept = NOTICE_UNKEPT, .is_in_place = true}, NOTICE_UNKEPT},
+    {"not wanted", {.unkept = NOTICE_UNKEPT, .is_unwanted = true}, NOTICE_NONE},
+    {"not wanted, in place", {.unkept = NOTICE_UNKEPT, .is_unwanted = true, .is_in_place = true}, NOTICE_IN_PLACE},
+    {"recovered", {.is_resumed = true, .is_in_place = true}, NOTICE_RECOVERED},
+    {"recovered beside", {.is_resumed = true, .is_aside = true}, NOTICE_RECOVERED_ASIDE},
+    {"in place", {.is_in_place = true}, NOTICE_IN_PLACE},
+};
+
+static const struct {
+    const char *name;
+    struct now_facts facts;
+    enum notice trouble;
+    enum title_note note;
+} nows[] = {
+    {"kept", {.has_session = true, .keeping = KEEPS, .is_filled = true}, NOTICE_NONE, TITLE_KEPT},
+    {"copied at the moment", {.has_session = true, .keeping = KEEPS_SOON}, NOTICE_NONE, TITLE_KEPT},
+    {"copied again", {.has_session = true, .keeping = KEEPS_SOON, .told = NOTICE_NO_SPACE}, NOTICE_NO_SPACE, TITLE_LOST},
+    {"none wanted", {.is_unwanted = true}, NOTICE_NONE, TITLE_UNKEPT},
+    {"none possible", {.told = NOTICE_NOT_PERMITTED}, NOTICE_NOT_PERMITTED, TITLE_UNKEPT},
+    {"text waits for room", {.has_session = true, .keeping = KEEPS_NOT_YET, .error = ENOSPC}, NOTICE_NO_SPACE, TITLE_UNKEPT},
+    {"a part is gone", {.has_session = true, .keeping = KEEPS_NOT_YET, .error = EROFS, .is_filled = true}, NOTICE_READ_ONLY, TITLE_LOST},
+    {"FILE changed", {.has_session = true, .keeping = KEEPS_NOTHING}, NOTICE_UNKEPT, TITLE_UNKEPT},
+    {"folder gone", {.has_session = true, .keeping = KEEPS_NOWHERE, .is_filled = true}, NOTICE_FOLDER_GONE, TITLE_LOST},
+    {"folder gone, not copied", {.has_session = true, .keeping = KEEPS_NOWHERE}, NOTICE_FOLDER_GONE, TITLE_UNKEPT},
+    {"journal lost", {.has_session = true, .keeping = KEEPS, .is_filled = true, .is_journal_lost = true, .journal = NOTICE_NO_SPACE},
+     NOTICE_NO_SPACE, TITLE_LOST},
+    {"journal lost, told before",
+     {.has_session = true, .keeping = KEEPS, .is_filled = true, .is_journal_lost = true, .journal = NOTICE_UNKEPT, .told = NOTICE_NO_SPACE},
+     NOTICE_NO_SPACE, TITLE_LOST},
+    {"journal lost, folder was gone",
+     {.has_session = true, .keeping = KEEPS, .is_filled = true, .is_journal_lost = true, .journal = NOTICE_UNKEPT, .told = NOTICE_FOLDER_GONE},
+     NOTICE_UNKEPT, TITLE_LOST},
+    {"kept again", {.has_session = true, .keeping = KEEPS, .is_filled = true, .told = NOTICE_NO_SPACE}, NOTICE_NONE, TITLE_KEPT},
+};
+
+static const struct {
+    enum end_word end;
+    enum left_how how;
+    bool is_refused, may_be_unsaved;
+} hows[] = {
+    {END_SAVED, LEFT_SAVED, false, false}, {END_DROPPED, LEFT_DROPPED, false, false}, {END_UNSAVED, LEFT_UNSAVED, false, true},
+    {END_NONE, LEFT_UNKNOWN, false, true}, {END_INPUT, LEFT_UNKNOWN, false, true},    {END_OUTPUT, LEFT_UNKNOWN, false, true},
+    {END_READS, LEFT_UNKNOWN, false, true}, {END_NONE, LEFT_REFUSED, true, false},
+};
+
+static const struct {
+    const char *name;
+    struct left left;
+    enum fate fate;
+} fates[] = {
+    {"saved", {.how = LEFT_SAVED, .is_there = true}, FATE_REMOVED},
+    {"saved, and the journal could not be emptied", {.how = LEFT_SAVED, .is_there = true, .has_keys = true}, FATE_REMOVED},
+    {"saved, torn", {.how = LEFT_SAVED, .is_there = true, .is_torn = true, .is_filled = true}, FATE_KEPT},
+    {"saved, folder gone", {.how = LEFT_SAVED}, FATE_GONE},
+    {"unsaved", {.how = LEFT_UNSAVED, .is_there = true, .has_keys = true, .is_filled = true}, FATE_KEPT},
+    {"unsaved, FILE has it", {.how = LEFT_UNSAVED, .is_there = true, .has_keys = true, .is_filled = true, .is_same = true}, FATE_REMOVED},
+    {"unsaved, parts missing", {.how = LEFT_UNSAVED, .is_there = true, .has_keys = true}, FATE_LOST},
+    {"unsaved, folder gone", {.how = LEFT_UNSAVED, .has_keys = true}, FATE_GONE},
+    {"unsaved, journal without keys", {.how = LEFT_UNSAVED, .is_there = true, .is_filled = true}, FATE_REMOVED},
+    {"unsaved, torn, FILE has it", {.how = LEFT_UNSAVED, .is_there = true, .has_keys = true, .is_filled = true, .is_same = true, .is_torn = true},
+     FATE_KEPT},
+    {"killed", {.how = LEFT_UNKNOWN, .is_there = true, .has_keys = true, .is_filled = true}, FATE_KEPT},
+    {"killed, nothing typed", {.how = LEFT_UNKNOWN, .is_there = true, .is_filled = true}, FATE_REMOVED},
+    {"killed, torn, nothing typed", {.how = LEFT_UNKNOWN, .is_there = true, .is_torn = true}, FATE_LOST},
+    {"dropped", {.how = LEFT_DROPPED, .is_there = true, .has_keys = true, .is_filled = true}, FATE_DROPPED},
+    {"dropped, FILE has it", {.how = LEFT_DROPPED, .is_there = true, .has_keys = true, .is_filled = true, .is_same = true}, FATE_DROPPED},
+    {"dropped, secret", {.how = LEFT_DROPPED, .is_there = true, .has_keys = true, .is_filled = true, .is_secret = true}, FATE_WIPED},
+    {"dropped, torn, secret", {.how = LEFT_DROPPED, .is_there = true, .has_keys = true, .is_filled = true, .is_secret = true, .is_torn = true},
+     FATE_KEPT},
+    {"dropped, parts missing", {.how = LEFT_DROPPED, .is_there = true, .has_keys = true}, FATE_LOST},
+    {"unsaved, secret", {.how = LEFT_UNSAVED, .is_there = true, .has_keys = true, .is_filled = true, .is_secret = true}, FATE_KEPT},
+    {"refused", {.how = LEFT_REFUSED, .is_there = true, .is_filled = true}, FATE_REMOVED},
+    {"refused, recovered", {.how = LEFT_REFUSED, .is_there = true, .has_keys = true, .is_filled = true}, FATE_KEPT},
+};
+
+/* What holds of each fate, for all facts: nothing is removed that may be recovered. */
+static void check_all_fates(void) {
+    int wrong = 0;
+    for (unsigned bits = 0; bits < 5u << 6; bits++) {
+        struct left left = {.how = (enum left_how)(bits >> 6),  .is_there = bits & 1,      .is_filled = (bits >> 1) & 1,
+                            .has_keys = (bits >> 2) & 1,        .is_torn = (bits >> 3) & 1, .is_same = (bits >> 4) & 1,
+                            .is_secret = (bits >> 5) & 1};
+        enum fate fate = fate_of(&left);
+        bool may_be_recovered = left.is_there && left.is_filled && (left.has_keys || left.is_torn);
+        bool is_wanted = left.is_torn || (left.how != LEFT_SAVED && left.how != LEFT_DROPPED && !left.is_same);
+        bool is_kept = fate == FATE_KEPT || fate == FATE_DROPPED;
+        if (may_be_recovered && is_wanted && fate != FATE_KEPT) wrong++;
+        if (is_kept && !left.is_filled) wrong++;
+        if (fate == FATE_REMOVED && (left.is_torn || (left.has_keys && left.how != LEFT_SAVED && !left.is_same))) wrong++;
+        if (fate == FATE_LOST && left.is_filled) wrong++;
+        if ((fate == FATE_WIPED) && !(left.is_secret && left.how == LEFT_DROPPED)) wrong++;
+        if ((fate == FATE_GONE) != !left.is_there) wrong++;
+    }
+    same("all fates", wrong, 0);
+}
+
+int main(void) {
+    for (size_t i = 0; i < sizeof answers / sizeof *answers; i++) same(answers[i].answer, (int)choice_of(answers[i].answer), (int)answers[i].choice);
+    for (size_t i = 0; i < sizeof words / sizeof *words; i++) same(words[i].answer, is_word(words[i].answer, words[i].word), words[i].is_word);
+    for (size_t i = 0; i < sizeof errors / sizeof *errors; i++) {
+        same("notice", (int)notice_of(errors[i].error), (int)errors[i].notice);
+        same(errors[i].words, strcmp(fault_words(errors[i].error), errors[i].words), 0);
+    }
+    for (size_t i = 0; i < sizeof firsts / sizeof *firsts; i++) same(firsts[i].name, (int)first_notice(&firsts[i].facts), (int)firsts[i].notice);
+    for (size_t i = 0; i < sizeof nows / sizeof *nows; i++) {
+        same(nows[i].name, (int)trouble_now(&nows[i].facts), (int)nows[i].trouble);
+        same(nows[i].name, (int)title_note_of(&nows[i].facts, nows[i].trouble), (int)nows[i].note);
+    }
+    for (size_t i = 0; i < sizeof hows / sizeof *hows; i++) {
+        same("how it was left", (int)left_how(hows[i].end, hows[i].is_refused), (int)hows[i].how);
+        same("may be unsaved", may_be_unsaved(hows[i].how), hows[i].may_be_unsaved);
+    }
+    for (size_t i = 0; i < sizeof fates / sizeof *fates; i++) same(fates[i].name, (int)fate_of(&fates[i].left), (int)fates[i].fate);
+    check_all_fates();
+    same("a short journal", is_replayed_at_end(20000, true), true);
+    same("a long journal, after a signal", is_replayed_at_end(20001, true), false);
+    same("a long journal", is_replayed_at_end(20001, false), true);
+    same("the longest journal", is_replayed_at_end(200001, false), false);
+    same("a private file", (int)mask_for(0600), 077);
+    same("a file of all", (int)mask_for(0777), 0);
+    same("a file of a group", (int)mask_for(0640), 037);
+    printf("%d passed, %d failed\n", passed, failed);
+    return failed > 0;
+}

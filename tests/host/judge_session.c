@@ -1,0 +1,356 @@
+/* Cases of the decisions about sessions: what goes in, and what has to come out. Prints `N passed, M failed`. */
+#include <stdio.h>
+#include <string.h>
+
+#include "../../host/session_judge.h"
+
+static int passed, failed;
+
+static void check(bool is_right, const char *what, const char *which) {
+    if (is_right) {
+        passed++;
+        return;
+    }
+    failed++;
+    printf("failed: %s: %s\n", what, which);
+}
+
+static void check_words(const char *what, const char *found, const char *wanted) {
+    check(strcmp(found, wanted) == 0, what, found);
+}
+
+/* ---- short files */
+
+static void check_begins(void) {
+    static const struct {
+        const char *words;
+        bool is_good;
+        struct begin begin;
+        const char *again;
+    } cases[] = {
+        {"24 80 rtl 7\n", true, {24, 80, "rtl", 7}, "24 80 rtl 7\n"},
+        {"24 80 auto -", true, {24, 80, "auto", 0}, "24 80 auto -\n"},
+        {" 1\t500 ltr\n-\nmore", true, {1, 500, "ltr", 0}, "1 500 ltr -\n"},
+        {"4294967295 1 ltr 4294967295", true, {4294967295U, 1, "ltr", 4294967295U}, "4294967295 1 ltr 4294967295\n"},
+        {"", false, {0}, ""},
+        {"24 80", false, {0}, ""},
+        {"24 80 up -", false, {0}, ""},
+        {"24 80 autoauto -", false, {0}, ""},
+        {"24 x auto -", false, {0}, ""},
+        {"-1 80 auto -", false, {0}, ""},
+        {"24 80 auto", false, {0}, ""},
+        {"24 80 auto 4294967296", false, {0}, ""},
+        {"24 80 auto 99999999999999999999999999", false, {0}, ""},
+    };
+    for (size_t at = 0; at < sizeof cases / sizeof *cases; at++) {
+        struct begin begin;
+        char words[MOST_WORDS];
+        bool is_good = begin_of(cases[at].words, &begin);
+        check(is_good == cases[at].is_good, "begin", cases[at].words);
+        if (!is_good) continue;
+        const struct begin *wanted = &cases[at].begin;
+        check(begin.rows == wanted->rows && begin.cols == wanted->cols && begin.line == wanted->line, "begin's numbers", cases[at].words);
+        check_words("begin's direction", begin.direction, wanted->direction);
+        words_of_begin(&begin, words);
+        check_words("begin again", words, cases[at].again);
+    }
+}
+
+static void check_files(void) {
+    static const struct {
+        const char *words;
+        bool is_good, has_birth;
+        const char *again;
+    } cases[] = {
+        {"3 5\n", true, false, "3 5\n"},
+        {"3 5 9 0", true, true, "3 5 9 0\n"},
+        {"3 5 9 1000000001", true, true, "3 5 10 1\n"},
+        {"18446744073709551615 1", true, false, "18446744073709551615 1\n"},
+        {"", false, false, ""},
+        {"3", false, false, ""},
+        {"3 x", false, false, ""},
+        {"3 5 9", false, false, ""},
+        {"3 5 x 9", false, false, ""},
+        {"3 5 9 4294967296", false, false, ""},
+        {"3 5 18446744073709551615 1", false, false, ""},
+        {"18446744073709551616 1", false, false, ""},
+    };
+    for (size_t at = 0; at < sizeof cases / sizeof *cases; at++) {
+        struct file_id id;
+        char words[MOST_WORDS];
+        bool is_good = file_id_of(cases[at].words, &id);
+        check(is_good == cases[at].is_good, "file", cases[at].words);
+        if (!is_good) continue;
+        check(id.has_birth == cases[at].has_birth, "file's birth", cases[at].words);
+        words_of_file_id(&id, words);
+        check_words("file again", words, cases[at].again);
+    }
+    struct file_id one = {.device = 3, .inode = 5}, born = {.device = 3, .inode = 5, .has_birth = true, .birth_seconds = 9}, later = born;
+    later.birth_nanos = 1;
+    check(is_same_id(&one, &born) && !is_surely_same_id(&one, &born), "files", "without a birth");
+    check(is_surely_same_id(&born, &born) && !is_surely_same_id(&born, &later), "files", "with a birth");
+    check(!is_surely_same_id(&one, &one), "files", "nothing is sure without a birth");
+    later.inode = 6;
+    check(!is_same_id(&born, &later), "files", "of two inodes");
+}
+
+static void check_processes(void) {
+    static const struct process here = {.number = 1, .machine = "here", .boot = "boot"};
+    static const struct {
+        const char *words;
+        bool may_go_on;
+        const char *again;
+    } cases[] = {
+        {"7 here boot\n", false, "7 here boot\n"}, {"7 here before\n", false, "7 here before\n"},
+        {"7 here -\n", false, "7 here -\n"},       {"7 container boot\n", false, "7 container boot\n"},
+        {"7 there other\n", true, "7 there other\n"}, {"7 there -\n", true, "7 there -\n"},
+        {"7 here\n", true, NULL},                  {"", true, NULL},
+        {"x here boot", true, NULL},               {"4294967296 here boot", true, NULL},
+    };
+    for (size_t at = 0; at < sizeof cases / sizeof *cases; at++) {
+        struct process there;
+        char words[MOST_WORDS];
+        bool is_known = process_of(cases[at].words, &there);
+        check(is_known == (cases[at].again != NULL), "process", cases[at].words);
+        check(may_go_on_elsewhere(is_known ? &there : NULL, &here) == cases[at].may_go_on, "elsewhere", cases[at].words);
+        if (!is_known) continue;
+        words_of_process(&there, words);
+        check_words("process again", words, cases[at].again);
+    }
+    char longest[600];
+    memset(longest, 'a', sizeof longest - 1);
+    longest[sizeof longest - 1] = '\0';
+    memcpy(longest, "7 ", 2);
+    struct process process;
+    check(!process_of(longest, &process), "process", "a machine's name that is too long");
+}
+
+static void check_modes(void) {
+    static const struct {
+        const char *words;
+        mode_t mode;
+    } cases[] = {{"644\n", 0644}, {"4755", 0755}, {"600", 0600}, {"", 0600}, {"689", 0600}, {"x", 0600}, {"777777777777777", 0600}, {"0", 0}};
+    for (size_t at = 0; at < sizeof cases / sizeof *cases; at++) check(mode_of(cases[at].words) == cases[at].mode, "mode", cases[at].words);
+}
+
+/* ---- names, owners */
+
+static void check_names(void) {
+    static const struct {
+        const char *name;
+        enum name_kind kind;
+    } cases[] = {
+        {"20261130064312.abcdefgh", NAME_SESSION}, {"20261130064312.ab234567", NAME_SESSION}, {"20200101000000.AAAAAA", NAME_SESSION},
+        {"20200101000000.x9Yz0a", NAME_SESSION},   {".dead.20261130064312.abcdefgh", NAME_DEAD}, {".replay.Xy12ab", NAME_REPLAY},
+        {"2026", NAME_FOREIGN},                    {"2026-taxes", NAME_FOREIGN},              {"20261130064312", NAME_FOREIGN},
+        {"20261130064312.", NAME_FOREIGN},         {"20261130064312.abc", NAME_FOREIGN},      {"20261130064312.abcdefghi", NAME_FOREIGN},
+        {"20261130064312.abcdefg1", NAME_FOREIGN}, {"20261130064312.ABCDEFGH", NAME_FOREIGN}, {"20261130064312.abcd-f", NAME_FOREIGN},
+        {"2026113006431.abcdefgh", NAME_FOREIGN},  {"202611300643123.abcdefgh", NAME_FOREIGN}, {"3d-models", NAME_FOREIGN},
+        {".dead.letters", NAME_FOREIGN},           {".replay.old", NAME_FOREIGN},             {"", NAME_FOREIGN},
+        {".dead..dead.20261130064312.abcdefgh", NAME_FOREIGN}, {"x20261130064312.abcdefgh", NAME_FOREIGN},
+    };
+    for (size_t at = 0; at < sizeof cases / sizeof *cases; at++) check(kind_of_name(cases[at].name) == cases[at].kind, "name", cases[at].name);
+}
+
+static void check_owners(void) {
+    static const struct {
+        const char *which;
+        uid_t owner;
+        mode_t mode;
+        bool is_private, is_safe;
+    } cases[] = {
+        {"own, closed", 7, 0700, true, true},         {"own, read by all", 7, 0755, true, true},
+        {"own, of the group", 7, 0770, false, true},  {"own, of all", 7, 0777, false, false},
+        {"own, of all, sticky", 7, 01777, false, true}, {"root's", 0, 0755, false, true},
+        {"root's, of all", 0, 0777, false, false},    {"root's, of all, sticky", 0, 01777, false, true},
+        {"another's", 8, 0700, false, false},         {"another's, sticky", 8, 01777, false, false},
+    };
+    for (size_t at = 0; at < sizeof cases / sizeof *cases; at++) {
+        check(is_private(cases[at].owner, cases[at].mode, 7) == cases[at].is_private, "private", cases[at].which);
+        check(is_safe_above(cases[at].owner, cases[at].mode, 7) == cases[at].is_safe, "safe above", cases[at].which);
+    }
+}
+
+/* ---- whose a session is, and what it holds */
+
+static void check_belongings(void) {
+    static const struct {
+        const char *which;
+        struct belonging_facts facts;
+        enum belonging belonging;
+        /* it counts where it lives; where it ended */
+        bool live, ended;
+    } cases[] = {
+        {"its path", {.has_path = true, .is_path = true, .leads_anywhere = true}, BELONGS_BY_PATH, true, true},
+        {"its path, FILE is gone", {.has_path = true, .is_path = true}, BELONGS_BY_PATH, true, true},
+        {"another name", {.has_path = true, .leads_there = true, .leads_anywhere = true}, BELONGS_BY_NAME, true, true},
+        {"FILE or its folder was renamed", {.has_path = true, .is_file = true}, BELONGS_BY_LOST_FILE, true, true},
+        {"FILE was renamed, another has its name", {.has_path = true, .is_file = true, .leads_anywhere = true}, BELONGS_BY_FILE, true, false},
+        {"another file", {.has_path = true, .leads_anywhere = true}, BELONGS_NOT, false, false},
+        {"another file, gone", {.has_path = true}, BELONGS_NOT, false, false},
+        {"only begun", {.is_path = true}, BELONGS_AT_BEGIN, true, false},
+        {"only begun, another name", {.leads_there = true, .leads_anywhere = true}, BELONGS_AT_BEGIN, true, false},
+        {"only begun, by another file", {.leads_anywhere = true}, BELONGS_NOT, false, false},
+        {"nothing is known", {.has_path = false}, BELONGS_NOT, false, false},
+    };
+    for (size_t at = 0; at < sizeof cases / sizeof *cases; at++) {
+        enum belonging belonging = judge_belonging(&cases[at].facts);
+        check(belonging == cases[at].belonging, "belonging", cases[at].which);
+        check(counts_as_own(belonging, SESSION_LIVE) == cases[at].live, "counts while it lives", cases[at].which);
+        check(counts_as_own(belonging, SESSION_UNFINISHED) == cases[at].ended, "counts once it ended", cases[at].which);
+        check(counts_as_own(belonging, SESSION_DROPPED) == cases[at].ended, "counts once it was dropped", cases[at].which);
+    }
+}
+
+static void check_states(void) {
+    static const struct {
+        const char *which;
+        struct state_facts facts;
+        enum session_state state;
+    } cases[] = {
+        {"locked", {.is_locked = true}, SESSION_LIVE},
+        {"locked, elsewhere", {.is_locked = true, .may_be_elsewhere = true, .has_something = true}, SESSION_LIVE},
+        {"elsewhere", {.may_be_elsewhere = true, .has_something = true}, SESSION_ELSEWHERE},
+        {"elsewhere, empty", {.may_be_elsewhere = true}, SESSION_ELSEWHERE},
+        {"empty", {.has_something = false}, SESSION_EMPTY},
+        {"empty, dropped", {.is_dropped = true}, SESSION_EMPTY},
+        {"dropped", {.has_something = true, .is_dropped = true}, SESSION_DROPPED},
+        {"unfinished", {.has_something = true}, SESSION_UNFINISHED},
+    };
+    for (size_t at = 0; at < sizeof cases / sizeof *cases; at++) check(judge_state(&cases[at].facts) == cases[at].state, "state", cases[at].which);
+}
+
+/* ---- bytes */
+
+/* Compares a text with its mark, in pieces of `step` bytes. */
+static enum verdict compare_in_pieces(const char *text, size_t size, const char *mark, size_t step) {
+    struct mark_comparison comparison;
+    size_t mark_size = strlen(mark), shared = size < mark_size ? size : mark_size, from = 0;
+    compare_begin(&comparison);
+    for (; shared - from > step; from += step) compare_more(&comparison, text + from, mark + from, step);
+    compare_more(&comparison, text + from, mark + from, shared - from);
+    return compare_end(&comparison, size, mark_size);
+}
+
+/* Each text is taken whole and in pieces of every length. */
+static void check_marks(void) {
+    static const struct {
+        const char *which, *of_file;
+        size_t size;
+        enum verdict verdict;
+    } cases[] = {
+        {"whole", "hello", 5, FILE_WHOLE},      {"a beginning", "he", 2, FILE_TORN},   {"nothing", "", 0, FILE_TORN},
+        {"zeros", "h\0\0l", 4, FILE_TORN},      {"all zeros", "\0\0\0\0\0", 5, FILE_TORN}, {"another", "help", 4, FILE_OTHER},
+        {"longer", "hello there", 11, FILE_OTHER}, {"zeros behind", "hello\0", 6, FILE_OTHER}, {"zeros and another", "\0e\0p", 4, FILE_OTHER},
+    };
+    for (size_t at = 0; at < sizeof cases / sizeof *cases; at++)
+        for (size_t step = 1; step <= 5; step++)
+            check(compare_in_pieces(cases[at].of_file, cases[at].size, "hello", step) == cases[at].verdict, "mark", cases[at].which);
+    struct mark_comparison comparison;
+    compare_begin(&comparison);
+    check(compare_end(&comparison, 0, 0) == FILE_WHOLE, "mark", "both empty");
+}
+
+static void check_keys(void) {
+    static const struct {
+        const char *journal;
+        size_t keys;
+    } cases[] = {
+        {"", 0},
+        {"a\xd7\x90\n", 3},
+        {"\x1b[A\x1b[1;5D", 2},
+        {"\x1b[8;24;80ta\x13\x1b[8;24;80tb", 2},
+        {"\x13" "a\x13\x13\x1b[8;1;2t", 3},
+        {"\x1b\x1bx\x1b[9", 4},
+        {"\x1b[>7~", 0},
+        {"a\x1b[>1;2~b", 2},
+        {"\x13\x1b[>7~", 1},
+        {"\x1b[>7~\x1b[8;1;1t", 0},
+        {"\x1b[>7x", 1},
+        {"\x1b[>>", 2},
+        {"\x1b[\x1b[8;1;1t", 1},
+        {"\x1b\x13\x1b[8;1;1t", 1},
+        {"\x13\x1b[A", 2},
+        {"\x1b[t\x1b[t", 0},
+        {"\xf0\x9f\x98\x80", 1},
+    };
+    for (size_t at = 0; at < sizeof cases / sizeof *cases; at++) {
+        size_t length = strlen(cases[at].journal);
+        for (size_t split = 0; split <= length; split++) {
+            struct key_count count;
+            count_begin(&count);
+            count_more(&count, cases[at].journal, split);
+            count_more(&count, cases[at].journal + split, length - split);
+            check(count.keys == cases[at].keys, "keys", cases[at].journal);
+        }
+    }
+}
+
+static void check_line_ends(void) {
+    static const struct {
+        const char *text;
+        bool is_crlf;
+    } cases[] = {{"", false}, {"a", false}, {"a\n", false}, {"a\r\n", true}, {"a\r\nb", true}, {"\n\r\n", false}, {"a\r\nb\n", false}, {"a\r\n\r\n", true}, {"\r\r\n", true}};
+    for (size_t at = 0; at < sizeof cases / sizeof *cases; at++) {
+        size_t length = strlen(cases[at].text);
+        for (size_t split = 0; split <= length; split++) {
+            struct line_ends ends;
+            ends_begin(&ends);
+            ends_more(&ends, cases[at].text, split);
+            ends_more(&ends, cases[at].text + split, length - split);
+            check(ends_are_all_crlf(&ends) == cases[at].is_crlf, "line ends", cases[at].text);
+        }
+    }
+}
+
+/* ---- a running session */
+
+static void check_keepings(void) {
+    static const struct {
+        const char *which;
+        struct keeping_facts facts;
+        enum keeping keeping;
+    } cases[] = {
+        {"all is there", {.is_folder_there = true, .is_filled = true}, KEEPS},
+        {"all is there, and something is written", {.is_folder_there = true, .is_filled = true, .is_copying = true}, KEEPS},
+        {"being copied", {.is_folder_there = true, .is_copying = true}, KEEPS_SOON},
+        {"no room", {.is_folder_there = true}, KEEPS_NOT_YET},
+        {"the journal has no room", {.is_folder_there = true, .is_filled = true, .is_behind = true}, KEEPS_NOT_YET},
+        {"FILE changed", {.is_folder_there = true, .is_changed = true}, KEEPS_NOTHING},
+        {"the folder is gone", {.is_filled = true}, KEEPS_NOWHERE},
+        {"the folder is gone, and FILE changed", {.is_changed = true}, KEEPS_NOWHERE},
+    };
+    for (size_t at = 0; at < sizeof cases / sizeof *cases; at++) check(judge_keeping(&cases[at].facts) == cases[at].keeping, "keeping", cases[at].which);
+}
+
+static void check_notices(void) {
+    static const struct {
+        const char *which;
+        struct notice_facts facts;
+        bool is_due;
+    } cases[] = {
+        {"new", {.is_new = true}, true},
+        {"told, no key", {.seconds_since = 100}, false},
+        {"told, a key at once", {.is_typed_since = true, .seconds_since = 4}, false},
+        {"told, a key, later", {.is_typed_since = true, .seconds_since = 5}, true},
+    };
+    for (size_t at = 0; at < sizeof cases / sizeof *cases; at++) check(is_notice_due(&cases[at].facts) == cases[at].is_due, "notice", cases[at].which);
+}
+
+int main(void) {
+    check_begins();
+    check_files();
+    check_processes();
+    check_modes();
+    check_names();
+    check_owners();
+    check_belongings();
+    check_states();
+    check_marks();
+    check_keys();
+    check_line_ends();
+    check_keepings();
+    check_notices();
+    printf("%d passed, %d failed\n", passed, failed);
+    return failed > 0;
+}

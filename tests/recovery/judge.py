@@ -1,0 +1,28 @@
+"""Judges a recovered text, for check-recovery.sh: judge.py SESSION TEXT JOURNAL, with a session of sessions.py.
+
+The journal must be a beginning of the keys that includes keys1, and the text must be the one after its last key. Without a
+journal all was saved, and the text is one after some key past keys1. The exit status is 0, or a message says what is wrong.
+"""
+
+import os, sys
+
+
+def read(*path):
+    with open(os.path.join(*path), "rb") as file:
+        return file.read()
+
+
+session, text, journal = sys.argv[1:]
+first, second = read(session, "keys1"), read(session, "keys2")
+# for each number of bytes that ends a key, the text then
+ends = {int(n): bytes.fromhex(t) for n, t in (line.split(" ") for line in read(session, "ends").decode().splitlines())}
+found = read(text)
+if not os.path.exists(journal):
+    sys.exit(0 if found in [t for n, t in ends.items() if n >= len(first)] else "what was saved is no text of these keys")
+kept = read(journal)
+if not (first + second).startswith(kept):
+    sys.exit("the journal is no beginning of the keys: %r, %r" % (kept, first + second))
+if len(kept) < len(first):
+    sys.exit("the journal has %d of %d bytes whose keys were on the screen" % (len(kept), len(first)))
+wanted = ends[max(n for n in ends if n <= len(kept))]
+sys.exit(0 if found == wanted else "the text is %r, and not %r" % (found.decode(), wanted.decode()))

@@ -1,0 +1,207 @@
+"""The searches of the plain model of editor.py, for letters to find or to replace."""
+
+# what a search passes over: the characters that turn directions, and marks of a direction
+CONTROLS = "\u202a\u202b\u202d\u202e\u202c\u2066\u2067\u2068\u2069\u200e\u200f\u061c"
+# letters of which a search finds each for the other: a final mem, and alef with hamza; replacing tells them apart
+FOUND_AS = str.maketrans("\u05dd\u0623", "\u05de\u0627")
+
+
+class Search:
+    """The state of a search and its keys. The editor that has it brings text, place and edits."""
+
+    def __init__(self):
+        # a search is None, begun or typed, or asks for the other text with begun or with typed, or is at a match, replacing
+        self.search, self.query, self.origin = None, "", 0
+        # what a search is for, find or replace; the text that takes a match's place, the place of the match that is shown, and
+        # the number of those replaced
+        self.aim, self.other, self.at, self.count = "find", "", 0, 0
+
+    def begin_search(self, aim):
+        self.unselect()
+        self.search, self.origin, self.aim = "begun", self.place, aim
+
+    def letters_of(self, text):
+        """The letters that a search compares, each as the one that it is found as."""
+        letters = "".join(letter for letter in text if letter not in CONTROLS)
+        return letters.translate(FOUND_AS) if self.aim == "find" else letters
+
+    def find_next(self):
+        """F3 without a search: the next match of the last query, or a search where there is no query yet."""
+        if self.letters_of(self.query):
+            self.unselect()
+            self.aim = "find"
+            self.look_on()
+        else:
+            self.begin_search("find")
+
+    def seek_by(self, letter, is_paste):
+        """What a letter does in a search. A paste asks for no other text, and replaces nothing."""
+        is_query = self.search in ("begun", "typed")
+        if letter == "\n" and is_query and self.aim == "find":
+            self.search = None
+        elif letter == "\n":
+            if not is_paste:
+                self.answer_by_enter()
+        elif letter == "\t" or self.search == "replacing":
+            pass
+        elif is_query:
+            self.look_for(self.kept(self.query) + letter)
+        else:
+            # as long as the editor's, as is the query in `look_for`
+            self.search, self.other = "with typed", (self.kept(self.other) + letter)[:64]
+
+    def answer_by_enter(self):
+        """What Enter does where letters are to be replaced."""
+        if self.search == "replacing":
+            self.replace_match()
+        elif self.search in ("begun", "typed"):
+            self.ask_other()
+        else:
+            self.show_match()
+
+    def kept(self, text):
+        """What a letter is added to; nothing where a search was begun or the other text just asked for: the old one gives way."""
+        return "" if self.search in ("begun", "with begun") else text
+
+    def look_for(self, query):
+        self.query, self.search = query[:64], "typed"
+        self.look_from(self.place)
+
+    def spans(self):
+        """Where the query stands, and where it ends there, whatever named characters are between its letters."""
+        places = [at for at, letter in enumerate(self.text) if letter not in CONTROLS]
+        letters, query = self.letters_of(self.text), self.letters_of(self.query)
+        starts = [i for i in range(len(places)) if query and letters.startswith(query, i)]
+        return [(places[i], places[i + len(query) - 1] + 1) for i in starts]
+
+    def matches(self):
+        """Where the query stands."""
+        return [start for start, _ in self.spans()]
+
+    def look_from(self, place):
+        """Goes to the first place from `place` on where the query stands, else to the first of all."""
+        found = self.matches()
+        self.place = next((at for at in found if at >= place), found[0] if found else self.place)
+
+    def look_on(self):
+        """Goes to the next match, from the last one to the first."""
+        self.look_from(self.place + 1 if self.place < len(self.text) else 0)
+
+    def look_back(self):
+        """Goes to the match before, from the first one to the last."""
+        found = self.matches()
+        self.place = next((at for at in reversed(found) if at < self.place), found[-1] if found else self.place)
+
+    def give_up(self):
+        """The cursor goes back to where the search began, but not from a match that is shown."""
+        if self.search != "replacing":
+            self.place = self.origin
+        self.search = None
+
+    def takes(self, name):
+        """Whether a search takes a key. Any other key but a repaint ends it first."""
+        if name in ("copy", "cancel"):
+            self.give_up()
+        elif name == "repaint":
+            pass
+        elif self.search == "replacing":
+            return self.match_takes(name)
+        elif self.search in ("with begun", "with typed"):
+            return self.other_takes(name)
+        else:
+            return self.query_takes(name)
+        return True
+
+    def query_takes(self, name):
+        """What a key does while the query is typed. Returns False for one that ends the search and is then obeyed without it."""
+        if name in ("erase", "delete"):
+            self.place = self.origin
+            self.look_for(self.kept(self.query)[:-1])
+        elif name in ("find", "find next"):
+            self.search = "typed"
+            self.look_on()
+        elif name == "find back":
+            self.search = "typed"
+            self.look_back()
+        elif name == "replace":
+            self.ask_other()
+        else:
+            self.search = None
+            return False
+        return True
+
+    def other_takes(self, name):
+        """What a key does while the other text is typed. Returns as `query_takes`."""
+        if name in ("erase", "delete"):
+            self.search, self.other = "with typed", self.kept(self.other)[:-1]
+        elif name in ("find", "find next", "find back"):
+            self.begin_search("find")
+        elif name == "replace":
+            self.show_match()
+        else:
+            self.search = None
+            return False
+        return True
+
+    def match_takes(self, name):
+        """What a key does while a match is shown. Returns as `query_takes`."""
+        if name in ("find", "find next"):
+            self.go_on_from(self.at + 1)
+        elif name == "find back":
+            self.begin_search("find")
+        elif name == "replace":
+            self.replace_all()
+        elif name not in ("erase", "delete"):
+            self.search = None
+            return False
+        return True
+
+    def ask_other(self):
+        """Asks for the text that takes a match's place, where the query stands somewhere."""
+        self.aim = "replace"
+        if self.letters_of(self.query):
+            self.search = "typed"
+            self.look_from(self.place)
+            if self.matches():
+                self.search, self.count = "with begun", 0
+
+    def show_match(self):
+        """Asks about the match at the place."""
+        self.search, self.at = "replacing", self.place
+
+    def go_on_from(self, at):
+        """Goes on to the next match; without one replacing ends where the cursor is."""
+        self.search = None
+        for start in self.matches():
+            if start >= at:
+                self.search, self.at, self.place = "replacing", start, start
+                break
+
+    def exchange(self, stop, new, count):
+        """Puts a text in the place of `count` matches, from the one shown up to `stop`: as at most two edits of one run."""
+        at = self.at
+        self.remove(at, stop)
+        if new:
+            self.edit(self.text[:at] + new + self.text[at:], at + len(new), True)
+        self.origin, self.count = 0, self.count + count
+
+    def replace_match(self):
+        self.exchange(dict(self.spans())[self.at], self.other, 1)
+        self.go_on_from(self.at + len(self.other))
+
+    def replace_all(self):
+        """Replaces the match that is shown and each after it that has no part in one before."""
+        new, stop, count = "", self.at, 0
+        for start, end in self.spans():
+            if start >= stop:
+                new += self.text[stop:start] + self.other
+                stop, count = end, count + 1
+        self.exchange(stop, new, count)
+        self.search = None
+
+    def prompt(self):
+        """What the last row asks."""
+        if self.search == "replacing":
+            return "Enter replace ^W next F4 all ^C end"
+        word, text = (self.aim, self.query) if self.search in ("begun", "typed") else ("with", self.other)
+        return f"{word}: {text if text < chr(0x5d0) else text[::-1]}"
