@@ -89,24 +89,24 @@ enum choice ask_choice(void) {
 }
 
 enum rest ask_rest(void) {
-    int rest = ask_either("open FILE and leave the session, or keep its parts as files beside FILE (open, keep)?", "open", "keep");
+    int rest = ask_either("Open the file and leave the session, or keep its parts as files next to it (open, keep)?", "open", "keep");
     return rest < 0 ? REST_NONE : rest == 0 ? REST_OPEN : REST_KEEP;
 }
 
 /* ---- other editors of the user's that have FILE open and may keep no session */
 
-/* The socket that says so, and its name, which is no file's. */
+/* The socket by which others see this process, and its name, which is in no folder. */
 static int own = -1;
 static struct sockaddr_un own_name;
 
-/* A number for a name (FNV-1a), which has no room in the name of a socket. */
+/* A hash of a name (FNV-1a): the name itself may be too long for the name of a socket. */
 static uint64_t hash_of(const char *name) {
     uint64_t number = 14695981039346656037u;
     for (; *name; name++) number = (number ^ (unsigned char)*name) * 1099511628211u;
     return number;
 }
 
-/* The process that listens at a name; 0 where it is not one of the user's, -1 where it is not known. */
+/* The process that listens at a socket's name; 0 if it is not one of the user's, -1 if its number is unknown. */
 static pid_t listener_at(const struct sockaddr_un *address, socklen_t length) {
     struct ucred peer = {0, 0, 0};
     socklen_t size = sizeof peer;
@@ -121,7 +121,8 @@ static pid_t listener_at(const struct sockaddr_un *address, socklen_t length) {
 
 pid_t note_open_file(const struct file *file) {
     struct sockaddr_un address = {.sun_family = AF_UNIX};
-    /* a NUL in front: a name that is no path. A folder keeps its number when it is renamed, and FILE's name when it is saved. */
+    /* The name begins with NUL, so it is no path. It has the folder's number and FILE's name: a rename of the folder changes no number, and
+     * a save changes FILE's own number. */
     int length = snprintf(address.sun_path + 1, sizeof address.sun_path - 1, "bidi-edit.%u.%ju.%ju.%ju", (unsigned)geteuid(),
                           (uintmax_t)file->folder_id.device, (uintmax_t)file->folder_id.inode, (uintmax_t)hash_of(file->name));
     socklen_t size = (socklen_t)(offsetof(struct sockaddr_un, sun_path) + 1 + (size_t)length);
@@ -160,37 +161,40 @@ static const char *note_of(const struct session *session) {
         const char *machine = machine_text(session);
         return text_of(" (on %s)", machine ? machine : THIS_MACHINE);
     }
-    if (session_has(session, PART_MARK)) return " (a save was cut off)";
+    if (session_has(session, PART_MARK)) return " (a save was interrupted)";
     return state == SESSION_DROPPED ? " (dropped)" : "";
 }
 
-static void list_session(const struct session *session) {
-    if (!session_has_something(session)) return;
+/* Lists a session, if it can be recovered. */
+static bool list_session(const struct session *session) {
+    if (!session_has_something(session)) return false;
     char *path = session_note(session, PART_PATH);
     const char *line = text_of("%s  keys: %zu  KB: %llu  %s%s\n", time_text(session), session_count_keys(session),
                                (unsigned long long)session_kilobytes(session), shown(path ? path : ""), note_of(session));
     free(path);
     put_text(STDOUT_FILENO, line);
+    return true;
 }
 
-/* Whether a folder of sessions can be used. Tells of one that others could change. */
+/* Whether a folder of sessions can be used. Warns of one that others could change. */
 static bool is_usable(const struct sessions *sessions) {
     enum notice notice;
-    if (sessions->state == FOLDER_DISTRUSTED) warn("a folder of sessions is not used: %s", unkept_by(sessions, &notice));
+    if (sessions->state == FOLDER_DISTRUSTED) warn("a folder of sessions is ignored: %s", unkept_by(sessions, &notice));
     return sessions->state == FOLDER_READY;
 }
 
 int list_sessions(void) {
     struct sessions *all;
-    size_t count = sessions_find_all(&all);
+    size_t count = sessions_find_all(&all), listed = 0;
     for (size_t i = 0; i < count; i++) {
         struct walk walk;
         if (!is_usable(&all[i])) continue;
         walk_begin(&walk, &all[i]);
-        while (walk_next_own(&walk)) list_session(&walk.session);
+        while (walk_next_own(&walk)) listed += list_session(&walk.session);
         walk_end(&walk);
     }
     sessions_close_all(all, count);
+    if (listed == 0) tell("there are no sessions to recover");
     return 0;
 }
 
@@ -203,13 +207,13 @@ static void tell_forgotten(void *context, const struct forgotten *forgotten) {
     struct counts *counts = context;
     char time[32] = "";
     if (forgotten->has_time) time_words(&forgotten->changed, time);
-    const char *name = text_of("the session of %s%s%s", shown(forgotten->path), *time ? " of " : "", time);
+    const char *name = text_of("the session of %s%s%s", shown(forgotten->path), *time ? " from " : "", time);
     if (forgotten->error != 0) {
         counts->kept++;
-        warn("%s cannot be removed%s", name, fault_words(forgotten->error));
+        warn("%s cannot be deleted%s", name, fault_words(forgotten->error));
     } else {
         counts->removed++;
-        tell("%s is removed%s", name, forgotten->was_dropped ? " (dropped)" : "");
+        tell("%s is deleted%s", name, forgotten->was_dropped ? " (dropped)" : "");
     }
 }
 
@@ -242,7 +246,7 @@ int forget_sessions(const char *typed) {
     if (typed) status = forget_sessions_of(typed, &counts);
     else forget_all_sessions(&counts);
     if (status != GO_ON) return status;
-    if (counts.removed + counts.kept == 0 && typed) tell("there is no session of %s to remove", shown(typed));
-    if (counts.removed + counts.kept == 0 && !typed) tell("there is no session to remove");
+    if (counts.removed + counts.kept == 0 && typed) tell("there is no session of %s to delete", shown(typed));
+    if (counts.removed + counts.kept == 0 && !typed) tell("there are no sessions to delete");
     return counts.kept > 0 ? STATUS_FAULT : 0;
 }

@@ -50,9 +50,9 @@ const char *find_versions(const struct edit *edit, char words[MOST_WORDS]) {
 
 bool tell_mended(const struct edit *edit, const struct mending *mending, void (*say)(const char *format, ...)) {
     const char *file = shown(edit->file.typed);
-    if (mending->mended == MENDED_PUT_BACK) say("a save of %s was cut off; its whole text is put back", file);
+    if (mending->mended == MENDED_PUT_BACK) say("a save of %s was interrupted; its whole text has been restored", file);
     if (mending->mended == MENDED_STILL_TORN)
-        say("a save of %s was cut off, and its text cannot be put back: it is %s", file, shown(mending->mark));
+        say("a save of %s was interrupted, and its text cannot be restored: the whole text is in %s", file, shown(mending->mark));
     return mending->mended == MENDED_STILL_TORN;
 }
 
@@ -72,7 +72,7 @@ bool mend_file(struct edit *edit) {
     struct mended_file mended = {.edit = edit};
     bool is_whole = sessions_mend(&edit->sessions, &edit->target, take_mended, &mended);
     bool is_lost = edit->file.is_lost;
-    /* it has another look now; one that is refused from now on is refused by the next step */
+    /* FILE has changed by this, so it is opened again; if that is refused, the next step says so */
     if (mended.is_put_back) find_file(edit, edit->file.typed, is_lost);
     return is_whole && edit->file.typed;
 }
@@ -96,14 +96,14 @@ int check_file(struct edit *edit, const char *typed) {
 const char *unkept_by(const struct sessions *sessions, enum notice *notice) {
     *notice = NOTICE_UNKEPT;
     switch (sessions->state) {
-    case FOLDER_NOWHERE: return "there is no folder for it";
-    case FOLDER_DISTRUSTED: return text_of("%s belongs to another user, or others may write there", shown(sessions->distrusted));
+    case FOLDER_NOWHERE: return "there is no folder for it (is HOME set?)";
+    case FOLDER_DISTRUSTED: return text_of("%s belongs to another user, or others can write to it", shown(sessions->distrusted));
     case FOLDER_UNUSABLE: *notice = notice_of(sessions->error); return text_of("nothing can be written in %s", shown(sessions->path));
     default: *notice = NOTICE_NONE; return NULL;
     }
 }
 
-/* Makes the session; where that cannot be, `unkept` tells why. */
+/* Makes the session. If that is impossible, `unkept` says why. */
 static void try_session(struct edit *edit) {
     const struct file *file = &edit->file;
     const struct stat *found = &file->look.found;
@@ -122,11 +122,11 @@ static void try_session(struct edit *edit) {
     if (error == 0) return;
     const char *path = shown(edit->sessions.path);
     edit->unkept_notice = notice_of(error);
-    edit->unkept = edit->unkept_notice == NOTICE_NO_SPACE ? text_of("%s has no room for it", path) : text_of("nothing can be written in %s", path);
+    edit->unkept = edit->unkept_notice == NOTICE_NO_SPACE ? text_of("there is no space in %s", path) : text_of("nothing can be written in %s", path);
 }
 
-/* Notes in the session that its saves are written into FILE itself. A session that waits for room is given up: such a save needs
- * the room at once. */
+/* Records in the session that its saves overwrite FILE in place. A session that waits for space is abandoned, since such a save needs
+ * the space at once. */
 static bool note_in_place(struct edit *edit) {
     struct session *session = &edit->session;
     if (session_is_none(session)) return false;
@@ -138,24 +138,24 @@ static bool note_in_place(struct edit *edit) {
     return false;
 }
 
-/* Settles whether saves are written into FILE itself. Meanwhile the session has the whole text; where there is none, and the user
- * forces it, FILE's own folder has it, unless the user cannot replace files there. Refuses a FILE that needs a session and has
- * none, unless it is forced. */
+/* Decides whether saves overwrite FILE in place. During such a save the session has the whole text. Without a session such a FILE is
+ * refused; with --force it is opened, and FILE's folder has the whole text during a save, unless the user cannot replace files
+ * there. */
 static int settle_in_place(struct edit *edit) {
     if (edit->reason == NO_REASON) return GO_ON;
     const char *file = shown(edit->file.typed), *reason = reason_text(edit->reason);
     edit->is_in_place = note_in_place(edit);
     edit->is_itself = !edit->is_in_place && edit->call->is_forced && edit->reason != REASON_PROTECTED;
     if (edit->is_in_place || edit->is_itself) {
-        warn("%s %s: saves are written into the file itself", file, reason);
+        warn("%s %s: saves overwrite it in place", file, reason);
         return GO_ON;
     }
-    const char *why = edit->unkept ? edit->unkept : "there is no room", *force = edit->call->is_forced ? "" : ": --force opens it all the same";
-    warn("%s %s, and %s, since unsaved text is not kept (%s)%s", file, reason, reason_harm(edit->reason), why, force);
+    const char *why = edit->unkept ? edit->unkept : "there is no space", *force = edit->call->is_forced ? "" : "; --force opens it anyway";
+    warn("%s %s; since unsaved text is not kept (%s), %s%s", file, reason, why, reason_harm(edit->reason), force);
     return edit->call->is_forced ? GO_ON : STATUS_FAULT;
 }
 
-/* Tells that unsaved text is not kept, before the screen changes; rings the bell and waits unless the user asked for that. */
+/* Warns that unsaved text is not kept, before the screen changes. Unless the user gave -n, it rings the bell and waits a second. */
 static void tell_unkept(const struct edit *edit) {
     struct timespec pause = {.tv_sec = PAUSE};
     if (!edit->unkept) return;
@@ -171,7 +171,7 @@ int begin_session(struct edit *edit) {
     edit->begin = (struct begin){.rows = size.rows, .cols = size.columns, .line = (unsigned)edit->call->line};
     snprintf(edit->begin.direction, sizeof edit->begin.direction, "%s", direction_word(edit->call->direction));
     if (edit->call->is_unkept) {
-        edit->unkept = "-n asks for that";
+        edit->unkept = "-n was given";
         edit->unkept_notice = NOTICE_UNKEPT;
     } else {
         try_session(edit);
@@ -182,8 +182,8 @@ int begin_session(struct edit *edit) {
     return status;
 }
 
-/* Goes on with a session. It begins with the window of its first start, since its keys are replayed from there. Faults of the
- * session's disk are told while the program runs. */
+/* Continues a recovered session. Its keys are replayed, so the program begins with the window that the session began with. Faults of
+ * the session's disk are reported while the program runs. */
 int resume_session(struct edit *edit) {
     struct session *session = &edit->session;
     struct size size;
@@ -235,12 +235,12 @@ static void make_words(struct edit *edit, struct words *words) {
 /* Makes the titles: FILE's last name, the main keys (^S is Ctrl-S), and a note. */
 static void make_titles(struct edit *edit) {
     static const char *const notes[] = {[TITLE_KEPT] = "", [TITLE_UNKEPT] = " (unsaved text is not kept)",
-                                        [TITLE_LOST] = " (what is typed is not kept now: save it)"};
+                                        [TITLE_LOST] = " (unsaved text is not kept now: save it)"};
     const char *slash = strrchr(edit->file.typed, '/'), *name = shown(slash ? slash + 1 : edit->file.typed);
-    for (size_t i = 0; i < sizeof notes / sizeof *notes; i++) edit->titles[i] = text_of("%s - ^S save ^Q quit%s", name, notes[i]);
+    for (size_t i = 0; i < sizeof notes / sizeof *notes; i++) edit->titles[i] = text_of("%s - ^S save ^Q quit F1 keys%s", name, notes[i]);
 }
 
-/* FILE was read: it is copied, and not held open for longer than that. */
+/* Called once the program has read FILE: FILE is copied into the session, and closed after that. */
 static void on_opened(void *whose) {
     struct edit *edit = whose;
     bool is_kept = !session_is_none(&edit->session);
@@ -254,7 +254,7 @@ static void on_journal(void *whose, bool is_kept) {
     edit->facts.is_journal_lost = !is_kept;
 }
 
-/* After a save that succeeded another file is FILE, by which its session is found. */
+/* A successful save replaces FILE by a new file. The session records that file, by which it is found later. */
 static void on_saved(void *whose) {
     struct edit *edit = whose;
     struct look look;
@@ -265,7 +265,7 @@ static void on_saved(void *whose) {
     session_note_file(&edit->session, &edit->target);
 }
 
-/* Why the journal cannot be written, as far as it can be seen. */
+/* The probable reason why the program cannot write the journal. */
 static enum notice cause_of_loss(const struct session *session) {
     if (free_room(session->folder) < ROOM_FOR_KEYS) return NOTICE_NO_SPACE;
     int file = openat(session->folder, part_name(PART_JOURNAL), O_WRONLY | O_APPEND | O_NOFOLLOW | O_CLOEXEC);
@@ -274,8 +274,8 @@ static enum notice cause_of_loss(const struct session *session) {
     return notice == NOTICE_FOLDER_GONE ? NOTICE_UNKEPT : notice;
 }
 
-/* Shows in the title and the last row why no copy is kept, or that one is kept again, and rings the bell with a new cause. A
- * notice that a key has hidden comes again. */
+/* Shows in the title and the last row why no copy is kept, or that one is kept again, and rings the bell for a new cause. A notice
+ * that a key has hidden is shown again. */
 static void tell_trouble(struct edit *edit) {
     struct session *session = &edit->session;
     struct now_facts *facts = &edit->facts;
@@ -344,14 +344,14 @@ int run_session(struct edit *edit) {
         program->rows = edit->begin.rows;
         program->columns = edit->begin.cols;
     }
-    /* a save makes the FILE that was gone */
+    /* FILE is gone, so a save creates it, with no more permissions than it had */
     if (edit->lost_mode >= 0) umask(umask(0) | (program->mask = mask_for((unsigned)edit->lost_mode)));
     enum notice notice = first_notice(&first);
     if (notice != NOTICE_NONE) give_notice(notice);
     enum run_end end = run_program(program);
     is_telling_limited = true;
     if (end == RUN_ENDED) return end_session(edit);
-    warn("the editor is not started: %s", program->cause);
+    warn("the editor could not be started: %s", program->cause);
     if (!edit->is_resumed && !session_is_none(&edit->session)) session_remove(&edit->session);
     return STATUS_FAULT;
 }

@@ -25,7 +25,7 @@ fi
 compiler=${CC:-cc}
 # the variable may have options after the compiler's name
 command -v "${compiler%% *}" >/dev/null || {
-    echo "bidi-edit: there is no C compiler ${compiler%% *}: on Debian, apt install gcc libc6-dev gives one" >&2
+    echo "bidi-edit: there is no C compiler ${compiler%% *}: install one (on Debian, apt install gcc libc6-dev)" >&2
     exit 1
 }
 set -- -std=c11 -D_GNU_SOURCE -Wall -Wextra -Wpedantic -Wconversion -Werror -O2 -fstack-protector-strong -fPIE -pipe -pthread
@@ -37,9 +37,12 @@ esac
 { mkdir -p "$out" && true >"$program.$$"; } 2>/dev/null || {
     # shellcheck source=launcher/names.sh
     . "$here/../launcher/names.sh"
-    echo "bidi-edit: the host is not built, and nothing can be written in $(shown "$written") to build it: build it in a copy of your own" >&2
+    echo "bidi-edit: the host is not built, and cannot be built here, since nothing can be written in $(shown "$written"): build it in your own copy" >&2
     exit 1
 }
+# the compiler runs in another folder
+out=$(CDPATH='' cd -- "$out" && pwd)
+program=$out/bidi-edit
 objects=$(mktemp -d "$out/objects.XXXXXX")
 trap 'rm -rf -- "$objects" "$program.$$"' EXIT
 trap 'exit 1' HUP INT TERM

@@ -1,4 +1,4 @@
-/* What keeps a session's files: the copy of FILE, the child that writes, and the parts that are made again where they are removed. */
+/* Keeping a session's files: the copy of FILE, the child that writes, and the files that are written again if something removes them. */
 #include <errno.h>
 #include <fcntl.h>
 #include <poll.h>
@@ -14,16 +14,16 @@
 #include "parts.h"
 #include "signals.h"
 
-/* COPIED_AT_ONCE: the largest text that is copied before the program reads it, in bytes; LARGEST_TEXT: the largest that it edits.
- * CALM: a FILE that was not written for this long, in seconds, is copied behind the first picture. BESIDE_TEXT: the
- * room that a session takes beside its text, for its short files and the first keys. LATE_MS: milliseconds from which on a
- * child that says nothing keeps nothing. */
+/* COPIED_AT_ONCE: the largest text, in bytes, that is copied before the program reads it. CALM: a larger FILE that nobody has
+ * written for so many seconds is copied after the first painting. BESIDE_TEXT: the bytes that a session needs in addition to its
+ * text, for its short files and the first keys. LATE_MS: if a child has reported nothing after so many milliseconds, what is typed
+ * counts as not kept. */
 enum { COPIED_AT_ONCE = 1 << 20, CALM = 2, BESIDE_TEXT = 65536, LATE_MS = 5000 };
 
 /* What a child that writes reports: the faults of the parts and of the journal. */
 struct report {
     int error, journal_error;
-    /* FILE was changed before it was copied; the disk refused the copy's bytes, and may have lost them. */
+    /* FILE was changed before it was copied; the disk failed to sync the copy's bytes, and may have lost them. */
     bool is_changed, is_refused;
 };
 
@@ -68,7 +68,8 @@ int choose_source(struct session *session, int file) {
 
 /* ---- what the child writes */
 
-/* Whether FILE is still as it was before the program read it. A save that replaces FILE leaves the old bytes and their time. */
+/* Whether FILE is still as it was before the program read it. If a save has replaced FILE, this looks at the old file, which is
+ * unchanged. */
 static bool is_as_read(const struct session *session) {
     struct stat found;
     return fstat(session->source, &found) == 0 && has_same_text(&found, &session->look);
@@ -88,7 +89,7 @@ static int write_text(struct session *session, struct report *said) {
         error = errno;
         said->is_refused = session->has_text;
     }
-    /* what there is no room for takes none; the first fault is the one to report */
+    /* a text without space gives up what it took; the first fault is the one to report */
     if (error && !session->has_text && ftruncate(session->text, 0) != 0) return error;
     return error;
 }
@@ -107,7 +108,7 @@ static int named_journal(const struct session *session) {
     return session->mirror >= 0 ? session->mirror : session->journal;
 }
 
-/* Writes what is to be there and is not, the path last, and puts the journal on the disk. */
+/* Writes all parts that are missing, the path last, and syncs the journal to the disk. */
 static struct report write_missing(struct session *session) {
     struct report said = {.error = 0};
     if (session->syncing != session->synced) said.journal_error = sync_file(named_journal(session));
@@ -116,7 +117,7 @@ static struct report write_missing(struct session *session) {
     }
     if (!said.error && !session->is_filled) said.error = write_text(session, &said);
     if (!said.error) said.error = write_part(session, PART_PATH);
-    /* the names are there, even if their folders are not synced */
+    /* a failure does not count: the names exist already */
     fsync(session->folder);
     fsync(session->parent);
     return said;
@@ -128,7 +129,7 @@ _Noreturn static void work(struct session *session, int report) {
     const int kept[] = {session->parent, session->folder, session->lock, session->text, session->source, named_journal(session), report};
     close_others(kept, sizeof kept / sizeof *kept);
     struct report said = write_missing(session);
-    /* whoever hears of the end may unlock the session */
+    /* closed before the report, after which the host may unlock the session */
     close(session->lock);
     close(session->folder);
     int error = write_bytes(report, &said, sizeof said);
@@ -155,8 +156,8 @@ static bool start_child(struct session *session) {
     return false;
 }
 
-/* Makes the text anew of what was its file, which has lost its name or its bytes on the disk. Until it is there, the session has no
- * path. */
+/* Prepares to write the text's file again, which was removed, or whose bytes the disk has lost. The old file, still open, is the
+ * source. Until the new file is written, the session has no path. */
 static void renew_text(struct session *session) {
     if (session->has_text) {
         close_one(&session->source);
@@ -180,7 +181,7 @@ static void take_report(struct session *session, const struct report *said) {
     session->is_waiting = said->error == ENOSPC || said->error == EDQUOT;
     if (said->is_refused) renew_text(session);
     if (said->error) return;
-    /* the program has opened it, and a FILE that a save replaced need not stay */
+    /* the program has read the source by now, and an old FILE that a save has replaced may go */
     close_one(&session->source);
     session->is_source_file = false;
     session->is_filled = session->has_text = true;
@@ -205,7 +206,7 @@ static void hear_child(struct session *session, int milliseconds) {
     struct report said;
     struct pollfd file = {.fd = session->report, .events = POLLIN};
     if (session->report >= 0 && poll(&file, 1, milliseconds) > 0) {
-        /* a child that was killed says nothing */
+        /* a killed child has reported nothing */
         if (read(session->report, &said, sizeof said) != (ssize_t)sizeof said) said = (struct report){.error = EIO};
         close_one(&session->report);
         take_report(session, &said);
@@ -228,7 +229,7 @@ static bool is_whole(const struct session *session) {
     return session->is_filled;
 }
 
-/* Has a child write, if something is to be written and no child runs. Returns false where none can be started. */
+/* Starts a child that writes, if something is missing and no child runs. Returns false if none can be started. */
 static bool write_behind(struct session *session) {
     off_t size = session_journal_size(session);
     bool has_work = !is_whole(session) || size != session->synced;
@@ -262,7 +263,7 @@ static void look_for_lost(struct session *session) {
     if (session->text >= 0 && !is_named(session, PART_TEXT, session->text)) renew_text(session);
 }
 
-/* Makes the lock's file again, for editors of before; the folder is locked all the time. */
+/* Creates the file `lock` again, for older versions of the editor. The folder stays locked all the time. */
 static void renew_lock(struct session *session) {
     if (session->lock < 0 || is_named(session, PART_LOCK, session->lock)) return;
     int lock = part_open(session->folder, part_name(PART_LOCK), O_RDWR | O_CREAT);
@@ -275,7 +276,7 @@ static void renew_lock(struct session *session) {
     session->lock = lock;
 }
 
-/* Writes the journal anew, where the file that the program appends to has lost its name, whenever that one has changed. */
+/* If the journal that the program appends to has lost its name, copies it to a new file of that name, again whenever it has changed. */
 static void mirror_journal(struct session *session) {
     static const char draft[] = "journal.new";
     struct stat found;
@@ -313,7 +314,7 @@ enum keeping session_mind(struct session *session) {
         look_after(session);
         session_fill(session);
     }
-    /* a child that tries again after a fault is not known to succeed */
+    /* after a fault, a child that tries again may fail again, so it does not count as copying */
     facts.is_copying = session->report >= 0 && session->error == 0 && now() - session->since < LATE_MS;
     facts.is_filled = is_whole(session);
     facts.is_changed = session->is_changed;

@@ -13,7 +13,7 @@
 #include "save_judge.h"
 #include "util.h"
 
-/* BUFFER: bytes of a write, so that many small pieces take few. DRAFT_TRIES: random names, and exchanges that undo one another. */
+/* BUFFER: bytes that are collected for one write. DRAFT_TRIES: how many random names to try, and how many exchanges to undo. */
 enum { BUFFER = 262144, DRAFT_TRIES = 20 };
 
 static unsigned char buffer[BUFFER];
@@ -44,7 +44,7 @@ static int move_to_free(int folder, const char *from, const char *to) {
         return 0;
     }
     if (errno != EPERM && !is_lacking(errno)) return errno;
-    /* neither call is there */
+    /* the system has neither call */
     if (!look_at(folder, to, &there)) return errno;
     if (there.is_there) return EEXIST;
     return renameat(folder, from, folder, to) == 0 ? 0 : errno;
@@ -77,7 +77,7 @@ int draft_open(struct draft *draft, const struct file *file, int folder, mode_t 
     int error = EEXIST;
     *draft = (struct draft){.folder = folder, .file = -1};
     if (may_be_nameless) draft->file = openat(folder, ".", O_TMPFILE | O_RDWR | O_CLOEXEC, mode);
-    /* its name comes by way of /proc, which may be gone by now */
+    /* it will get its name through /proc, which may have been unmounted */
     if (draft->file >= 0 && faccessat(AT_FDCWD, link_of(draft->file).path, F_OK, 0) == 0) return 0;
     draft_close(draft);
     for (int tries = 0; error == EEXIST && tries < DRAFT_TRIES; tries++) error = make_draft_name(file, name) ? open_at(draft, folder, name, mode) : EIO;
@@ -112,7 +112,7 @@ int draft_flush(struct draft *draft) {
 
 /* ---- rights */
 
-/* Gives the file an owner, or a group. For root a refusal is a fault; other users may be refused. */
+/* Gives the file an owner or a group. A refusal is a fault only for root. */
 static int give(int file, uid_t owner, gid_t group, bool *is_given) {
     *is_given = fchown(file, owner, group) == 0;
     return *is_given || geteuid() != 0 ? 0 : errno;
@@ -122,7 +122,7 @@ int draft_take_over(const struct draft *draft, const struct stat *old, bool is_p
     struct taken taken = {.owner = true, .group = true, .is_plain = is_plain};
     struct stat own;
     int error = 0;
-    /* a list that the folder gave */
+    /* an access list that the folder gave it */
     if (fremovexattr(draft->file, "system.posix_acl_access") != 0 && errno != ENODATA && !is_lacking(errno)) return errno;
     if (fstat(draft->file, &own) != 0) return errno;
     if (own.st_gid != old->st_gid) error = give(draft->file, (uid_t)-1, old->st_gid, &taken.group);
@@ -133,7 +133,7 @@ int draft_take_over(const struct draft *draft, const struct stat *old, bool is_p
 
 /* ---- FILE's place */
 
-/* Whether what came out of FILE's place is what was seen there. `is_listless`: it has got no access list since. */
+/* Whether what the exchange took from FILE's place is what was seen there. `is_listless`: it must not have got an access list since. */
 static bool came_out(const struct draft *draft, const struct look *seen, bool is_listless) {
     struct look out;
     int itself;
@@ -143,8 +143,8 @@ static bool came_out(const struct draft *draft, const struct look *seen, bool is
     return is_right;
 }
 
-/* Undoes an exchange: puts what came out of FILE's place back. What took the place of that meanwhile, and comes out now, is newer,
- * so it goes back in its turn. Returns false where what has the draft's name at the end must stay. */
+/* Undoes an exchange: puts back what it took from FILE's place. If another program put something newer in that place meanwhile, this
+ * exchange takes that out, so it is put back in turn. Returns whether what has the draft's name at the end may be removed. */
 static bool exchange_back(const struct draft *draft, const char *name, struct stat last_in) {
     struct look goes_in, out;
     for (int tries = 0; tries < DRAFT_TRIES; tries++) {
@@ -157,7 +157,7 @@ static bool exchange_back(const struct draft *draft, const char *name, struct st
     return false;
 }
 
-/* Puts the draft in FILE's place where the file system exchanges nothing. */
+/* Puts the draft in FILE's place by a rename, on a file system that cannot exchange files. */
 static enum placed replace_by_rename(struct draft *draft, const char *name) {
     if (renameat(draft->folder, draft->name, draft->folder, name) != 0) return errno == EBUSY ? PLACE_MOUNTED : PLACE_FAILED;
     draft->name[0] = 0;
@@ -214,7 +214,7 @@ void save_drop_mark(struct save *save) {
     save->state.torn[0] = 0;
 }
 
-/* Gives the mark beside FILE the first free of the names that the manual tells, else a random one. */
+/* Gives the mark beside FILE the first free name of those in the manual, else a random one. */
 static int name_mark(struct save *save) {
     char name[PATH_MAX + 8];
     int error = EEXIST;
@@ -225,7 +225,7 @@ static int name_mark(struct save *save) {
     return error == EEXIST || error == ENAMETOOLONG ? draft_name(&save->draft, save->file) : error;
 }
 
-/* Makes the draft the mark, which is on the disk with its name before FILE changes. */
+/* Makes the draft the mark. The mark and its name are on the disk before FILE changes. */
 static int keep_mark(struct save *save) {
     int mark_folder = save->saver->mark_folder, error = 0;
     if (mark_folder < 0) {
@@ -241,7 +241,7 @@ static int keep_mark(struct save *save) {
     return error;
 }
 
-/* Opens FILE to be written, if it is the one that was seen. Returns -1 and the cause. */
+/* Opens FILE for writing, if it is the file that was seen last. Otherwise returns -1 and the cause. */
 static int open_to_write(const struct save *save, int *cause) {
     struct stat found;
     int file = openat(save->folder, save->file->name, O_WRONLY | O_NOFOLLOW | O_NONBLOCK | O_CLOEXEC | O_NOCTTY);
@@ -255,18 +255,18 @@ static int open_to_write(const struct save *save, int *cause) {
     return -1;
 }
 
-/* Notes that FILE may be torn, and which mark has its text. An older one is needed no longer. */
+/* Records that FILE may be torn, and which mark has its text. An older mark is removed. */
 static void note_torn(struct save *save) {
     struct state *state = &save->state;
     const char *name = save->saver->mark_folder < 0 ? save->draft.name : "";
     if (state->is_torn && state->torn[0] && strcmp(state->torn, name) != 0) unlinkat(save->folder, state->torn, 0);
     state->is_torn = true;
     snprintf(state->torn, sizeof state->torn, "%s", name);
-    /* known also if this process is killed */
+    /* so that the host knows even if this process is killed */
     save_publish(save);
 }
 
-/* Copies the draft's text to the emptied FILE. The draft is read by the file that was written: its name may lead elsewhere. */
+/* Copies the draft's text to FILE, which is empty by now. The draft is read by its open descriptor, since its name may lead elsewhere. */
 static int fill(const struct save *save, int file) {
     int error = copy_pieces(save->draft.file, 0, file);
     return error == 0 ? sync_file(file) : error;

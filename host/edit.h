@@ -1,5 +1,5 @@
-/* One start that edits FILE: what is known of it, from FILE's checks to the end of its session. For the files that are named
- * below, and main.c, which calls them in order. */
+/* The state of one start that edits FILE, from the checks of FILE to the end of its session. Shared by the files that are named
+ * below and by main.c, which calls them in order. */
 #ifndef EDIT_H
 #define EDIT_H
 
@@ -14,7 +14,7 @@
 #include "session.h"
 #include "words.h"
 
-/* What a step of a start returns where the start goes on; else it is the exit status, and the cause is told. */
+/* What a step of a start returns if the start goes on. Any other value is the exit status, and the step has reported the cause. */
 enum { GO_ON = -1 };
 
 struct edit {
@@ -24,7 +24,7 @@ struct edit {
     /* What a replay depends on. */
     char versions[MOST_WORDS];
 
-    /* FILE, where its sessions are, and why saves are written into it. */
+    /* FILE, the folder of its sessions, and why saves have to overwrite FILE in place, if they do. */
     struct file file;
     struct sessions sessions;
     struct target target;
@@ -33,24 +33,26 @@ struct edit {
     /* The session; none if none is kept. */
     struct session session;
     struct begin begin;
-    /* It goes on with the keys that it has; letters are joined; saves are written into FILE, with the whole text in the session
-     * meanwhile, or beside FILE. */
+    /* is_resumed: the session is a recovered one, and its keys are replayed. is_joined: letters are joined. is_in_place: saves
+     * overwrite FILE, and the session has the whole text meanwhile. is_itself: they overwrite FILE without a session, and a file
+     * beside FILE has the whole text meanwhile. */
     bool is_resumed, is_joined, is_in_place, is_itself;
     /* Why unsaved text is not kept, and its notice; NULL while it is kept. */
     const char *unkept;
     enum notice unkept_notice;
-    /* FILE's name, where the session goes on with a new file beside it; else NULL. */
+    /* FILE's name, if a recovered text is saved as a new file beside FILE, which `file` then is; else NULL. */
     const char *aside_of;
-    /* FILE's path at the end, where its folder has another name by then; else NULL. */
+    /* FILE's path at the end, if its folder was renamed meanwhile; else NULL. */
     const char *moved;
-    /* FILE's permissions as the session notes them, where FILE is gone; else -1. */
+    /* FILE's permissions as the recovered session recorded them, if FILE is gone; else -1. */
     int lost_mode;
-    /* Of a FILE without a session: it had CR LF at all line ends. */
+    /* Without a session: whether all line ends of FILE were CR LF when it was opened. */
     bool had_all_crlf;
 
     struct saver saver;
     struct run run;
-    /* While the program runs: what was told last, and how long ago in seconds; titles; whether a save succeeded. */
+    /* While the program runs: what is known about the keeping of unsaved text, the notice about it that was shown last, the titles,
+     * and whether a save has succeeded. */
     struct now_facts facts;
     struct notice_facts notice;
     const char *titles[3];
@@ -59,45 +61,47 @@ struct edit {
 
 /* ---- begin.c */
 
-/* Tells what a replay depends on. Returns NULL, or the program or table that cannot be looked at, and errno. */
+/* Writes down what a replay depends on (versions_look in session.h). Returns NULL; or the program or table that cannot be examined,
+ * with errno set. */
 const char *find_versions(const struct edit *edit, char words[MOST_WORDS]);
 
 /* Opens and judges FILE, puts its text back after saves that were cut off, and refuses what cannot be edited, unless it is forced.
  * `typed` is FILE's name. */
 int check_file(struct edit *edit, const char *typed);
 
-/* Opens FILE and finds the folder of its sessions; `is_lost` also where FILE's folder is gone. */
+/* Opens FILE and finds the folder of its sessions. With `is_lost`, FILE's folder may be gone. */
 int find_file(struct edit *edit, const char *typed, bool is_lost);
 void close_edited(struct edit *edit);
 
 /* Refuses a FILE that cannot be read or saved, unless that is forced. */
 int check_access(const struct edit *edit);
 
-/* Tells of FILE after a save that was cut off, on standard output or error. Returns whether it is still torn. */
+/* Reports, by `say`, what became of FILE after an interrupted save. Returns whether FILE is still torn, with a part of its text only. */
 bool tell_mended(const struct edit *edit, const struct mending *mending, void (*say)(const char *format, ...));
 
-/* Puts FILE's text back after saves of ended sessions that were cut off. Returns whether it is whole. */
+/* Restores FILE's text if an ended session's save was interrupted. Returns whether FILE is whole. */
 bool mend_file(struct edit *edit);
 
 /* Why no session is kept in a folder of sessions, and its notice; NULL where one can be. */
 const char *unkept_by(const struct sessions *sessions, enum notice *notice);
 
-/* Begins a session of FILE, unless none is wanted or none can be kept; goes on with the one that was taken. */
+/* Begins a session of FILE, unless none is wanted or possible; goes on with the session that is recovered. */
 int begin_session(struct edit *edit);
 int resume_session(struct edit *edit);
 
 /* The path by which the program opens what the host has open. */
 const char *handed_path(struct run *run, int file);
 
-/* Runs the program, minds its session, and ends it. Returns the exit status. */
+/* Runs the program, keeps its session meanwhile, and ends the session. Returns the exit status. */
 int run_session(struct edit *edit);
 
 /* ---- recover.c */
 
-/* What becomes of FILE's other sessions, before FILE is opened. TAKEN: `edit` has a session, and FILE or a new file beside it. */
+/* What became of FILE's earlier sessions before FILE is opened. NONE: there is none. ASKED: the user was asked, and opens FILE. TAKEN: one
+ * is recovered, and `edit` has it, with FILE or a new file beside FILE. END: the start ends. */
 enum met { MET_NONE, MET_ASKED, MET_TAKEN, MET_END };
 
-/* Asks about them until it is settled which goes on, if any. `status` comes with MET_END. */
+/* Asks about them until it is clear which one is recovered, if any. Sets `status` with MET_END. */
 enum met meet_sessions(struct edit *edit, int *status);
 
 /* Recovers FILE's session without asking which. Returns GO_ON, and whether one was taken. */
@@ -108,17 +112,17 @@ int store_session(struct edit *edit);
 
 /* ---- ending.c */
 
-/* A replay of a session's keys over its text. REPLAY_UNREADABLE: its parts are not a session's. REPLAY_FAILED: it was not
- * answered. */
+/* What FILE has, by a replay of a session's keys over its text: the same text, one that the session opened or saved (KNOWN), or another's
+ * (FOREIGN). UNREADABLE: the session's files are damaged. FAILED: the program ended or hung without an answer. */
 enum replayed { REPLAY_SAME, REPLAY_KNOWN, REPLAY_FOREIGN, REPLAY_UNREADABLE, REPLAY_FAILED };
 
-/* Replays; leaves the text in a file in memory, which the caller closes, `text`. `limit` as for run_aside. */
+/* Replays. Sets `text` to a file in memory with the resulting text, which the caller closes, or to -1. `limit` as for run_aside. */
 enum replayed replay(struct edit *edit, const struct session *session, int *text, int64_t limit);
 
-/* What FILE has beside a session that left its text: that, the opened or a saved one, or another. */
+/* The same without a replay, for a session that left its text at its end. */
 enum replayed compare_text(const struct edit *edit, const struct session *session);
 
-/* Ends the session after the program's end, and tells what is kept and what is not. Returns the exit status. */
+/* Ends the session after the program's end, and reports what is kept and what is lost. Returns the exit status. */
 int end_session(struct edit *edit);
 
 /* ---- ask.c */
@@ -139,12 +143,13 @@ bool ask_to_go_on(const char *question);
 /* Asks what to do with an unfinished session. CHOICE_NONE where the input ends; CHOICE_DELETE only where it is certain. */
 enum choice ask_choice(void);
 
-/* What to do with a session whose keys cannot be replayed: FILE is opened and the session left; its parts are kept beside FILE. */
+/* What to do with a session whose keys cannot be replayed. OPEN: leave it and open FILE. KEEP: move its files next to FILE. NONE: the
+ * input ended. */
 enum rest { REST_NONE, REST_OPEN, REST_KEEP };
 enum rest ask_rest(void);
 
-/* Takes note, for all other starts on this machine, that this process has FILE open, until its end. Returns 0, or the process that
- * has it open already; -1 where that one's number is not known. No file is made. */
+/* Announces to all other starts on this machine, until this process ends, that it has FILE open. Returns 0, or the number of a process
+ * that already has FILE open, -1 if that number is unknown. No file is made. */
 pid_t note_open_file(const struct file *file);
 
 #endif

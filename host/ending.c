@@ -1,4 +1,4 @@
-/* The end of a session: what was kept of what was typed, what becomes of the session, and what the user is told. */
+/* The end of a session: what is kept of unsaved text, what becomes of the session, and what the user is told. */
 #include <errno.h>
 #include <fcntl.h>
 #include <poll.h>
@@ -77,11 +77,11 @@ enum replayed compare_text(const struct edit *edit, const struct session *sessio
 
 /* ---- what is told of FILE */
 
-/* Milliseconds. COPY_MS: for a text that is still being copied, until a signal. WRITE_MS: to write what the session lacks then;
- * REPLAY_MS: for a replay; each also after a signal. */
+/* Milliseconds. COPY_MS: to finish copying FILE's text, unless a signal came. WRITE_MS: to write what the session still lacks after that.
+ * REPLAY_MS: for a replay. The latter two are shorter after a signal. */
 enum { COPY_MS = 30000, WRITE_MS = 5000, WRITE_BY_SIGNAL_MS = 700, REPLAY_MS = 2000, REPLAY_BY_SIGNAL_MS = 1000 };
 
-/* Whether the last fault that the program told is of this kind; gives its value. */
+/* Whether the last fault that the program reported is of this kind; gives its value. */
 static bool is_fault(const struct edit *edit, const char *kind, const char **value) {
     const char *fault = edit->run.said.fault;
     size_t length = strlen(kind);
@@ -104,7 +104,7 @@ static const char *refusal_of(const struct edit *edit, bool *is_of_file) {
     return is_fault(edit, "tables", &value) ? value : NULL;
 }
 
-/* Why the program ended, as far as it told; NULL where that was no fault. */
+/* The fault with which the program ended; NULL if it reported none. */
 static const char *fault_of(const struct edit *edit) {
     const char *value;
     if (is_fault(edit, "memory", &value)) return "out of memory";
@@ -117,7 +117,7 @@ static const char *fault_of(const struct edit *edit) {
     }
 }
 
-/* Tells why the program ended, in its own name unless FILE is refused. Returns whether it opened nothing. */
+/* Reports why the program ended: in its name, or in the host's if FILE is refused. Returns whether FILE or a table was refused. */
 static bool tell_fault_of(const struct edit *edit) {
     bool is_of_file;
     const char *refusal = refusal_of(edit, &is_of_file), *fault = refusal ? refusal : fault_of(edit);
@@ -137,7 +137,7 @@ static int open_now(const struct edit *edit, struct stat *look) {
     return file;
 }
 
-/* Gives a recovered FILE that was gone the permissions that it had, unless it has other names. */
+/* If FILE was gone and a recovery saved it, gives it the permissions that it had, unless it has other names. */
 static void give_mode(const struct edit *edit) {
     struct stat look;
     if (edit->lost_mode < 0 || !edit->was_saved) return;
@@ -155,7 +155,7 @@ static bool is_there_now(const struct edit *edit) {
 
 static void tell_aside(const struct edit *edit) {
     if (edit->aside_of && is_there_now(edit))
-        warn("%s was changed since, so the recovered text is in %s", shown(edit->aside_of), shown(edit->file.typed));
+        warn("%s was changed by another program, so the recovered text is in %s", shown(edit->aside_of), shown(edit->file.typed));
 }
 
 /* Whether FILE's text, as it was opened, had CR LF at each line's end. */
@@ -170,9 +170,10 @@ static void tell_line_ends(const struct edit *edit) {
     struct stat look;
     struct line_ends ends;
     int file = edit->was_saved && had_all_crlf(edit) ? open_now(edit, &look) : -1;
+    const char *file_name = shown(edit->file.typed);
     if (file < 0) return;
     if (read_line_ends(file, &ends) && ends.has_lines && !ends_are_all_crlf(&ends))
-        warn("%s has lines that end with LF among those with CR LF: perl -pi -e 's/\\r?\\n/\\r\\n/' makes them alike", shown(edit->file.typed));
+        warn("%s now has mixed line ends, CR LF and LF: perl -pi -e 's/\\r?\\n/\\r\\n/' %s makes all of them CR LF", file_name, file_name);
     close(file);
 }
 
@@ -192,13 +193,13 @@ static bool mend_now(struct edit *edit) {
 
 /* ---- the session */
 
-/* Tells that what was typed is not kept, if there may be unsaved text. */
+/* Says that unsaved text is lost, if there may be any. */
 static void tell_lost(enum left_how how, const char *cause) {
-    if (may_be_unsaved(how)) warn("what was typed is not kept, since %s", cause);
+    if (may_be_unsaved(how)) warn("any unsaved text is lost, since %s", cause);
 }
 
 static void tell_gone(const struct edit *edit, enum left_how how) {
-    const char *cause = text_of("its folder %s is gone", shown(edit->session.path));
+    const char *cause = text_of("the session's folder %s is gone", shown(edit->session.path));
     if (how == LEFT_DROPPED) warn("only what was saved is kept, since %s", cause);
     else tell_lost(how, cause);
 }
@@ -215,7 +216,7 @@ static bool has_same_versions(const struct edit *edit) {
     return !find_versions(edit, versions) && strcmp(versions, edit->versions) == 0;
 }
 
-/* Puts an open text into the session. If this fails, another version of the editor recovers it by the keys. */
+/* Puts an open text into the session. If this fails, another version of the editor can only replay the keys. */
 static void put_snapshot(struct session *session, int text) {
     struct stat look;
     if (fstat(text, &look) != 0) return;
@@ -226,8 +227,8 @@ static void put_snapshot(struct session *session, int text) {
     if (bytes) munmap(bytes, length);
 }
 
-/* Leaves the session's text beside its keys, for a recovery by another version. Returns whether FILE has the same text; false
- * where the keys were not replayed in time. */
+/* Replays the keys and leaves the resulting text in the session, for a recovery by another version. Returns whether FILE has the same text;
+ * false if the replay took too long. */
 static bool leave_text(struct edit *edit) {
     struct session *session = &edit->session;
     struct stat look;
@@ -249,7 +250,7 @@ static bool is_folder_gone(const struct file *file) {
     return fstat(file->folder, &look) == 0 && look.st_nlink == 0;
 }
 
-/* Finds FILE's path where its folder has another name by now, and notes it, so that the session is found under it. */
+/* If FILE's folder was renamed, records FILE's new path, so that the session is found by it. */
 static void note_moved(struct edit *edit) {
     char folder[PATH_MAX];
     const struct file *file = &edit->file;
@@ -270,7 +271,7 @@ static bool settle(struct session *session) {
     return session_settle(session, (int)within(end_signal ? WRITE_BY_SIGNAL_MS : WRITE_MS));
 }
 
-/* What is known of the session, to settle its fate. On the way leaves the replayed text in it. */
+/* Collects what decides the session's fate. On the way it leaves the replayed text in the session. */
 static struct left left_of(struct edit *edit, enum left_how how) {
     struct session *session = &edit->session;
     struct left left = {.how = how, .is_there = session_is_there(session)};
@@ -293,8 +294,8 @@ static bool leads_to_path(const char *typed, const char *path) {
     return is_same;
 }
 
-/* Tells what is kept (`what` begins the line), and the command that gets it back (`behind` ends the line). Where FILE's folder is
- * no longer there or has another name, the session's place and FILE's path are told. */
+/* Says what is kept (`what` begins the line) and the command that restores it (`behind` ends the line). If FILE's folder is gone or was
+ * renamed, it also names the session's folder, and FILE by its path. */
 static void tell_kept(const struct edit *edit, const char *what, const char *behind) {
     const char *cut = edit->facts.is_journal_lost ? " up to where its journal could not be written" : "";
     /* what is not saved beside FILE is found under FILE's name */
@@ -310,18 +311,18 @@ static void drop_changes(struct edit *edit) {
     sessions_forget_dropped(&edit->sessions, &edit->session);
     /* if this fails, the next start asks about the session */
     session_put_empty(&edit->session, PART_DROPPED);
-    tell_kept(edit, "what was dropped can be recovered", "");
+    tell_kept(edit, "the dropped changes can be recovered", "");
 }
 
 static void wipe_changes(struct edit *edit) {
     int error = session_remove(&edit->session);
-    if (error == 0) warn("what was dropped is not kept, since only root can read %s", shown(edit->file.typed));
-    else warn("what was dropped cannot be removed from %s%s", shown(edit->session.path), fault_words(error));
+    if (error == 0) warn("the dropped changes are not kept, since only root can read %s", shown(edit->file.typed));
+    else warn("the dropped changes cannot be deleted from %s%s", shown(edit->session.path), fault_words(error));
 }
 
 static void leave_session(struct edit *edit) {
     if (edit->facts.is_journal_lost) session_note_cut(&edit->session);
-    tell_kept(edit, "what was typed is kept", " gets it back");
+    tell_kept(edit, "unsaved text is kept", " restores it");
 }
 
 static void end_kept(struct edit *edit, enum left_how how) {
@@ -330,7 +331,7 @@ static void end_kept(struct edit *edit, enum left_how how) {
     switch (fate_of(&left)) {
     case FATE_GONE: tell_gone(edit, how); break;
     case FATE_REMOVED:
-        if (!left.has_keys && edit->facts.is_journal_lost) tell_lost(how, "its journal could not be written");
+        if (!left.has_keys && edit->facts.is_journal_lost) tell_lost(how, "the journal could not be written");
         session_remove(session);
         break;
     case FATE_LOST:
@@ -343,12 +344,12 @@ static void end_kept(struct edit *edit, enum left_how how) {
     }
 }
 
-/* Tells of a signal that ended the program, unless one ended the host. */
+/* Names the signal that ended the program, unless a signal ended the host too. */
 static void tell_signal(int status) {
     const char *name = sigabbrev_np(status - 128);
     if (end_signal || status <= 128) return;
-    if (name) warn("the editor was ended by the signal %s", name);
-    else warn("the editor was ended by the signal %d", status - 128);
+    if (name) warn("the editor was ended by SIG%s", name);
+    else warn("the editor was ended by signal %d", status - 128);
 }
 
 int end_session(struct edit *edit) {
@@ -364,6 +365,6 @@ int end_session(struct edit *edit) {
         if (!edit->facts.is_unwanted && edit->unkept) tell_lost(how, edit->unkept);
     }
     tell_signal(edit->run.status);
-    /* what is saved, or dropped, is settled, whatever came after */
+    /* once the text is saved or dropped, later faults do not count */
     return how == LEFT_SAVED || how == LEFT_DROPPED ? 0 : edit->run.status;
 }

@@ -18,8 +18,8 @@
 #define STATX_ATTR_MOUNT_ROOT 0x2000
 #endif
 
-/* Bytes. MOST: as many as the kernel gives for an attribute, or for the names of a file's. A POSIX list is a header and entries,
- * of which a mode has three: owner, group and others. USUAL_NAME: the longest name of most file systems. */
+/* Bytes. MOST: the kernel's limit for an attribute, and for the names of a file's attributes. A POSIX access list is a header and entries;
+ * three entries, for owner, group and others, say no more than a mode. USUAL_NAME: the longest name of most file systems. */
 enum { MOST = 65536, POSIX_HEADER = 4, POSIX_ENTRY = 8, MODE_ENTRIES = 3, USUAL_NAME = 255 };
 
 /* Flag of an entry that new files get, in a list of NFS version 4. */
@@ -36,16 +36,17 @@ static bool is_none(ssize_t length) {
     return length < 0 && (errno == ENODATA || errno == ENOTSUP || errno == ENOSYS);
 }
 
-/* The number in four bytes, the highest first, as XDR has it. */
+/* The number in four bytes, the highest byte first, as in XDR. */
 static uint32_t number_at(const char *at) {
     uint32_t number = 0;
     memcpy(&number, at, sizeof number);
     return be32toh(number);
 }
 
-/* What a list of NFS, version 4, says: more than a mode, where it has entries other than one for the owner, the group and everyone
- * each to allow and to deny; and whether new files get one of its entries. In XDR it is a count, and of each entry four numbers,
- * its type (0 allows, 1 denies), flags, permissions and the length of a name, and the name, filled up to four bytes. */
+/* What an access list of NFS, version 4, says. `is_more`: it says more than a mode, which has at most one entry each for the owner,
+ * the group and everyone, to allow and to deny. `is_given`: new files inherit one of its entries. The list is in XDR: a count, and
+ * for each entry its type (0 allows, 1 denies), flags, permissions, and a name, which is its length and the name filled up to a
+ * multiple of four bytes. */
 struct network_list {
     enum answer is_more, is_given;
 };
@@ -107,8 +108,8 @@ static bool is_one_of(const char *name, const char *const *words, size_t count) 
     return false;
 }
 
-/* Whether an attribute is one that a new file in the folder would not have. The kernel makes sums of a file's content anew, and the
- * user's own attributes are not kept. */
+/* Whether an attribute would be lost if a new file replaced the file. The kernel makes checksums of a file's content by itself, and the
+ * user's own attributes are not kept anyway. */
 static enum answer is_own(int at, int folder, const char *name) {
     static const char *const labels[] = {"security.selinux", "security.SMACK64"}, *const sums[] = {"security.ima", "security.evm"};
     if (is_one_of(name, sums, 2)) return NO;
@@ -131,14 +132,14 @@ static enum answer has_label(int at, int folder) {
     return found;
 }
 
-/* Older systems do not tell; then a rename is refused there. */
+/* Whether it is the root of a mount. Older systems do not say; there a rename over it fails. */
 static enum answer is_mount(int at) {
     struct statx look;
     if (statx(at, "", AT_EMPTY_PATH | AT_STATX_DONT_SYNC, 0, &look) != 0 || !(look.stx_attributes_mask & STATX_ATTR_MOUNT_ROOT)) return UNKNOWN;
     return (look.stx_attributes & STATX_ATTR_MOUNT_ROOT) ? YES : NO;
 }
 
-/* Where the system does not tell, the call itself will. */
+/* Whether the user may access it in this way. If the system does not say, the later call will. */
 static bool may_access(int at, int access) {
     if (faccessat(AT_FDCWD, link_of(at).path, access, AT_EACCESS) == 0) return true;
     return errno != EACCES && errno != EPERM && errno != EROFS;
@@ -150,7 +151,7 @@ bool is_in_memory(int at) {
     return look.f_type == TMPFS_MAGIC || look.f_type == RAMFS_MAGIC;
 }
 
-/* Root may take the reserve too. */
+/* The free space in bytes. Root may use the reserved space too. */
 uint64_t free_room(int at) {
     struct statvfs look;
     uint64_t room = 0;

@@ -9,9 +9,9 @@
 #include "say.h"
 #include "util.h"
 
-/* MOST_LINKS: as in Linux. OPEN_TRIES: openings of a FILE that other programs replace meanwhile. FRONT: more bytes than marks and headers
- * of files take. MOST_NAMES: so many names of a folder are looked at for drafts; MOST_DRAFTS of them are told. END_BYTES: those of
- * DRAFT_END. */
+/* MOST_LINKS: as in Linux. OPEN_TRIES: how often to open a FILE that other programs keep replacing. FRONT: bytes to look at for a byte
+ * order mark or a binary header. MOST_NAMES: how many names in a folder are searched for drafts; at most MOST_DRAFTS are reported.
+ * END_BYTES: the length of DRAFT_END. */
 enum { MOST_LINKS = 40, OPEN_TRIES = 10, FRONT = 512, MOST_NAMES = 20000, MOST_DRAFTS = 10, END_BYTES = sizeof DRAFT_END - 1 };
 
 /* ---- looks */
@@ -61,8 +61,7 @@ bool path_of(int at, char path[PATH_MAX]) {
     return true;
 }
 
-static const char handed_over[] = "is an open file of the caller: write it to a file, and edit that";
-static const char leads_nowhere[] = "is a link that leads nowhere: ls -l shows where to";
+static const char leads_nowhere[] = "is a broken link: ls -l shows where it points";
 
 /* ---- the walk to FILE */
 
@@ -85,31 +84,44 @@ static bool is_handed_over(const char *path) {
     return strncmp(path, "/proc/", 6) == 0 && strstr(path + 6, "/fd/");
 }
 
+static const char *handed_over_cause(const char *path) {
+    const char *name = strrchr(path, '/');
+    bool is_input = name && (strcmp(name, "/stdin") == 0 || strcmp(name, "/0") == 0);
+    return is_input ? "is standard input, not a file: write the input to a file, and edit that"
+                    : "is a descriptor that the caller opened, not a file: write its content to a file, and edit that";
+}
+
 static const char *refuse_folder(struct file *file, const char *folder) {
     struct stat found;
-    if (stat(folder, &found) == 0) return text_of("%s is no folder, so it has no files: name another", shown(folder));
+    const char *name = shown(folder);
+    if (stat(folder, &found) == 0) return text_of("%s is not a folder: name a file in a folder", name);
     file->is_lost = true;
-    return text_of("%s is a folder that is not there: mkdir -p %s makes it", shown(folder), shown(folder));
+    switch (errno) {
+    case EACCES: return text_of("the folder %s cannot be reached: you have no access to a folder above it", name);
+    case ENOTDIR: return text_of("the folder %s cannot exist, since its path leads through a file: name a file in a folder", name);
+    case ENAMETOOLONG: return text_of("the folder %s cannot be reached, since its path is too long: go to a folder above it, and name FILE from there", name);
+    default: return text_of("the folder %s does not exist: mkdir -p %s creates it", name, name);
+    }
 }
 
 static const char *refuse(const struct file *file, const char *cause) {
     return text_of("%s %s", shown(file->typed), cause);
 }
 
-/* Goes on at the path that a link holds. Returns NULL, or the message. */
+/* Reads the path that a link points to. Returns NULL, or the message that refuses it. */
 static const char *follow_link(struct file *file, char words[PATH_MAX], bool *is_of_folder) {
     ssize_t length = readlinkat(file->itself, "", words, PATH_MAX - 1);
     if (length <= 0) return refuse(file, leads_nowhere);
     words[length] = 0;
-    if (!is_utf8(words)) return refuse(file, "is a link to a name that is not UTF-8: mv gives it another");
-    if (is_handed_over(words)) return refuse(file, handed_over);
+    if (!is_utf8(words)) return refuse(file, "is a link to a name that is not UTF-8: rename that file with mv");
+    if (is_handed_over(words)) return refuse(file, handed_over_cause(words));
     *is_of_folder = words[length - 1] == '/';
     for (; length > 1 && words[length - 1] == '/'; length--) words[length - 1] = 0;
     close_one(&file->itself);
     return NULL;
 }
 
-/* Opens the folder of a path and the last name in it, a link as such; -1 where nothing is there. */
+/* Opens the folder of a path, and what has the path's last name there, a link itself and not its target. */
 static const char *take_step(struct file *file, const char *path) {
     char folder_part[PATH_MAX];
     int base = file->is_linked ? file->folder : AT_FDCWD;
@@ -129,7 +141,7 @@ static const char *walk(struct file *file) {
     bool is_of_folder = false;
     const char *message = take_step(file, file->typed);
     for (int links = 0; !message && file->look.is_there && S_ISLNK(file->look.found.st_mode); links++) {
-        if (links >= MOST_LINKS) return refuse(file, "is a link that leads in a circle: ls -l shows where to");
+        if (links >= MOST_LINKS) return refuse(file, "is a link in a circle of links: ls -l shows where it points");
         message = follow_link(file, path, &is_of_folder);
         if (message) break;
         file->is_linked = true;
@@ -142,8 +154,8 @@ static const char *walk(struct file *file) {
 
 /* ---- the opening */
 
-/* Opens FILE to be read, if it is still the one that was found. Returns false where another one is there by now. A lease on FILE
- * makes the opening wait, which a plain file alone may do. */
+/* Opens FILE for reading, if it is still the file that was found. Returns false if another file has taken its place. A lease on FILE
+ * makes the opening wait, which is accepted for a plain file only. */
 static bool open_text(struct file *file) {
     struct stat opened;
     file->text = openat(file->folder, file->name, O_RDONLY | O_NONBLOCK | O_NOFOLLOW | O_CLOEXEC | O_NOCTTY);
@@ -166,7 +178,7 @@ static void forget_file(struct file *file, const char *typed) {
     *file = (struct file){.typed = typed, .folder = -1, .itself = -1, .text = -1};
 }
 
-/* Opens the plain file that was found. Returns false where another one is there by now. */
+/* Opens the plain file that was found. Returns false if another file has taken its place. */
 static bool open_found(struct file *file) {
     if (!file->look.is_there) return true;
     if (!open_text(file)) return false;
@@ -176,14 +188,14 @@ static bool open_found(struct file *file) {
     return true;
 }
 
-/* Opens FILE once. `is_again`: another one took its place meanwhile. */
+/* Tries once to open FILE. `is_again`: another file took its place meanwhile, so try again. */
 static const char *try_to_open(struct file *file, bool *is_again) {
-    static const char no_plain[] = "is no plain file but a device, pipe or socket: put what it gives into a file, and edit that";
+    static const char no_plain[] = "is a device, pipe or socket, not a plain file: write its content to a file, and edit that";
     size_t length = strlen(file->typed);
     bool is_name_of_folder = length == 0 || file->typed[length - 1] == '/', is_handed = is_handed_over(file->typed);
     if ((is_name_of_folder || is_handed) && is_folder(file->typed)) return refuse(file, "is a folder: name a file in it");
-    if (is_name_of_folder) return refuse(file, "is the name of a folder: name a file");
-    if (is_handed) return refuse(file, handed_over);
+    if (is_name_of_folder) return refuse(file, "ends in a slash, so it names a folder: name a file");
+    if (is_handed) return refuse(file, handed_over_cause(file->typed));
     const char *message = walk(file);
     if (message) return message;
     if (file->look.is_there && !S_ISREG(file->look.found.st_mode)) return refuse(file, no_plain);
@@ -191,9 +203,9 @@ static const char *try_to_open(struct file *file, bool *is_again) {
     find_folder_facts(file->folder, &file->folder_facts);
     name_paths(file);
     if (!file->folder_facts.searchable)
-        return text_of("%s is a folder that is closed to you: its owner can open it by chmod a+x", shown(file->folder_name));
+        return text_of("you have no access to the folder %s: if it is yours, chmod u+x gives you access", shown(file->folder_name));
     if (!is_utf8(file->folder_path))
-        return refuse(file, "is in a folder whose name is not UTF-8: mv gives it another");
+        return refuse(file, "is in a folder whose name is not UTF-8: rename the folder with mv");
     *is_again = !open_found(file);
     return *is_again ? refuse(file, no_plain) : NULL;
 }
@@ -255,12 +267,12 @@ static const char *refuse_long_name(const struct file *file) {
     uint64_t longest = file->folder_facts.longest_name, most = longest > END_BYTES ? longest - END_BYTES : 0;
     size_t length = strlen(file->name);
     if (length <= most) return NULL;
-    return text_of("%s is a name of %zu bytes, too long to be saved: %llu are the most (the save needs %d more), and --force opens it all the same",
+    return text_of("the name %s has %zu bytes, too many for a save: the limit is %llu, since a save adds %d; --force opens it anyway",
                    shown(file->name), length, (unsigned long long)most, END_BYTES);
 }
 
 const char *unreadable_message(const struct file *file) {
-    return refuse(file, "cannot be read by you: chmod u+r lets its owner read it, and --force opens an empty text in its place");
+    return refuse(file, "cannot be read: if it is yours, chmod u+r makes it readable; --force opens an empty text in its place");
 }
 
 const char *refuse_access(const struct file *file, bool is_in_place) {
@@ -268,10 +280,10 @@ const char *refuse_access(const struct file *file, bool is_in_place) {
     const char *message = refuse_long_name(file);
     if (message) return message;
     if (!file->folder_facts.writable && !is_in_place)
-        return text_of("%s is a folder that you cannot write, so no save can be made: copy the file elsewhere; --force opens it all the same",
+        return text_of("you cannot write to the folder %s, so no save is possible: edit a copy elsewhere; --force opens the file anyway",
                        shown(file->folder_name));
     if (file->look.is_there && !file->facts.writable)
-        return refuse(file, "is write-protected: chmod u+w lets its owner write it, and --force opens it all the same");
+        return refuse(file, "is write-protected: if it is yours, chmod u+w makes it writable; --force opens it anyway");
     return NULL;
 }
 
@@ -325,7 +337,7 @@ const char *leftovers_line(const struct file *file) {
     }
     names = add_drafts(file, names);
     if (!names[0]) return NULL;
-    return text_of("perhaps left by a save that was killed; look at it, and remove what is not wanted:%s", names);
+    return text_of("possibly left by an interrupted save; check, and remove what you do not need:%s", names);
 }
 
 const char *not_utf8_message(const struct file *file, unsigned long long line) {
@@ -333,15 +345,15 @@ const char *not_utf8_message(const struct file *file, unsigned long long line) {
     ssize_t count = file->text >= 0 ? pread(file->text, front, sizeof front, 0) : 0;
     size_t length = count > 0 ? (size_t)count : 0;
     if (length >= 2 && (memcmp(front, "\xff\xfe", 2) == 0 || memcmp(front, "\xfe\xff", 2) == 0))
-        return refuse(file, "is UTF-16 and not UTF-8: iconv -f UTF-16 -t UTF-8 may help");
+        return refuse(file, "is UTF-16, not UTF-8: iconv -f UTF-16 -t UTF-8 converts it");
     if (length > 0 && ((length >= 4 && memcmp(front, "\x7f" "ELF", 4) == 0) || memchr(front, 0, length)))
-        return refuse(file, "is a binary file and no text: od -c shows it");
-    return text_of("%s is not UTF-8 in line %llu: iconv -f CP1255 -t UTF-8 may help if it is in Windows' Hebrew (CP1256: Arabic)",
+        return refuse(file, "is a binary file, not text: od -c shows its bytes");
+    return text_of("%s is not UTF-8 (line %llu): if it is Hebrew text from Windows, iconv -f CP1255 -t UTF-8 converts it (Arabic: -f CP1256)",
                    shown(file->typed), line);
 }
 
 const char *too_long_message(const struct file *file) {
     struct stat found;
     long long size = file->text >= 0 && fstat(file->text, &found) == 0 ? (long long)found.st_size : 0;
-    return text_of("%s has %lld bytes, and %d are the most: split -C 16M cuts it at line ends", shown(file->typed), size, LARGEST_TEXT);
+    return text_of("%s has %lld bytes, more than the limit of %d: split -C 16M cuts it at line ends", shown(file->typed), size, LARGEST_TEXT);
 }

@@ -11,7 +11,7 @@
 
 #include "parts.h"
 
-/* The age, in seconds, from which on a folder without a path is one that a killed start left. */
+/* A folder without a path that is older than this, in seconds, was left by a killed start. */
 enum { HOUR = 3600 };
 
 /* ---- all folders */
@@ -102,19 +102,19 @@ enum session_state session_state(const struct session *session) {
 
 /* ---- the sessions of a file */
 
-/* Takes a session in, in place of an older one of its kind; removes an empty one. */
+/* Takes a session in place of an older one of its kind; removes an empty session. */
 static void take_session(struct found *found, struct session *session, enum session_state state) {
     switch (state) {
     case SESSION_LIVE: session_move(&found->live, session); return;
     case SESSION_ELSEWHERE: session_move(&found->elsewhere, session); return;
     case SESSION_DROPPED: session_move(&found->dropped, session); return;
     case SESSION_UNFINISHED: session_move(&found->unfinished, session); return;
-    /* one that another start has locked by now stays */
+    /* unless another start has locked it meanwhile */
     case SESSION_EMPTY: session_remove_unless_locked(session); return;
     }
 }
 
-/* Takes in what a folder has of FILE's. Returns the fault of one that cannot be read. */
+/* Collects FILE's sessions in one folder. Returns the fault if the folder cannot be read. */
 static int search(struct found *found, const struct sessions *sessions, const struct target *target) {
     struct walk walk;
     int error = walk_begin(&walk, sessions);
@@ -180,7 +180,7 @@ void sessions_sweep(const struct sessions *sessions) {
     while (walk_next(&walk)) {
         struct session *session = &walk.session;
         bool is_left = walk.kind == NAME_DEAD || (!session_has(session, PART_PATH) && is_old(session));
-        /* one that is locked waits for room; a folder that cannot be removed now is tried again at the next start */
+        /* a locked one waits for space; what cannot be removed now is tried again at the next start */
         if (!is_left || !session_is_own(session) || session_is_live(session)) continue;
         if (walk.kind == NAME_SESSION) session_remove(session);
         else remove_folder(session, session_name(session));
@@ -226,9 +226,9 @@ void sessions_forget(const struct sessions *sessions, const struct target *targe
     walk_end(&walk);
 }
 
-/* ---- repairs after a save into a file was cut off, by the mark of the session that saved */
+/* ---- repairs of FILE after an interrupted save that overwrote it, from the mark of the session that saved */
 
-/* ---- FILE beside a mark */
+/* ---- FILE compared with a mark */
 
 struct comparing {
     int mark;
@@ -275,7 +275,7 @@ static enum verdict judge_target(const struct target *target, int mark) {
     return verdict;
 }
 
-/* Puts the text of a mark back into a torn file. The file is opened before it is judged again, so that both are one file. */
+/* Copies the text of a mark into a torn file. The file is judged again once it is open, so that the same file is judged and written. */
 static enum mended put_back(const struct target *target, int mark) {
     int file = open_target(target, O_RDWR);
     if (file < 0) return MENDED_STILL_TORN;
@@ -291,7 +291,7 @@ static enum mended put_back(const struct target *target, int mark) {
 
 /* ---- whose saves go into FILE */
 
-/* Whether the session's saves go into FILE, under any name. */
+/* Whether the session's saves overwrite FILE, under any of its names. */
 static bool saves_into(const struct session *session, const struct target *target) {
     struct file_id id;
     char *place = session_note(session, PART_PLACE);
@@ -306,7 +306,7 @@ static bool saves_into(const struct session *session, const struct target *targe
     return is_into;
 }
 
-/* Whether a session that may be running, other than `but`, saves into FILE: then FILE is that one's to complete. */
+/* Whether another session than `but` overwrites FILE and may be running: then that one will complete FILE. */
 static bool is_being_saved(const struct sessions *sessions, const struct session *but, const struct target *target) {
     struct walk walk;
     bool is_saved = walk_begin(&walk, sessions) != 0;

@@ -70,8 +70,8 @@ bool write_queue(struct frame_queue *queue, int file) {
     return true;
 }
 
-/* The most bytes of a word that begins with this letter; -1 for no word. All but one are so short that no text looks like them:
- * its second byte would be a NUL. */
+/* The most bytes of a word that begins with this letter; -1 if no word does. All words but one are so short that their second byte
+ * is a NUL, so no text looks like them. */
 static int most_of_word(unsigned char letter) {
     switch (letter) {
     case FRAME_OPENED: return 0;
@@ -83,7 +83,7 @@ static int most_of_word(unsigned char letter) {
     }
 }
 
-/* The length of the word at the start of the held bytes, 0 where that is no word, and more than is held where more is to come. */
+/* The length of the word at the start of these bytes; 0 if they are no word; more than `length` if the word is not complete yet. */
 static size_t word_length(const unsigned char *held, size_t length) {
     int most = most_of_word(held[0]);
     if (most < 0 || (length > 1 && held[1] > most >> 8)) return 0;

@@ -8,24 +8,24 @@
 #include <stdint.h>
 
 enum frame_letter {
-    /* to the program's standard input: bytes as the terminal gave them; rows and columns, in two bytes each, the higher one first;
-     * IDLE_MS went by after typed bytes; a number of a notice */
+    /* To the program's standard input. TYPED: bytes as the terminal gave them. SIZE: rows and columns, two bytes each, the higher
+     * one first. IDLE: nothing followed typed bytes for IDLE_MS. NOTICE: the number of a notice. */
     FRAME_TYPED = 'b',
     FRAME_SIZE = 'z',
     FRAME_IDLE = 'i',
     FRAME_NOTICE = 'n',
-    /* from the program's standard error: FILE was read and can be opened; KIND or KIND VALUE; `lost` or `kept`; WORD KEYS; the
-     * last one, a word of enum end_word */
+    /* From the program's standard error. OPENED: FILE was read and can be edited. FAULT: KIND or KIND VALUE. JOURNAL: `lost` or `kept`.
+     * REPLAYED: WORD KEYS. END: the last frame, a word of enum end_word. */
     FRAME_OPENED = 'o',
     FRAME_FAULT = 'f',
     FRAME_JOURNAL = 'j',
     FRAME_REPLAYED = 'r',
     FRAME_END = 'e',
-    /* a save, from the program: its beginning, which is answered; bytes of the text, which are not; its end, which is */
+    /* A save, from the program. BEGIN and COMMIT are answered; PIECE, bytes of the text, is not. */
     FRAME_BEGIN = 'B',
     FRAME_PIECE = 'P',
     FRAME_COMMIT = 'C',
-    /* the answers of the host: done; failed, with one byte of enum save_cause */
+    /* The host's answers: done; failed, with one byte of enum save_cause. */
     FRAME_DONE = 'k',
     FRAME_FAILED = 'x',
 };
@@ -44,7 +44,7 @@ enum save_cause {
     SAVE_OTHER,
 };
 
-/* What the program shows in its last row, by number. NOTICE_NONE shows nothing: as all input it has the program try its journal
+/* What the program shows in its last row, by number. NOTICE_NONE shows nothing, but like all input it makes the program try its journal
  * again. */
 enum notice {
     NOTICE_NONE,
@@ -59,12 +59,12 @@ enum notice {
     NOTICE_IN_PLACE,
 };
 
-/* How the program ended, by its last frame: all is saved; the input ended with unsaved changes; the user dropped them; a fault of
- * the input, of the output, or more reads than can be counted. END_NONE: it did not say. */
+/* How the program ended, by its last frame. SAVED: all is saved. UNSAVED: the input ended with unsaved changes. DROPPED: the user
+ * dropped them. INPUT, OUTPUT: an error of input or output. READS: more reads than can be counted. NONE: it did not say. */
 enum end_word { END_NONE, END_SAVED, END_UNSAVED, END_DROPPED, END_INPUT, END_OUTPUT, END_READS };
 
-/* FRAME_HEAD: the letter and the length. WORD_MOST: bytes of a frame on standard error at most, so few that a text's second byte would
- * be a control character. */
+/* FRAME_HEAD: the bytes of letter and length. WORD_MOST: the most bytes of a frame on standard error. They are so few that the
+ * second byte of a frame is a control character, so no other text looks like a frame. */
 enum { FRAME_HEAD = 3, FRAME_MOST = 65535, WORD_MOST = 2047 };
 
 struct frame {
@@ -73,13 +73,13 @@ struct frame {
     size_t length;
 };
 
-/* Gives the frame at the start of the held bytes. Returns its length with its head, or 0 where it is not whole. */
+/* Gives the frame at the start of these bytes. Returns its length including its head, or 0 if it is not complete. */
 size_t find_frame(const unsigned char *held, size_t length, struct frame *frame);
 
 /* Writes one frame to a file that blocks. Returns false at a fault. */
 bool write_frame(int file, enum frame_letter letter, const void *bytes, size_t length);
 
-/* Frames that wait for a pipe that does not block. `has_size` says whether the last one, at `size_at`, is a size. */
+/* Frames that wait to be written to a pipe that does not block. If `has_size`, the last one, at `size_at`, is a size. */
 enum { QUEUE_ROOM = 16384 };
 struct frame_queue {
     unsigned char bytes[QUEUE_ROOM];
@@ -87,18 +87,17 @@ struct frame_queue {
     bool has_size;
 };
 
-/* Puts a frame at the end. A size takes the place of one that is the last. Returns false, and puts nothing, where there is no
- * room. */
+/* Appends a frame. If it and the last frame are sizes, it replaces that one. Returns false, and appends nothing, if there is no room. */
 bool put_frame(struct frame_queue *queue, enum frame_letter letter, const void *bytes, size_t length);
 
 /* The bytes that wait. */
 size_t queue_length(const struct frame_queue *queue);
 
-/* Writes what the pipe takes. Returns false where nobody reads it any more. */
+/* Writes as much as the pipe takes. Returns false if nobody reads the pipe any more. */
 bool write_queue(struct frame_queue *queue, int file);
 
-/* What comes from the program's standard error: words, which are frames, and other text, as of a crash, of which the first bytes
- * are kept. */
+/* Reads the program's standard error: frames, which are called words, and other text, such as a crash message, of which the first bytes
+ * are kept as `foreign`. */
 enum { FOREIGN_MOST = 4096 };
 struct word_reader {
     unsigned char bytes[2 * (FRAME_HEAD + WORD_MOST)];
@@ -106,12 +105,11 @@ struct word_reader {
     char foreign[FOREIGN_MOST];
 };
 
-/* Calls `hear` for each word among what was held and these bytes. The bytes of a word stay only during the call; a NUL follows
- * them. */
+/* Adds bytes, and calls `hear` for each word that is complete. The word's bytes, followed by a NUL, are valid only during the call. */
 void take_words(struct word_reader *reader, const unsigned char *bytes, size_t length, void (*hear)(const struct frame *, void *),
                 void *whose);
 
-/* Counts what is held and is no whole word as other text: nothing more comes. */
+/* Called at the end of standard error: bytes that are no complete word count as other text. */
 void end_words(struct word_reader *reader);
 
 /* The end that a word names. */

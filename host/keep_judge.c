@@ -3,7 +3,8 @@
 #include <errno.h>
 #include <string.h>
 
-/* Bytes of a journal: 20,000 keys take a second or two to replay, and a large paste in one line longer. */
+/* The largest journals, in bytes, that are replayed at the end: after a signal, and otherwise. 20,000 keys take a second or two to
+ * replay, and a large paste in one line takes longer. */
 enum { QUICK = 20000, SLOW = 200000 };
 
 bool is_word(const char *answer, const char *word) {

@@ -1,4 +1,4 @@
-/* Decisions about a session that ask no system: answers, notices, the title's note, a session's fate at its end. */
+/* Decisions about a session, without system calls: answers, notices, the title's note, what becomes of a session at its end. */
 #ifndef KEEP_JUDGE_H
 #define KEEP_JUDGE_H
 
@@ -7,19 +7,19 @@
 #include "frames.h"
 #include "session_judge.h"
 
-/* ---- answers: small letters, without blanks around them */
+/* ---- answers, in small letters and without blanks around them */
 
-/* What an answer chooses for an unfinished session. CHOICE_ASK_AGAIN: the letter alone that deletes, which may have been meant for
- * something else. */
+/* What an answer chooses for an unfinished session. CHOICE_ASK_AGAIN: the letter d alone, which may be a slip, so another question
+ * follows. */
 enum choice { CHOICE_NONE, CHOICE_RECOVER, CHOICE_DELETE, CHOICE_ASK_AGAIN, CHOICE_LATER };
 enum choice choice_of(const char *answer);
 
 /* Whether an answer is this word or the word's first letter. */
 bool is_word(const char *answer, const char *word);
 
-/* ---- the system's faults */
+/* ---- errors of the system */
 
-/* The notice of a session that is not kept, by the system's fault. */
+/* The notice for a session that cannot be kept because of this errno. */
 enum notice notice_of(int error);
 
 /* What messages add about a file that cannot be written; empty where there is nothing to add. */
@@ -27,7 +27,7 @@ const char *fault_words(int error);
 
 /* ---- a session as its program starts, and while it runs */
 
-/* `unkept` tells why no session is kept; NOTICE_NONE where one is. */
+/* What decides the first notice. `unkept` says why no session is kept; NOTICE_NONE if one is. */
 struct first_facts {
     enum notice unkept;
     bool is_unwanted, is_aside, is_resumed, is_in_place;
@@ -38,20 +38,20 @@ enum notice first_notice(const struct first_facts *facts);
 struct now_facts {
     /* There is a session; the user wants none. */
     bool has_session, is_unwanted;
-    /* Why none is kept, or as told last; NOTICE_NONE else. */
+    /* The notice about this that was shown last; NOTICE_NONE if none was. */
     enum notice told;
-    /* What S tells of the session, the system's fault if it is not kept now, and whether it has the text as it was opened. */
+    /* What session_mind says of the session, the errno if it is not kept now, and whether it has the text as it was opened. */
     enum keeping keeping;
     int error;
     bool is_filled;
-    /* The program could not write the journal, which is not whole again; why, as far as it can be seen. */
+    /* The program could not write the journal, and the journal still lacks bytes; the probable reason. */
     bool is_journal_lost;
     enum notice journal;
 };
-/* Why no copy is kept of what is typed; NOTICE_NONE where one is, or the user wants none. */
+/* Why no copy of unsaved text is kept; NOTICE_NONE if one is kept, or the user wants none. */
 enum notice trouble_now(const struct now_facts *facts);
 
-/* What the title adds. */
+/* What the title adds to FILE's name. */
 enum title_note { TITLE_KEPT, TITLE_UNKEPT, TITLE_LOST };
 enum title_note title_note_of(const struct now_facts *facts, enum notice trouble);
 
@@ -61,15 +61,15 @@ enum title_note title_note_of(const struct now_facts *facts, enum notice trouble
 enum left_how { LEFT_SAVED, LEFT_UNSAVED, LEFT_DROPPED, LEFT_UNKNOWN, LEFT_REFUSED };
 enum left_how left_how(enum end_word end, bool is_refused);
 
-/* Whether there may be unsaved text, of which the end has to tell. */
+/* Whether there may be unsaved text, which the exit message has to mention. */
 bool may_be_unsaved(enum left_how how);
 
 struct left {
     enum left_how how;
-    /* The session's folder is there; it can be recovered: all parts are there that this needs; the journal has keys, or the text
-     * counts as changed from the start. */
+    /* is_there: the session's folder exists. is_filled: the session can be recovered, since it has all parts. has_keys: the journal
+     * has keys, or the text counts as changed from the start. */
     bool is_there, is_filled, has_keys;
-    /* FILE has a part of a save; FILE has the session's text; root alone could read FILE. */
+    /* FILE has only a part of a save's text; FILE has the session's text; only root could read FILE. */
     bool is_torn, is_same, is_secret;
 };
 
@@ -83,11 +83,11 @@ enum fate {
 };
 enum fate fate_of(const struct left *left);
 
-/* Whether the keys are replayed at the end, to leave the text beside them: not a journal of this size that takes longer than an end
- * may take. */
+/* Whether the keys are replayed at the end, to leave the resulting text in the session: only if a journal of this size is replayed quickly
+ * enough. */
 bool is_replayed_at_end(long long journal_size, bool is_signalled);
 
-/* The permissions that no new file of the program gets, where FILE had `mode`: what FILE did not give to others than its owner. */
+/* The umask for new files of the program if FILE had this mode: all permissions for others than the owner that FILE did not give. */
 unsigned mask_for(unsigned mode);
 
 #endif

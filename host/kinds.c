@@ -32,8 +32,8 @@ static bool begins(const char *text, const char *beginning) {
     return strncmp(text, beginning, strlen(beginning)) == 0;
 }
 
-/* Whether the process that started the first one on the terminal, mostly the terminal itself, has this word, or a file of this
- * name, in its command line. */
+/* Whether the command line of the process that started the first process on the terminal has this word, or a path that ends in it. That
+ * process is usually the terminal itself. */
 static bool is_started_with(const char *word) {
     static char words[65536];
     char path[64], look[1024];
@@ -57,7 +57,8 @@ static bool is_started_with(const char *word) {
     return false;
 }
 
-/* Whether a line of a plain file is this text but for blanks. Another file would make the host wait. */
+/* Whether a line of a plain file, without its blanks, is this text. Files of other kinds are passed over, since they could make the host
+ * wait. */
 static bool file_has(const char *path, const char *text) {
     char line[1024];
     struct stat look;
@@ -76,7 +77,7 @@ static bool file_has(const char *path, const char *text) {
     return is_found;
 }
 
-/* Whether a line of a file in a folder whose name ends so is this text but for blanks. */
+/* Whether a file with this ending in a folder has such a line. */
 static bool files_have(const char *folder, const char *ending, const char *text) {
     char path[PATH_MAX];
     bool is_found = false;
@@ -92,7 +93,7 @@ static bool files_have(const char *folder, const char *ending, const char *text)
     return is_found;
 }
 
-/* The kind by the terminal's name, as it told tmux. A VTE that told none may have left its variable. */
+/* The kind by the name that the terminal gave tmux. An old VTE gives none, but its variable may be set. */
 static enum kind kind_by_answer(const char *answer) {
     if (begins(answer, "VTE")) return VTE;
     if (begins(answer, "Konsole")) return KONSOLE;
@@ -152,7 +153,7 @@ static bool keeps_title(enum kind kind) {
     return is_set("XTERM_VERSION") || is_set("VTE_VERSION");
 }
 
-/* Whether it may be GNU screen: over ssh TERM alone tells, which some set so for tmux too. */
+/* Whether it may be GNU screen. Over ssh only TERM says so, and some users set it to that for tmux too. */
 static bool is_screen(void) {
     return is_set("STY") || (!is_set("TMUX") && begins(value_of("TERM"), "screen"));
 }
@@ -164,7 +165,7 @@ static bool reports_in_numbers(void) {
     enum { FIRST_XTERM = 277, DECIMAL = 10 };
     const char *term = value_of("TERM"), *xterm = value_of("XTERM_VERSION");
     if (is_screen() || begins(term, "linux")) return false;
-    /* which makes them itself */
+    /* tmux makes the reports itself */
     if (is_set("TMUX")) return true;
     if (begins(term, "rxvt") && !begins(term, "rxvt-unicode")) return false;
     if (!begins(xterm, before_number)) return true;
@@ -172,8 +173,9 @@ static bool reports_in_numbers(void) {
     return number <= 0 || number >= FIRST_XTERM;
 }
 
-/* Whether copies for the system's clipboard do it no harm. Most terminals that do not know them pass over them, but GNU screen, rxvt,
- * dvtm and zutty show the end of a long one as text, and terminology ends by it. tmux passes over them for the terminal around it. */
+/* Whether copies for the system's clipboard do the terminal no harm. Most terminals that do not know them ignore them. But GNU screen,
+ * rxvt, dvtm and zutty show the end of a long one as text, and a long one ends terminology. In tmux the terminal around it does not
+ * matter, since tmux reads the copies itself. */
 static bool bears_long_clips(enum kind kind) {
     const char *term = value_of("TERM");
     bool is_shown = is_screen() || begins(term, "rxvt") || begins(term, "dvtm") || (is_set("ZUTTY_VERSION") && !is_set("TMUX"));
@@ -188,7 +190,7 @@ static const char *own_path(char path[PATH_MAX], const char *name, const char *h
     return path;
 }
 
-/* Whether konsole reorders by itself: none of its profiles says otherwise, if it runs on this machine. */
+/* Whether konsole reorders by itself: it does unless one of its profiles turns that off. Over ssh the profiles are on another machine. */
 static bool reorders_in_konsole(void) {
     static const char off[] = "BidiRenderingEnabled=false";
     char own[PATH_MAX];
@@ -215,7 +217,7 @@ static void find_reordering(struct terminal_kind *found) {
 
 static void tell_setting(const char *terminal, const char *file, const char *wanted) {
     char text[256];
-    int length = snprintf(text, sizeof text, "bidi-edit: %s mirrors right-to-left words: the line '%s' in its %s ends that\n", terminal,
+    int length = snprintf(text, sizeof text, "bidi-edit: %s shows right-to-left words reversed: the line '%s' in its %s prevents that\n", terminal,
                           wanted, file);
     write_within(STDERR_FILENO, text, (size_t)length, NOTE_MS, false);
 }
@@ -257,7 +259,7 @@ static size_t read_tmux(int file, char *answer, size_t room) {
     return length;
 }
 
-/* Gives what tmux answers, an empty text where it says nothing. `room` has the NUL too. */
+/* Gives what tmux answers, or an empty text. `room` includes the NUL. */
 static void ask_tmux(char *answer, size_t room) {
     int ends[2];
     answer[0] = 0;
@@ -272,7 +274,7 @@ static void ask_tmux(char *answer, size_t room) {
     kill_child(&child);
 }
 
-/* Finds the terminal around tmux, if it is a device that the user may write, and gives its name as tmux knows it. */
+/* Finds the device of the terminal around tmux, if the user may write to it. Returns the terminal's name as it gave it to tmux. */
 static const char *find_outer(struct terminal_kind *found, char *answer, size_t room) {
     struct stat look;
     ask_tmux(answer, room);
@@ -297,7 +299,7 @@ void find_terminal_kind(struct terminal_kind *found) {
     tell_mirroring(found->kind);
 }
 
-/* Writes the sequence for each row of the terminal, and gives its cursor back: VTE keeps the mode by row. */
+/* Writes the sequence in each row of the terminal, since VTE has this mode per row, and then restores the cursor. */
 static void tell_rows(int file, char letter, bool is_last) {
     static char text[(LARGEST_SIDE + 2) * ROW_BYTES];
     struct winsize window = {0};

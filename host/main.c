@@ -65,20 +65,20 @@ static bool find_programs(struct programs *programs) {
 
 /* ---- print: FILE's rows, which bidi_print writes */
 
-/* The columns where neither the command line nor a terminal tells. */
+/* The number of columns if neither the command line nor a terminal gives one. */
 enum { USUAL_COLUMNS = 80 };
 
-/* Why FILE cannot be printed, by what is there and whether it can be read; NULL where it can be. A device or pipe is read
- * unchecked. */
+/* Returns why FILE cannot be printed, by its kind and permissions; NULL if it can be. A device or pipe is accepted and not looked
+ * into. */
 static const char *refuse_to_print(const char *file) {
     struct stat look;
-    if (stat(file, &look) != 0) return "is not there";
+    if (stat(file, &look) != 0) return "does not exist";
     if (S_ISDIR(look.st_mode)) return "is a folder: name a file in it";
-    if (S_ISSOCK(look.st_mode)) return "is a socket, which has no text";
-    return faccessat(AT_FDCWD, file, R_OK, AT_EACCESS) == 0 ? NULL : "cannot be read by you: chmod u+r lets its owner read it";
+    if (S_ISSOCK(look.st_mode)) return "is a socket, not a text file";
+    return faccessat(AT_FDCWD, file, R_OK, AT_EACCESS) == 0 ? NULL : "cannot be read: if it is yours, chmod u+r makes it readable";
 }
 
-/* Why an open file is no text; NULL where it is one, or cannot be read, which the printing program tells. */
+/* Returns why an open file is not a text; NULL if it is one, or if reading fails, which the printing program then reports. */
 static const char *check_text(const struct file *file) {
     static char bytes[LARGEST_TEXT + 1];
     ssize_t count = 1;
@@ -132,7 +132,7 @@ static int print_file(const struct call *call, const struct programs *programs) 
     add_word(&words, call->file);
     give_back_signals();
     execv(programs->printer, words.words);
-    warn("%s cannot be started", programs->printer);
+    warn("%s cannot be started: %s", programs->printer, strerror(errno));
     return 1;
 }
 
@@ -141,23 +141,23 @@ static int print_file(const struct call *call, const struct programs *programs) 
 static int check_terminal(void) {
     const char *name = getenv("TERM");
     if (name && strcmp(name, "dumb") == 0) {
-        warn("the terminal is dumb (TERM=dumb) and moves no cursor: start the editor in another, or with TERM=xterm if it is none");
+        warn("the terminal is dumb (TERM=dumb) and cannot move its cursor: use another terminal, or set TERM=xterm if it can");
         return STATUS_NO;
     }
     if (terminal_line >= 0) return GO_ON;
-    warn("there is no terminal: start the editor in one (ssh -t gives one to a command)");
+    warn("there is no terminal: start the editor in one (over ssh, use ssh -t)");
     return STATUS_NO;
 }
 
-/* Tells what is not as usual: an empty text in place of FILE's, and what killed saves left. */
+/* Warns that an empty text is opened in place of FILE's, and of files that killed saves left. */
 static void tell_unusual(const struct edit *edit) {
     if (is_closed(&edit->file))
-        warn("%s cannot be read by you: an empty text is opened, and saves overwrite what is there", shown(edit->file.typed));
+        warn("%s cannot be read: the text starts empty, and a save overwrites the file", shown(edit->file.typed));
     const char *leftovers = leftovers_line(&edit->file);
     if (leftovers) warn("%s", leftovers);
 }
 
-/* Runs the program with a session that was taken, or with a new one. */
+/* Runs the program with the session that is recovered, or with a new one. */
 static int run_editor(struct edit *edit, bool is_taken) {
     int status = is_taken ? resume_session(edit) : begin_session(edit);
     return status == GO_ON ? run_session(edit) : status;
@@ -187,11 +187,11 @@ static int edit_recovered(struct edit *edit) {
     return run_editor(edit, is_taken);
 }
 
-/* Tells of variables that are passed over: an XDG_STATE_HOME that is not absolute, and a TMPDIR that no system takes. */
+/* Warns of variables that are ignored: an XDG_STATE_HOME that is not absolute, and a TMPDIR that is too long for a path. */
 static void tell_variables(void) {
     const char *state = getenv("XDG_STATE_HOME"), *temporary = getenv("TMPDIR");
-    if (state && is_state_home_relative()) warn("XDG_STATE_HOME names %s, which is not absolute: ~/.local/state is taken", shown(state));
-    if (temporary && strlen(temporary) >= PATH_MAX) warn("TMPDIR has %zu bytes, too many for a path: it is passed over", strlen(temporary));
+    if (state && is_state_home_relative()) warn("XDG_STATE_HOME is ignored, since %s is not an absolute path: ~/.local/state is used instead", shown(state));
+    if (temporary && strlen(temporary) >= PATH_MAX) warn("TMPDIR is ignored, since its %zu bytes are too many for a path", strlen(temporary));
 }
 
 static int edit_by(const struct call *call, const struct programs *programs) {
@@ -277,8 +277,8 @@ int main(int count, char **words) {
     open_standard_files();
     set_first_signals();
     note_own_word(words[0]);
-    if (access("/proc/self/fd", X_OK) != 0) return refuse_start("there is no /proc, which it needs: mount -t proc proc /proc gives one");
-    if (!find_programs(&programs)) return refuse_start("/proc/self/exe cannot be read, so its programs cannot be found");
+    if (access("/proc/self/fd", X_OK) != 0) return refuse_start("the editor needs /proc, which is not mounted: mount -t proc proc /proc mounts it");
+    if (!find_programs(&programs)) return refuse_start("/proc/self/exe cannot be read, so the editor's other programs cannot be found");
     open_terminal();
     int status = obey_words(count - 1, words + 1, &programs);
     listen_once();

@@ -10,8 +10,8 @@
 
 #include "save.h"
 
-/* The longest journal that is read to see whether it has
- * sizes and notices alone; a longer one counts as having keys, which at worst keeps a session without any. */
+/* The longest journal that is read to see whether it has only sizes and notices, and no keys. A longer one counts as having keys; at worst
+ * that keeps a session that has none. */
 enum { LONGEST_WITHOUT_KEYS = 4096 };
 
 const char *part_name(enum part part) {
@@ -41,10 +41,10 @@ int part_open(int folder, const char *name, int flags) {
     return openat(folder, name, flags | O_NOFOLLOW | O_NONBLOCK | O_CLOEXEC, FILE_MODE);
 }
 
-/* Puts a file on the disk. One that a recovery can do without has its bytes there, and its name once the next file is there. */
+/* Syncs a file to the disk. For a file that a recovery can do without, only its bytes are written; its name follows with the next file. */
 static int sync_part(int file, bool is_needed) {
     if (is_needed) return fsync(file) == 0 ? 0 : errno;
-    /* some disks cannot do that, and write it later */
+    /* a disk that cannot do this writes them later */
     sync_file_range(file, 0, 0, SYNC_FILE_RANGE_WAIT_BEFORE | SYNC_FILE_RANGE_WRITE | SYNC_FILE_RANGE_WAIT_AFTER);
     return 0;
 }
@@ -194,7 +194,7 @@ bool session_is_there(const struct session *session) {
     struct stat parent, named;
     char above[PATH_MAX];
     if (find_itself(session) != 0 || fstat(session->parent, &parent) != 0) return false;
-    /* the folder of sessions itself may be away, with the session in it */
+    /* the folder of sessions itself may have been moved away, with the session in it */
     size_t length = (size_t)(session_name(session) - session->path);
     if (length > 1) length--;
     return put_path(above, "%.*s", (int)length, session->path) && lstat(above, &named) == 0 && is_same_file(&parent, &named);
@@ -229,7 +229,7 @@ static void count_piece(void *count, const char *bytes, size_t size) {
     count_more(count, bytes, size);
 }
 
-/* Counts the keys of the journal; returns a fault other than a journal that is not there. */
+/* Counts the keys of the journal. A journal that does not exist is no fault. */
 static int count_journal(const struct session *session, struct key_count *count) {
     count_begin(count);
     int journal = session_open(session, PART_JOURNAL);

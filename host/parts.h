@@ -7,10 +7,10 @@
 
 enum { FILE_MODE = 0600 };
 
-/* Opens a part for reading; no link is followed, and no pipe waits. */
+/* Opens a part with these flags, never following a link or waiting for a pipe. */
 int part_open(int folder, const char *name, int flags);
 
-/* Which file is at a name in a folder. `flags`: O_NOFOLLOW, or 0. */
+/* Identifies the file of this name in a folder. `flags`: O_NOFOLLOW, or 0. */
 bool file_id_at(int folder, const char *name, int flags, struct file_id *id);
 
 /* Another descriptor of the same open file; -1 for none. */
@@ -19,42 +19,42 @@ int copy_descriptor(int file);
 /* The last name of the session's path. */
 const char *session_name(const struct session *session);
 
-/* Remembers a short part, so that `session_fill` and `session_mind` write it, and no longer remembers it. */
+/* Remembers a short part, so that session_fill and session_mind write it; forgets it again. */
 int keep_part(struct session *session, enum part part, const void *bytes, size_t size);
 void forget_part(struct session *session, enum part part);
 
-/* Returns 0 where the session has its name in its folder of sessions, ENOENT where it has not. */
+/* Returns 0 if the session still has its name in its folder of sessions, otherwise ENOENT or a fault. */
 int find_itself(const struct session *session);
 
-/* Whether an editor has the session, by its locks. One whose lock cannot be tried counts as live. */
+/* Whether an editor has the session open, by its locks. A session whose lock cannot be tried counts as open. */
 bool session_is_live(const struct session *session);
 
-/* The session in the folder of this name; false where no folder is there. */
+/* Opens the session of this name; false if there is no such folder. */
 bool session_at(struct session *session, const struct sessions *sessions, const char *name);
 
-/* Hands a session on; the first one is none then. */
+/* Moves a session; `from` is none after it. */
 void session_move(struct session *to, struct session *from);
 
-/* Writes a part in place of the one that is there, if any. */
+/* Writes a part, in place of an old one if there is one. */
 int put_part(const struct session *session, enum part part, const void *bytes, size_t size);
 
-/* Whether a short part is made again where it is removed. */
+/* Whether a short part is written again if something removes it. */
 bool is_guarded(enum part part);
 
-/* Picks what the program opens, and copies FILE at once where that is quick or FILE is being written. */
+/* Chooses what the program opens. Copies FILE first if that is quick, or if another program may be writing FILE. */
 int choose_source(struct session *session, int file);
 
-/* Writes what is to be there and is not, in this process. */
+/* Writes all parts that are missing, in this process and not in a child. */
 int write_session(struct session *session);
 
-/* Removes a session's folder of this name with all in it, first the path. */
+/* Removes a session's folder, which has this name by now, and all files in it, the path first. */
 void remove_folder(const struct session *session, const char *name);
 
 /* Ends the child that writes, at once. */
 void end_child(struct session *session);
 
-/* What an open file has beside an open mark; FILE_OTHER where one cannot be read or is no plain file. One that is longer than the
- * mark is not read. */
+/* Compares an open file with an open mark. FILE_OTHER if one cannot be read or the file is not plain. A file longer than the mark is not
+ * read. */
 enum verdict judge_file(int file, int mark);
 
 #endif

@@ -12,17 +12,17 @@
 #include "session.h"
 #include "util.h"
 
-/* The name of the folder of sessions in the user's state folder, and the folder in memory of nearly every system. */
+/* The name of the folder of sessions in the user's state folder; the folder in memory that nearly every system has. */
 #define OWN_NAME "bidi_edit"
 #define SHARED_MEMORY "/dev/shm"
 
-/* The number of folders of temporary files. */
+/* The number of folders for temporary files. */
 enum { TEMPORARY = 3 };
 
-/* How long what is in a folder stays. */
+/* How long the files in a folder stay. */
 enum stay { PERMANENT, IN_MEMORY, IN_TEMPORARY };
 
-/* Opens the nearest folder that is there, at or above a path. */
+/* Opens the folder at a path or, if that does not exist, the nearest one above it. */
 static int open_nearest(const char *path) {
     char above[PATH_MAX];
     if (!put_path(above, "%s", path)) return -1;
@@ -36,7 +36,7 @@ static int open_nearest(const char *path) {
     }
 }
 
-/* Opens the folder above an open one; AT_ROOT where there is none, UNSEEN where it cannot be looked at. */
+/* Opens the folder above an open one. AT_ROOT: there is none. UNSEEN: it cannot be examined. */
 enum { UNSEEN = -1, AT_ROOT = -2 };
 static int open_above(int folder, struct stat *found) {
     struct stat below;
@@ -58,7 +58,7 @@ static void fail_with(struct sessions *sessions, int error) {
     sessions->error = error;
 }
 
-/* Looks from an open folder up for one that another user could change; the topmost is told. */
+/* Looks at an open folder and all above it for one that another user could change. The topmost such folder is the one that is named. */
 static void judge_above(struct sessions *sessions, int folder) {
     struct stat found;
     int above = open_folder(folder, ".");
@@ -75,7 +75,7 @@ static void judge_above(struct sessions *sessions, int folder) {
         close(above);
         above = next;
     }
-    /* what cannot be seen could be another's */
+    /* a folder that cannot be examined could be another user's */
     if (above == UNSEEN && sessions->state == FOLDER_READY) fail_with(sessions, EACCES);
 }
 
@@ -120,7 +120,7 @@ static void sessions_judge(struct sessions *sessions) {
     close(folder);
 }
 
-/* Makes a folder, and those above it. Returns the first fault if the last one is not there then. */
+/* Creates a folder and those above it. Returns 0 if the folder exists in the end, otherwise the first fault. */
 static int make_folders(char *path) {
     int first = 0;
     for (char *end = path; end;) {
@@ -128,7 +128,7 @@ static int make_folders(char *path) {
         if (end) *end = '\0';
         int error = mkdir(path, FOLDER_MODE) == 0 || errno == EEXIST ? 0 : errno;
         if (end) *end = '/';
-        /* one that is there may not be writable, and the system may say that first */
+        /* for a folder that exists, the system may say first that the folder above cannot be written */
         if (first == 0) first = error;
         if (!end) return error ? first : 0;
     }
@@ -165,7 +165,7 @@ static void list_temporary(const char *folders[TEMPORARY]) {
     folders[2] = "/var/tmp";
 }
 
-/* Looks at the folders of temporary files. A variable that names the root does not make all folders temporary. */
+/* Examines the folders for temporary files. TMPDIR=/ does not count, since it would make all folders temporary. */
 static void look_at_temporary(struct stat looks[TEMPORARY], bool is_there[TEMPORARY]) {
     const char *folders[TEMPORARY];
     struct stat root = {0};
@@ -177,7 +177,7 @@ static void look_at_temporary(struct stat looks[TEMPORARY], bool is_there[TEMPOR
     }
 }
 
-/* The number of the first folder of temporary files that is at an open folder or above it; -1 without one. */
+/* Which folder for temporary files an open folder is, or is in, as a number; the first one if there are several; -1 for none. */
 static int temporary_above(int folder) {
     struct stat found, looks[TEMPORARY];
     bool is_there[TEMPORARY];
@@ -246,8 +246,8 @@ static bool is_of_another(const char *path) {
     return !is_own;
 }
 
-/* The path of the user's folder of sessions; false if there is no place for it. Root takes its own home, where the environment is
- * another user's. */
+/* The path of the user's folder of sessions by the environment; false if there is none. Root uses its own home if the environment
+ * is another user's, as after sudo -E. */
 static bool state_folder(char path[PATH_MAX]) {
     const char *state = variable("XDG_STATE_HOME"), *home = variable("HOME");
     /* the XDG base directory specification says to ignore relative paths */
@@ -268,7 +268,7 @@ static const char *runtime_folder(void) {
     return runtime ? runtime : SHARED_MEMORY;
 }
 
-/* Opens the first folder of an open folder's file system. */
+/* Opens the topmost folder of the file system that an open folder is in. */
 static int open_root_of(int folder) {
     struct stat found, next;
     int top = open_folder(folder, "."), above = UNSEEN;
@@ -284,7 +284,7 @@ static int open_root_of(int folder) {
     return UNSEEN;
 }
 
-/* Takes a folder for sessions in memory, if it is in memory and the user may write it. Closes it. */
+/* Uses a folder for sessions in memory, if it is in memory and the user may write it. Closes it in any case. */
 static bool take_memory(int folder, const char *name, char path[PATH_MAX]) {
     if (folder < 0) return false;
     bool is_taken = is_in_memory(folder) && faccessat(folder, ".", W_OK | X_OK, AT_EACCESS) == 0 && own_folder_at(folder, name, path);
@@ -292,7 +292,8 @@ static bool take_memory(int folder, const char *name, char path[PATH_MAX]) {
     return is_taken;
 }
 
-/* The first that the user may write of the file's own file system, the user's folder in memory and the one that all have. */
+/* The path of the folder of sessions for a file in memory. It is in the first of these that the user can write: the file's own file
+ * system, the user's folder in memory, and the one that all users share. */
 static bool memory_folder(int folder_of_file, char path[PATH_MAX]) {
     char name[PATH_MAX];
     int root = open_root_of(folder_of_file);
@@ -333,7 +334,7 @@ void sessions_find(struct sessions *sessions, int folder_of_file) {
 
 /* ---- all folders */
 
-/* Folders of sessions in memory that grows. */
+/* A growing list of folders of sessions. */
 struct list {
     struct sessions *all;
     size_t count;

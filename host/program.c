@@ -14,11 +14,11 @@
 #include "util.h"
 #include "words.h"
 
-/* Bytes that wait in the program's input at most: few, since it does all of them at its end. */
+/* The most bytes that wait in the program's input: few, since the program obeys all of them before it ends. */
 enum { INPUT_ROOM = 16384 };
-/* Milliseconds for standard error to take what is no word, without and with a signal. */
+/* Milliseconds that standard error may take to accept the program's text outside frames, without and with a signal. */
 enum { FOREIGN_MS = 1000, FOREIGN_BY_SIGNAL_MS = 200 };
-/* The words that are put before those of a run. */
+/* The number of arguments that come before those of a run. */
 enum { OWN_WORDS = 13 };
 
 void close_pipes(struct pipes *pipes) {
@@ -45,12 +45,12 @@ bool open_words(struct pipes *pipes, struct pipes *ends) {
 bool open_pipes(struct pipes *pipes, struct pipes *ends) {
     bool is_open = open_pipe(&ends->keys, &pipes->keys) && open_pipe(&pipes->requests, &ends->requests) &&
                    open_pipe(&ends->answers, &pipes->answers) && fcntl(pipes->keys, F_SETFL, O_NONBLOCK) == 0;
-    /* a larger pipe would serve as well */
+    /* if this fails, a larger pipe does as well */
     if (is_open) fcntl(pipes->keys, F_SETPIPE_SZ, INPUT_ROOM);
     return is_open;
 }
 
-/* Puts the words of a run behind those of the host. Returns false where there are too many. */
+/* Appends the arguments of a run to those of the host. Returns false if there are too many. */
 static bool add_words(char *all[OWN_WORDS + WORDS_MOST + 2], size_t count, char *const *words) {
     for (size_t i = 0; words[i]; i++) {
         if (i == WORDS_MOST) return false;
@@ -73,8 +73,8 @@ static _Noreturn void become(char *const *words, mode_t mask) {
     _exit(127);
 }
 
-/* Becomes the program, which ends at its input's end, ignores a closed terminal's HUP, leaves stops of the job to the host, and fails
- * at a write beyond the limit of a file's size in place of being killed. */
+/* Becomes the program. It ignores three signals: a hangup, since it ends at its input's end; a stop of the job, which the host manages; and
+ * SIGXFSZ, so that a write beyond the limit of a file's size fails and does not kill it. */
 static _Noreturn void become_program(const struct run *run, const struct pipes *ends, char *const *words) {
     signal(SIGHUP, SIG_IGN);
     signal(SIGTSTP, SIG_IGN);
@@ -97,7 +97,7 @@ pid_t start_program(const struct run *run, const struct pipes *ends, unsigned ro
                          "--rows", side[0], "--cols", side[1], "--erase", erase, "--clipboard"};
     size_t count = sizeof own / sizeof *own;
     memcpy(words, own, sizeof own);
-    /* without the last one */
+    /* leaves out --clipboard, the last one */
     if (!run->has_clipboard || !bears_clips()) count--;
     errno = E2BIG;
     if (!add_words(words, count, run->words)) return -1;
@@ -106,7 +106,7 @@ pid_t start_program(const struct run *run, const struct pipes *ends, unsigned ro
     return program;
 }
 
-/* Takes in a word of the program. `whose` is its struct run. */
+/* Takes in one frame of the program. `whose` is the struct run. */
 static void hear_word(const struct frame *frame, void *whose) {
     struct run *run = whose;
     struct said *said = &run->said;
@@ -148,7 +148,7 @@ void tell_foreign(const struct word_reader *reader) {
     write_within(STDERR_FILENO, letters, count, end_signal ? FOREIGN_BY_SIGNAL_MS : FOREIGN_MS, true);
 }
 
-/* Becomes the program, which nobody sees and which dies with the host. */
+/* Becomes the program without a terminal. The kernel kills it when the host dies. */
 static _Noreturn void become_aside(const struct run *run, char *const *words, int words_end, pid_t host) {
     int none = open("/dev/null", O_RDWR | O_CLOEXEC);
     if (prctl(PR_SET_PDEATHSIG, SIGKILL) != 0 || getppid() != host) _exit(1);

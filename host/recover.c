@@ -1,4 +1,4 @@
-/* Sessions of FILE that were left: questions about them, their replay, and how one goes on or is stored as another file. */
+/* Sessions that earlier starts left of FILE: questions about them, their replay, and how one is continued or stored as another file. */
 #include <errno.h>
 #include <fcntl.h>
 #include <stdlib.h>
@@ -10,11 +10,11 @@
 #include "say.h"
 #include "util.h"
 
-static const char missed[] = "another start of the editor has that session by now";
+static const char missed[] = "that session was opened or deleted in another window meanwhile";
 static const char unsure[] =
-    "another version of the editor, or of Unicode's tables, kept that session without its text, and the keys may make another text now";
+    "that session was recorded by another version of the editor or of Unicode's tables, without its text: its keys may give another text now";
 
-/* What becomes of a session that is to go on. OUTCOME_MISSED: another start has it by now. */
+/* What became of a session that was to be recovered. OPENED: FILE is opened instead. MISSED: another start has opened or deleted it. */
 enum outcome { OUTCOME_TAKEN, OUTCOME_OPENED, OUTCOME_MISSED, OUTCOME_END };
 
 /* The start ends with this exit status. */
@@ -53,21 +53,21 @@ static int tell_unwritten(const char *path, int error) {
     return STATUS_FAULT;
 }
 
-/* Copies a session's parts to free names beside FILE, and removes the session. It stays where a part cannot be read or written. */
+/* Copies a session's files to free names beside FILE, and removes the session. If a copy fails, the session stays. */
 static int keep_parts(struct session *session, const char *typed) {
     static const struct {
         enum part part;
         const char *ending, *what;
     } parts[] = {{PART_TEXT, "session-text", "the text as it was opened"},
                  {PART_JOURNAL, "session-journal", "the keys"},
-                 {PART_SNAPSHOT, "session-snapshot", "the text where the session was left"},
-                 {PART_SAVE, "session-save", "the text of a save that was cut off"}};
+                 {PART_SNAPSHOT, "session-snapshot", "the text at the end of the session"},
+                 {PART_SAVE, "session-save", "the text of an interrupted save"}};
     for (size_t i = 0; i < sizeof parts / sizeof *parts; i++) {
         int file = session_open(session, parts[i].part);
         if (file < 0 && errno == ENOENT) continue;
         const char *name = free_name(typed, parts[i].ending);
         if (file < 0) {
-            warn("the session in %s cannot be read: %s. It is left as it is", shown(session->path), parts[i].what);
+            warn("the session in %s is left as it is, since a part cannot be read: %s", shown(session->path), parts[i].what);
             return STATUS_FAULT;
         }
         int error = copy_to_new(name, file, 0600);
@@ -81,30 +81,30 @@ static int keep_parts(struct session *session, const char *typed) {
 }
 
 static int tell_unwritable(const struct edit *edit, int error) {
-    warn("nothing can be written in %s%s. bidi-edit --recover --to OTHER %s stores the text elsewhere", shown(edit->sessions.path),
+    warn("nothing can be written in %s%s. To store the text elsewhere: bidi-edit --recover --to OTHER %s", shown(edit->sessions.path),
          fault_words(error), shown(edit->call->file));
     return STATUS_FAULT;
 }
 
 static void tell_cut(const struct session *session) {
     if (!session_has(session, PART_CUT)) return;
-    tell("the session is cut off after its key %zu: what followed could not be written", session_count_keys(session));
+    tell("the session ends after key %zu: what was typed later could not be recorded", session_count_keys(session));
 }
 
-/* Settles the file with which a session goes on: FILE, or where it has another's text, a new file beside it. */
+/* Decides which file the recovered text is saved to: FILE, or a new file beside FILE if another program has changed FILE. */
 static int settle_file(struct edit *edit, enum replayed found) {
     const char *typed = edit->call->file;
     if (found != REPLAY_FOREIGN || !edit->file.look.is_there) {
-        /* what is refused of a FILE whose folder is gone is told by the usual opening */
+        /* the usual opening refuses a FILE whose folder is gone */
         if (edit->file.is_lost) return find_file(edit, typed, false);
         return check_access(edit);
     }
     edit->aside_of = typed;
     const char *beside = free_name(typed, "recovered");
-    tell("another program or window has changed %s since; what was typed is recovered as %s", shown(typed), shown(beside));
+    tell("another program or window has changed %s since; the session's text is recovered as %s", shown(typed), shown(beside));
     int status = find_file(edit, beside, false);
     if (status == GO_ON) status = check_access(edit);
-    if (status != GO_ON) warn("bidi-edit --recover --to OTHER %s stores the text elsewhere", shown(typed));
+    if (status != GO_ON) warn("to store the text elsewhere: bidi-edit --recover --to OTHER %s", shown(typed));
     return status;
 }
 
@@ -115,7 +115,7 @@ static bool is_of_path(const struct edit *edit, const struct session *session) {
     return is_same;
 }
 
-/* Goes on with a session; `found` is what FILE has. */
+/* Continues a session; `found` says what FILE has. */
 static enum outcome go_on_with(struct edit *edit, struct session *session, enum replayed found, int *status) {
     bool is_own = is_of_path(edit, session);
     *status = settle_file(edit, found);
@@ -128,12 +128,12 @@ static enum outcome go_on_with(struct edit *edit, struct session *session, enum 
 }
 
 static enum outcome end_where_same(const struct edit *edit, struct session *session) {
-    tell("%s holds all that was typed in its last session", shown(edit->file.typed));
+    tell("%s already contains everything that was typed in its last session", shown(edit->file.typed));
     session_remove(session);
     return OUTCOME_OPENED;
 }
 
-/* Asks about a session whose keys cannot be replayed. FILE is opened in any case. */
+/* Asks about a session whose keys cannot be replayed. After an answer FILE is opened. */
 static enum outcome ask_what_to_keep(const struct edit *edit, struct session *session, int *status) {
     tell("the session of %s in %s could not be replayed", shown(edit->file.typed), shown(session->path));
     enum rest rest = ask_rest();
@@ -156,12 +156,12 @@ static enum outcome take_by_keys(struct edit *edit, struct session *session, int
     return found == REPLAY_SAME ? end_where_same(edit, session) : go_on_with(edit, session, found, status);
 }
 
-/* Starts a new session from the text that a session left, and removes the old one. */
+/* Makes a new session from the text that a session left at its end, and removes the old session. */
 static enum outcome take_by_text(struct edit *edit, struct session *session, int *status) {
     struct session renewed;
     enum replayed found = compare_text(edit, session);
     if (found == REPLAY_SAME) return end_where_same(edit, session);
-    tell("another version of the editor, or of Unicode's tables, kept that session: its text is recovered, and its undo history is not");
+    tell("that session was recorded by another version of the editor or of Unicode's tables: its text is recovered, but not its undo history");
     session_clear(&renewed);
     int error = session_renew(&renewed, &edit->sessions, session, edit->versions);
     if (error != 0) return end_with(status, tell_unwritable(edit, error));
@@ -182,7 +182,7 @@ static enum outcome take_locked(struct edit *edit, struct session *session, int 
     if (session_has_versions(session, edit->versions)) return take_by_keys(edit, session, status);
     if (session_has(session, PART_SNAPSHOT)) return take_by_text(edit, session, status);
     tell("%s", unsure);
-    if (ask_to_go_on("Recover it all the same")) return take_by_keys(edit, session, status);
+    if (ask_to_go_on("Recover it anyway")) return take_by_keys(edit, session, status);
     return end_with(status, STATUS_NO);
 }
 
@@ -196,16 +196,16 @@ static enum outcome take_over(struct edit *edit, struct session *session, int *s
 
 /* ---- questions about FILE's sessions */
 
-/* Tells of a process of the user's that has FILE open, or may have it open where that cannot be seen from here (`is_sure`), and
- * asks whether to go on. */
+/* Says that another process of the user's has FILE open (`is_sure`), or may have it open where that cannot be checked from here, and asks
+ * whether to go on. */
 static bool ask_of_other(const char *typed, const char *number, const char *machine, bool is_sure) {
-    static const char overwrites[] = "What one of them saves the other may overwrite.";
+    static const char overwrites[] = "Each window may overwrite what the other saves.";
     const char *file = shown(typed), *where = machine ? text_of(" on %s", machine) : "";
-    if (is_sure) tell("%s is open in another window of yours, process %s%s. %s", file, number, where, overwrites);
+    if (is_sure) tell("%s is already open in another window of yours (process %s%s). %s", file, number, where, overwrites);
     else
-        tell("%s may be open in another window of yours, process %s on %s, which cannot be seen from here. %s", file, number,
+        tell("%s may be open in another window of yours (process %s on %s, which cannot be checked from here). %s", file, number,
              machine ? machine : THIS_MACHINE, overwrites);
-    return ask_to_go_on("Edit it all the same");
+    return ask_to_go_on("Edit it anyway");
 }
 
 static const char *number_text(const struct session *session) {
@@ -213,7 +213,7 @@ static const char *number_text(const struct session *session) {
     return session_process(session, &process) ? text_of("%u", process.number) : "unknown";
 }
 
-/* Asks whether to go on beside another editor that has FILE open. Returns MET_NONE where there is none. */
+/* If another editor has FILE open, asks whether to go on. Returns MET_NONE if none has. */
 static enum met ask_beside(const struct edit *edit, const struct found *found) {
     const char *typed = edit->call->file;
     pid_t other = edit->file.is_lost ? 0 : note_open_file(&edit->file);
@@ -227,7 +227,7 @@ static enum met ask_beside(const struct edit *edit, const struct found *found) {
     return goes_on ? MET_ASKED : MET_END;
 }
 
-/* Deletes a session for good. One that cannot be deleted is asked about again. */
+/* Deletes a session for good. If that fails, the question comes again. */
 static enum outcome delete_session(const struct edit *edit, struct session *session) {
     enum lock_result lock = session_lock(session, PART_PATH);
     int error = lock == LOCK_TAKEN ? session_remove(session) : session->error;
@@ -238,7 +238,7 @@ static enum outcome delete_session(const struct edit *edit, struct session *sess
 }
 
 static enum outcome ask_what_to_do(struct edit *edit, struct session *session, int *status) {
-    tell("%s has an unfinished session of %s (keys typed: %zu)", shown(edit->file.typed), time_text(session), session_count_keys(session));
+    tell("%s has an unfinished session from %s (keys typed: %zu)", shown(edit->file.typed), time_text(session), session_count_keys(session));
     switch (ask_choice()) {
     case CHOICE_RECOVER: return take_over(edit, session, status);
     case CHOICE_LATER: return OUTCOME_OPENED;
@@ -266,7 +266,7 @@ enum met meet_sessions(struct edit *edit, int *status) {
 
 /* ---- --recover FILE */
 
-/* Tells that FILE has no session to recover; where `is_live`, its only one is still running. */
+/* Says that FILE has no session to recover; with `is_live`, that its only one is still running. */
 static int tell_no_session(const struct edit *edit, bool is_live) {
     enum notice notice;
     const char *file = shown(edit->file.typed), *unkept = unkept_by(&edit->sessions, &notice);
@@ -286,7 +286,7 @@ static struct session *pick(struct found *found, bool *is_elsewhere) {
 
 static bool ask_of_elsewhere(const struct edit *edit, const struct session *session) {
     const char *machine = machine_text(session);
-    tell("the session of %s began on %s, as process %s, and cannot be seen from here. It can be recovered where that has ended.",
+    tell("the session of %s began on %s (process %s), which cannot be checked from here. Recover it only if that process has ended.",
          shown(edit->file.typed), machine ? machine : THIS_MACHINE, number_text(session));
     return ask_to_go_on("Has it ended");
 }
@@ -325,8 +325,8 @@ int recover_session(struct edit *edit, bool *is_taken) {
 
 /* ---- --recover --to OTHER FILE */
 
-/* The text of a session, as an open file: by its keys, or as it was left if another version kept it. -1 where it cannot be had,
- * which is told. */
+/* The text of a session as an open file: by a replay of its keys, or, if another version recorded it, as it was at its end. -1 if there is
+ * none, which is reported. */
 static int text_to_store(struct edit *edit, const struct session *session) {
     int text = -1;
     if (!session_has_versions(session, edit->versions)) {
@@ -347,11 +347,11 @@ static int store(struct edit *edit, const struct session *session) {
     int error = copy_to_new(other, text, session_mode(session));
     close(text);
     if (error != 0) return tell_unwritten(other, error);
-    tell("the text of %s with what was typed (keys: %zu) is in %s", shown(edit->file.typed), session_count_keys(session), shown(other));
+    tell("the text of %s, with what was typed in the session (keys: %zu), is now in %s", shown(edit->file.typed), session_count_keys(session), shown(other));
     return 0;
 }
 
-/* Stores the text of one of the sessions that were found. One of another machine is refused: only --recover alone asks whether it
+/* Stores the text of one of the sessions that were found. A session of another machine is refused: only --recover FILE asks whether it
  * has ended. */
 static int store_found(struct edit *edit, struct found *found) {
     bool is_elsewhere;
@@ -360,11 +360,11 @@ static int store_found(struct edit *edit, struct found *found) {
     const char *file = shown(edit->file.typed), *other = edit->call->other;
     if (!session) return tell_no_session(edit, !session_is_none(&found->live));
     if (is_elsewhere) {
-        warn("the session of %s began on another machine: bidi-edit --recover %s asks of it", file, file);
+        warn("the session of %s began on another machine: bidi-edit --recover %s asks whether it has ended", file, file);
         return STATUS_FAULT;
     }
     if (lstat(other, &look) == 0) {
-        warn("%s is there already: name a new file", shown(other));
+        warn("%s already exists: name a new file", shown(other));
         return STATUS_FAULT;
     }
     enum lock_result lock = session_lock(session, PART_PATH);

@@ -14,10 +14,14 @@
 #include "terminal.h"
 #include "util.h"
 
-/* Milliseconds. HAND_ON_MS: those of the program's end in which what was typed is handed on; DEATH_MS: a killed one's. RESTORE_MS: the
- * terminal's to take what restores it, or RESTORE_BY_SIGNAL_MS after a signal. IDLE_MS: typed bytes that nothing follows for so long
- * are all. SILENCE_MS: a program that asks for nothing so long waits for an answer. HOLD_MS: the program's to be stopped, looked at
- * each LOOK_MS; STOP_MS: the terminal's to be restored before a stop. */
+/* Milliseconds.
+ * HAND_ON_MS: when a session is to end, typed bytes are still handed to the program for so long.
+ * DEATH_MS: how long to wait for a killed program to end.
+ * RESTORE_MS, RESTORE_BY_SIGNAL_MS: how long the terminal may take to accept what restores it; after a signal.
+ * IDLE_MS: if nothing follows typed bytes for so long, a key is complete.
+ * SILENCE_MS: a program that sends nothing for so long during a save waits for the host's answer.
+ * HOLD_MS, LOOK_MS: how long to wait until the program is stopped, and how often to look.
+ * STOP_MS: how long the terminal may take to be restored before the host stops. */
 enum {
     HAND_ON_MS = 500,
     DEATH_MS = 1000,
@@ -31,25 +35,26 @@ enum {
     LOOK_MS = 5
 };
 
-/* The bytes of one read of the terminal, and the most that wait here: few, since a kill of the host loses them. */
+/* The bytes of one read of the terminal, and the most that wait in the host: few, since a kill of the host loses them. */
 enum { TYPED_PIECE = 1024, TYPED_MOST = 4096 };
 
 /* The byte of Ctrl-C. */
 enum { CTRL_C = 3 };
 
-/* The state of the one run. The processes are 0 where there is none. */
+/* The state of the run; there is only one. A process number is 0 if there is no such process. */
 static struct {
     struct pipes pipes;
     pid_t program, saver;
     int program_status;
-    /* What waits for the program, and what came from it. */
+    /* Frames that wait to be written to the program, and the reader of its frames. */
     struct frame_queue queue;
     struct word_reader reader;
-    /* The program is to get the window's size; the terminal says no more; what did not end in time was killed; bytes were typed
-     * since was_typed was called last. */
+    /* The program is to be told the window's size; the terminal has hung up; what did not end in time was killed; bytes were typed
+     * since the last call of was_typed. */
     bool is_size_owed, is_hung_up, is_killed, is_typed;
-    /* When IDLE is due, and the next second; when the rest of a save whose child was killed is dropped; when a stop is due; when what
-     * was typed has to be handed on, and the program to have ended. 0 for never. */
+    /* Times, 0 for never. `idle`: when to send the idle frame. `second`: the next tick. `dropped`: when a save whose child was killed is
+     * refused, the rest of it having been thrown away. `stop`: when the host stops. `handed_on`, `end`: until when typed bytes are
+     * handed to a program that is to end, and until when it may run. */
     int64_t idle, second, dropped, stop, handed_on, end;
 } now_running = {.pipes = {-1, -1, -1, -1}};
 
@@ -82,13 +87,13 @@ static void reap(struct run *run) {
     if (watcher > 0 && waitpid(watcher, &status, WNOHANG) == watcher) watcher = 0;
 }
 
-/* Drops a part of a save whose child was killed: it is over once the program is silent. */
+/* Throws away a piece of a save whose child was killed. The save is over once the program sends nothing more. */
 static void drop_request(size_t length) {
     char bytes[4096];
     if (read(now_running.pipes.requests, bytes, length < sizeof bytes ? length : sizeof bytes) > 0) now_running.dropped = now() + SILENCE_MS;
 }
 
-/* Fails a save whose child was killed, or could not be made, after the rest of it. */
+/* Refuses a save whose child was killed or could not be made, once the rest of the save was thrown away. */
 static void mind_dropped(struct run *run) {
     if (now_running.dropped == 0 || now() < now_running.dropped) return;
     now_running.dropped = 0;
@@ -98,7 +103,7 @@ static void mind_dropped(struct run *run) {
 
 static void mind_request(struct run *run) {
     int waiting = 0;
-    /* the program's end is no request */
+    /* without bytes this is the end of the program, not a request */
     if (ioctl(now_running.pipes.requests, FIONREAD, &waiting) != 0 || waiting == 0) {
         close_one(&now_running.pipes.requests);
         return;
@@ -116,8 +121,7 @@ static bool takes_typing(void) {
     return !now_running.is_hung_up && (now_running.end != 0 || queue_length(&now_running.queue) < TYPED_MOST);
 }
 
-/* A start that has not come to its first painting is ended by Ctrl-C. What the program said before the user saw it is heard
- * first. */
+/* Ctrl-C ends a start that has not painted yet. First the program's frames are read, since it may have opened FILE just now. */
 static void mind_ctrl_c(struct run *run, const unsigned char *bytes, size_t length) {
     if (run->said.is_opened || !memchr(bytes, CTRL_C, length)) return;
     hear_words(run);
@@ -144,7 +148,7 @@ static void close_input(void) {
     now_running.idle = 0;
 }
 
-/* Waits until the time `end`, or until something came, and reads and writes what can be. */
+/* Waits until something can be read or written, or until the time `end`, and does it. */
 static void wait_once(struct run *run, int64_t end) {
     enum { WORDS, REQUESTS, KEYS, LINE, FILES };
     bool is_saving = !run->saver || now_running.saver > 0, is_written = queue_length(&now_running.queue) > 0;
@@ -165,7 +169,7 @@ static void wait_once(struct run *run, int64_t end) {
     if (files[LINE].revents & ~POLLOUT && takes_typing()) read_typing(run);
 }
 
-/* Puts the window's size behind what was typed before, once the terminal has what comes before the repainting. */
+/* Queues the window's size after the bytes that were typed before it, once the terminal has taken what must precede the repainting. */
 static void mind_size(void) {
     struct size size;
     if (!now_running.is_size_owed || is_showing()) return;
@@ -199,7 +203,8 @@ static bool is_program_waiting(void) {
     return at && strncmp(at, ") S", 3) == 0;
 }
 
-/* Stops the program, once it has painted all or after HOLD_MS, since a shell has the whole job go on before the host has the screen. */
+/* Stops the program once it has painted all, or after HOLD_MS: a shell continues the whole job at once, and the program must not paint
+ * before the host has taken the screen again. */
 static void hold_program(void) {
     siginfo_t info = {.si_pid = 0};
     int64_t end = now() + HOLD_MS;
@@ -212,7 +217,7 @@ static void hold_program(void) {
     }
 }
 
-/* Stops the host, while others have the terminal. A host that is told to end meanwhile leaves it to them. */
+/* Stops the host; others have the terminal meanwhile. If the host is told to end meanwhile, it leaves the terminal to them. */
 static void stop(void) {
     hold_program();
     leave_screen(STOP_MS);
@@ -228,7 +233,7 @@ static void stop(void) {
     if (now_running.program > 0) kill(now_running.program, SIGCONT);
 }
 
-/* Stops the host where that is asked for. A marked paste may end before, so that no shell runs the rest of it. */
+/* Stops the host if that was asked for, but lets a marked paste end first, so that no shell runs the rest of it. */
 static void mind_stop(void) {
     if (is_stop_asked && now_running.stop == 0) now_running.stop = now() + PASTE_MS;
     if (now_running.stop == 0 || now_running.end != 0 || (watched->paste.is_under_way && now() < now_running.stop)) return;
@@ -236,14 +241,14 @@ static void mind_stop(void) {
     stop();
 }
 
-/* Bytes that came while the host was stopped follow what was typed before. */
+/* Tells the program that no byte follows. Bytes that came while the host was stopped still belong to what was typed before. */
 static void mind_idle(void) {
     struct pollfd wanted = {.fd = terminal_line, .events = POLLIN};
     if (now_running.idle == 0 || now() < now_running.idle || !takes_typing() || poll(&wanted, 1, 0) != 0) return;
     if (put_frame(&now_running.queue, FRAME_IDLE, NULL, 0)) now_running.idle = 0;
 }
 
-/* Does what is due each second. Any input has the program try its journal again, so it is sent none while it has some to read. */
+/* Does what is due each second. Any input makes the program try its journal again, so none is sent while it has some to read. */
 static void mind_second(struct run *run) {
     int waiting = 0;
     if (now() < now_running.second) return;
@@ -257,7 +262,7 @@ static void mind_queue(void) {
     if (now_running.pipes.keys >= 0 && !write_queue(&now_running.queue, now_running.pipes.keys)) close_input();
 }
 
-/* Kills what does not end in time. Returns false where it does not even then. */
+/* Kills what did not end in time. Returns false if that was done before and did not help. */
 static bool kill_late(void) {
     if (now_running.is_killed) return false;
     if (now_running.program > 0) {
@@ -270,7 +275,8 @@ static bool kill_late(void) {
     return true;
 }
 
-/* Ends the program's input where the session is to end, once it has what was typed. Returns false where the end is over. */
+/* If the session is to end, closes the program's input once the program has what was typed. Returns false once there is nothing left to
+ * wait for. */
 static bool mind_end(const struct run *run) {
     bool is_over = end_signal || now_running.is_hung_up || now_running.program == 0;
     if (!is_over) return true;
@@ -283,7 +289,7 @@ static bool mind_end(const struct run *run) {
     return now() < now_running.end || kill_late();
 }
 
-/* When the next thing is to be done without being woken. */
+/* The time of the next thing to do that no file or signal will wake the host for. */
 static int64_t next_moment(void) {
     int64_t moments[] = {now_running.end, now_running.dropped, now_running.end == 0 ? now_running.stop : 0,
                          now_running.pipes.keys >= 0 ? now_running.handed_on : 0, takes_typing() ? now_running.idle : 0};
@@ -293,7 +299,7 @@ static int64_t next_moment(void) {
     return next;
 }
 
-/* Goes on until the program and a save have ended, or cannot be ended. */
+/* The main loop: runs until the program and any save have ended, or cannot be ended. */
 static void go_on(struct run *run) {
     for (reap(run); now_running.program > 0 || now_running.saver > 0; reap(run)) {
         mind_stop();
@@ -312,7 +318,7 @@ static void restore(struct run *run) {
     close_input();
     hear_words(run);
     end_words(&now_running.reader);
-    /* told to end in a stop, the host has left the terminal */
+    /* if the host was told to end while it was stopped, it has restored the terminal already */
     if (!watched->is_changed) return;
     drain_paste(&watched->paste, within(PASTE_MS));
     restore_screen(within(end_signal ? RESTORE_BY_SIGNAL_MS : RESTORE_MS));
@@ -327,7 +333,7 @@ static bool start(struct run *run, struct pipes *ends) {
     run->cause = "the terminal's settings cannot be changed";
     watched->is_changed = true;
     if (!begin_screen()) return false;
-    run->cause = "no process can be started";
+    run->cause = "no process can be created";
     listen_once();
     if (end_signal) return false;
     pid_t program = start_program(run, ends, first.rows, first.columns);
@@ -340,16 +346,16 @@ static bool start(struct run *run, struct pipes *ends) {
     return true;
 }
 
-/* Makes what the watcher and the program need. */
+/* Prepares what the watcher and the program need. */
 static bool prepare(struct run *run, struct pipes *ends) {
     run->cause = "the terminal's settings cannot be read";
     if (!note_settings()) return false;
     prepare_screen(run->title, run->has_mouse);
-    run->cause = "no pipe can be made";
+    run->cause = "no pipe can be created";
     if (!open_words(&now_running.pipes, ends)) return false;
-    run->cause = "no process can be started";
+    run->cause = "no process can be created";
     if (!start_watcher(now_running.pipes.words, run->held)) return false;
-    run->cause = "no pipe can be made";
+    run->cause = "no pipe can be created";
     return open_pipes(&now_running.pipes, ends);
 }
 

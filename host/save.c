@@ -13,7 +13,8 @@
 #include "save_judge.h"
 #include "util.h"
 
-/* FOLDER_LOCK_TRIES: waits of LOCK_MS for another save into the folder; some file systems and other programs keep the lock for ever. */
+/* FOLDER_LOCK_TRIES: how often to wait LOCK_MS for another save into the folder. Then the save goes on without the lock, since some
+ * file systems and programs never release it. */
 enum { FOLDER_LOCK_TRIES = 50, LOCK_MS = 10 };
 
 /* ---- FILE and its folder, as they are now */
@@ -34,8 +35,8 @@ static void look_and_note(struct save *save, int folder) {
     close_one(&itself);
 }
 
-/* Looks at FILE's name, and opens what is there. Returns 0, or the cause why the save must not go on; `is_there` tells whether it was
- * seen before. */
+/* Looks at FILE's name, and opens what is there. Returns 0, or the cause why the save must not go on. Sets `is_there`: FILE exists,
+ * and is as it was last seen. */
 static int look_now(struct save *save, int *itself) {
     struct look now;
     if (!look_and_open(save->folder, save->file->name, &now, itself)) return cause_of(errno);
@@ -56,7 +57,7 @@ static int open_folder_path(const struct save *save) {
     return open_folder(AT_FDCWD, save->file->folder_path);
 }
 
-/* Takes a folder at the old one's path for FILE's: it was made again, on the same disk, and no link leads there. */
+/* Accepts a folder at the path of FILE's folder as FILE's new folder, if it is another one on the same disk and no link led to it. */
 static bool adopt(struct save *save, int folder) {
     char path[PATH_MAX];
     struct stat found;
@@ -78,7 +79,7 @@ static bool find_folder_again(struct save *save) {
     return false;
 }
 
-/* Settles the folder that the save goes to: the one that was opened, unless it was made again since. */
+/* Decides which folder the save goes to: the one that was opened, unless it was created again since. */
 static int settle_folder(struct save *save) {
     save->folder = save->file->folder;
     if (save->file->is_lost) return SAVE_FOLDER_GONE;
@@ -91,17 +92,17 @@ static int settle_folder(struct save *save) {
     return 0;
 }
 
-/* Whether FILE's links lead to another file by now. That is told once: nothing follows them again. */
+/* Whether the links by which FILE was opened lead to another file by now. This makes one save fail; later saves do not follow the links. */
 static bool leads_elsewhere(struct save *save) {
     struct stat there;
     const struct stat *seen = &save->state.seen.found;
     if (!save->file->is_linked || save->state.is_link_told || stat(save->file->typed, &there) != 0) return false;
-    /* one that stands in FILE's place was told */
+    /* a link in FILE's own place has been reported as a change already */
     save->state.is_link_told = !save->is_there || (!S_ISLNK(seen->st_mode) && !is_same_file(&there, seen));
     return save->state.is_link_told;
 }
 
-/* Whether the folder's path still leads to it. A folder that was made again there is FILE's from the next save on. */
+/* Checks that the folder's path still leads to it. If a new folder is there, this save fails, and the next one goes to the new folder. */
 static int check_place(struct save *save) {
     struct stat own, there;
     if (leads_elsewhere(save)) return SAVE_CHANGED;
@@ -132,16 +133,16 @@ static int settle_way(struct save *save, int itself) {
     enum reason reason = find_reason(save, itself);
     bool is_itself = save->state.is_held || (saver->is_itself && !save->state.is_replaced);
     save->is_in_place = saver->mark_folder >= 0 || is_itself || reason != NO_REASON;
-    /* a mark beside FILE would not help: nothing can be put there */
+    /* without a session there is no place for a mark, since nothing can be created beside FILE */
     return reason == REASON_PROTECTED && saver->mark_folder < 0 ? SAVE_NOT_PERMITTED : 0;
 }
 
-/* Opens the draft. A new FILE's mode is the usual one, of which the system clears the bits in the user's mask. */
+/* Opens the draft. A FILE that did not exist gets the usual mode, reduced by the user's umask. */
 static int open_draft(struct save *save) {
     int mark_folder = save->saver->mark_folder;
     mode_t mode = save->is_in_place || save->state.old.is_there ? 0600 : 0666;
     if (save->is_in_place && mark_folder >= 0) {
-        /* FILE may need the mark that is there */
+        /* FILE may be torn, and need the mark that exists */
         if (faccessat(mark_folder, MARK_NAME, F_OK, AT_SYMLINK_NOFOLLOW) == 0) save->state.is_torn = true;
         return draft_open_own(&save->draft, mark_folder, MARK_DRAFT_NAME, mode);
     }
@@ -155,7 +156,7 @@ static int begin_here(struct save *save) {
     return cause == 0 ? cause_of(open_draft(save)) : cause;
 }
 
-/* Settles where a save goes, and opens its draft. */
+/* Decides where a save goes, and opens its draft. */
 static int save_begin(struct save *save) {
     draft_remove(&save->draft);
     int cause = settle_folder(save);
@@ -166,7 +167,7 @@ static int save_begin(struct save *save) {
 
 /* ---- a new file in FILE's place */
 
-/* Opens the folder to be synced, and keeps other saves of the editor out of it for as long as the child lives. */
+/* Opens the folder for syncing, and locks it against other saves of the editor as long as the child lives. */
 static void lock_folder(struct save *save) {
     save->folder_to_sync = openat(save->folder, ".", O_RDONLY | O_DIRECTORY | O_CLOEXEC);
     if (save->folder_to_sync >= 0) lock_file(save->folder_to_sync, FOLDER_LOCK_TRIES, LOCK_MS);
@@ -176,7 +177,8 @@ int save_sync_folder(const struct save *save) {
     return save->folder_to_sync >= 0 ? sync_file(save->folder_to_sync) : 0;
 }
 
-/* Notes the draft, which is FILE now, as it was `before` it took the place. A change of its text since is another program's. */
+/* Records the draft, which is FILE now, as what was seen last. `before` is the draft before it took FILE's place: if the text has
+ * changed since then, another program did that. */
 static void note_replaced(struct save *save, const struct stat *before) {
     struct state *state = &save->state;
     int file = save->draft.file;
@@ -236,7 +238,7 @@ static int save_commit(struct save *save) {
     close_one(&itself);
     if (cause == 0) cause = check_place(save);
     if (cause != 0) return cause;
-    /* how a FILE is saved that came back meanwhile is settled at the next beginning */
+    /* FILE was created or removed meanwhile: how to save it is decided when the next save begins */
     if (save->is_there != was_there && (save->is_there || save->is_in_place)) return SAVE_CHANGED;
     return save->is_in_place ? save_in_place(save) : replace(save);
 }
@@ -246,7 +248,7 @@ static int save_commit(struct save *save) {
 /* Bytes of two of the longest frames. */
 enum { ROOM = 2 * (FRAME_HEAD + FRAME_MOST) };
 
-/* The child writes a state to the slot that is not read, and then says that this one is. */
+/* The child writes a state to the slot that is not current, and then makes that slot the current one. */
 struct saved {
     struct state slots[2];
     atomic_uint current;
@@ -265,18 +267,18 @@ void save_publish(const struct save *save) {
 
 /* ---- the child serves a save */
 
-/* What the user must know while FILE is torn and its mark is beside it. */
+/* The cause to report: while FILE is torn and its mark is beside it, the user must know that first. */
 static int cause_to_tell(const struct save *save, int cause) {
     return cause != 0 && save->state.is_torn && save->state.torn[0] ? SAVE_CUT_OFF : cause;
 }
 
-/* Removes what a failed save made: the mark too, unless FILE needs it. */
+/* Removes the draft of a failed save, even if it is the mark already, unless FILE needs the mark. */
 static void clean_up(struct save *save) {
     if (save->state.is_torn && strcmp(save->draft.name, MARK_NAME) == 0 && save->saver->mark_folder >= 0) save->draft.name[0] = 0;
     draft_remove(&save->draft);
 }
 
-/* Tells the host how the save ended, which answers. */
+/* Ends the child, and leaves the result for the host, which answers the program. */
 static _Noreturn void end(struct save *save, int cause) {
     clean_up(save);
     save->state.cause = cause_to_tell(save, cause);
@@ -285,7 +287,7 @@ static _Noreturn void end(struct save *save, int cause) {
     _exit(0);
 }
 
-/* Ends without the save's end: nobody hears of it. */
+/* Ends the child without a result, since the program has gone. */
 static _Noreturn void give_up(struct save *save) {
     draft_remove(&save->draft);
     _exit(1);
@@ -309,7 +311,7 @@ static void obey_frame(struct save *save, const struct frame *frame, int answer)
     }
 }
 
-/* Obeys frames until the save's end, or the program's. */
+/* Obeys frames until the save or the program ends. */
 static _Noreturn void serve(struct save *save, int request, int answer) {
     static unsigned char room[ROOM];
     size_t length = 0;
@@ -326,9 +328,9 @@ static _Noreturn void serve(struct save *save, int request, int answer) {
     give_up(save);
 }
 
-/* ---- the child is made, and taken in */
+/* ---- starting the child, and its result */
 
-/* Has the child finish a save whatever asks the host to end, and whatever is killed by the host's name. */
+/* Lets the child finish a save when signals ask the host's job to end, and gives it another name than the host's, by which users kill. */
 static void become_child(const struct saver *saver, int request, int answer) {
     static const int ignored[] = {SIGHUP, SIGINT, SIGQUIT, SIGTERM, SIGTSTP, SIGTTIN, SIGTTOU, SIGPIPE, SIGXFSZ};
     const struct file *file = saver->file;

@@ -26,12 +26,13 @@ struct saver {
 #define MARK_NAME "mark"
 #define MARK_DRAFT_NAME "mark.bx"
 
-/* Gets a saver ready, which takes `file` as it was opened for what was last seen. The caller then sets mark_folder, lock and
- * is_itself, which are -1, -1 and false. Returns false without memory. */
+/* Prepares a saver. What it has seen of FILE last is `file` as it was opened. mark_folder, lock and is_itself are -1, -1 and false, and the
+ * caller may set them. Returns false without memory. */
 bool saver_open(struct saver *saver, struct file *file);
 
 /* Forks the child that serves one save, from its BEGIN frame on `request`, which it answers on `answer`, to its end. Returns its
- * process, or -1: then it is as after saver_finish that returns false. To be called whenever `request` can be read and there is no child. */
+ * process, or -1: then it is as after saver_finish that returns false. To be called whenever `request` can be read and there is no
+ * child. */
 pid_t saver_start(struct saver *saver, int request, int answer);
 
 /* Takes in what the child left, once it has ended, and answers. Returns false where it was killed, and did not end the save. Then

@@ -25,7 +25,7 @@ const char *reason_text(enum reason reason) {
     case REASON_LINKED: return "has other names (hard links)";
     case REASON_LISTED: return "has an access list";
     case REASON_LABELLED: return "has a security label";
-    case REASON_GIVEN_LIST: return "is in a folder that gives access lists";
+    case REASON_GIVEN_LIST: return "is in a folder that gives new files an access list";
     case NO_REASON: break;
     }
     return "";
@@ -34,10 +34,10 @@ const char *reason_text(enum reason reason) {
 const char *reason_harm(enum reason reason) {
     switch (reason) {
     case REASON_PROTECTED:
-    case REASON_MOUNTED: return "no save can be made";
-    case REASON_LINKED: return "a save would part it from them";
-    case REASON_LISTED: return "a save would drop it";
-    case REASON_LABELLED: return "a save may give it another";
+    case REASON_MOUNTED: return "it cannot be saved";
+    case REASON_LINKED: return "a save would separate it from them";
+    case REASON_LISTED: return "a save would remove the list";
+    case REASON_LABELLED: return "a save may change the label";
     case REASON_GIVEN_LIST: return "a save would give it one";
     case NO_REASON: break;
     }

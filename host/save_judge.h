@@ -1,4 +1,4 @@
-/* Decisions of saves, over facts alone. */
+/* Decisions about saves by plain facts, without system calls. */
 #ifndef SAVE_JUDGE_H
 #define SAVE_JUDGE_H
 
@@ -8,7 +8,7 @@
 #include "file.h"
 #include "frames.h"
 
-/* Why saves are written into FILE itself. */
+/* Why saves overwrite FILE in place. */
 enum reason {
     NO_REASON,
     REASON_PROTECTED,
@@ -19,16 +19,16 @@ enum reason {
     REASON_GIVEN_LIST,
 };
 
-/* Why a rename must not replace a file, by the facts about it, what was found, and the facts about its folder; NO_REASON where it
- * can, where it is no plain file, or where the user cannot write it. */
+/* Why a new file must not replace a file; NO_REASON if it may, if it is not a plain file, or if the user cannot write it. By the
+ * facts about the file, the look at it, and the facts about its folder. */
 enum reason find_in_place(const struct facts *file, const struct look *look, const struct facts *folder);
 
-/* What messages say of the file, and of what a rename would do. */
+/* What messages say about the file, and about what a save by a new file would do to it. */
 const char *reason_text(enum reason reason);
 const char *reason_harm(enum reason reason);
 
-/* Whether a new file got the owner and the group of the file that it replaces, and whether the mode of that says all: not where it
- * has or may have an access list. */
+/* Whether a new file got the owner and the group of the file that it replaces; and whether the old file's mode says all of its
+ * permissions: not if it has or may have an access list. */
 struct taken {
     bool owner, group, is_plain;
 };
@@ -36,11 +36,11 @@ struct taken {
 /* The permissions of a new file in place of one with this mode. */
 mode_t mode_of_new(struct taken taken, mode_t old);
 
-/* What a look at FILE's name tells, where `seen` was there last. */
+/* What a look at FILE's name shows, compared with what was seen there last. */
 enum look_verdict { LOOK_SAME, LOOK_GONE, LOOK_CHANGED, LOOK_NOT_PLAIN };
 enum look_verdict judge_look(const struct look *seen, const struct look *now, bool is_distrusted);
 
-/* Whether what an exchange took out of FILE's place is what was seen there: a rename changes the time of change. */
+/* Whether what an exchange took from FILE's place is what was seen there. The time of change is not compared, since a rename changes it. */
 bool is_taken_out(const struct look *seen, const struct look *out);
 
 /* The cause of a failed call, an enum save_cause; 0 for none. */

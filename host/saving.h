@@ -1,5 +1,5 @@
-/* A save that is under way, in the child that serves it: what save.c and draft.c share. Functions of drafts that may fail return 0 or
- * an errno, those of saves 0 or an enum save_cause. */
+/* A save in progress, in the child that serves it: what save.c and draft.c share. Functions on drafts return 0 or an errno,
+ * functions on saves 0 or an enum save_cause. */
 #ifndef SAVING_H
 #define SAVING_H
 
@@ -15,10 +15,10 @@
 /* ---- drafts and marks (draft.c) */
 
 struct draft {
-    /* The folder, which is another's, and the name in it; empty while the file has none. */
+    /* The folder, which the draft does not close, and the draft's name there; empty while it has none. */
     int folder;
     char name[NAME_MAX + 1];
-    /* Open for reading and writing; -1 where there is no draft. */
+    /* Open for reading and writing; -1 if there is no draft. */
     int file;
     /* Bytes that wait to be written. */
     size_t held;
@@ -29,92 +29,93 @@ struct draft {
 /* How a draft takes FILE's place. */
 enum placed {
     PLACED,
-    /* What was there was not what was seen, and is there again. */
+    /* What was there was not what was seen last; it has been put back. */
     PLACE_CHANGED,
-    /* Something is there by now, or nothing any more. */
+    /* Something has appeared there meanwhile, or what was there is gone. */
     PLACE_OTHER,
-    /* A mount is there, which can only be written itself. */
+    /* A mount is there, which can only be overwritten in place. */
     PLACE_MOUNTED,
     PLACE_FAILED
 };
 
-/* Makes a draft for FILE in a folder, if the system can without a name, else under a random one. */
+/* Creates a draft for FILE in a folder: without a name if `may_be_nameless` and the system can, else under a random name. */
 int draft_open(struct draft *draft, const struct file *file, int folder, mode_t mode, bool may_be_nameless);
 
-/* Makes a draft under this name, after what may be left there. */
+/* Creates a draft under this name, in place of what a killed save may have left. */
 int draft_open_own(struct draft *draft, int folder, const char *name, mode_t mode);
 
-/* Appends bytes; a fault is told by draft_flush. */
+/* Appends bytes; draft_flush reports a fault. */
 void draft_put(struct draft *draft, const unsigned char *bytes, size_t length);
 int draft_flush(struct draft *draft);
 
-/* Gives the draft the owner, group and permissions of the file that it replaces, as far as the system permits, and takes away what
- * its folder gave it. `is_plain`: the mode says all of the permissions. */
+/* Gives the draft the owner, group and permissions of the file that it replaces, as far as the system permits, and removes an
+ * access list that its folder gave it. `is_plain`: the old file has no access list, so its mode says all of its permissions. */
 int draft_take_over(const struct draft *draft, const struct stat *old, bool is_plain);
 
 /* Gives the draft a random name, or this one. */
 int draft_name(struct draft *draft, const struct file *file);
 int draft_name_as(struct draft *draft, const char *name);
 
-/* Exchanges the draft for what is at a name, and looks at what came out. That then has the draft's name. `is_listless`: it must have
- * no access list. A fault is in errno. */
+/* Exchanges the draft with what is at a name, which gets the draft's name, and checks that it is what was seen last. `is_listless`: it must
+ * have no access list. For PLACE_FAILED, errno has the fault. */
 enum placed draft_exchange(struct draft *draft, const char *name, const struct look *seen, bool is_listless);
 
 /* Puts the draft at a name where nothing is. */
 enum placed draft_create(struct draft *draft, const char *name);
 
-/* Removes what has the draft's name, if that is the draft; and closes it. */
+/* Closes the draft, and removes its name if that still leads to the draft. */
 void draft_remove(struct draft *draft);
 void draft_close(struct draft *draft);
 
-/* ---- a save that is under way (save.c) */
+/* ---- a save in progress (save.c) */
 
-/* What saves left, for the next one. */
+/* What one save leaves for the next one to know. */
 struct state {
-    /* What was at FILE's name when last seen; the plain file that was there last, whose owner and mode a new one gets, and
-     * whether its mode says all. */
+    /* What was at FILE's name when last seen; the last plain file there, whose owner and mode a new file gets; whether its mode
+     * says all of its permissions. */
     struct look seen, old;
     bool is_old_plain;
-    /* The next look counts as one at another file; saves go into FILE itself until a new one replaces it; one did. */
+    /* is_distrusted: at the next look FILE counts as changed. is_held: saves overwrite FILE in place until a new file has replaced it.
+     * is_replaced: a new file has replaced it. */
     bool is_distrusted, is_held, is_replaced;
     /* The user was told that FILE's links lead elsewhere. */
     bool is_link_told;
-    /* FILE's folder was made again: this one. */
+    /* FILE's folder was removed and created again: this is the new one. */
     bool is_moved;
     dev_t device;
     ino_t inode;
-    /* FILE may lack a part of its text; the name of the mark beside it, empty where it is in the session's folder. */
+    /* FILE may lack a part of its text; the name of the mark beside FILE, or empty if the mark is in the session's folder. */
     bool is_torn;
     char torn[NAME_MAX + 1];
-    /* Of the last save, and FILE after it. */
+    /* The result of the last save, and FILE's identity after it. */
     bool is_over;
     int cause;
     bool has_id;
     struct file_id id;
 };
 
-/* A save that is under way, in the child. */
+/* A save in progress, in the child. */
 struct save {
     struct saver *saver;
     const struct file *file;
     struct state state;
-    /* FILE's folder, and the same to be synced and locked; -1 where it cannot be read. */
+    /* FILE's folder; and the same folder opened for syncing and locking, -1 if it cannot be read. */
     int folder, folder_to_sync;
     struct draft draft;
-    /* A plain file or a link was there at the beginning; the draft is of a mark; FILE had no access list. */
+    /* At the beginning FILE was as last seen; the draft is to be a mark; FILE had no access list. */
     bool is_there, is_in_place, is_listless;
 };
 
-/* Makes the draft the mark, and writes its text into FILE itself. */
+/* Makes the draft the mark, and overwrites FILE in place with its text. */
 int save_in_place(struct save *save);
 
-/* Removes the mark of a FILE that may have been torn, and is complete now. */
+/* Removes the mark, now that FILE is complete. */
 void save_drop_mark(struct save *save);
 
 /* Syncs FILE's folder; 0 or an errno. */
 int save_sync_folder(const struct save *save);
 
-/* Has the host know the state. */
+/* Shows the state to the host. */
 void save_publish(const struct save *save);
 
 #endif

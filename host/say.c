@@ -11,10 +11,10 @@
 
 #include "signals.h"
 
-/* Milliseconds that a text may take once the program ran: of a user who waits for the end, and after a signal. */
+/* Milliseconds that a message may take after the program has run: usually, and after a signal. */
 enum { TELLING_MS = 10000, TELLING_BY_SIGNAL_MS = 1000 };
 
-/* Texts stay, in a list. */
+/* All texts, in a list that is never freed. */
 struct text {
     struct text *next;
     char bytes[];
@@ -126,8 +126,8 @@ bool is_utf8(const char *text) {
     return utf8_length(text, strlen(text)) == strlen(text);
 }
 
-/* Whether a terminal would obey a character, take it for a direction or show it in no column, by Unicode's properties, as
- * crates/bx_cli/specs/Shown.antt has them. Joiners, used in Persian, do not count. */
+/* Whether a terminal would obey a character, change direction by it or show it without a column. The ranges are those of
+ * crates/bx_cli/specs/Shown.antt. The joiners, which Persian words need, do not count. */
 static bool is_hidden(uint32_t c) {
     static const struct {
         uint32_t first, last;
@@ -168,7 +168,7 @@ static char *put_numbers(char *at, const char *bytes, size_t count) {
     return at;
 }
 
-/* Writes one character of a name, or one byte that is of none. */
+/* Writes one character of a name, or one byte that belongs to no valid character. */
 static char *put_character(char *at, enum style style, const char *name, size_t count, uint32_t c) {
     bool is_number = count == 0 || is_hidden(c) || c == '\'' || c == '\\';
     if (style == STYLE_NUMBERED && is_number) return put_numbers(at, name, count == 0 ? 1 : count);

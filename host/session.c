@@ -11,7 +11,7 @@
 
 #include "parts.h"
 
-/* NAME_TRIES: names that are tried for a session. LOCK_TRIES: for a lock, a second in all. */
+/* NAME_TRIES: how many names to try for a session. LOCK_TRIES: how often to try a lock, for a second in all. */
 enum { NAME_TRIES = 16, NAME_LETTERS = 8, LOCK_TRIES = 20, LOCK_PAUSE_MS = 50 };
 
 void session_clear(struct session *session) {
@@ -43,7 +43,7 @@ void session_move(struct session *to, struct session *from) {
 
 /* ---- this process, the clock */
 
-/* Reads a file of one word into a text; leaves it as it is where that cannot be. */
+/* Reads the first word of a file. On failure `word` stays as it is. */
 static void read_word(const char *path, char *word, size_t room) {
     int file = open(path, O_RDONLY | O_CLOEXEC);
     char line[512];
@@ -121,8 +121,8 @@ static int make_folder(struct session *session, const struct sessions *sessions)
     return EEXIST;
 }
 
-/* Locks the folder, which no name leads away from, and its file `lock`, by which editors of before see it. A disk that locks no
- * folders, as by NFS, has the file alone. */
+/* Locks the session's folder, whose lock no rename or removal of a file can undo, and its file `lock`, which older versions of the
+ * editor look at. Where folders cannot be locked, as on NFS, only the file is. */
 static int lock_both(struct session *session) {
     int of_folder = lock_file(session->folder, LOCK_TRIES, LOCK_PAUSE_MS);
     if (of_folder == EWOULDBLOCK) return of_folder;
@@ -133,7 +133,7 @@ static int lock_both(struct session *session) {
     return session->is_locked ? 0 : of_file;
 }
 
-/* Whether a lock of an open file cannot be had, even shared. */
+/* Whether another process has locked an open file. */
 static bool is_locked_by_other(int file) {
     if (flock(file, LOCK_SH | LOCK_NB) != 0) return errno == EWOULDBLOCK;
     flock(file, LOCK_UN);
@@ -216,8 +216,8 @@ static int keep_notes(struct session *session, const struct opening *opening) {
     return error;
 }
 
-/* Writes a part that counts while the session is locked, so it is not synced; if it fails, other starts find the session only once
- * it has its files. */
+/* Writes a part that matters only while the session is locked, so it is not synced. If this fails, other starts find the session only after
+ * all its files are written. */
 static void announce(const struct session *session, enum part part, const char *words) {
     int file = part_open(session->folder, part_name(part), O_WRONLY | O_CREAT | O_EXCL);
     if (file < 0) return;
@@ -275,7 +275,7 @@ int session_resume(struct session *session, unsigned rows, unsigned cols) {
     snprintf(words, sizeof words, "\x13\x1b[8;%u;%ut", rows, cols);
     if (session->journal < 0 || fstat(session->journal, &found) != 0) return ENOENT;
     int error = write_bytes(session->journal, words, strlen(words));
-    /* the first fault is the one to report */
+    /* takes back what was written; the first fault is the one to report */
     if (error && ftruncate(session->journal, found.st_size) != 0) errno = 0;
     return error;
 }
@@ -295,7 +295,7 @@ int session_go_on(struct session *session, const char *beside, bool is_of_path) 
 
 void remove_folder(const struct session *session, const char *name) {
     const char *part;
-    /* without the path nobody recovers it, whatever stays; the names of folders in it do */
+    /* without its path nobody can recover it, whatever files remain; folders in it do remain */
     unlinkat(session->folder, part_name(PART_PATH), 0);
     DIR *entries = open_entries(session->folder);
     while (entries && (part = next_entry(entries))) unlinkat(session->folder, part, 0);

@@ -1,5 +1,5 @@
-/* Sessions: the folders that have them, a session's folder with its files, all used by descriptor, and the search for FILE's
- * sessions. Calls that return `int` return 0 or the system's number of the fault. */
+/* Sessions: the folders that contain them, a session's own folder with its files, and the search for FILE's sessions. All folders and files
+ * are used by descriptor. Calls that return `int` return 0 or an errno. */
 #ifndef SESSION_H
 #define SESSION_H
 
@@ -13,19 +13,19 @@
 
 #include "session_judge.h"
 
-/* The mode of folders of sessions; the room that is left for keys, in bytes. */
+/* The mode of folders of sessions; the space that must stay free for keys, in bytes. */
 enum { FOLDER_MODE = 0700, ROOM_FOR_KEYS = 8192 };
 
 /* ---- folders of sessions (places.c) */
 
 enum folder_state {
-    /* Open and judged. */
+    /* Open, and found safe. */
     FOLDER_READY,
-    /* It is not made yet. */
+    /* It does not exist yet. */
     FOLDER_MISSING,
-    /* There is no place for it. */
+    /* No path for it could be found, for example if HOME is not set. */
     FOLDER_NOWHERE,
-    /* Another user could change it, or a folder above. */
+    /* Another user could change it, or a folder above it. */
     FOLDER_DISTRUSTED,
     /* It cannot be made or opened; ENOENT where it is gone. */
     FOLDER_UNUSABLE
@@ -33,29 +33,29 @@ enum folder_state {
 
 struct sessions {
     enum folder_state state;
-    /* Of FOLDER_UNUSABLE. */
+    /* For FOLDER_UNUSABLE, the errno. */
     int error;
     /* The folder; -1 unless it is ready. */
     int folder;
     uid_t user;
-    /* As the environment names it; once it is open, with links resolved. */
+    /* The path by the environment; once the folder is open, without links. */
     char path[PATH_MAX];
-    /* Of FOLDER_DISTRUSTED: what others can change. */
+    /* For FOLDER_DISTRUSTED, the folder that others can change. */
     char distrusted[PATH_MAX];
 };
 
 /* Whether XDG_STATE_HOME is set and ignored, since it is not absolute. */
 bool is_state_home_relative(void);
 
-/* Finds and judges the folder of sessions for a file in an open folder (the nearest one that is there). It is not made. */
+/* Finds the folder of sessions for a file in an open folder (or in the nearest one that exists), and judges it. Does not create it. */
 void sessions_find(struct sessions *sessions, int folder_of_file);
 
-/* Makes the folder, unless it is there. Returns whether sessions can be kept in it; else its state and error tell why. */
+/* Creates the folder unless it exists. Returns whether sessions can be kept in it; if not, state and error say why. */
 bool sessions_make(struct sessions *sessions);
 
-/* Finds all folders that may have sessions of the user, each once; returns their number, in new memory at `all`. `..near` finds
- * those that may have sessions of a file besides the first one: of temporary files and the state folder. Only those that are
- * ready or distrusted are returned. */
+/* Finds all folders that may have sessions of the user, each once, and returns their number; `all` is new memory. sessions_find_near finds
+ * those that may have sessions of a file in addition to the folder `first`: in folders for temporary files and in the state folder. Only
+ * folders that are ready or distrusted are returned. */
 size_t sessions_find_all(struct sessions **all);
 size_t sessions_find_near(const struct sessions *first, struct sessions **others);
 
@@ -81,51 +81,51 @@ void target_look(struct target *target, const char *path, int folder, const char
 
 /* The files in a session's folder. Their names stay: sessions of other versions of the editor have them too. */
 enum part {
-    /* FILE as it was opened. */
+    /* FILE's text as it was opened. */
     PART_TEXT,
     /* FILE's path. Written last, so that nobody recovers a session before it is complete. */
     PART_PATH,
-    /* FILE's path as the session begins. */
+    /* FILE's path, by which other starts find the session before it is complete. */
     PART_OPENED,
-    /* The path of the file beside FILE that a recovery saves. */
+    /* The path of the file beside FILE to which a recovered text is saved. */
     PART_BESIDE,
     PART_BEGIN,
     PART_PROCESS,
-    /* FILE's permissions, if FILE was there. */
+    /* FILE's permissions, if FILE existed. */
     PART_MODE,
     /* What a replay of its keys depends on. */
     PART_VERSIONS,
     PART_JOURNAL,
-    /* Locked while the session runs, as its folder is. */
+    /* Locked while the session runs; the session's folder is locked too. */
     PART_LOCK,
-    /* Its changes were dropped by a second Quit. */
+    /* Exists if a second Quit dropped the changes. */
     PART_DROPPED,
-    /* The journal lacks its end. */
+    /* Exists if the end of the journal could not be written. */
     PART_CUT,
-    /* Its text counts as changed from the start. */
+    /* Exists if the text counts as changed from the start. */
     PART_UNSAVED,
-    /* Letters were shown apart. */
+    /* Exists if letters were not joined. */
     PART_UNJOINED,
     /* The text at the session's end. */
     PART_SNAPSHOT,
-    /* The whole text of a save into FILE itself, while FILE is written; and one that is not complete. */
+    /* The mark: the whole text of a save that overwrites FILE, as long as FILE is being written; and a mark that is not complete yet. */
     PART_MARK,
     PART_MARK_DRAFT,
-    /* The path of the FILE that saves are written into, where they are made in place. */
+    /* FILE's path, if saves overwrite FILE in place. */
     PART_PLACE,
-    /* The text of the last mark, once FILE was repaired by it or needed no repair. */
+    /* The text of the last mark, after FILE was repaired from it or needed no repair. */
     PART_SAVE,
     /* FILE's device, inode and birth as it was opened or saved last. */
     PART_FILE,
-    /* FILE could be read by root alone. */
+    /* Exists if only root could read FILE. */
     PART_SECRET,
     PARTS
 };
 const char *part_name(enum part part);
 
-/* A short file of a running session, by which it is made again where it is removed. */
+/* The content of a short file of a running session. If something removes the file, it is written again from here. */
 struct kept_part {
-    /* It is to be there; a child is writing it; it is on the disk. */
+    /* The file has to exist; a child is writing it; it is on the disk. */
     bool is_kept, is_sent, is_written;
     char *bytes;
     size_t size;
@@ -134,42 +134,45 @@ struct kept_part {
 struct session {
     /* The folder of sessions, and the session's; -1 where there is none. */
     int parent, folder;
-    /* Open for the session's life: the lock, the copy, the journal that the program appends to (O_APPEND, hand it on as
-     * /proc/self/fd/N); `mirror` is the file `journal` where that one was removed; -1 each. */
+    /* Open as long as the session lives, or -1: the lock, the copy of FILE's text, and the journal that the program appends to
+     * (O_APPEND; the program opens it as /proc/self/fd/N). If the journal's name was removed, `mirror` is a new file of that name
+     * with the same bytes. */
     int lock, text, journal, mirror;
-    /* What the program is to open at a fresh start (`--text /proc/self/fd/N`): the copy or FILE itself; -1 for an empty text, and
-     * once the session is filled. */
+    /* What the program opens at a fresh start (`--text /proc/self/fd/N`): the copy, or FILE itself; -1 for an empty text, and once the
+     * session is filled. */
     int source;
-    /* The session's folder, for messages; it ends with its name in the folder of sessions. */
+    /* The path of the session's folder, for messages. Its last part is the session's name in the folder of sessions. */
     char path[PATH_MAX];
     uid_t user;
     bool is_locked;
-    /* The text waits for room; the copy has all of it; the session can be recovered; FILE changed before it was copied. */
+    /* is_waiting: the text waits for space on the disk. has_text: the copy is complete. is_filled: the session can be recovered.
+     * is_changed: FILE was changed before it could be copied. */
     bool is_waiting, has_text, is_filled, is_changed;
     /* Why the last write failed. */
     int error;
-    /* `source` is FILE, which was like this before the program read it. */
+    /* Whether `source` is FILE; and what FILE was like before the program read it. */
     bool is_source_file;
     struct stat look;
-    /* The child that writes: its number, the pipe of what it reports, and when it began; -1 if there is none. */
+    /* The child that writes the session's files: its process, the pipe by which it reports, and when it began; -1 if there is none. */
     pid_t child;
     int report;
     int64_t since;
-    /* The journal, as the mirror has it; what `journal` names in the folder has less than the journal, or the disk refuses it. */
+    /* What the journal was like when it was copied to the mirror; whether the file named `journal` in the folder lacks bytes;
+     * whether the disk refuses to write it. */
     struct stat mirrored;
     bool is_journal_behind, is_journal_refused;
-    /* The size of the journal as it is on the disk, and as a child puts it there; -1 for a new mirror. */
+    /* How many bytes of the journal are synced to the disk, and how many a child is syncing; -1 for a new mirror. */
     off_t synced, syncing;
     struct kept_part parts[PARTS];
 };
 
-/* A session that is none: all numbers -1. */
+/* Makes it no session: all numbers -1. */
 void session_clear(struct session *session);
-/* Closes what it holds, which unlocks it. */
+/* Closes all that it holds, which also unlocks it. */
 void session_close(struct session *session);
 bool session_is_none(const struct session *session);
 
-/* What a new session notes beside its text. */
+/* What a new session records in addition to its text. */
 struct opening {
     const struct target *target;
     /* FILE, open; -1 where the text is empty. */
@@ -182,68 +185,69 @@ struct opening {
     const char *versions;
 };
 
-/* Makes a session, locks it, tells other starts of it and makes its journal. A small text, or one that
- * is being written, is copied at once; where there is no room, `is_waiting` is set. `source` is what the program has to open in
- * each case. Nobody recovers the session before it is filled. */
+/* Creates a session, locks it, announces it to other starts, and creates its journal. A small text, or one that another program may be
+ * writing, is copied at once; without space on the disk, `is_waiting` is set. In each case `source` is what the program has to open.
+ * Nobody can recover the session before it is filled. */
 int session_begin(struct session *session, const struct sessions *sessions, const struct opening *opening);
 
-/* Writes the session's files in a child, the path last; called once the first picture is there. */
+/* Has a child write the session's files, the path last. Called after the first painting. */
 void session_fill(struct session *session);
 
-/* Looks after the session, once a second and whenever wanted: takes in what the copying child reports, tries again where the
- * text waits, makes parts again that were removed. */
+/* Looks after the session; called once a second or more often. Reads what the child reports, tries again if the text waits for space, and
+ * writes files again that were removed. */
 enum keeping session_mind(struct session *session);
 
-/* Waits for the copy at the end, this long at most; tries once more where the text waits. Returns whether the session can be
- * recovered. Without a child the text is tried in this process. */
+/* At the end, waits so long at most for the child, and tries once more to write what is missing, in this process if no child can be
+ * started. Returns whether the session can be recovered. */
 bool session_settle(struct session *session, int milliseconds);
 
-/* Notes which file FILE is now: after each save, and where its folder was renamed. Fails without harm. */
+/* Records which file FILE is now: after each save, and if its folder was renamed. A failure does no harm. */
 void session_note_file(struct session *session, const struct target *target);
 
-/* Locks a session that has this part, for a second at most, and opens its text and journal. */
+/* Locks a session that has this part, trying for a second at most, and opens its text and journal. HELD: another process has it.
+ * GONE: it was removed. */
 enum lock_result { LOCK_TAKEN, LOCK_HELD, LOCK_GONE, LOCK_FAILED };
 enum lock_result session_lock(struct session *session, enum part part);
 
-/* Appends a Save and the window's size to the journal of a session that goes on, so that letters go into the text and the replay
- * ends in this window. */
+/* Appends a Save and the window's size to the journal of a recovered session. The Save ends a search or question, so that letters
+ * go into the text, and the size makes the replay end in this window. */
 int session_resume(struct session *session, unsigned rows, unsigned cols);
 
-/* Notes that a locked session goes on, with a new file beside FILE (absolute path) or, for NULL, with FILE. What needs room is
- * written first: where it fails, the session is as it was. `versions` as in `struct opening`. */
+/* Records that a locked session goes on: with a new file beside FILE (`beside`, an absolute path) or, if that is NULL, with FILE.
+ * What needs space is written first, so that after a failure the session is as it was. */
 int session_go_on(struct session *session, const char *beside, bool is_of_path);
 
-/* Makes a new session of the text that a locked session left (its snapshot), all of which counts as unsaved. The old one stays. */
+/* Creates a new session from the text that a locked session left at its end (its snapshot), which counts as unsaved. The old one stays. */
 int session_renew(struct session *renewed, const struct sessions *sessions, const struct session *old, const char *versions);
 
-/* Removes a session. It first gets a name that no start knows: where this fails it is whole, and the fault is returned; else it is
- * gone, even if some of it has to be removed by a later start. */
+/* Removes a session. First it is renamed to a name that no start looks at. If that fails, the session is whole, and the fault is
+ * returned. After it the session is gone, even if a later start has to remove the rest of its files. */
 int session_remove(struct session *session);
-/* Removes it unless an editor has it; returns whether it did. */
+/* Removes it unless an editor has it. Returns whether it was removed. */
 bool session_remove_unless_locked(struct session *session);
 
-/* ---- parts. A put part has its old bytes or the new ones at every moment. */
+/* ---- parts. While a part is put, it has its old bytes or the new ones at every moment. */
 bool session_has(const struct session *session, enum part part);
 int session_put(struct session *session, enum part part, const void *bytes, size_t size);
 int session_put_empty(struct session *session, enum part part);
 int session_erase(struct session *session, enum part part);
-/* A short part as text with NUL at its end, in new memory; NULL where it is not there or cannot be read. */
+/* A short part as a string in new memory; NULL if it does not exist or cannot be read. */
 char *session_note(const struct session *session, enum part part);
-/* A part opened for reading; -1 with errno where it is not there. The caller closes it. */
+/* A part opened for reading, which the caller closes; -1 with errno if it does not exist. */
 int session_open(const struct session *session, enum part part);
 /* A part's path, for messages. */
 void session_path_of(const struct session *session, enum part part, char path[PATH_MAX]);
-/* Notes that the journal lacks its end; on a full disk by a second name of another part. */
+/* Records that the journal lacks its end. On a full disk, it links another part under that name. */
 void session_note_cut(struct session *session);
 
 /* ---- facts of a session */
-/* FILE's path, or that of the file beside it once it is there; in new memory, NULL where it has none. */
+/* FILE's path, or the path of the file beside FILE if that exists; in new memory, NULL if the session has none. */
 char *session_file_path(const struct session *session);
-/* Whether it is still there, under its name in its folder of sessions. */
+/* Whether the session still exists, under its name in its folder of sessions. */
 bool session_is_there(const struct session *session);
-/* Whether nobody but the user owns or can write it, and all in it are plain files of the user's. */
+/* Whether the user owns the folder, nobody else can write it, and it has only plain files of the user's. */
 bool session_is_own(const struct session *session);
-/* A journal that cannot be read may have keys. */
+/* Whether the journal has keys; also if it cannot be read, since it may have some. */
 bool session_has_keys(const struct session *session);
 bool session_has_something(const struct session *session);
 size_t session_count_keys(const struct session *session);
@@ -252,9 +256,9 @@ off_t session_journal_size(const struct session *session);
 bool session_process(const struct session *session, struct process *process);
 bool session_begin_words(const struct session *session, struct begin *begin);
 mode_t session_mode(const struct session *session);
-/* The time of its last key, or of its beginning; false where the system does not tell. */
+/* The time of its last key, or of its beginning; false if the system does not say. */
 bool session_changed(const struct session *session, struct timespec *time);
-/* The room that it takes on the disk, in units of 1,024 bytes. */
+/* The space that it takes on the disk, in units of 1,024 bytes. */
 uint64_t session_kilobytes(const struct session *session);
 bool session_has_versions(const struct session *session, const char *versions);
 /* Whether all line ends of an open text are CR LF, and it has some. */
@@ -265,22 +269,22 @@ bool read_line_ends(int file, struct line_ends *ends);
 const struct process *this_process(void);
 /* As users read it: date, hour and minute. */
 void time_words(const struct timespec *time, char words[32]);
-/* The version and the sizes and times of these files. Returns NULL, or the one that cannot be looked at, and errno. */
+/* Writes the version, and the sizes and times of these files. Returns NULL; or the file that cannot be examined, with errno set. */
 const char *versions_look(const char *version, const char *const *files, size_t count, char words[MOST_WORDS]);
 
 /* ---- the sessions of a file (find.c) */
 
-/* Of each kind the newest session of a file; `session_is_none` where there is none. */
+/* The newest session of a file of each kind; `session_is_none` if there is none. */
 struct found {
     struct session live, elsewhere, unfinished, dropped;
 };
-/* Finds them, in this folder (in any state) and in those where another name of FILE may have them; removes those of FILE without
- * unsaved text. Returns the fault of the folder if it cannot be read. */
+/* Finds them in this folder (in any state) and in the folders that may have sessions of another name of FILE. Removes sessions of
+ * FILE without unsaved text. Returns the fault if the folder cannot be read. */
 int sessions_of(struct found *found, const struct sessions *sessions, const struct target *target);
 void found_close(struct found *found);
 
-/* A walk over the sessions in a folder, the oldest first, and over what starts left there. A session is closed at the next step,
- * unless it was moved. */
+/* A walk over the sessions in a folder, the oldest first, and over what killed starts left there. Each step closes the session of the step
+ * before, unless it was moved away. */
 struct walk {
     const struct sessions *sessions;
     struct dirent **names;
@@ -288,33 +292,33 @@ struct walk {
     struct session session;
     enum name_kind kind;
 };
-/* Returns the fault of a folder that cannot be read, which has no session then. */
+/* Returns the fault if the folder cannot be read; the walk then finds no session. */
 int walk_begin(struct walk *walk, const struct sessions *sessions);
-/* Returns false after the last one. `..own`: the next session that is the user's own. */
+/* Goes to the next folder; returns false after the last one. walk_next_own goes to the next session that is the user's own. */
 bool walk_next(struct walk *walk);
 bool walk_next_own(struct walk *walk);
 void walk_end(struct walk *walk);
 
 enum session_state session_state(const struct session *session);
 
-/* Removes the user's folders that killed starts left, after an hour. */
+/* Removes what killed starts of the user left, if it is an hour old. */
 void sessions_sweep(const struct sessions *sessions);
 /* Removes all sessions with dropped changes except this one, of whatever file. */
 void sessions_forget_dropped(const struct sessions *sessions, const struct session *except);
 
-/* A session that was removed, or could not be (`error`): what is told of it. */
+/* What is reported of a session that was removed, or could not be (`error`). */
 struct forgotten {
     const char *path;
     bool has_time, was_dropped;
     struct timespec changed;
     int error;
 };
-/* Removes the sessions of a file, or of all for NULL, that no editor has here or elsewhere; calls `tell` for each that held unsaved
- * text. */
+/* Removes the sessions of a file, or of all files if `target` is NULL, except those that an editor has open here or on another
+ * machine. Calls `tell` for each that had unsaved text. */
 void sessions_forget(const struct sessions *sessions, const struct target *target, void (*tell)(void *, const struct forgotten *),
                      void *context);
 
-/* ---- files after a save into them was cut off */
+/* ---- repairs after an interrupted save that overwrote FILE */
 
 enum mended { MENDED_WHOLE, MENDED_PUT_BACK, MENDED_STILL_TORN };
 struct mending {
@@ -322,10 +326,10 @@ struct mending {
     /* The file with the whole text. */
     char mark[PATH_MAX];
 };
-/* Repairs FILE by the mark of a locked session. Unless FILE stays torn, the mark becomes the part `save`. */
+/* Repairs FILE from the mark of a locked session. Unless FILE stays torn, the mark is renamed to the part `save`. */
 int session_mend(struct session *session, const struct sessions *sessions, const struct target *target, struct mending *mending);
-/* Repairs FILE by the marks of all sessions that no editor has; calls `tell` for each outcome; ends where FILE stays torn. Returns
- * whether FILE is whole. */
+/* Repairs FILE from the marks of all sessions that no editor has open. Calls `tell` for each outcome; ends if FILE stays torn.
+ * Returns whether FILE is whole. */
 bool sessions_mend(const struct sessions *sessions, const struct target *target, void (*tell)(void *, const struct mending *), void *context);
 
 #endif

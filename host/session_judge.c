@@ -4,7 +4,7 @@
 #include <stdio.h>
 #include <string.h>
 
-/* The modes' bits that let the group or others write, that let others write, and by which only owners rename or remove. */
+/* Bits of a mode: the group or others can write; others can write; only owners can rename and remove (sticky). */
 enum { SHARED = 022, OPEN_TO_ALL = 02, STICKY = 01000, FOR_USER_ALONE = 0600 };
 
 enum { NANOS = 1000000000 };
@@ -22,7 +22,7 @@ static bool take_word(const char **text, char *word, size_t room) {
     return true;
 }
 
-/* The number that digits of a base name, up to `most`. */
+/* Reads a number in this base (8 or 10). Returns false if it is malformed or greater than `most`. */
 static bool number_of(const char *digits, int base, uint64_t most, uint64_t *number) {
     const char *allowed = base == 8 ? "01234567" : "0123456789";
     size_t length = strlen(digits);
@@ -134,7 +134,7 @@ static bool begins_with(const char *text, size_t count, const char *set) {
 #define SMALL "abcdefghijklmnopqrstuvwxyz"
 #define LARGE "ABCDEFGHIJKLMNOPQRSTUVWXYZ"
 
-/* Six letters or digits, as mktemp gives them to older editors, or eight of 32. */
+/* Six letters or digits, which older versions of the editor got from mktemp, or eight letters of an alphabet of 32. */
 static bool are_random_letters(const char *text) {
     size_t length = strlen(text);
     if (length == 6) return begins_with(text, length, DIGITS SMALL LARGE);

@@ -1,4 +1,4 @@
-/* Decisions about sessions over plain facts: no call of the system is in them. */
+/* Decisions about sessions by plain facts, without system calls. */
 #ifndef SESSION_JUDGE_H
 #define SESSION_JUDGE_H
 
@@ -7,9 +7,9 @@
 #include <stdint.h>
 #include <sys/types.h>
 
-/* ---- the words of a session's short files. Readers return false for words of another form. */
+/* ---- the content of a session's short files. The functions that read it return false if it is malformed. */
 
-/* The largest of the short files, in bytes, and of the words that are made here. */
+/* The most bytes of a short file that is read, and of one that is written. */
 enum { LARGEST_NOTE = 65536, MOST_WORDS = 1024 };
 
 /* The first window, direction and line of a session. */
@@ -23,7 +23,7 @@ struct begin {
 bool begin_of(const char *words, struct begin *begin);
 void words_of_begin(const struct begin *begin, char words[MOST_WORDS]);
 
-/* What tells one file from another, whatever its names: a new file may get the inode of a removed one, but not its birth. */
+/* What identifies a file, whatever its names. A new file may get the inode number of a removed one, but not its time of birth. */
 struct file_id {
     dev_t device;
     ino_t inode;
@@ -34,22 +34,22 @@ struct file_id {
 bool file_id_of(const char *words, struct file_id *id);
 void words_of_file_id(const struct file_id *id, char words[MOST_WORDS]);
 bool is_same_id(const struct file_id *one, const struct file_id *other);
-/* Also where one of them was seen long ago. */
+/* The same, but certain even if one of them was recorded long ago. */
 bool is_surely_same_id(const struct file_id *one, const struct file_id *other);
 
-/* A process that began or resumed a session, and its machine: containers of one machine have names of their own and one boot. */
+/* A process that began or continued a session, and its machine. Containers of one machine have different names and the same boot. */
 struct process {
     unsigned number;
     char machine[256];
-    /* Empty where it is not known. */
+    /* Empty if unknown. */
     char boot[64];
 };
 bool process_of(const char *words, struct process *process);
 void words_of_process(const struct process *process, char words[MOST_WORDS]);
-/* Whether a session may go on where no lock can be seen from here; `there` is NULL where its process is not known. */
+/* Whether a session may be running on another machine, whose locks cannot be seen from here. `there` is NULL if its process is unknown. */
 bool may_go_on_elsewhere(const struct process *there, const struct process *here);
 
-/* Permissions in octal: without the set-ID and sticky bits, for the user alone where the words have another form. */
+/* Reads permissions in octal, without the set-ID and sticky bits. Malformed words give permissions for the user alone. */
 mode_t mode_of(const char *words);
 
 /* The permissions in a mode. */
@@ -59,46 +59,46 @@ enum { PERMISSIONS = 0777 };
 
 /* What a folder in the folder of sessions is, by its name. */
 enum name_kind {
-    /* Nothing of the editor's: it is left alone. */
+    /* Not the editor's: it is left alone. */
     NAME_FOREIGN,
     /* A session: fourteen digits of a time, a point, and six or eight random letters. */
     NAME_SESSION,
     /* A session that is being removed. */
     NAME_DEAD,
-    /* Where an older editor replayed keys. */
+    /* A folder in which an older version of the editor replayed keys. */
     NAME_REPLAY
 };
 enum name_kind kind_of_name(const char *name);
-/* The name of a session that is being removed is this one and the session's. */
+/* A session that is being removed is named by this and its old name. */
 #define DEAD_BEGIN ".dead."
 
 /* Whether a folder of this owner and mode is the user's own, and nobody else may write it. */
 bool is_private(uid_t owner, mode_t mode, uid_t user);
-/* Whether no other user can exchange what the user has in a folder of this owner and mode. */
+/* Whether no other user can replace the user's files in a folder of this owner and mode. */
 bool is_safe_above(uid_t owner, mode_t mode, uid_t user);
 
 /* ---- which session is a file's, and what it holds */
 
 enum belonging {
-    /* Of another file. */
+    /* It is another file's session. */
     BELONGS_NOT,
-    /* Its path is the file's; its path leads to the same file by another name. */
+    /* Its path is the file's path; its path is another name of the same file. */
     BELONGS_BY_PATH,
     BELONGS_BY_NAME,
-    /* It opened or saved this very file, which has another name now; `..LOST` where nothing is at its path any more. */
+    /* It opened or saved this very file, which has another name now; LOST: and nothing is at the session's path any more. */
     BELONGS_BY_FILE,
     BELONGS_BY_LOST_FILE,
     /* It began with the file, under any name, and is not complete. */
     BELONGS_AT_BEGIN
 };
 
-/* What is known of a session's path (of the file beside FILE, once that is there, else of FILE) and of the files. */
+/* What is known about a session's path (that of the file beside FILE if that exists, else that of FILE) and about the files. */
 struct belonging_facts {
     /* The session is complete, so it has a path. */
     bool has_path;
-    /* Its path, or the one that it began with, is the file's; leads to the same file; leads to any file. */
+    /* Its path, or the one that it began with: is the file's path; leads to the same file; leads to some file. */
     bool is_path, leads_there, leads_anywhere;
-    /* It opened or saved this very file for certain. */
+    /* It certainly opened or saved this very file. */
     bool is_file;
 };
 enum belonging judge_belonging(const struct belonging_facts *facts);
@@ -107,7 +107,7 @@ enum session_state { SESSION_LIVE, SESSION_ELSEWHERE, SESSION_EMPTY, SESSION_DRO
 
 struct state_facts {
     bool is_locked, may_be_elsewhere;
-    /* Keys, a text that counts as changed, or a mark, whose text FILE may lack. */
+    /* It has keys, a text that counts as changed, or a mark, whose text FILE may lack. */
     bool has_something;
     bool is_dropped;
 };
@@ -116,9 +116,10 @@ enum session_state judge_state(const struct state_facts *facts);
 /* Whether a session in this state counts as the file's. */
 bool counts_as_own(enum belonging belonging, enum session_state state);
 
-/* ---- what a save left torn, keys, line ends */
+/* ---- torn files, keys, line ends */
 
-/* A file beside the whole text of a save into it. */
+/* A file compared with the mark, which has the whole text of a save that overwrites it. TORN: the save was interrupted in it.
+ * OTHER: another program has written it. */
 enum verdict { FILE_WHOLE, FILE_TORN, FILE_OTHER };
 struct mark_comparison {
     bool is_same, is_torn;
@@ -128,12 +129,12 @@ void compare_begin(struct mark_comparison *comparison);
 void compare_more(struct mark_comparison *comparison, const char *of_file, const char *of_mark, size_t count);
 enum verdict compare_end(const struct mark_comparison *comparison, uint64_t size_of_file, uint64_t size_of_mark);
 
-/* Counts a journal's keys, piece by piece, without replaying them. Not counted are a notice of the host, a size that the terminal
- * reports, and the Save right before a size, with which a resumed session begins. */
+/* Counts a journal's keys, piece by piece, without replaying them. It does not count notices of the host, sizes of the window, and
+ * a Save right before a size: a recovered session begins with these two. */
 enum after { AFTER_KEY, AFTER_SAVE, AFTER_ESCAPE, AFTER_SAVED_ESCAPE, IN_SEQUENCE, IN_SAVED_SEQUENCE, IN_NOTICE };
 struct key_count {
     size_t keys;
-    /* What the last bytes are, as far as the next one may belong to the same key; `SAVED`: a Save is right before it. */
+    /* What the last bytes were, since the next one may belong to the same key. SAVED: a Save came right before them. */
     enum after after;
 };
 void count_begin(struct key_count *count);
@@ -150,12 +151,12 @@ bool ends_are_all_crlf(const struct line_ends *ends);
 
 /* ---- what is kept of a running session */
 
-/* Why what is typed is not kept; KEEPS where it is. */
+/* Whether unsaved text is kept, and if not, why. */
 enum keeping {
     KEEPS,
     /* The text as it was opened is being copied. */
     KEEPS_SOON,
-    /* The text, or a part that was removed, waits for room, or its disk refuses it: `error` of the session tells. */
+    /* The text, or a part that was removed, waits for space, or the disk refuses it: the session's `error` says which. */
     KEEPS_NOT_YET,
     /* FILE was changed before it could be copied. */
     KEEPS_NOTHING,

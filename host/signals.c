@@ -6,24 +6,24 @@
 #include <time.h>
 #include <unistd.h>
 
-/* Milliseconds. A piece of a write has PIECE_MS, and the timer that ends it rings again after each RING_MS. A wait for a child
- * looks for its end after each LOOK_MS at least. */
+/* Milliseconds. A timer interrupts each piece of a write after PIECE_MS, and again after each RING_MS. A wait for a child looks for its end
+ * at least every LOOK_MS. */
 enum { PIECE_MS = 100, RING_MS = 20, LOOK_MS = 50 };
-/* A pipe that has room takes WRITE_PIECE bytes at once. A write or wait that fails is tried WRITE_TRIES times in all. */
+/* WRITE_PIECE: a pipe that is ready takes so many bytes at once. WRITE_TRIES: how often a write or wait that fails is tried. */
 enum { WRITE_PIECE = 4096, WRITE_TRIES = 3 };
 
 volatile sig_atomic_t end_signal, is_resized, is_continued, is_stop_asked;
 /* When it came. */
 static volatile int64_t end_time;
 
-/* What is blocked as the host was started, and in its waits. */
+/* The signals that were blocked when the host was started, and those that are blocked while it waits. */
 static sigset_t first_mask, waiting_mask;
 
-/* What asks for the end. Other signals that end a process do so at once, and the watcher restores the terminal. */
+/* Signals that ask the host to end. Others that end a process do so at once, and the watcher restores the terminal. */
 static const int ending[] = {SIGHUP, SIGINT, SIGQUIT, SIGTERM, SIGUSR1, SIGUSR2, SIGALRM, SIGPIPE,
                              SIGXCPU, SIGXFSZ, SIGVTALRM, SIGPROF, SIGIO, SIGPWR, SIGSTKFLT};
 static const int waking[] = {SIGWINCH, SIGCONT, SIGCHLD};
-/* What asks for a stop, before which the terminal is restored. */
+/* The signal that asks for a stop, before which the terminal is restored. */
 static const int stopping[] = {SIGTSTP};
 
 enum { ENDING = sizeof ending / sizeof *ending, WAKING = sizeof waking / sizeof *waking };
@@ -59,7 +59,7 @@ static void note_ending(int number, siginfo_t *info, void *context) {
     if (!is_own_signal(number, info)) note_end(number);
 }
 
-/* Before signals are caught they end the host, but for those of its own writes. */
+/* Until catch_signals, such a signal ends the host, unless one of its own writes caused it. */
 static void die_unless_own(int number, siginfo_t *info, void *context) {
     (void)context;
     if (!is_own_signal(number, info)) die_from(number);
@@ -77,7 +77,7 @@ static void handle(int number, void (*handler)(int, siginfo_t *, void *)) {
     sigaction(number, &action, NULL);
 }
 
-/* Has a signal of the end handled, but not one that the caller has ignored. */
+/* Handles a signal that asks for the end, unless the caller of the host ignores it. */
 static void handle_ending(int number, void (*handler)(int, siginfo_t *, void *)) {
     if (number == SIGALRM || !is_ignored(number)) handle(number, handler);
 }
@@ -166,11 +166,11 @@ int wait_for(struct pollfd *files, nfds_t count, int64_t end) {
 }
 
 void listen_once(void) {
-    /* a time that is over: 0 would be for ever */
+    /* 1 is a time in the past; 0 would wait forever */
     wait_for(NULL, 0, 1);
 }
 
-/* Whether the file takes bytes before the time `end`, or for ever where it is 0. The last writes let no signal in. */
+/* Waits until the file takes bytes, until the time `end` (forever if that is 0). The last writes handle no signals. */
 static bool is_ready(int file, int64_t end, bool is_last) {
     int tries = WRITE_TRIES;
     while (is_last || !end_signal) {
@@ -184,7 +184,7 @@ static bool is_ready(int file, int64_t end, bool is_last) {
     return false;
 }
 
-/* Writes once. The timer rings again and again, since it may ring before the write begins. */
+/* Writes once. The timer repeats, since its first signal may come before the write begins. */
 static ssize_t write_piece(int file, const char *text, size_t length) {
     struct itimerval timer = {{0, RING_MS * 1000L}, {0, PIECE_MS * 1000L}}, none = {{0, 0}, {0, 0}};
     let_signal_in(SIGALRM, true);

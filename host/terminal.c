@@ -20,20 +20,19 @@
 #include "util.h"
 #include "words.h"
 
-/* Bytes that wait for the terminal at most, of a title, and of other sequences;
- * how often settings are tried. */
+/* The most bytes that wait for the terminal, of a title, and of other sequences; how often to try to change settings. */
 enum { MOST_SHOWN = 16384, MOST_TITLE = 4096, MOST_SEQUENCES = 1024, SETTINGS_TRIES = 3 };
-/* Milliseconds: for the first sequences; after which a paste that says nothing more is over. */
+/* Milliseconds: for writing the first sequences; of silence after which a paste counts as over. */
 enum { FIRST_MS = 3000, PASTE_SILENCE_MS = 1000 };
 
-/* Modes that the painter requires: arrows as CSI, ASCII, replace mode, origin at the window's top, no scroll region, autowrap
- * (without it tmux joins marks to the letter before), a visible cursor, and no reordering by the terminal (ECMA-48: mode 8, BDSM,
- * and SCP, which ends in ` k`). In xterm Alt and a letter send ESC and the letter, and not another letter. Pastes are marked. */
+/* Modes that the painter requires: arrow keys send CSI, the character set is ASCII, replace mode, origin at the window's top, no scroll
+ * region, autowrap (without it tmux joins combining marks to the letter before), a visible cursor, and no reordering by the terminal
+ * (ECMA-48: mode 8, BDSM, and SCP, which ends in ` k`). In xterm, Alt with a letter sends ESC and the letter. PASTE: pastes are marked. */
 #define MODES "\033[?1l\033(B\017\033[4l\033[?6l\033[r\033[?7h\033[?25h\033[8l\033[1 k\033[?1036h"
 #define PASTE "\033[?2004h"
 
-/* Presses, drags and the wheel are reported (1002), in numbers (1006): the older form ends in three bytes that would be keys. So the
- * form comes first, and goes last. */
+/* Presses, drags and the wheel are reported (1002), in decimal numbers (1006). The older form ends in three bytes that would be taken for
+ * keys, so 1006 is set first and reset last. */
 #define MOUSE "\033[?1006h\033[?1002h"
 #define END_MOUSE "\033[?1002l\033[?1006l"
 
@@ -51,11 +50,11 @@ int terminal_line = -1, terminal_screen = -1;
 /* The settings from before, and the host's own. */
 static struct termios cooked, raw;
 static struct terminal_kind kind;
-/* Sent first; what changes the screen, and the title, which the program writes before its first painting; sent after a stop that left
- * the screen as it was; sent at the end. */
+/* `saving` is sent first. The program writes `before`, which is `entering` (it changes the screen) and `titled`, before its first painting.
+ * `again` is sent after a SIGSTOP, and `ending` at the end. */
 static char saving[MOST_SEQUENCES], entering[MOST_SEQUENCES], titled[MOST_TITLE], before[MOST_SEQUENCES + MOST_TITLE];
 static char again[MOST_SEQUENCES], ending[MOST_SEQUENCES];
-/* What waits for the terminal. */
+/* Sequences that wait to be written to the terminal. */
 static char waiting[MOST_SHOWN];
 static size_t waiting_length;
 
@@ -103,7 +102,7 @@ unsigned char erase_character(void) {
     return cooked.c_cc[VERASE];
 }
 
-/* A stop may interrupt this; what fails once is tried again, since a raw terminal is of no use to anyone. */
+/* Sets the settings. A stop may interrupt this, and a failure is tried again, since a terminal left raw is useless for a shell. */
 static bool set(const struct termios *settings) {
     for (int tries = 0; tries < SETTINGS_TRIES;) {
         if (tcsetattr(terminal_line, TCSANOW, settings) == 0) return true;
@@ -112,7 +111,7 @@ static bool set(const struct termios *settings) {
     return false;
 }
 
-/* Whether no other program, as a shell, has set its own settings since the host's: all of them let signals through. */
+/* Whether the host's settings still stand. Other programs, such as a shell, set others, which always let keys send signals. */
 static bool is_raw(void) {
     struct termios settings;
     return tcgetattr(terminal_line, &settings) == 0 && !(settings.c_lflag & (tcflag_t)(ICANON | ISIG));
@@ -197,7 +196,7 @@ void go_on_showing(void) {
 }
 
 void restore_screen(int64_t limit) {
-    /* a sequence that was begun is ended first */
+    /* first the rest of a sequence that is partly written */
     show(ending);
     write_within(terminal_line, waiting, waiting_length, limit, true);
     waiting_length = 0;
@@ -246,14 +245,14 @@ void drain_paste(struct paste *paste, int64_t limit) {
 
 /* ---- the watcher */
 
-/* Milliseconds. SAVE_MS: a save's from the host's death on; TTY_RESTORE_MS: the terminal's to take what restores it; WATCH_MS: between
- * looks at a process. */
+/* Milliseconds. SAVE_MS: how long a save may go on after the host's death. TTY_RESTORE_MS: how long the terminal may take to accept what
+ * restores it. WATCH_MS: between two looks at a process. */
 enum { SAVE_MS = 4500, TTY_RESTORE_MS = 1000, WATCH_MS = 50 };
 
 struct watched *watched;
 pid_t watcher;
 
-/* The word that the host was started with. */
+/* The program's name in the command line. */
 static char *own_word = NULL;
 
 void note_own_word(char *word) {
@@ -264,7 +263,7 @@ static void set_own_word(const char *bytes, size_t length) {
     for (size_t i = 0; i < length; i++) own_word[i] = bytes[i];
 }
 
-/* Forks the watcher under another name than the host's, by which many kill: it is never seen under that. */
+/* Forks the watcher under another name. Users kill processes by the host's name, so the watcher never has that name. */
 static pid_t fork_under_name(void) {
     static char other_word[PATH_MAX] = "bidi-watcher", word[PATH_MAX];
     char name[16];
@@ -291,14 +290,14 @@ static bool ends_before(int file, int64_t end) {
     return false;
 }
 
-/* Waits until the host is gone: the kernel gives up the lock of a dead process before its parent, a shell, is told. Where it does
- * not, the host is looked for. */
+/* Waits until the host is dead. The kernel releases a dead process's lock before it tells the parent, a shell. If locking fails, this looks
+ * for the host again and again. */
 static void wait_for_host(pid_t host) {
     if (pthread_mutex_lock(&watched->life) == EOWNERDEAD) return;
     while (getppid() == host) poll(NULL, 0, WATCH_MS);
 }
 
-/* Drops the rest of a paste. Output is held meanwhile, so that a shell stops at its prompt and takes nothing of it. */
+/* Drops the rest of a paste. Output is suspended meanwhile, so that a shell stops at its prompt and reads none of the paste. */
 static void end_paste(void) {
     if (!watched->paste.is_under_way) return;
     tcflow(terminal_line, TCOOFF);
@@ -310,31 +309,32 @@ static _Noreturn void watch(int words, pid_t host) {
     int64_t start = now();
     bool is_paste = watched->paste.is_under_way, is_changed = watched->is_changed;
     if (is_changed) end_paste();
-    /* as soon as can be, since a shell sets its own now; where it has, they stay */
+    /* at once, since a shell sets its own settings now; if it has, they stay */
     if (is_changed && is_raw()) restore_settings();
     if (is_paste) tcflow(terminal_line, TCOON);
     if (!ends_before(words, start + GRACE_MS) && watched->program > 0) kill(watched->program, SIGKILL);
     if (is_changed) restore_screen(TTY_RESTORE_MS);
-    /* its pipe has ended with the program */
+    /* a save ends soon, since its pipe has ended with the program */
     while (watched->saver > 0 && now() < start + SAVE_MS && kill(watched->saver, 0) == 0) poll(NULL, 0, WATCH_MS);
     if (watched->saver > 0) kill(watched->saver, SIGKILL);
     _exit(0);
 }
 
-/* Closes all but what it needs: FILE and the ends of pipes would keep others waiting. Lets no signal but SIGKILL end the watcher. */
+/* Closes all descriptors that it does not need, since others may wait for the end of a pipe or for FILE to be closed. No signal but
+ * SIGKILL can end the watcher. */
 static _Noreturn void become_watcher(int words, const int held[2], pid_t host) {
     const int kept[] = {words, terminal_line, held[0], held[1]};
     sigset_t mask;
     sigfillset(&mask);
     sigprocmask(SIG_SETMASK, &mask, NULL);
     setpgid(0, 0);
-    /* who has no terminal is never in the background of one */
+    /* a process without a controlling terminal is never stopped for being in the background */
     ioctl(terminal_line, TIOCNOTTY);
     close_others(kept, sizeof kept / sizeof *kept);
     watch(words, host);
 }
 
-/* Makes what is shared, with a lock that the host holds as long as it lives. */
+/* Makes the shared memory, with a lock that the host holds as long as it lives. */
 static bool share(void) {
     pthread_mutexattr_t attributes;
     void *shared = mmap(NULL, sizeof *watched, PROT_READ | PROT_WRITE, MAP_SHARED | MAP_ANONYMOUS, -1, 0);
@@ -351,7 +351,7 @@ bool start_watcher(int words, const int held[2]) {
     watcher = fork_under_name();
     if (watcher == 0) become_watcher(words, held, host);
     if (watcher < 0) watcher = 0;
-    /* before the terminal changes: a kill of the whole job spares it */
+    /* in a process group of its own before the terminal changes, so that a kill of the whole job spares it */
     return watcher > 0 && (setpgid(watcher, watcher) == 0 || errno == EACCES);
 }
 

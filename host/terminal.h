@@ -1,4 +1,4 @@
-/* The terminal: its files, its settings, its size, and what the host writes to it and drops of what it sends. */
+/* The terminal: its descriptors, settings and size, what the host writes to it, and which of its bytes the host drops. */
 #ifndef TERMINAL_H
 #define TERMINAL_H
 
@@ -16,10 +16,10 @@ struct size {
     unsigned rows, columns;
 };
 
-/* Opens the controlling terminal twice, or without one that on standard input and output. */
+/* Opens the controlling terminal twice. If there is none, takes the terminal that standard input and output are. */
 bool open_terminal(void);
 
-/* Gives the window's size, each side from 1 to 500; 24 and 80 for a window without one. Returns whether it has one. */
+/* Gives the window's size, each side from 1 to 500; 24 and 80 if the terminal does not say. Returns whether it says. */
 bool measure(struct size *size);
 
 /* Notes the settings that are restored in the end. */
@@ -28,59 +28,59 @@ bool note_settings(void);
 /* The character that erases in the terminal's own editing of lines, as noted. */
 unsigned char erase_character(void);
 
-/* Restores the settings at once, not after the output, which may never go out. A job in the background may do this. */
+/* Restores the settings at once, without waiting for the output, which may never go out. Works for a job in the background too. */
 void restore_settings(void);
 
-/* Finds the terminal's kind, and makes what it is sent, with this title where it keeps its own. It is asked to report the mouse if
- * `has_mouse`, unless its reports would be keys. */
+/* Finds the terminal's kind, and prepares the sequences for it: with this title, if the terminal can restore its old one, and with a
+ * request for reports of the mouse if `has_mouse`, unless the editor would take the reports for keys. */
 void prepare_screen(const char *title, bool has_mouse);
 
-/* What the program writes in front of its first painting. */
+/* What the program writes before its first painting. */
 const char *first_sequences(void);
 
-/* Whether the terminal may be sent copies for the system's clipboard. */
+/* Whether copies for the system's clipboard may be sent to the terminal. */
 bool bears_clips(void);
 
-/* Changes the settings, and sends what changes nothing that is seen. In the background the host is stopped here, until it has the
- * terminal. */
+/* Changes the settings, and sends the sequences that change nothing visible. The system stops a host in the background here, until it has
+ * the terminal. */
 bool begin_screen(void);
 
-/* After a stop that left the terminal as it was, and in which another program may have changed it. In the background the host is
- * stopped here again. */
+/* Sets the terminal again after a SIGSTOP, during which another program may have changed it. The system stops a host in the background here
+ * again. */
 void take_up_screen(void);
 
-/* Restores what the terminal showed within this many milliseconds, as far as it takes it. */
+/* Restores what the terminal showed. Gives up after so many milliseconds if the terminal takes no more. */
 void restore_screen(int64_t limit);
 
-/* Restores screen and settings for a stop, within this many milliseconds; changes both again after it. In the background the host is
- * stopped here. */
+/* Restores screen and settings before a stop, within so many milliseconds; sets both again after the stop. The system stops a host in the
+ * background here. */
 void leave_screen(int64_t limit);
 void enter_screen(void);
 
-/* Whether texts wait for the terminal; what it takes of them. A text that finds no room is dropped whole. */
+/* Whether sequences wait to be written to the terminal; writes as much as it takes. A sequence for which there is no room is dropped. */
 bool is_showing(void);
 void go_on_showing(void);
 
-/* What the terminal sends: the last bytes, and whether a marked paste has begun and not ended. */
+/* What the terminal sent last: the last six bytes, and whether a marked paste has begun and not ended. */
 struct paste {
     uint64_t last_bytes;
     volatile bool is_under_way;
 };
 
-/* Milliseconds for a paste to end. */
+/* Milliseconds to wait for the end of a paste. */
 enum { PASTE_MS = 2000 };
 
-/* Takes note of what was read. */
+/* Looks through bytes that were read for the beginning and end of a paste. */
 void follow_paste(struct paste *paste, const unsigned char *bytes, size_t length);
 
-/* Drops what the terminal still sends of a paste, until its end or for so many milliseconds, so that no shell takes it for
+/* Drops the rest of a paste that the terminal still sends, until its end or for so many milliseconds, so that no shell takes it for
  * commands. */
 void drain_paste(struct paste *paste, int64_t limit);
 
 /* ---- the watcher */
 
-/* What host, program and watcher share: a lock that the host holds as long as it lives, whether the terminal is changed, the
- * program and the child of a save, 0 without one, and the terminal's paste. */
+/* Memory that host, program and watcher share: a lock that the host holds as long as it lives; whether the terminal is changed; the
+ * processes of the program and of a save, 0 if there is none; and the terminal's paste. */
 struct watched {
     pthread_mutex_t life;
     volatile bool is_changed;
@@ -93,24 +93,25 @@ extern struct watched *watched;
 /* Its process; 0 without one. */
 extern pid_t watcher;
 
-/* Takes note of the word that the host was started with, which the watcher overwrites in its own copy. */
+/* Remembers the program's name in the command line. The watcher overwrites it in its own memory, to be listed under another name. */
 void note_own_word(char *word);
 
-/* Starts it. It sees the end of the program by that of the program's words, which it reads, and holds the session's folder and lock
- * until then (-1 without a session). */
+/* Starts the watcher. It reads the program's pipe `words`, whose end tells it that the program has ended. Until then it holds the session's
+ * folder and lock (-1 without a session). */
 bool start_watcher(int words, const int held[2]);
 
-/* Kills it: the host has restored the terminal itself. */
+/* Kills the watcher, once the host itself has restored the terminal. */
 void end_watcher(void);
 
 /* ---- kinds of terminals (kinds.c) */
 
-/* OTHER_KIND is another one, or one that is not known. */
+/* OTHER_KIND: any other terminal, or one that could not be recognized. */
 enum kind { OTHER_KIND, VTE, KONSOLE, KITTY, QTERMINAL, MLTERM, TERMINOLOGY };
 
-/* What is known of the terminal. `off` keeps it from reordering beside the modes, `on` has it reorder again where it did: both may
- * be empty. `outer` is the device of the terminal around tmux; empty without one. `reports_in_numbers`: asked for reports of the mouse
- * in numbers, it is not known to send others. `bears_clips`: it is not known to be harmed by copies for the system's clipboard. */
+/* What is known about the terminal. `off` is a sequence that, besides the standard modes, keeps it from reordering, and `on` makes it
+ * reorder again if it did; both may be empty. `outer` is the device of the terminal around tmux, or empty. `reports_in_numbers`: if it is
+ * asked for reports of the mouse in decimal numbers, it sends no others, as far as is known. `bears_clips`: copies for the system's
+ * clipboard do it no harm, as far as is known. */
 struct terminal_kind {
     enum kind kind;
     bool keeps_title, is_in_tmux, reports_in_numbers, bears_clips;
@@ -118,12 +119,12 @@ struct terminal_kind {
     char outer[256];
 };
 
-/* Finds it: by the answer to tmux, by TERM, or by the variable that it sets. A terminal that another one starts inherits the
- * variables, so two of them tell nothing, nor does any that GNU screen may hide. Tells the setting for one that mirrors words and
- * takes no sequence against it, where it is not set. */
+/* Finds the terminal's kind: by its answer to tmux, by TERM, or by the variable that it sets. A terminal that was started in another one
+ * inherits the other's variable, so two variables say nothing; nor does one inside GNU screen. If the terminal reverses right-to-left
+ * words and no sequence prevents that, and its setting does not either, this warns and names the setting. */
 void find_terminal_kind(struct terminal_kind *found);
 
-/* Tells the terminal around tmux to keep the order of what is sent, or to reorder again. */
+/* Makes the terminal around tmux keep the order of what it is sent, or reorder again. */
 void tell_outer(const struct terminal_kind *kind, bool is_kept, bool is_last);
 
 #endif

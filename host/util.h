@@ -1,5 +1,4 @@
-/* Small steps that all of the host takes. Calls that return `int` return 0 or the system's number of the fault, if nothing else is
- * said. */
+/* Small functions for all of the host. Those that return `int` return 0 or an errno, unless their comment says otherwise. */
 #ifndef UTIL_H
 #define UTIL_H
 
@@ -12,11 +11,11 @@
 /* Closes a file, if it is open, and notes that it is not. */
 void close_one(int *file);
 
-/* In a child: closes all files but these, and has /dev/null in place of the standard ones, so that nobody waits for the end of a
- * pipe or terminal that the child has, and what the C library says of a fault gets into no file. */
+/* In a child: closes all descriptors but these, and puts /dev/null in place of the standard ones. So nobody waits for the child to
+ * close a pipe or terminal, and messages of the C library get into no file. */
 void close_others(const int *kept, size_t count);
 
-/* Opens a folder of which nothing is read; what is at a name, a link as such. -1 at a fault. */
+/* Opens a folder without reading it; opens what has a name, a link itself and not its target. Both by O_PATH; -1 at a fault. */
 int open_folder(int above, const char *path);
 int open_itself(int folder, const char *name);
 
@@ -31,16 +30,16 @@ struct link link_of(int file);
 /* Puts a path together; false, and an empty path, where it is too long. */
 bool put_path(char path[PATH_MAX], const char *format, ...) __attribute__((format(printf, 2, 3)));
 
-/* What precedes the slash and a name in this folder. */
+/* A folder's path to put before `/NAME`: empty for the root. */
 const char *before_slash(const char *folder);
 
 /* A variable of the environment; NULL where it is not set or empty. */
 const char *variable(const char *name);
 
-/* Writes all bytes at the file's place; all of a file from a place on to the place of another one. */
+/* Writes all bytes at the file's position; copies all of a file from `place` on to the position of another file. */
 int write_bytes(int file, const void *bytes, size_t size);
 int copy_pieces(int from, off_t place, int to);
-/* The same, as fast as the disk can do that: it may share the blocks. */
+/* Copies in the same way, as fast as the disk can: it may share blocks. */
 int copy_file(int from, off_t place, int to);
 
 /* Calls `read` with the bytes of an open file, piece by piece, from a place on. */
@@ -51,17 +50,17 @@ int read_pieces(int file, off_t place, void (*read)(void *, const char *, size_t
 DIR *open_entries(int folder);
 const char *next_entry(DIR *entries);
 
-/* Whether a call failed since the system or the file system lacks it. */
+/* Whether a call failed because the system or the file system does not have it. */
 bool is_lacking(int error);
 
-/* Locks an open file, for which it tries so many times and waits so long after each. Returns 0, EWOULDBLOCK where another process
- * has it all the time, or why it cannot be locked. */
+/* Locks an open file. Tries so many times, and waits so long after each try. Returns 0, EWOULDBLOCK if another process had the lock all the
+ * time, or an errno. */
 int lock_file(int file, int tries, int milliseconds);
 
-/* Syncs a file, or a folder, to the disk, where its file system can. */
+/* Syncs a file or folder to the disk, if its file system can. */
 int sync_file(int file);
 
-/* Makes a text of so many random letters of an alphabet, each of which nobody can foresee. */
+/* Makes a string of so many letters of an alphabet, chosen at random so that nobody can guess them. */
 bool make_letters(char *letters, size_t count, const char *alphabet);
 
 #endif

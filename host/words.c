@@ -11,8 +11,7 @@
 #include "file.h"
 #include "say.h"
 
-/* The last line of the longest text: so many line feeds end as many lines, and one more line follows. Numbers from TOO_LARGE on, of
- * more than eight digits, name it too. */
+/* The last line of the longest text, if every byte of that text is a line feed. Numbers from `too_large` on count as this line. */
 static const unsigned long last_line = LARGEST_TEXT + 1, too_large = 100000000;
 
 #define USAGE                                                                                                                     \
@@ -26,26 +25,26 @@ static const char print_usage[] =
 /* At most 23 lines of at most 80 columns, which a window of 24 rows shows with the shell's next prompt. */
 const char help_text[] = USAGE "\n"
     "       bidi-edit --print FILE [--cols N] [--marks]: its rows to standard output\n"
-    "Edits text of any scripts, each paragraph in its direction, from line N. --force\n"
-    "opens what cannot be saved, -n keeps no session, --no-joining joins no letters,\n"
-    "--no-mouse and --no-clipboard leave these to the terminal. More: man bidi_edit\n"
-    "--recover recovers or lists what was typed, --to stores it, --forget deletes it.\n"
+    "Ctrl-S saves, Ctrl-Q quits, F1 shows the main keys. The manual: man bidi-edit\n"
+    "--force opens a FILE that cannot be saved, -n keeps no copy of unsaved text,\n"
+    "--no-joining leaves letters unjoined, --no-mouse, --no-clipboard turn these off.\n"
+    "--recover restores or lists unsaved text, --to stores it, --forget deletes it.\n"
     "\n"
-    "  Left Right Up Down    move as the screen shows; Left, Right with Ctrl by words\n"
-    "  Ctrl-B Ctrl-F Ctrl-G  go back, on as the text is stored; to a line, 12 or 12:5\n"
-    "  Home End Page Up/Down to the row's start, end, with Ctrl the text's; a window\n"
-    "  Backspace Delete      erase before (a point at a time), at; with Ctrl by words\n"
-    "  Ctrl-S Ctrl-Q F1 F2   save; quit, twice if unsaved; show keys; turn direction\n"
-    "  Ctrl-Z Ctrl-Y Ctrl-L  undo, redo a typed word, a paste; paint the screen anew\n"
-    "  Ctrl-Space or Ctrl-@  mark a region; or select: Shift with a move, the mouse\n"
-    "  Ctrl-X Ctrl-C Ctrl-V  cut, copy the region, or else the line; put it in\n"
-    "  Ctrl-W Ctrl-R F3 F4   find forward, back, next; replace; Escape gives it up\n"
-    "  Ctrl-K Ctrl-T         insert by a mark's letter; tell what is at the cursor\n"
+    "  Arrow keys            move as the screen shows; Ctrl-Left, Ctrl-Right by words\n"
+    "  Ctrl-B Ctrl-F Ctrl-G  back, forward in stored order; to a line: 12 or 12:5\n"
+    "  Home End Page Up/Down start, end of the row (with Ctrl: of the text); a window\n"
+    "  Backspace Delete      erase before, at the cursor; with Ctrl: by words\n"
+    "  Ctrl-S Ctrl-Q F1 F2   save; quit (twice if unsaved); show keys; direction\n"
+    "  Ctrl-Z Ctrl-Y Ctrl-L  undo; redo; repaint the screen\n"
+    "  Ctrl-Space or Ctrl-@  mark a region; Shift with a move, or the mouse, selects\n"
+    "  Ctrl-X Ctrl-C Ctrl-V  cut, copy the selection, or else the line; paste\n"
+    "  Ctrl-W Ctrl-R F3 F4   find forward, back, next; replace; Escape cancels\n"
+    "  Ctrl-K Ctrl-T         insert a character listed below; character info\n"
     "\n"
-    "The last row: * where changes are not saved, else -; paragraph:place; a message.\n"
-    "Marks, in negative image, of what has no look. Ctrl-K and the letter insert it:\n"
-    "  e LRE E RLE o LRO O RLO p PDF i LRI I RLI f FSI P PDI  ? control  ~ no columns\n"
-    "  # too wide; without a mark l LRM r RLM a ALM n ZWNJ j ZWJ, u and a code, Enter\n";
+    "The last row: * if changes are not saved, else -; line:letter; a message.\n"
+    "Invisible characters, shown in reverse video. Ctrl-K and the letter insert one:\n"
+    "  e LRE E RLE o LRO O RLO p PDF i LRI I RLI f FSI P PDI; not shown: l LRM r RLM\n"
+    "  a ALM n ZWNJ j ZWJ; by code: u 5D0 Enter. Also ? control ~ no width # too wide\n";
 
 static const char *const directions[] = {[DIRECTION_AUTO] = "auto", [DIRECTION_LTR] = "ltr", [DIRECTION_RTL] = "rtl"};
 
@@ -76,12 +75,12 @@ static unsigned long line_option(unsigned long line) {
     return line <= 1 ? 0 : line;
 }
 
-/* The path that a word names, with ./ before it if it begins as an option. */
+/* The path that an argument names, with ./ in front if it could be taken for an option. */
 static const char *word_path(const char *word) {
     return *word == '-' || *word == '+' ? text_of("./%s", word) : word;
 }
 
-/* What is read of a command line. `cause` is NULL as long as no word is refused. */
+/* The state of parsing. `cause` is NULL until an argument is refused. */
 struct reading {
     struct call *call;
     const char *cause, *file, *other;
@@ -90,18 +89,18 @@ struct reading {
 
 static void take_direction(struct reading *reading, const char *value) {
     int direction = direction_of(value);
-    if (direction < 0) reading->cause = text_of("--direction wants auto, ltr or rtl, not %s", shown(value));
+    if (direction < 0) reading->cause = text_of("--direction needs auto, ltr or rtl, not %s", shown(value));
     else reading->call->direction = (enum direction)direction;
 }
 
 static void take_line(struct reading *reading, const char *value) {
     unsigned long line;
-    if (!line_of_digits(value, strlen(value), &line)) reading->cause = text_of("--line wants a number, not %s", shown(value));
+    if (!line_of_digits(value, strlen(value), &line)) reading->cause = text_of("--line needs a number, not %s", shown(value));
     else reading->call->line = line_option(line);
 }
 
 static void take_other(struct reading *reading, const char *value) {
-    if (!*value) reading->cause = "OTHER has no name";
+    if (!*value) reading->cause = "the name of OTHER is empty";
     reading->other = value;
 }
 
@@ -109,7 +108,7 @@ static void take_columns(struct reading *reading, const char *value) {
     unsigned long columns = 0;
     bool is_number = strlen(value) <= 3 && line_of_digits(value, strlen(value), &columns);
     if (!is_number || columns < 1 || columns > LARGEST_SIDE)
-        reading->cause = text_of("--cols wants a number from 1 to 500, not %s", shown(value));
+        reading->cause = text_of("--cols needs a number from 1 to 500, not %s", shown(value));
     else reading->call->columns = (unsigned)columns;
 }
 
@@ -120,7 +119,7 @@ static const struct valued {
 } edit_values[] = {{"--direction", take_direction}, {"--line", take_line}, {"--to", take_other}, {NULL, NULL}},
   print_values[] = {{"--cols", take_columns}, {"--direction", take_direction}, {NULL, NULL}};
 
-/* Takes an option with a value. Returns the number of words taken, 0 where the word is another. */
+/* Takes an option with a value. Returns how many arguments it used: 0 if words[0] is none of these options. */
 static int take_valued(struct reading *reading, const struct valued *options, int count, char *const *words) {
     for (; options->name; options++) {
         size_t length = strlen(options->name);
@@ -130,7 +129,7 @@ static int take_valued(struct reading *reading, const struct valued *options, in
             return 1;
         }
         if (words[0][length] != 0) continue;
-        if (count < 2) reading->cause = text_of("%s wants a value", options->name);
+        if (count < 2) reading->cause = text_of("%s needs a value", options->name);
         else options->take(reading, words[1]);
         return 2;
     }
@@ -166,9 +165,11 @@ static bool take_option(struct reading *reading, const char *word) {
     return true;
 }
 
+static const char no_file[] = "FILE is missing", several_files[] = "only one FILE can be given", empty_name[] = "the name of FILE is empty";
+
 static void take_file(struct reading *reading, const char *word) {
-    if (reading->file) reading->cause = "one FILE is wanted";
-    else if (!*word) reading->cause = "FILE has no name";
+    if (reading->file) reading->cause = several_files;
+    else if (!*word) reading->cause = empty_name;
     else reading->file = word;
 }
 
@@ -188,23 +189,23 @@ static void take_print_words(struct reading *reading, int count, char *const *wo
         else if (strcmp(word, "--") == 0) is_option = false;
         else if (strcmp(word, "--marks") == 0) reading->call->has_marks = true;
         else if (strcmp(word, "--no-joining") == 0) reading->call->is_unjoined = true;
-        else reading->cause = text_of("there is no option %s with --print", shown(word));
-        /* of several words after the end of the options none is looked at */
-        if (!is_option && count > 2 && may_be_option) reading->cause = "one FILE is wanted";
+        else reading->cause = text_of("--print does not take %s", shown(word));
+        /* after --, several names are refused whatever they are */
+        if (!is_option && count > 2 && may_be_option) reading->cause = several_files;
     }
-    if (!reading->cause && !reading->file) reading->cause = "one FILE is wanted";
+    if (!reading->cause && !reading->file) reading->cause = no_file;
 }
 
-/* Settles the call by its options and the words after them, which should be one FILE, or none. */
+/* Decides what the command line asks for, by its options and by what follows them, which should be one FILE or nothing. */
 static void take_files(struct reading *reading, int count, char *const *words) {
     bool is_lone = count == 0 && !reading->other && reading->is_recovery != reading->is_forgetting;
     reading->call->kind = !reading->is_recovery ? reading->is_forgetting ? CALL_FORGET : CALL_EDIT : count > 0 ? CALL_RECOVER : CALL_LIST;
     if (is_lone) return;
-    if (count > 1) reading->cause = "one FILE is wanted";
-    else if (count == 1 && !*words[0]) reading->cause = "FILE has no name";
-    else if (reading->is_recovery && reading->is_forgetting) reading->cause = "--forget goes without --recover";
-    else if (count == 0) reading->cause = "one FILE is wanted";
-    else if (reading->other && !reading->is_recovery) reading->cause = "--to goes with --recover";
+    if (count > 1) reading->cause = "only one FILE can be given, after the options";
+    else if (count == 1 && !*words[0]) reading->cause = empty_name;
+    else if (reading->is_recovery && reading->is_forgetting) reading->cause = "--recover and --forget cannot be combined";
+    else if (count == 0) reading->cause = no_file;
+    else if (reading->other && !reading->is_recovery) reading->cause = "--to needs --recover";
     else reading->file = words[0];
 }
 
@@ -228,7 +229,7 @@ static void take_words(struct reading *reading, int count, char *const *words) {
         taken = take_valued(reading, edit_values, count, words);
         if (taken > 0) continue;
         taken = 1;
-        if (!take_option(reading, word)) reading->cause = text_of("there is no option %s", shown(word));
+        if (!take_option(reading, word)) reading->cause = text_of("unknown option %s", shown(word));
     }
     if (!reading->cause) take_files(reading, 0, words);
 }
@@ -244,7 +245,7 @@ int read_words(int count, char *const *words, struct call *call, const char **ca
     const char *const names[] = {reading.other, reading.file};
     for (size_t i = 0; i < sizeof names / sizeof *names; i++) {
         if (!names[i] || is_utf8(names[i])) continue;
-        *cause = text_of("%s has a name that is not UTF-8: mv gives it another", shown(names[i]));
+        *cause = text_of("%s has a name that is not UTF-8: rename it with mv", shown(names[i]));
         return STATUS_FAULT;
     }
     if (reading.file) call->file = word_path(reading.file);
@@ -287,7 +288,7 @@ static bool is_readable(const char *path) {
 }
 
 static bool find_tables_in(struct tables *tables, const char *folder) {
-    /* one folder deeper in Unicode's own tree */
+    /* Unicode itself publishes this file in a subfolder */
     tables->classes = text_of("%s/extracted/DerivedBidiClass.txt", folder);
     if (!is_readable(tables->classes)) tables->classes = text_of("%s/DerivedBidiClass.txt", folder);
     tables->brackets = text_of("%s/BidiBrackets.txt", folder);
@@ -302,10 +303,10 @@ const char *find_tables(struct tables *tables, const char *own) {
     const char *given = getenv("BIDI_EDIT_DATA");
     if (given && *given) {
         if (is_utf8(given) && find_tables_in(tables, given)) return NULL;
-        return text_of("BIDI_EDIT_DATA names %s, which lacks DerivedBidiClass.txt, BidiBrackets.txt or BidiMirroring.txt", shown(given));
+        return text_of("BIDI_EDIT_DATA names %s, which lacks DerivedBidiClass.txt, BidiBrackets.txt or BidiMirroring.txt: correct or unset it", shown(given));
     }
     if (find_tables_in(tables, system_tables) || find_tables_in(tables, own)) return NULL;
-    return text_of("%s lacks Unicode's three files", shown(own));
+    return text_of("%s lacks DerivedBidiClass.txt, BidiBrackets.txt or BidiMirroring.txt: install the editor again", shown(own));
 }
 
 void add_word(struct words *words, const char *word) {

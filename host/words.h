@@ -5,13 +5,14 @@
 #include <stdbool.h>
 #include <stddef.h>
 
-/* The editor's version, also told by CHANGELOG.md and docs/bidi_edit.1. Sessions note it. */
+/* The editor's version. CHANGELOG.md and docs/bidi_edit.1 name it too, and each session records it. */
 #define EDITOR_VERSION "0.4.0"
 
-/* Exit statuses: of a fault or a refusal; of a refused command line, after a no, or no answer. */
+/* Exit statuses. FAULT: an error, or FILE was refused. NO: the command line was refused, or a question was answered by no or not at
+ * all. */
 enum { STATUS_FAULT = 1, STATUS_NO = 2 };
 
-/* The sides of a window, and of a printed row. */
+/* The most rows and columns of a window, and the most columns of a printed row. */
 enum { LARGEST_SIDE = 500 };
 
 enum direction { DIRECTION_AUTO, DIRECTION_LTR, DIRECTION_RTL };
@@ -40,7 +41,7 @@ struct call {
     bool has_marks;
 };
 
-/* Reads the words after the program's name into a call. Returns 0, or the exit status and `cause`, the message. */
+/* Parses the command line, without the program's name. Returns 0; or an exit status, with the message in `cause`. */
 int read_words(int count, char *const *words, struct call *call, const char **cause);
 
 extern const char help_text[];
@@ -50,8 +51,8 @@ const char *version_text(const char *toolchain, const char *classes);
 
 /* ---- where the programs are */
 
-/* Paths of the programs, of the folder of Unicode's tables, and of the file in which the build noted the toolchain. That they are
- * there is not checked. */
+/* Paths of the programs, of the folder with Unicode's tables, and of the file in which the build wrote the toolchain's version.
+ * Nothing checks that they exist. */
 struct programs {
     char *editor, *printer, *tables, *kit;
 };
@@ -68,7 +69,7 @@ struct tables {
  * Returns NULL, or the cause where that folder lacks one of the first three. */
 const char *find_tables(struct tables *tables, const char *own);
 
-/* The words of a program's command line. A NULL is behind them. */
+/* The arguments of a program to be started, ended by NULL. */
 enum { WORDS_MOST = 64 };
 struct words {
     char *words[WORDS_MOST];
@@ -77,7 +78,7 @@ struct words {
 void add_word(struct words *words, const char *word);
 void add_option(struct words *words, const char *option, const char *value);
 
-/* Adds the words that name the tables; those of joined letters if `is_joined`. */
+/* Adds the options that name the tables; with `is_joined`, also those of the tables for joined letters. */
 void add_tables(struct words *words, const struct tables *tables, bool is_joined);
 
 #endif

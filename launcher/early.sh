@@ -1,6 +1,6 @@
 # shellcheck shell=sh
 # shellcheck disable=SC2154 # top is set by the script that reads this file
-# Refusals before the first build, of words that no program needs to judge. For the script bidi-edit, which sets `top`.
+# Refusals before the first build, of arguments that are wrong in any case. For the script bidi-edit, which sets `top`.
 
 # shellcheck source=launcher/names.sh
 . "$top/launcher/names.sh"
@@ -10,7 +10,7 @@ usage='usage: bidi-edit [--direction auto|ltr|rtl] [--line N | +N] [--force] FIL
        bidi-edit --recover [[--to OTHER] FILE] | --forget [FILE]
        bidi-edit --print FILE [--cols N] [--marks]: its rows to standard output'
 
-# Tells the cause and the usage without its last line, as the host does.
+# Prints the cause and the usage without its last line, as the host does.
 refuse_words() { # CAUSE
     printf 'bidi-edit: %s\n%s\n' "$1" "${usage%
 *}" >&2
@@ -19,7 +19,7 @@ refuse_words() { # CAUSE
 
 # The help of an editor that is not built yet.
 tell_usage() {
-    printf '%s\nman -l %s has all\n' "$usage" "$(shown "$top/docs/bidi_edit.1")"
+    printf '%s\nCtrl-S saves, Ctrl-Q quits, F1 shows the main keys. The manual: man -l %s\n' "$usage" "$(shown "$top/docs/bidi_edit.1")"
     exit 0
 }
 
@@ -30,7 +30,7 @@ check_words() { # WORD..
         -h | --help) tell_usage ;;
         --version | --print | --recover | --forget) return ;;
         --direction | --line | --to)
-            [ $# -gt 1 ] || refuse_words "$1 wants a value"
+            [ $# -gt 1 ] || refuse_words "$1 needs a value"
             shift
             ;;
         --)
@@ -42,8 +42,9 @@ check_words() { # WORD..
         esac
         shift
     done
-    [ $# = 1 ] || refuse_words 'one FILE is wanted'
-    [ -n "$1" ] || refuse_words 'FILE has no name'
+    [ $# != 0 ] || refuse_words 'FILE is missing'
+    [ $# = 1 ] || refuse_words 'only one FILE can be given, after the options'
+    [ -n "$1" ] || refuse_words 'the name of FILE is empty'
     [ ! -d "$1" ] || {
         printf 'bidi-edit: %s is a folder: name a file in it\n' "$(shown "$1")" >&2
         exit 1

@@ -189,7 +189,7 @@ check_terminal() {
     tmux -L "$socket" send-keys -t person C-c
     wait_for 50 is_over
     same 'Ctrl-C, status' "$(cat "$folder/status" 2>/dev/null)" 130
-    like 'Ctrl-C, the words' "$(screen | tail -n 1)" 'bidi-edit: stopped: what is proved is kept, and the next start goes on from there'
+    like 'Ctrl-C, the words' "$(screen | tail -n 1)" 'bidi-edit: stopped; what is proved is kept, and the next start continues from there'
     wait_for 20 none_runs
     same 'Ctrl-C, the toolchain is over' "$(processes)" 0
     nothing_left 'Ctrl-C'
@@ -208,7 +208,7 @@ check_failure() {
     echo c >"$folder/told/bad"
     run
     same 'failure, status' "$status" 1
-    log=$(sed -n 's/.*c could not be proved, and \(.*\) tells why; what is proved is kept$/\1/p' "$folder/said")
+    log=$(sed -n 's/.*c could not be proved: \(.*\) says why; what is proved is kept$/\1/p' "$folder/said")
     grep -q 'fn x: not proved' "$log" 2>/dev/null
     report 'failure, the log that it names' $? "$(tail -n 1 "$folder/said")"
     same 'failure, where that log is' "$log" "$folder/tree/out/proving.log"
@@ -231,7 +231,7 @@ check_killed() {
     wait_for 100 has_line '[1-9] of 10 functions proved'
     run
     same 'second start, status' "$status" 1
-    like 'second start, the words' "$(cat "$folder/said")" 'bidi-edit: process [0-9]* is building the editor already: wait for it'
+    like 'second start, the words' "$(cat "$folder/said")" 'bidi-edit: process [0-9]* is already building the editor: wait for it'
     kill -s KILL "$(cat "$folder/tree/out/proving.lock")"
     wait_for 20 is_over
     rm -f "$folder/told/slow"
@@ -271,7 +271,7 @@ check_script() {
     tmux -L "$socket" send-keys -t person C-c
     wait_for 50 is_over
     same 'script, Ctrl-C' "$(cat "$folder/status" 2>/dev/null)" 130
-    like 'script, Ctrl-C: the words' "$(screen | tail -n 1)" 'bidi-edit: stopped: .*'
+    like 'script, Ctrl-C: the words' "$(screen | tail -n 1)" 'bidi-edit: stopped; .*'
     tmux -L "$socket" kill-session -t person
     rm -f "$folder/told/slow"
     start_script "$folder/note"
@@ -301,17 +301,17 @@ run_script() { # WORD..
 check_early() {
     make_checkout
     run_script
-    same 'early, no FILE' "$status $(head -n 1 "$folder/said")" '2 bidi-edit: one FILE is wanted'
+    same 'early, no FILE' "$status $(head -n 1 "$folder/said")" '2 bidi-edit: FILE is missing'
     run_script one two
-    same 'early, two files' "$status $(head -n 1 "$folder/said")" '2 bidi-edit: one FILE is wanted'
+    same 'early, two files' "$status $(head -n 1 "$folder/said")" '2 bidi-edit: only one FILE can be given, after the options'
     run_script --line
-    same 'early, no value' "$status $(head -n 1 "$folder/said")" '2 bidi-edit: --line wants a value'
+    same 'early, no value' "$status $(head -n 1 "$folder/said")" '2 bidi-edit: --line needs a value'
     run_script ''
-    same 'early, no name' "$status $(head -n 1 "$folder/said")" '2 bidi-edit: FILE has no name'
+    same 'early, no name' "$status $(head -n 1 "$folder/said")" '2 bidi-edit: the name of FILE is empty'
     run_script +7 --line 4 -- "$folder"
     same 'early, a folder' "$status $(cat "$folder/said")" "1 bidi-edit: $folder is a folder: name a file in it"
     run_script --help
-    same 'early, help' "$status $(tail -n 1 "$folder/said")" "0 man -l $folder/tree/docs/bidi_edit.1 has all"
+    same 'early, help' "$status $(tail -n 1 "$folder/said")" "0 Ctrl-S saves, Ctrl-Q quits, F1 shows the main keys. The manual: man -l $folder/tree/docs/bidi_edit.1"
     same 'early, help: the usage' "$(head -c 6 "$folder/said")" 'usage:'
     same 'early, nothing is built' "$(cat "$folder/told/log" 2>/dev/null)" ''
 }
@@ -321,7 +321,7 @@ check_needed() {
     make_checkout
     run_script --print note
     same 'needed, printing' "$status $(tail -n 1 "$folder/said")" '0 host|--print|note|'
-    same 'needed, what is told' "$(grep -c 'proving and building the printing program, this once' "$folder/said")" 1
+    same 'needed, what is told' "$(grep -c 'proving and building the printing program, only this once' "$folder/said")" 1
     same 'needed, what is built' "$(sed -n 's/^begin \(bidi_[a-z]*\) .*/\1/p' "$folder/told/log" | sort | paste -s -d ' ')" bidi_print
     run_script note
     same 'needed, the others' "$(sed -n 's/^begin \(bidi_[a-z]*\) .*/\1/p' "$folder/told/log" | sort | paste -s -d ' ')" \

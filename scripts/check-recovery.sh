@@ -287,7 +287,7 @@ program_under() { # SHELL
 
 # A scene is a chain of steps, of which the first that fails tells it; `scene` is its name.
 scene_recover_asks() {
-    break_off '* 1:2' "$kept" x && say bidi-edit text && expect "$scene" 'an unfinished session of' && expect "$scene" 'keys typed: 1' && say what &&
+    break_off '* 1:2' "$kept" x && say bidi-edit text && expect "$scene" 'an unfinished session from' && expect "$scene" 'keys typed: 1' && say what &&
         wait_for 150 is_asked_again && terminal send-keys -t shell C-d && say 'echo status $?' && expect "$scene" 'status 2' && say clear && say bidi-edit text && expect "$scene" '[d]elete for good' && say delete &&
         wait_for 150 has_row shell '- 1:1' && end_by_keys C-q && say 'ls state/bidi_edit | wc -l' && expect "$scene" 0
 }
@@ -298,13 +298,13 @@ is_asked_again() {
 
 # A surviving host sees that all is saved.
 scene_all_is_saved() {
-    break_off '- 1:2 saved' 'the editor was ended by the signal' x C-s && say bidi-edit text && wait_for 150 has_row shell '- 1:1' &&
+    break_off '- 1:2 saved' 'the editor was ended by SIG' x C-s && say bidi-edit text && wait_for 150 has_row shell '- 1:1' &&
         end_by_keys C-q && say 'ls state/bidi_edit | wc -l' && expect "$scene" 0
 }
 
 scene_all_was_saved() {
     break_off '- 1:2 saved' '' x C-s && say bidi-edit text && expect "$scene" '[d]elete for good' && say recover &&
-        wait_for 150 has_row shell '- 1:1' && end_by_keys C-q && expect "$scene" 'text holds all that was typed in its last session'
+        wait_for 150 has_row shell '- 1:1' && end_by_keys C-q && expect "$scene" 'text already contains everything that was typed in its last session'
 }
 
 scene_changed_by_another() {
@@ -316,7 +316,7 @@ scene_changed_by_another() {
 scene_dropped() {
     open_shell
     say bidi-edit text
-    wait_for 150 has_row shell '- 1:1' && end_by_keys y C-q C-q && expect "$scene" 'what was dropped can be recovered' &&
+    wait_for 150 has_row shell '- 1:1' && end_by_keys y C-q C-q && expect "$scene" 'the dropped changes can be recovered' &&
         say clear && say bidi-edit --recover text && wait_for 150 has_row shell '* 1:2 recovered' && end_by_keys C-s C-q &&
         say 'grep -c y text; ls state/bidi_edit | wc -l' && expect "$scene" 1 && expect "$scene" 0
 }
@@ -334,7 +334,7 @@ scene_two_editors() {
     terminal rename-session -t shell first
     open_shell
     say bidi-edit other
-    expect "$scene" 'other is open in another window of yours' && say no && say 'echo status $?' && expect "$scene" 'status 2'
+    expect "$scene" 'other is already open in another window of yours' && say no && say 'echo status $?' && expect "$scene" 'status 2'
     ended=$?
     terminal send-keys -t first C-q
     return "$ended"
@@ -342,7 +342,7 @@ scene_two_editors() {
 
 check_scenes() {
     # what a host says whose program was killed
-    kept='what was typed is kept'
+    kept='unsaved text is kept'
     for scene in recover_asks all_is_saved all_was_saved changed_by_another dropped two_editors; do
         if "scene_$scene"; then passes "$scene"; else fails "$scene" "at last: $(terminal capture-pane -p -J -t shell | tr '\n' '|' | sed 's/|*$//')"; fi
     done

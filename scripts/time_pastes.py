@@ -29,16 +29,16 @@ OWN = (1, 5)  # rows of one process, which only bidi_edit has more of
 
 def text_of(kind, is_one_line):
     """Words of some SIZE bytes in one line, or in lines of LINE characters."""
-    words = kind.words(random.Random(kind.name))
-    lines, line, left = [], '', SIZE
+    source = kind.words(random.Random(kind.name))
+    lines, words, left = [], [], SIZE
     while left > 0:
-        word = next(words)
-        if not is_one_line and len(line) + len(word) + 1 >= LINE:
-            lines.append(line)
-            line = ''
-        line += f' {word}' if line else word
+        word = next(source)
+        if not is_one_line and sum(map(len, words)) + len(words) + len(word) >= LINE:
+            lines.append(' '.join(words))
+            words = []
+        words.append(word)
         left -= len(word.encode()) + 1
-    return '\n'.join([*lines, line])
+    return '\n'.join([*lines, ' '.join(words)])
 
 
 class Meter:
@@ -150,4 +150,5 @@ def main():
     print(f'\nLoad {os.getloadavg()[0]:.1f} at the end.')
 
 
-main()
+if __name__ == '__main__':
+    main()

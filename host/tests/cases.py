@@ -54,7 +54,7 @@ def edits(tree):
     run.rest(0.2)
     run.resize(30, 90)
     yield holds('edits: size', run.pump(5, b'- 30 x 90'))
-    yield holds('edits: title', f'\x1b]2;{os.path.basename(run.file)} - ^S save ^Q quit\x07'.encode() in run.output, run.output)
+    yield holds('edits: title', f'\x1b]2;{os.path.basename(run.file)} - ^S save ^Q quit F1 keys\x07'.encode() in run.output, run.output)
     run.rest(2.2)  # nothing is told while time passes
     run.type(SAVE + QUIT)
     yield from finish(run, 'edits', 0)

@@ -4,7 +4,7 @@ from terminals import Run
 
 QUIT, SAVE = b'\x11', b'\x13'
 CHOICE = b'[r]ecover, [d]elete for good, [l]ater? '
-REST = b'open FILE and leave the session, or keep its parts as files beside FILE (open, keep)? '
+REST = b'Open the file and leave the session, or keep its parts as files next to it (open, keep)? '
 
 
 class Started:
@@ -123,25 +123,27 @@ def told_words(place):
     assert status == 0 and out.startswith('usage: bidi-edit ') and not err
     assert place.tells('--version') == (0, 'bidi-edit 0.4.0\ntoolchain some kit\nUnicode 15.0.0\n', ''), place.tells('--version')
     status, out, err = place.tells()
-    assert status == 2 and err.startswith('bidi-edit: one FILE is wanted\nusage: ') and not out
+    assert status == 2 and err.startswith('bidi-edit: FILE is missing\nusage: ') and not out
     for words in (['--help'], ['--version'], ['--forget']):
         found = place.tells(*words, redirection='>/dev/full')
         assert found == (1, '', 'bidi-edit: standard output cannot be written: no space\n'), found
 
 
 def refusals(place):
-    no_terminal = 'bidi-edit: there is no terminal: start the editor in one (ssh -t gives one to a command)\n'
+    no_terminal = 'bidi-edit: there is no terminal: start the editor in one (over ssh, use ssh -t)\n'
     assert place.tells('a.txt') == (2, '', no_terminal), place.tells('a.txt')
     assert 'the terminal is dumb' in place.tells('a.txt', TERM='dumb')[2]
-    assert place.tells('none/a.txt') == (1, '', 'bidi-edit: none is a folder that is not there: mkdir -p none makes it\n')
+    place.put('plain', b'text\n')
+    assert place.tells('plain/in/a.txt')[2] == 'bidi-edit: the folder plain/in cannot exist, since its path leads through a file: name a file in a folder\n'
+    assert place.tells('none/a.txt') == (1, '', 'bidi-edit: the folder none does not exist: mkdir -p none creates it\n')
     os.symlink('loop', place.path('loop'))
-    assert 'in a circle' in place.tells('loop')[2]
-    assert place.tells('a.txt', XDG_STATE_HOME='x')[2] == 'bidi-edit: XDG_STATE_HOME names x, which is not absolute: ~/.local/state is taken\n' + no_terminal
-    told = 'bidi-edit: BIDI_EDIT_DATA names ., which lacks DerivedBidiClass.txt, BidiBrackets.txt or BidiMirroring.txt\n'
+    assert 'in a circle of links' in place.tells('loop')[2]
+    assert place.tells('a.txt', XDG_STATE_HOME='x')[2] == 'bidi-edit: XDG_STATE_HOME is ignored, since x is not an absolute path: ~/.local/state is used instead\n' + no_terminal
+    told = 'bidi-edit: BIDI_EDIT_DATA names ., which lacks DerivedBidiClass.txt, BidiBrackets.txt or BidiMirroring.txt: correct or unset it\n'
     assert place.tells('a.txt', BIDI_EDIT_DATA='.') == (1, '', told)
     place.put('latin', b'ok\n\xe9\n')
     started = place.start('latin').ends(1)
-    assert started.err().startswith('bidi-edit: latin is not UTF-8 in line 2: iconv') and 'kept' not in started.err(), started.err()
+    assert started.err().startswith('bidi-edit: latin is not UTF-8 (line 2): if it is') and 'kept' not in started.err(), started.err()
     assert place.sessions() == []
 
 
@@ -163,15 +165,15 @@ def keys_are_kept(place):
     """Keys that were not saved are told, listed, and stored elsewhere."""
     place.put('a.txt', b'text\n', 0o600)
     started = place.leave()
-    assert started.err() == 'bidi_edit: input ended before saving\nbidi-edit: what was typed is kept: bidi-edit --recover a.txt gets it back\n', started.err()
+    assert started.err() == 'bidi_edit: input ended before saving\nbidi-edit: unsaved text is kept: bidi-edit --recover a.txt restores it\n', started.err()
     assert place.part('snapshot') == b'abctext\n' and place.part('journal') == b'abc'
     status, out, err = place.tells('--recover')
     assert status == 0 and not err and re.fullmatch(rf'\d{{4}}-\d\d-\d\d \d\d:\d\d  keys: 3  KB: \d+  {place.path("a.txt")}\n', out), (out, err)
     found = place.tells('--recover', '--to', 'b.txt', 'a.txt')
-    assert found == (0, 'bidi-edit: the text of a.txt with what was typed (keys: 3) is in b.txt\n', ''), found
+    assert found == (0, 'bidi-edit: the text of a.txt, with what was typed in the session (keys: 3), is now in b.txt\n', ''), found
     assert place.text('b.txt') == b'abctext\n' and stat.S_IMODE(os.stat(place.path('b.txt')).st_mode) == 0o600
     found = place.tells('--recover', '--to', 'b.txt', 'a.txt')
-    assert found == (1, '', 'bidi-edit: b.txt is there already: name a new file\n'), found
+    assert found == (1, '', 'bidi-edit: b.txt already exists: name a new file\n'), found
     found = place.tells('--recover', '--to', 'none/b', 'a.txt')
     assert found == (1, '', 'bidi-edit: none/b cannot be written: its folder is gone\n'), found
     assert len(place.sessions()) == 1
@@ -185,7 +187,7 @@ def questions(place):
     for answer in ('y', '', 'x'):
         started.answers(CHOICE, answer)
     started.answers(CHOICE, b'\x04').ends(2)
-    assert 'bidi-edit: a.txt has an unfinished session of ' in started.out() and '(keys typed: 3)' in started.out(), started.out()
+    assert 'bidi-edit: a.txt has an unfinished session from ' in started.out() and '(keys typed: 3)' in started.out(), started.out()
     started = place.start('a.txt').answers(CHOICE, 'L').sees(b'text <text|>').type(QUIT).ends(0)
     assert len(place.sessions()) == 1
     started = place.start('a.txt').answers(CHOICE, ' R ').sees(b'text <abctext|> *').sees(b'notice 7')
@@ -225,15 +227,16 @@ def deletion(place):
 def dropped(place):
     """Keys that the user dropped are not asked about, but can be recovered or removed."""
     started = place.edit('a.txt').type(b'abc').sees(b'*').type(QUIT).ends(0)
-    assert started.err() == 'bidi-edit: what was dropped can be recovered: bidi-edit --recover a.txt\n', started.err()
+    assert started.err() == 'bidi-edit: the dropped changes can be recovered: bidi-edit --recover a.txt\n', started.err()
     place.edit('a.txt').type(QUIT).ends(0)
     assert '(dropped)' in place.tells('--recover')[1]
     place.start('--recover', 'a.txt').sees(b'text <abc>').type(QUIT).ends(0)
     status, out, err = place.tells('--forget', 'a.txt')
-    assert status == 0 and re.fullmatch(r'bidi-edit: the session of \S+/a.txt of .* is removed \(dropped\)\n', out), (out, err)
+    assert status == 0 and re.fullmatch(r'bidi-edit: the session of \S+/a.txt from .* is deleted \(dropped\)\n', out), (out, err)
     assert place.sessions() == []
-    assert place.tells('--forget') == (0, 'bidi-edit: there is no session to remove\n', '')
-    assert place.tells('--forget', 'a b') == (0, "bidi-edit: there is no session of 'a b' to remove\n", '')
+    assert place.tells('--forget') == (0, 'bidi-edit: there are no sessions to delete\n', '')
+    assert place.tells('--recover') == (0, 'bidi-edit: there are no sessions to recover\n', '')
+    assert place.tells('--forget', 'a b') == (0, "bidi-edit: there is no session of 'a b' to delete\n", '')
     assert place.tells('--recover', '--to', 'o', 'a.txt') == (1, '', 'bidi-edit: there is no session of a.txt to recover\n')
 
 
@@ -243,7 +246,7 @@ def secrets(place):
         return
     place.put('a.txt', b'text\n', 0o600)
     started = place.edit('a.txt').type(b'abc').sees(b'*').type(QUIT).ends(0)
-    assert started.err() == 'bidi-edit: what was dropped is not kept, since only root can read a.txt\n' and place.sessions() == [], started.err()
+    assert started.err() == 'bidi-edit: the dropped changes are not kept, since only root can read a.txt\n' and place.sessions() == [], started.err()
 
 
 def live(place):
@@ -251,10 +254,10 @@ def live(place):
     place.put('a.txt', b'text\n')
     os.link(place.path('a.txt'), place.path('b.txt'))
     first = place.edit('a.txt')
-    question = b'Edit it all the same (yes, no)? '
+    question = b'Edit it anyway (yes, no)? '
     for name in ('a.txt', 'b.txt'):
         second = place.start(name).answers(question, 'maybe').answers(question, 'no').ends(2)
-        told = f'bidi-edit: {name} is open in another window of yours, process {first.run.job}. What one of them saves the other may overwrite.\n'
+        told = f'bidi-edit: {name} is already open in another window of yours (process {first.run.job}). Each window may overwrite what the other saves.\n'
         assert second.out() == told, (second.out(), told)
     assert place.tells('--recover', '--to', 'x', 'a.txt') == (1, '', 'bidi-edit: the session of a.txt is open in another window\n')
     place.start('a.txt').answers(question, 'y').sees(b'text <').type(QUIT).ends(0)
@@ -265,11 +268,11 @@ def without_a_session(place):
     """A start that keeps no session is seen by others all the same, and no file is made."""
     place.put('a.txt', b'text\n')
     first = place.edit('-n', 'a.txt')
-    second = place.start('a.txt').answers(b'Edit it all the same (yes, no)? ', 'no').ends(2)
-    assert f'a.txt is open in another window of yours, process {first.run.job}. ' in second.out(), second.out()
-    assert not os.path.exists(f'{place.top}/home/.local') and first.err() == 'bidi-edit: unsaved text is not kept, since -n asks for that\n'
+    second = place.start('a.txt').answers(b'Edit it anyway (yes, no)? ', 'no').ends(2)
+    assert f'a.txt is already open in another window of yours (process {first.run.job}). ' in second.out(), second.out()
+    assert not os.path.exists(f'{place.top}/home/.local') and first.err() == 'bidi-edit: unsaved text is not kept, since -n was given\n'
     first.type(b'abc').sees(b'*').type(SAVE).sees(b'saved')
-    second = place.start('-n', 'a.txt').answers(b'Edit it all the same (yes, no)? ', 'no').ends(2)
+    second = place.start('-n', 'a.txt').answers(b'Edit it anyway (yes, no)? ', 'no').ends(2)
     first.type(QUIT).ends(0)
     place.edit('a.txt').type(QUIT).ends(0)
 
@@ -280,8 +283,8 @@ def two_at_once(place):
     for _ in range(5):
         both = [place.start('a.txt', is_plain=True) for _ in range(2)]
         for started in both:
-            assert started.run.pump_any(20, (b'Edit it all the same', b'text <')), started.run.output
-        told = [b'Edit it all the same' in started.run.output for started in both]
+            assert started.run.pump_any(20, (b'Edit it anyway', b'text <')), started.run.output
+        told = [b'Edit it anyway' in started.run.output for started in both]
         assert any(told), [started.run.output for started in both]
         time.sleep(0.05)  # as in Started.answers
         for started, is_told in zip(both, told):
@@ -325,7 +328,7 @@ def replay_that_fails(place):
         started = place.start('a.txt', TYPIST=way).answers(CHOICE, 'later').sees(b'text <').type(b'x').sees(b'*')
         os.kill(started.run.job, signal.SIGTERM)
         started.ends(-signal.SIGTERM, 5)
-        assert 'what was typed is kept: ' in started.err(), started.err()
+        assert 'unsaved text is kept: ' in started.err(), started.err()
 
 
 def changed_beside(place):
@@ -334,10 +337,10 @@ def changed_beside(place):
     place.leave()
     place.put('a.txt', b'other\n')
     started = place.start('a.txt').answers(CHOICE, 'r').sees(b'text <abctext|> *').sees(b'notice 8')
-    assert 'has changed a.txt since; what was typed is recovered as a.txt.recovered\n' in started.out(), started.out()
+    assert 'has changed a.txt since; the session\'s text is recovered as a.txt.recovered\n' in started.out(), started.out()
     started.type(b'd').sees(b'<abcdtext|>').kill()
     started = place.start('a.txt').answers(CHOICE, 'r').sees(b'<abcdtext|>').type(SAVE).sees(b'saved').type(QUIT).ends(0)
-    assert started.err() == 'bidi-edit: a.txt was changed since, so the recovered text is in a.txt.recovered\n', started.err()
+    assert started.err() == 'bidi-edit: a.txt was changed by another program, so the recovered text is in a.txt.recovered\n', started.err()
     assert place.text('a.txt') == b'other\n' and place.text('a.txt.recovered') == b'abcdtext\n' and place.sessions() == []
 
 
@@ -364,7 +367,7 @@ def no_place_beside(place):
     place.leave(long)
     place.put(long, b'other\n')
     started = place.start(long).answers(CHOICE, 'r').ends(1)
-    assert started.err().endswith(f'bidi-edit: bidi-edit --recover --to OTHER {long} stores the text elsewhere\n'), started.err()
+    assert started.err().endswith(f'bidi-edit: to store the text elsewhere: bidi-edit --recover --to OTHER {long}\n'), started.err()
     assert place.part('journal') == b'abc' and not os.path.exists(f'{place.sessions()[0]}/beside')
 
 
@@ -374,7 +377,7 @@ def all_is_there(place):
     place.leave()
     place.put('a.txt', b'abctext\n')
     started = place.start('a.txt').answers(CHOICE, 'r').sees(b'text <abctext|> -').type(QUIT).ends(0)
-    assert started.out().endswith('bidi-edit: a.txt holds all that was typed in its last session\n') and place.sessions() == []
+    assert started.out().endswith('bidi-edit: a.txt already contains everything that was typed in its last session\n') and place.sessions() == []
 
 
 def another_version(place):
@@ -384,15 +387,15 @@ def another_version(place):
     place.put_part('versions', b'bidi-edit 0.0.0\n')
     before = place.sessions()
     started = place.start('a.txt').answers(CHOICE, 'r').sees(b'text <abctext|> *')
-    assert 'its text is recovered, and its undo history is not' in started.out() and '--unsaved' in started.words(), started.out()
+    assert 'its text is recovered, but not its undo history' in started.out() and '--unsaved' in started.words(), started.out()
     assert place.sessions() != before and len(place.sessions()) == 1
     os.kill(started.run.job, signal.SIGHUP)
     started.ends(-signal.SIGHUP)
-    assert 'what was typed is kept' in started.err()
+    assert 'unsaved text is kept' in started.err()
     place.put_part('versions', b'bidi-edit 0.0.0\n')
     place.put_part('journal', b'x')
     os.unlink(f'{place.sessions()[0]}/snapshot')
-    sure = b'Recover it all the same (yes, no)? '
+    sure = b'Recover it anyway (yes, no)? '
     place.start('a.txt').answers(CHOICE, 'r').answers(sure, 'maybe').answers(sure, 'no').ends(2)
     place.start('a.txt').answers(CHOICE, 'r').answers(sure, 'yes').sees(b'text <xabctext|>').kill()
 
@@ -402,11 +405,11 @@ def elsewhere(place):
     place.put('a.txt', b'text\n')
     place.leave()
     place.put_part('process', b'1 elsewhere 11111111-1111\n')
-    started = place.start('a.txt').answers(b'Edit it all the same (yes, no)? ', 'no').ends(2)
-    assert started.out().startswith('bidi-edit: a.txt may be open in another window of yours, process 1 on elsewhere, which cannot be seen from here. '), started.out()
+    started = place.start('a.txt').answers(b'Edit it anyway (yes, no)? ', 'no').ends(2)
+    assert started.out().startswith('bidi-edit: a.txt may be open in another window of yours (process 1 on elsewhere, which cannot be checked from here). '), started.out()
     assert '(on elsewhere)' in place.tells('--recover')[1]
     found = place.tells('--recover', '--to', 'o', 'a.txt')
-    assert found == (1, '', 'bidi-edit: the session of a.txt began on another machine: bidi-edit --recover a.txt asks of it\n'), found
+    assert found == (1, '', 'bidi-edit: the session of a.txt began on another machine: bidi-edit --recover a.txt asks whether it has ended\n'), found
     started = place.start('--recover', 'a.txt').answers(b'Has it ended (yes, no)? ', 'yes').sees(b'text <abctext|>').type(SAVE).sees(b'saved').type(QUIT).ends(0)
     assert place.text('a.txt') == b'abctext\n' and place.sessions() == []
 
@@ -431,8 +434,8 @@ def lost_folder(place):
     found = place.tells('--recover', '--to', 'o', 'd/a.txt')
     assert found[0] == 0 and place.text('o') == b'abctext\n', found
     started = place.start('--recover', 'd/a.txt').ends(1)
-    assert started.err() == 'bidi-edit: d is a folder that is not there: mkdir -p d makes it\n' and len(place.sessions()) == 1, started.err()
-    assert place.tells('--forget', 'd/a.txt')[1].endswith(' is removed\n') and place.sessions() == []
+    assert started.err() == 'bidi-edit: the folder d does not exist: mkdir -p d creates it\n' and len(place.sessions()) == 1, started.err()
+    assert place.tells('--forget', 'd/a.txt')[1].endswith(' is deleted\n') and place.sessions() == []
 
 
 def printing(place):
@@ -440,9 +443,9 @@ def printing(place):
     place.put('latin', b'a\n\xe9')
     status, out, _ = place.tells('--print', 'a.txt')
     assert status == 0 and out.startswith(' <--cols> <80> <--direction> <auto> <--classes> ') and out.endswith(' <a.txt>\n'), out
-    assert place.tells('--print', 'none') == (1, '', 'bidi-edit: none is not there\n')
+    assert place.tells('--print', 'none') == (1, '', 'bidi-edit: none does not exist\n')
     assert place.tells('--print', '.') == (1, '', 'bidi-edit: . is a folder: name a file in it\n')
-    assert place.tells('--print', 'latin')[2].startswith('bidi-edit: latin is not UTF-8 in line 2: '), place.tells('--print', 'latin')
+    assert place.tells('--print', 'latin')[2].startswith('bidi-edit: latin is not UTF-8 (line 2): '), place.tells('--print', 'latin')
 
 
 CASES = [told_words, refusals, a_session, keys_are_kept, questions, deletion, dropped, secrets, live, without_a_session, two_at_once,

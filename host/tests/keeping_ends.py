@@ -11,7 +11,7 @@ def saved(place):
     started = place.edit('a.txt', TYPIST='late').type(b'abc').sees(b'*').type(SAVE).sees(b'saved').type(QUIT).ends(0)
     assert place.sessions() == [], started.err()
     started = place.edit('a.txt', TYPIST='replay-hangs').type(b'abc').sees(b'*').type(QUIT).ends(0)
-    assert 'what was dropped can be recovered' in started.err(), started.err()
+    assert 'the dropped changes can be recovered' in started.err(), started.err()
 
 
 def killed(place):
@@ -20,7 +20,7 @@ def killed(place):
     started = place.edit('a.txt').type(b'abc').sees(b'*')
     os.kill(started.run.child('bidi_edit'), signal.SIGKILL)
     started.ends(137)
-    told = 'bidi-edit: what was typed is kept: bidi-edit --recover a.txt gets it back\nbidi-edit: the editor was ended by the signal KILL\n'
+    told = 'bidi-edit: unsaved text is kept: bidi-edit --recover a.txt restores it\nbidi-edit: the editor was ended by SIGKILL\n'
     assert started.err() == told, started.err()
 
 
@@ -48,13 +48,13 @@ def other_names(place):
     place.put('a.txt', b'text\n')
     os.link(place.path('a.txt'), place.path('b.txt'))
     started = place.edit('a.txt').sees(b'notice 9').type(b'x').sees(b'*').type(SAVE).sees(b'saved').type(QUIT).ends(0)
-    assert started.err() == 'bidi-edit: a.txt has other names (hard links): saves are written into the file itself\n', started.err()
+    assert started.err() == 'bidi-edit: a.txt has other names (hard links): saves overwrite it in place\n', started.err()
     assert place.text('b.txt') == b'xtext\n' and place.sessions() == []
     started = place.start('-n', 'a.txt').ends(1)
-    told = 'bidi-edit: a.txt has other names (hard links), and a save would part it from them, since unsaved text is not kept (-n asks for that)'
-    assert started.err() == f'{told}: --force opens it all the same\n', started.err()
+    told = 'bidi-edit: a.txt has other names (hard links); since unsaved text is not kept (-n was given), a save would separate it from them'
+    assert started.err() == f'{told}; --force opens it anyway\n', started.err()
     started = place.edit('-n', '--force', 'a.txt').type(b'y').sees(b'*').type(SAVE).sees(b'saved').type(QUIT).ends(0)
-    assert place.text('b.txt') == b'yxtext\n' and 'saves are written into the file itself' in started.err(), started.err()
+    assert place.text('b.txt') == b'yxtext\n' and 'saves overwrite it in place' in started.err(), started.err()
 
 
 def line_ends(place):
@@ -65,7 +65,7 @@ def line_ends(place):
     with open(place.path('a.txt'), 'ab') as file:
         file.write(b'more\n')
     started.type(QUIT).ends(0)
-    told = "bidi-edit: a.txt has lines that end with LF among those with CR LF: perl -pi -e 's/\\r?\\n/\\r\\n/' makes them alike\n"
+    told = "bidi-edit: a.txt now has mixed line ends, CR LF and LF: perl -pi -e 's/\\r?\\n/\\r\\n/' a.txt makes all of them CR LF\n"
     assert started.err() == told, started.err()
     place.put('a.txt', b'text\r\n')
     os.link(place.path('a.txt'), place.path('b.txt'))
@@ -85,14 +85,14 @@ def remove_at_once(folder, place):
 def folder_gone(place):
     """The session's folder is removed meanwhile: told by title, bell and notice, and at the end."""
     place.put('a.txt', b'text\n')
-    for keys, status, line in ((b'', -signal.SIGTERM, 'what was typed is not kept, since its folder {} is gone'),
-                               (QUIT, 0, 'only what was saved is kept, since its folder {} is gone')):
+    for keys, status, line in ((b'', -signal.SIGTERM, 'any unsaved text is lost, since the session\'s folder {} is gone'),
+                               (QUIT, 0, 'only what was saved is kept, since the session\'s folder {} is gone')):
         started = place.edit('a.txt').type(b'abc').sees(b'*')
         time.sleep(0.3)
         folder = place.sessions()[0]
         remove_at_once(folder, place)
         # host and program write to the terminal in any order
-        for told in b'(what is typed is not kept now: save it)', b'notice 2':
+        for told in b'(unsaved text is not kept now: save it)', b'notice 2':
             assert started.run.pump(15, told), (told, started.run.output)
         started.type(keys) if keys else os.kill(started.run.job, signal.SIGTERM)
         started.ends(status)
@@ -113,10 +113,10 @@ def parts_gone(place):
             os.unlink(f'{place.sessions()[0]}/{name}')
         time.sleep(2.5)
         started.type(b'd').sees(b'<abcdtext')
-        second = place.start('a.txt').answers(b'Edit it all the same (yes, no)? ', 'no').ends(2)
+        second = place.start('a.txt').answers(b'Edit it anyway (yes, no)? ', 'no').ends(2)
         os.kill(started.run.job, signal.SIGTERM)
         started.ends(-signal.SIGTERM)
-        if 'what was typed is kept' in started.err():
+        if 'unsaved text is kept' in started.err():
             found = place.tells('--recover', '--to', 'o', 'a.txt')
             assert found[0] == 0 and place.text('o') == b'abcdtext\n', (names, found, started.err())
             os.unlink(place.path('o'))
@@ -133,13 +133,13 @@ def journal_lost(place):
     started.sees(b'notice 5')
     os.kill(started.run.job, signal.SIGTERM)
     started.ends(-signal.SIGTERM)
-    assert 'what was typed is kept up to where its journal could not be written: ' in started.err(), started.err()
+    assert 'unsaved text is kept up to where its journal could not be written: ' in started.err(), started.err()
     found = place.tells('--recover', '--to', 'o', 'a.txt')
-    assert found[0] == 0 and found[1].startswith('bidi-edit: the session is cut off after its key 3: what followed could not be written\n'), found
+    assert found[0] == 0 and found[1].startswith('bidi-edit: the session ends after key 3: what was typed later could not be recorded\n'), found
 
 
 def folder_renamed(place):
-    """FILE's folder is renamed meanwhile: the end tells where the session is, and the command that gets it back."""
+    """FILE's folder is renamed meanwhile: the end tells where the session is, and the command that restores it."""
     for is_there in (True, False):
         os.mkdir(place.path('d'))
         if is_there:
@@ -149,12 +149,12 @@ def folder_renamed(place):
         os.rename(place.path('d'), place.path('e'))
         os.kill(started.run.job, signal.SIGTERM)
         started.ends(-signal.SIGTERM)
-        told = f'what was typed is kept in {place.sessions()[0]}: bidi-edit --recover {place.path("e/a.txt")} gets it back\n'
+        told = f'unsaved text is kept in {place.sessions()[0]}: bidi-edit --recover {place.path("e/a.txt")} restores it\n'
         assert told in started.err(), started.err()
         found = place.tells('--recover', '--to', 'o', 'e/a.txt')
         assert found[0] == 0 and place.text('o') == b'abc' + (b'text\n' if is_there else b''), found
         os.unlink(place.path('o'))
-        assert place.tells('--forget', 'e/a.txt')[1].endswith('is removed\n')
+        assert place.tells('--forget', 'e/a.txt')[1].endswith('is deleted\n')
         shutil.rmtree(place.path('e'))
 
 
@@ -168,7 +168,7 @@ def working_folder_gone(place):
     os.kill(started.run.job, signal.SIGTERM)
     started.ends(-signal.SIGTERM)
     place.files = usual
-    told = f'what was typed is kept in {place.sessions()[0]}: bidi-edit --recover {usual}/d/a.txt gets it back\n'
+    told = f'unsaved text is kept in {place.sessions()[0]}: bidi-edit --recover {usual}/d/a.txt restores it\n'
     assert told in started.err(), started.err()
     found = place.tells('--recover', '--to', 'o', f'{usual}/d/a.txt')
     assert found[0] == 0 and place.text('o') == b'abc', found
@@ -183,14 +183,14 @@ def no_folder(place):
     started.sees(b'notice 2').type(b'abc').sees(b'*')
     os.kill(started.run.job, signal.SIGTERM)
     started.ends(-signal.SIGTERM)
-    assert 'bidi-edit: what was typed is not kept, since nothing can be written in ' in started.err(), started.err()
+    assert 'bidi-edit: any unsaved text is lost, since nothing can be written in ' in started.err(), started.err()
 
 
 def long_folder(place):
     """A folder for temporary files or sessions with a name that no system takes is told."""
     place.put('a.txt', b'text\n')
     started = place.edit('a.txt', TMPDIR='/' + 'x' * 70000).type(QUIT).ends(0)
-    assert started.err() == 'bidi-edit: TMPDIR has 70001 bytes, too many for a path: it is passed over\n', started.err()
+    assert started.err() == 'bidi-edit: TMPDIR is ignored, since its 70001 bytes are too many for a path\n', started.err()
     started = place.edit('a.txt', XDG_STATE_HOME='/' + 'x' * 70000).type(QUIT).ends(0)
     assert started.err().startswith('bidi-edit: unsaved text is not kept, since ') and len(started.err()) < 300, started.err()[:400]
 
@@ -203,7 +203,7 @@ def pipe_in_its_place(place):
     os.mkfifo(place.path('a.txt'))
     os.kill(started.run.job, signal.SIGTERM)
     started.ends(-signal.SIGTERM, 4)
-    assert 'what was typed is kept' in started.err(), started.err()
+    assert 'unsaved text is kept' in started.err(), started.err()
 
 
 CASES = [saved, killed, killed_host, no_keys, other_names, line_ends, folder_gone, parts_gone, journal_lost, folder_renamed,

@@ -13,11 +13,11 @@ def forgets(place):
     place.edit('b.txt').type(b'abc').sees(b'*').type(QUIT).ends(0)
     live = place.edit('c.txt').type(b'abc').sees(b'*')
     time.sleep(0.3)
-    assert place.tells('--forget', 'c.txt') == (0, 'bidi-edit: there is no session of c.txt to remove\n', '')
+    assert place.tells('--forget', 'c.txt') == (0, 'bidi-edit: there is no session of c.txt to delete\n', '')
     status, out, err = place.tells('--forget')
     told = ''.join(sorted(out.splitlines(True)))
-    wanted = (rf'bidi-edit: the session of {place.path("a.txt")} of \S+ \S+ is removed\n'
-              rf'bidi-edit: the session of {place.path("b.txt")} of \S+ \S+ is removed \(dropped\)\n')
+    wanted = (rf'bidi-edit: the session of {place.path("a.txt")} from \S+ \S+ is deleted\n'
+              rf'bidi-edit: the session of {place.path("b.txt")} from \S+ \S+ is deleted \(dropped\)\n')
     assert status == 0 and not err and re.fullmatch(wanted, told), (out, err)
     assert len(place.sessions()) == 1
     live.type(QUIT).ends(0)
@@ -28,9 +28,9 @@ def foreign_names(place):
     folder = os.path.join(os.fsencode(place.files), b'f\xe9')
     os.mkdir(folder)
     usual, place.files = place.files, os.fsdecode(folder)
-    assert place.tells('a.txt')[::2] == (1, 'bidi-edit: a.txt is in a folder whose name is not UTF-8: mv gives it another\n'), place.tells('a.txt')
+    assert place.tells('a.txt')[::2] == (1, 'bidi-edit: a.txt is in a folder whose name is not UTF-8: rename the folder with mv\n'), place.tells('a.txt')
     place.files = usual
-    assert place.tells(os.fsdecode(b'a\xe9'))[::2] == (1, "bidi-edit: $'a\\351' has a name that is not UTF-8: mv gives it another\n")
+    assert place.tells(os.fsdecode(b'a\xe9'))[::2] == (1, "bidi-edit: $'a\\351' has a name that is not UTF-8: rename it with mv\n")
     os.symlink(b'a\xe9', place.path('link'))
     assert 'is a link to a name that is not UTF-8' in place.tells('link')[2]
     place.put('b', b'text\n')
@@ -48,13 +48,13 @@ def closed_files(place):
         os.chown(path, 65534, 65534)
     os.chmod(os.path.dirname(place.top), 0o755)
     place.before = NOBODY
-    told = 'bidi-edit: a.txt cannot be read by you: chmod u+r lets its owner read it, and --force opens an empty text in its place\n'
+    told = 'bidi-edit: a.txt cannot be read: if it is yours, chmod u+r makes it readable; --force opens an empty text in its place\n'
     assert place.tells('a.txt')[::2] == (1, told), place.tells('a.txt')
     found = place.tells('--force', 'a.txt')
     assert found[0] == 2 and found[2].startswith('bidi-edit: there is no terminal') and found[2].count('\n') == 1, found
-    assert place.tells('--print', 'a.txt')[::2] == (1, 'bidi-edit: a.txt cannot be read by you: chmod u+r lets its owner read it\n')
+    assert place.tells('--print', 'a.txt')[::2] == (1, 'bidi-edit: a.txt cannot be read: if it is yours, chmod u+r makes it readable\n')
     started = place.edit('--force', 'a.txt')
-    assert started.err() == 'bidi-edit: a.txt cannot be read by you: an empty text is opened, and saves overwrite what is there\n', started.err()
+    assert started.err() == 'bidi-edit: a.txt cannot be read: the text starts empty, and a save overwrites the file\n', started.err()
     words = started.words()
     assert words[words.index('--text') + 1] == '/dev/null', words
     started.type(b'abc').sees(b'text <abc> *')
@@ -75,8 +75,8 @@ def renamed(place):
     for name in ('c.txt', 'd.txt'):
         if name == 'd.txt':
             os.rename(place.path('a.txt'), place.path('d.txt'))
-        second = place.start(name).answers(b'Edit it all the same (yes, no)? ', 'no').ends(2)
-        assert f'{name} is open in another window of yours' in second.out(), second.out()
+        second = place.start(name).answers(b'Edit it anyway (yes, no)? ', 'no').ends(2)
+        assert f'{name} is already open in another window of yours' in second.out(), second.out()
     first.type(QUIT).ends(0)
 
 
@@ -94,7 +94,7 @@ def torn(place):
         if is_gone:
             os.unlink(place.path('a.txt'))
         started = place.start('b.txt').answers(CHOICE, 'r').sees(b'text <abcdtext|>').type(QUIT).ends(0)
-        assert started.err().startswith('bidi-edit: a save of b.txt was cut off; its whole text is put back\n'), started.err()
+        assert started.err().startswith('bidi-edit: a save of b.txt was interrupted; its whole text has been restored\n'), started.err()
         assert place.text('b.txt') == b'abcdtext\n'
         place.tells('--forget')
         for name in glob.glob(place.path('*')):
@@ -121,7 +121,7 @@ def full_disk(place):
         def start():
             fill()
             started = place.edit('a.txt', XDG_STATE_HOME=disk)
-            assert started.err() == f'bidi-edit: unsaved text is not kept, since {disk}/bidi_edit has no room for it\n\a', started.err()
+            assert started.err() == f'bidi-edit: unsaved text is not kept, since there is no space in {disk}/bidi_edit\n\a', started.err()
             return started.sees(b'notice 1')
 
         def make_room(started):
@@ -139,7 +139,7 @@ def full_disk(place):
         make_room(started)
         os.kill(started.run.job, signal.SIGTERM)
         started.ends(-signal.SIGTERM)
-        assert 'what was typed is kept: ' in started.err(), started.err()
+        assert 'unsaved text is kept: ' in started.err(), started.err()
         found = place.tells('--recover', '--to', 'o', 'a.txt', XDG_STATE_HOME=disk)
         assert found[0] == 0 and place.text('o') == b'abctext\n', found
         filler.close()
@@ -169,10 +169,10 @@ def read_only_disk(place):
         subprocess.run(['mount', '-o', 'remount,ro,bind', disk], check=True)
         started = place.start('a.txt').answers(CHOICE, 'delete').answers(CHOICE, 'recover').ends(1)
         cannot = f'bidi-edit: the session of a.txt in {place.sessions()[0]} cannot be deleted: read-only disk\n'
-        other = f'bidi-edit: nothing can be written in {disk}: read-only disk. bidi-edit --recover --to OTHER a.txt stores the text elsewhere\n'
+        other = f'bidi-edit: nothing can be written in {disk}: read-only disk. To store the text elsewhere: bidi-edit --recover --to OTHER a.txt\n'
         assert started.err() == cannot + other, started.err()
         status, out, err = place.tells('--forget')
-        assert status == 1 and err.endswith(' cannot be removed: read-only disk\n') and not out, (out, err)
+        assert status == 1 and err.endswith(' cannot be deleted: read-only disk\n') and not out, (out, err)
         found = place.tells('--recover', '--to', 'o', 'a.txt')
         assert found[0] == 0 and place.text('o') == b'abctext\n', found
     finally:

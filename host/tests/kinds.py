@@ -61,9 +61,9 @@ def reordering(tree):
 
 
 def notes(tree):
-    """The setting of a terminal that mirrors words is told, unless it is set."""
-    kitty = b"bidi-edit: kitty mirrors right-to-left words: the line 'force_ltr yes' in its kitty.conf ends that\r\n"
-    qterminal = b"bidi-edit: qterminal mirrors right-to-left words: the line 'enabledBidiSupport=false' in its qterminal.ini ends that\r\n"
+    """The setting of a terminal that reverses words is told, unless it is set."""
+    kitty = b"bidi-edit: kitty shows right-to-left words reversed: the line 'force_ltr yes' in its kitty.conf prevents that\r\n"
+    qterminal = b"bidi-edit: qterminal shows right-to-left words reversed: the line 'enabledBidiSupport=false' in its qterminal.ini prevents that\r\n"
     home = tree.file('noted')
     os.makedirs(f'{home}/.config/kitty')
     yield holds('kitty: told', see(tree, home, TERM='xterm-kitty').startswith(kitty))

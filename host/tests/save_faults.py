@@ -546,7 +546,7 @@ def pipe_at_opening(check):
         # lets it go on
         os.close(os.open(check.note, os.O_WRONLY | os.O_NONBLOCK))
         process.communicate()
-    check.same("what is said", said.strip(), "note is no plain file but a device, pipe or socket: put what it gives into a file, and edit that")
+    check.same("what is said", said.strip(), "note is a device, pipe or socket, not a plain file: write its content to a file, and edit that")
 
 
 def pipe_at_save(check):
@@ -634,33 +634,36 @@ def refusals(check):
         os.symlink(to, os.path.join(at.encode(), link) if isinstance(link, bytes) else f"{at}/{link}")
     os.mkdir(at.encode() + b"/\xff")
     os.symlink(b"\xff/new", at.encode() + b"/in_bytes")
-    plain = "is no plain file but a device, pipe or socket: put what it gives into a file, and edit that"
-    handed = "is an open file of the caller: write it to a file, and edit that"
+    plain = "is a device, pipe or socket, not a plain file: write its content to a file, and edit that"
+    handed = "is standard input, not a file: write the input to a file, and edit that"
+    opened = "is a descriptor that the caller opened, not a file: write its content to a file, and edit that"
     for path, wanted in {
         "inner": "inner is a folder: name a file in it",
         "inner/": "inner/ is a folder: name a file in it",
         ".": ". is a folder: name a file in it",
         "/": "/ is a folder: name a file in it",
         "to_folder": "to_folder is a folder: name a file in it",
-        "plain/": "plain/ is the name of a folder: name a file",
-        "none/": "none/ is the name of a folder: name a file",
+        "plain/": "plain/ ends in a slash, so it names a folder: name a file",
+        "none/": "none/ ends in a slash, so it names a folder: name a file",
         "/dev/stdin": f"/dev/stdin {handed}",
         "/proc/self/fd/0": f"/proc/self/fd/0 {handed}",
         "handed": f"handed {handed}",
+        "/dev/stdout": f"/dev/stdout {opened}",
+        "/dev/fd/63": f"/dev/fd/63 {opened}",
         "pipe": f"pipe {plain}",
         "to_pipe": f"to_pipe {plain}",
         "/dev/null": f"/dev/null {plain}",
-        "circle": "circle is a link that leads in a circle: ls -l shows where to",
-        "one": "one is a link that leads in a circle: ls -l shows where to",
-        "nowhere": "nowhere is a link that leads nowhere: ls -l shows where to",
-        "slash": "slash is a link that leads nowhere: ls -l shows where to",
-        "below": "below is a link that leads nowhere: ls -l shows where to",
-        "bytes": "bytes is a link to a name that is not UTF-8: mv gives it another",
-        "in_bytes": "in_bytes is a link to a name that is not UTF-8: mv gives it another",
-        "plain/x": "plain is no folder, so it has no files: name another",
-        "none/x": "none is a folder that is not there: mkdir -p none makes it",
-        "plain/y/x": "plain/y is a folder that is not there: mkdir -p plain/y makes it",
-        "a" * 253: f"{'a' * 253} is a name of 253 bytes, too long to be saved: 252 are the most (the save needs 3 more), and --force opens it all the same",
+        "circle": "circle is a link in a circle of links: ls -l shows where it points",
+        "one": "one is a link in a circle of links: ls -l shows where it points",
+        "nowhere": "nowhere is a broken link: ls -l shows where it points",
+        "slash": "slash is a broken link: ls -l shows where it points",
+        "below": "below is a broken link: ls -l shows where it points",
+        "bytes": "bytes is a link to a name that is not UTF-8: rename that file with mv",
+        "in_bytes": "in_bytes is a link to a name that is not UTF-8: rename that file with mv",
+        "plain/x": "plain is not a folder: name a file in a folder",
+        "none/x": "the folder none does not exist: mkdir -p none creates it",
+        "plain/y/x": "the folder plain/y cannot exist, since its path leads through a file: name a file in a folder",
+        "a" * 253: f"the name {'a' * 253} has 253 bytes, too many for a save: the limit is 252, since a save adds 3; --force opens it anyway",
         "plain": f"opened {at}/plain",
         "inner/../plain": f"opened {at}/plain",
         "none": f"opened {at}/none",
@@ -676,7 +679,7 @@ def many_links(check):
     for number in range(2, 42):
         os.symlink(f"link{number - 1}", f"{check.folder}/link{number}")
     check.same("forty links", opened_as(check, "link40"), f"opened {check.note}")
-    check.same("more", opened_as(check, "link41"), "link41 is a link that leads in a circle: ls -l shows where to")
+    check.same("more", opened_as(check, "link41"), "link41 is a link in a circle of links: ls -l shows where it points")
 
 
 def lost_folder(check):
@@ -694,7 +697,7 @@ def leftovers(check):
     for name in "note.bx", "note.bx3", "note.a1b2c3d4.bx", "note.A1b2c3d4.bx", "note.a1b2c3d.bx", "other.a1b2c3d4.bx", "note.a1b2c3d4.bx1", "note.txt.bx":
         write(f"{check.folder}/{name}", "left")
     check.same("what is said", opened_as(check, "note"),
-               f"opened {check.note}: perhaps left by a save that was killed; look at it, and remove what is not wanted: note.bx note.bx3 note.a1b2c3d4.bx")
+               f"opened {check.note}: possibly left by an interrupted save; check, and remove what you do not need: note.bx note.bx3 note.a1b2c3d4.bx")
 
 
 def lists_of_folder(check):
@@ -703,7 +706,7 @@ def lists_of_folder(check):
     set_list(check.folder, "-m", f"u:{OTHER}:rx")
     check.same("with a list of its own", open_file(check.note).ask("facts"), "")
     set_list(check.folder, "-d", "-m", f"u:{OTHER}:rx")
-    check.same("with a list for new files", open_file(check.note).ask("facts"), "is in a folder that gives access lists")
+    check.same("with a list for new files", open_file(check.note).ask("facts"), "is in a folder that gives new files an access list")
 
 
 def paths_once(check):

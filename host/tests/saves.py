@@ -101,7 +101,7 @@ def without_proc(tree):
     told = subprocess.run(['unshare', '-m', 'sh', '-c', 'mount -t tmpfs none /proc && exec "$@"', 'sh', tree.host, tree.new_file('file')],
                           stderr=subprocess.PIPE, env={**os.environ, **tree.variables()}, text=True)
     yield same('without /proc', (told.returncode, told.stderr),
-               (1, 'bidi-edit: there is no /proc, which it needs: mount -t proc proc /proc gives one\n'))
+               (1, 'bidi-edit: the editor needs /proc, which is not mounted: mount -t proc proc /proc mounts it\n'))
 
 
 ALL = [saves, hanging, killed, program_killed, without_proc]

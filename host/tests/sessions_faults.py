@@ -145,7 +145,7 @@ def cleaned(place, *parts, keys=b'd', text='abcdtext\n'):
         os.remove(place.part(part))
     editor.run.rest(SECONDS)
     editor.types(keys).hangs_up()
-    assert 'what was typed is kept' in editor.err(), editor.err()
+    assert 'unsaved text is kept' in editor.err(), editor.err()
     place.recovers('a', text)
 
 
@@ -233,7 +233,7 @@ def growing_file(place):
     editor.types(b'abc').run.rest(SECONDS)
     assert b'not kept' not in editor.run.output
     editor.hangs_up()
-    assert 'what was typed is kept' in editor.err(), editor.err()
+    assert 'unsaved text is kept' in editor.err(), editor.err()
     other = f'{place.top}/other'
     status, said = place.tells('--recover', '--to', other, 'a')
     assert status == 0, said
@@ -318,7 +318,7 @@ def gone_folder(place):
     editor = place.edit('a', folder=f'{place.files}/one').types(b'abc')
     shutil.rmtree(f'{place.files}/one')
     editor.hangs_up()
-    told = re.search(r'bidi-edit --recover (\S+) gets it back', editor.err())
+    told = re.search(r'bidi-edit --recover (\S+) restores it', editor.err())
     assert told, editor.err()
     place.recovers(told.group(1), 'abctext\n')
 
@@ -335,7 +335,7 @@ def refused_removal(place):
         said = place.tells('--forget', 'a')[1]
     finally:
         subprocess.run(['chattr', '-i', folder], check=True)
-    assert 'is removed' not in said, said
+    assert 'is deleted' not in said, said
     place.recovers('a', 'abctext\n')
 
 

@@ -150,11 +150,11 @@ make_plan() {
 
 # Lets one start at a time build here. Child processes do not inherit the lock, so it ends with this script.
 take_lock() {
-    command -v flock >/dev/null || fail "$thing is not built, and there is no flock to keep other starts away meanwhile: util-linux has it"
+    command -v flock >/dev/null || fail "$thing is not built, and flock, which keeps other starts away meanwhile, is missing: install util-linux"
     { mkdir -p -- "$top/out" && true >>"$room.lock"; } 2>/dev/null ||
-        fail "$thing is not built, and nothing can be written in $(shown "$top") to build it: build it in a copy of your own"
+        fail "$thing is not built, and cannot be built here, since nothing can be written in $(shown "$top"): build it in your own copy"
     exec 9<>"$room.lock"
-    flock -n 9 || fail "process $(cat "$room.lock") is building the editor already: wait for it"
+    flock -n 9 || fail "process $(cat "$room.lock") is already building the editor: wait for it"
     echo $$ >"$room.lock"
     rm -f -- "$room.log" "$room.times"
 }
@@ -314,25 +314,25 @@ stop_at() { # CRATE
     end_all
     mv -f "$room/$1.log" "$room.log"
     leave_room
-    fail "$1 could not be proved, and $(shown "$room.log") tells why; what is proved is kept"
+    fail "$1 could not be proved: $(shown "$room.log") says why; what is proved is kept"
 }
 
 # Ends the script by a signal.
 stop_by() { # SIGNAL NUMBER
     end_all
     leave_room
-    say 'stopped: what is proved is kept, and the next start goes on from there'
+    say 'stopped; what is proved is kept, and the next start continues from there'
     trap - "$1"
     kill -s "$1" $$
     exit $((128 + $2))
 }
 
-top=$(CDPATH='' cd -- "$1" 2>/dev/null && pwd) || fail "$(shown "$1") is no folder that can be entered"
+top=$(CDPATH='' cd -- "$1" 2>/dev/null && pwd) || fail "$(shown "$1") is not a folder that can be entered"
 shift
 programs=$*
 case " $programs " in *' bidi_print '*) thing='the printing program' ;; *) thing='the editor' ;; esac
 room=$top/out/proving trees=$top/out/trees
-command -v rt >/dev/null || fail "$thing is not built, and there is no rt to build it with (an installed package needs none)"
+command -v rt >/dev/null || fail "$thing is not built, and the toolchain, rt, is missing: an installed package needs no toolchain"
 is_terminal=''
 [ ! -t 2 ] || is_terminal=1
 take_lock
@@ -346,8 +346,8 @@ begun=$(date +%s) whole='' number=0
 find_lanes
 make_plan
 whole=$(progress asks=whole)
-say "proving and building $thing, this once: $(awk 'END { print NR }' "$room/plan") crates, up to $lanes at a time"
-say 'Ctrl-C stops it; what is proved is kept'
+say "proving and building $thing, only this once: $(awk 'END { print NR }' "$room/plan") crates, up to $lanes at a time"
+say 'Ctrl-C stops this; what is proved is kept'
 while :; do
     start_ready
     [ -n "$running" ] || break

@@ -23,7 +23,7 @@ check_compiler() { # NAME
     mv "$tree/host/new.c" "$tree/host/main.c"
     start PATH="$folder/path"
     same "$1, none, and another host" "$status $(cat "$folder/said")" \
-        '1 bidi-edit: there is no C compiler, and the host in dist/ is not of the sources in host/: on Debian, apt install gcc libc6-dev gives one'
+        '1 bidi-edit: there is no C compiler, and the host in dist/ was not built from the sources in host/: install a compiler (on Debian, apt install gcc libc6-dev)'
     rm -r "$tree/out"
     start PATH="$folder/path"
     same "$1, the same at the first start" "$status $(grep -c 'there is no C compiler' "$folder/said")" '1 1'

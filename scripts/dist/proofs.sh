@@ -28,7 +28,7 @@ check_installing() { # NAME
     same "$1, the toolchain" "$(cat "$folder/installed/lib/bidi_edit/kit")" 'a toolchain'
     echo '// more' >>"$tree/crates/low/src/main.rt"
     (cd "$tree" && sh scripts/install.sh "$folder/elsewhere") >"$folder/said" 2>&1
-    same "$1, changed sources" "$? $(grep -c 'the sources are not those that dist/ was made from' "$folder/said") $(ls "$folder/elsewhere" 2>/dev/null)" '1 1 '
+    same "$1, changed sources" "$? $(grep -c 'the sources are not those that dist/ was built from' "$folder/said") $(ls "$folder/elsewhere" 2>/dev/null)" '1 1 '
     check_installing_built "$1"
 }
 

@@ -63,6 +63,12 @@ share/bidi_edit/DerivedBidiClass.txt share/bidi_edit/UnicodeData.txt"
     test -x "$tree/host/out/bidi-edit"
     report "$1, programs that are built here come first" $? "$(cat "$folder/said")"
     same "$1, the toolchain is not asked" "$(cat "$TOLD/calls" 2>/dev/null)" ''
+    fresh_tree
+    (cd "$tree" && PATH="$folder/bin:$PATH" ./bidi-edit note) >"$folder/said" 2>&1 </dev/null
+    status=$?
+    runs "$1, in the checkout's folder"
+    same "$1, compiled there" "$(cmp -s "$tree/out/start/bin/bidi-edit" "$tree/out/start/lib/bidi_edit/host" || echo compiled)" compiled
+    same "$1, nothing stays of that" "$(ls "$tree/out/start/bin")" bidi-edit
 }
 
 # A changed source is told before the first start and after it, and one that is changed back is no fault.
@@ -70,12 +76,12 @@ check_sources() { # NAME
     for file in low/src/main.rt bidi_print/specs/Lib.antt $player/proofs/deep/Proof.antt; do
         echo '// more' >>"$tree/crates/$file"
         start
-        refuses "$1, $file" 'the sources are not those that dist/ was made from'
+        refuses "$1, $file" 'the sources are not those that dist/ was built from'
         cp "$folder/first/crates/$file" "$tree/crates/$file"
     done
     sed -i 's/^bidi_print: low/bidi_print opt_level=0: low/' "$tree/crates.txt"
     start
-    refuses "$1, crates.txt" 'the sources are not those that dist/ was made from'
+    refuses "$1, crates.txt" 'the sources are not those that dist/ was built from'
     cp "$folder/first/crates.txt" "$tree/crates.txt"
     echo '// more' >>"$tree/crates/unused/src/main.rt"
     echo '// more' >>"$tree/crates/low/src/main.rt~"
@@ -85,7 +91,7 @@ check_sources() { # NAME
     echo '// more' >>"$tree/crates/low/src/main.rt"
     touch -d '1 hour' "$tree/crates/low/src/main.rt"
     start
-    same "$1, after the first start" "$(head -n 1 "$folder/said")" 'bidi-edit: the sources are not those that dist/ was made from: proving and building instead'
+    same "$1, after the first start" "$(head -n 1 "$folder/said")" 'bidi-edit: the sources are not those that dist/ was built from: proving and building instead'
     cp -p "$folder/first/crates/low/src/main.rt" "$tree/crates/low/src/main.rt"
     start
     runs "$1, changed back"
@@ -100,18 +106,18 @@ check_sums() { # NAME
     for name in bidi-edit-x86_64-linux.tar.gz SOURCES; do
         change_byte "$name"
         start
-        refuses "$1, a byte of $name" "dist/$name does not have its sum in dist/SHA256SUMS"
+        refuses "$1, a byte of $name" "dist/$name does not match its checksum in dist/SHA256SUMS"
         cp "$folder/first/dist/$name" "$tree/dist/$name"
     done
     sed -i 's/^\(.*  bidi-edit\)/0\1/; s/^0\(.*\).  bidi-edit/0\1  bidi-edit/' "$tree/dist/SHA256SUMS"
     start
-    refuses "$1, a sum" 'dist/bidi-edit-x86_64-linux.tar.gz does not have its sum in dist/SHA256SUMS'
+    refuses "$1, a sum" 'dist/bidi-edit-x86_64-linux.tar.gz does not match its checksum in dist/SHA256SUMS'
     rm "$tree/dist/bidi-edit-x86_64-linux.tar.gz" "$tree/dist/SHA256SUMS"
     start
-    refuses "$1, no archive" 'dist/bidi-edit-x86_64-linux.tar.gz does not have its sum in dist/SHA256SUMS'
+    refuses "$1, no archive" 'dist/bidi-edit-x86_64-linux.tar.gz does not match its checksum in dist/SHA256SUMS'
     rm -r "$tree/dist"
     start
-    same "$1, no dist/: proofs begin" "$(head -n 1 "$folder/said" | sed 's/, this once:.*//')" 'bidi-edit: proving and building the editor'
+    same "$1, no dist/: proofs begin" "$(head -n 1 "$folder/said" | sed 's/, only this once:.*//')" 'bidi-edit: proving and building the editor'
 }
 
 # Another machine, by a stand-in for uname, and one on which the programs cannot be executed.

@@ -101,7 +101,7 @@ runs() { # NAME
 # Reports whether the programs of dist/ were refused with this cause, in one line, and proofs began.
 refuses() { # NAME CAUSE
     same "$1, the line" "$(head -n 1 "$folder/said")" "bidi-edit: $2: proving and building instead"
-    begun=$(grep -c 'proving and building the editor, this once' "$folder/said")
+    begun=$(grep -c 'proving and building the editor, only this once' "$folder/said")
     same "$1, proofs begin" "$begun $(grep -c . "$TOLD/calls" 2>/dev/null | sed 's/^[1-9].*/some/') $([ -e "$tree/out/start" ] && echo unpacked)" '1 some '
     rm -rf "$TOLD/calls" "$tree/out"
 }

@@ -76,7 +76,7 @@ check_line_ends() {
     type_keys C-q
     finish 'breaks, mixed' 0 50
     same 'breaks, mixed: the words' "$(cat "$folder/errors")" \
-        "bidi-edit: note has lines that end with LF among those with CR LF: perl -pi -e 's/\\r?\\n/\\r\\n/' makes them alike"
+        "bidi-edit: note now has mixed line ends, CR LF and LF: perl -pi -e 's/\\r?\\n/\\r\\n/' note makes all of them CR LF"
     perl -pi -e 's/\r?\n/\r\n/' note
     same 'breaks, what it says' "$(od -An -c note | tr -d ' \n')" '\r\nx\r\nab\r\ncd\r\nef'
     printf 'ab\ncd\r\n' >note
@@ -133,7 +133,7 @@ check_editor_end() {
         send_signal "$signal" ".*bidi-edit note"
         finish "end, the host by $signal" "$((128 + $(signal_number "$signal")))" 50
         has "end, the host by $signal: what is told" "$(cat "$folder/errors")" 'bidi_edit: input ended before saving'
-        has "end, the host by $signal: what is kept" "$(cat "$folder/errors")" 'bidi-edit --recover note gets it back'
+        has "end, the host by $signal: what is kept" "$(cat "$folder/errors")" 'bidi-edit --recover note restores it'
     done
     cmp note "$folder/opened" >/dev/null
     report 'end, the file is as before' $? 'it is not'

@@ -130,7 +130,7 @@ check_title() {
     setup="printf '\033]2;a title of before\007'"
     start 8 50 "$recorder" "$(printf 'x\033]te\302\205x שם')"
     wait_for 50 test -e "$folder/record"
-    same 'title' "$(title)" "\$'x\\033]te\\302\\205x שם' - ^S save ^Q quit"
+    same 'title' "$(title)" "\$'x\\033]te\\302\\205x שם' - ^S save ^Q quit F1 keys"
     type_keys C-q
     wait_for 50 has_ended
     same 'title, at the end' "$(title)" 'a title of before'

@@ -13,19 +13,19 @@ printed() { # NAME WANTED WORD..
 check_refused_prints() {
     # the cause, and two lines of usage
     lines_told=3
-    refused 'printing, no FILE' '2 bidi-edit: one FILE is wanted' --print
-    refused 'printing, two' '2 bidi-edit: one FILE is wanted' --print f g
-    refused 'printing, an option' '2 bidi-edit: there is no option --line with --print' --print f --line 3
-    refused 'printing, no columns' '2 bidi-edit: --cols wants a value' --print f --cols
+    refused 'printing, no FILE' '2 bidi-edit: FILE is missing' --print
+    refused 'printing, two' '2 bidi-edit: only one FILE can be given' --print f g
+    refused 'printing, an option' '2 bidi-edit: --print does not take --line' --print f --line 3
+    refused 'printing, no columns' '2 bidi-edit: --cols needs a value' --print f --cols
     for columns in 0 501 1000 x ''; do
-        wants="2 bidi-edit: --cols wants a number from 1 to 500, not ${columns:-''}"
+        wants="2 bidi-edit: --cols needs a number from 1 to 500, not ${columns:-''}"
         refused "printing, $columns columns" "$wants" --print f "--cols=$columns"
     done
     lines_told=1
-    refused 'printing, no file' '1 bidi-edit: none is not there' --print none
+    refused 'printing, no file' '1 bidi-edit: none does not exist' --print none
     refused 'printing, a folder' '1 bidi-edit: /tmp is a folder: name a file in it' --print /tmp
     printf 'a\nb\377\n' >bytes
-    refused 'printing, bytes' "1 bidi-edit: bytes is not UTF-8 in line 2: iconv -f CP1255 -t UTF-8 may help if it is in Windows' Hebrew (CP1256: Arabic)" --print bytes
+    refused 'printing, bytes' "1 bidi-edit: bytes is not UTF-8 (line 2): if it is Hebrew text from Windows, iconv -f CP1255 -t UTF-8 converts it (Arabic: -f CP1256)" --print bytes
 }
 
 check_printed_rows() {

@@ -120,7 +120,7 @@ check_tables() {
     start 24 80 "$recorder" f
     finish 'tables, none there' 1 50
     same 'tables, none there: the words' "$(cat "$folder/errors")" \
-        "bidi-edit: BIDI_EDIT_DATA names $folder/files, which lacks DerivedBidiClass.txt, BidiBrackets.txt or BidiMirroring.txt"
+        "bidi-edit: BIDI_EDIT_DATA names $folder/files, which lacks DerivedBidiClass.txt, BidiBrackets.txt or BidiMirroring.txt: correct or unset it"
     tables=''
 }
 

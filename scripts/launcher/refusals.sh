@@ -31,20 +31,20 @@ refused_to_user() { # NAME WANTED WORD..
 }
 
 # What is told where all else is in order, as no check here has a terminal.
-no_terminal='2 bidi-edit: there is no terminal: start the editor in one (ssh -t gives one to a command)'
+no_terminal='2 bidi-edit: there is no terminal: start the editor in one (over ssh, use ssh -t)'
 
 check_refused_words() {
     # the cause, and two lines of usage
     lines_told=3
-    refused 'refused, no FILE' '2 bidi-edit: one FILE is wanted'
-    refused 'refused, two' '2 bidi-edit: one FILE is wanted' f g
-    refused 'refused, an option' '2 bidi-edit: there is no option --rows' --rows 5 f
-    refused 'refused, a direction' '2 bidi-edit: --direction wants auto, ltr or rtl, not up' --direction up f
-    refused 'refused, a line' '2 bidi-edit: --line wants a number, not 5x' --line 5x f
-    refused 'refused, no line' '2 bidi-edit: --line wants a value' --line
+    refused 'refused, no FILE' '2 bidi-edit: FILE is missing'
+    refused 'refused, two' '2 bidi-edit: only one FILE can be given, after the options' f g
+    refused 'refused, an option' '2 bidi-edit: unknown option --rows' --rows 5 f
+    refused 'refused, a direction' '2 bidi-edit: --direction needs auto, ltr or rtl, not up' --direction up f
+    refused 'refused, a line' '2 bidi-edit: --line needs a number, not 5x' --line 5x f
+    refused 'refused, no line' '2 bidi-edit: --line needs a value' --line
     lines_told=1
     refused 'refused, no terminal' "$no_terminal" f
-    TERM=dumb refused 'refused, a dumb terminal' '2 bidi-edit: the terminal is dumb (TERM=dumb) and moves no cursor: start the editor in another, or with TERM=xterm if it is none' f
+    TERM=dumb refused 'refused, a dumb terminal' '2 bidi-edit: the terminal is dumb (TERM=dumb) and cannot move its cursor: use another terminal, or set TERM=xterm if it can' f
 }
 
 # Prints the version that the sources name.
@@ -69,20 +69,20 @@ check_told_words() {
 check_refused_places() {
     mkdir f.d
     refused 'checks, a folder' '1 bidi-edit: f.d is a folder: name a file in it' f.d
-    refused 'checks, a name of a folder' '1 bidi-edit: none/ is the name of a folder: name a file' none/
+    refused 'checks, a name of a folder' '1 bidi-edit: none/ ends in a slash, so it names a folder: name a file' none/
     mkfifo pipe
-    kind='is no plain file but a device, pipe or socket: put what it gives into a file, and edit that'
+    kind='is a device, pipe or socket, not a plain file: write its content to a file, and edit that'
     refused 'checks, a pipe' "1 bidi-edit: pipe $kind" pipe
     refused 'checks, a device' "1 bidi-edit: /dev/null $kind" /dev/null
-    handed='is an open file of the caller: write it to a file, and edit that'
+    handed='is standard input, not a file: write the input to a file, and edit that'
     for name in /dev/stdin /dev/fd/0 /proc/self/fd/0; do
         refused "checks, $name" "1 bidi-edit: $name $handed" "$name"
     done
-    refused 'checks, a missing folder' '1 bidi-edit: none/deep is a folder that is not there: mkdir -p none/deep makes it' none/deep/f
+    refused 'checks, a missing folder' '1 bidi-edit: the folder none/deep does not exist: mkdir -p none/deep creates it' none/deep/f
     : >plain
-    refused 'checks, a file as a folder' '1 bidi-edit: plain is no folder, so it has no files: name another' plain/f
+    refused 'checks, a file as a folder' '1 bidi-edit: plain is not a folder: name a file in a folder' plain/f
     ln -s loop loop
-    refused 'checks, a link to itself' '1 bidi-edit: loop is a link that leads in a circle: ls -l shows where to' loop
+    refused 'checks, a link to itself' '1 bidi-edit: loop is a link in a circle of links: ls -l shows where it points' loop
     ln -s f.d/new dangling
     refused 'checks, a link to a new file' "$no_terminal" dangling
     rm -r f.d pipe plain loop dangling
@@ -96,11 +96,11 @@ name_of() { # BYTES
 check_refused_names() {
     refused 'checks, a name of 252 bytes' "$no_terminal" "$(name_of 252)"
     long=$(name_of 253)
-    refused 'checks, a name of 253 bytes' "1 bidi-edit: '$long' is a name of 253 bytes, too long to be saved: 252 are the most (the save needs 3 more), and --force opens it all the same" "$long"
+    refused 'checks, a name of 253 bytes' "1 bidi-edit: the name '$long' has 253 bytes, too many for a save: the limit is 252, since a save adds 3; --force opens it anyway" "$long"
     refused 'checks, a name of 253 bytes, forced' "$no_terminal" --force "$long"
-    refused 'checks, control bytes in a name' "1 bidi-edit: \$'no\\012ne\\033' is a folder that is not there: mkdir -p \$'no\\012ne\\033' makes it" "$(printf 'no\nne\033/f')"
-    refused 'checks, blanks in a name' "1 bidi-edit: 'no one'\\''s' is a folder that is not there: mkdir -p 'no one'\\''s' makes it" "no one's/f"
-    refused 'checks, a name that is not UTF-8' "1 bidi-edit: \$'f\\377' has a name that is not UTF-8: mv gives it another" "f$(printf '\377')"
+    refused 'checks, control bytes in a name' "1 bidi-edit: the folder \$'no\\012ne\\033' does not exist: mkdir -p \$'no\\012ne\\033' creates it" "$(printf 'no\nne\033/f')"
+    refused 'checks, blanks in a name' "1 bidi-edit: the folder 'no one'\\''s' does not exist: mkdir -p 'no one'\\''s' creates it" "no one's/f"
+    refused 'checks, a name that is not UTF-8' "1 bidi-edit: \$'f\\377' has a name that is not UTF-8: rename it with mv" "f$(printf '\377')"
 }
 
 # A text that cannot be opened is refused by the program, in a terminal, whose screen stays as it was (1049h would change it).
@@ -117,22 +117,22 @@ refused_at_opening() { # NAME WANTED WORD..
 }
 
 # What is told last of a text that is not UTF-8.
-windows="iconv -f CP1255 -t UTF-8 may help if it is in Windows' Hebrew (CP1256: Arabic)"
+windows='if it is Hebrew text from Windows, iconv -f CP1255 -t UTF-8 converts it (Arabic: -f CP1256)'
 
 check_refused_texts() {
     printf 'one\ntwo \377\n' >bytes
-    refused_at_opening 'opening, not UTF-8' "1 bidi-edit: bytes is not UTF-8 in line 2: $windows" bytes
+    refused_at_opening 'opening, not UTF-8' "1 bidi-edit: bytes is not UTF-8 (line 2): $windows" bytes
     printf 'one\ntwo\nthree \327' >bytes
-    refused_at_opening 'opening, not UTF-8 at the end' "1 bidi-edit: bytes is not UTF-8 in line 3: $windows" bytes
+    refused_at_opening 'opening, not UTF-8 at the end' "1 bidi-edit: bytes is not UTF-8 (line 3): $windows" bytes
     # beyond Unicode
     printf 'a\n\364\220\200\200' >bytes
-    refused_at_opening 'opening, beyond Unicode' "1 bidi-edit: bytes is not UTF-8 in line 2: $windows" bytes
+    refused_at_opening 'opening, beyond Unicode' "1 bidi-edit: bytes is not UTF-8 (line 2): $windows" bytes
     printf '\377\376a\000' >bytes
-    refused_at_opening 'opening, UTF-16' '1 bidi-edit: bytes is UTF-16 and not UTF-8: iconv -f UTF-16 -t UTF-8 may help' bytes
+    refused_at_opening 'opening, UTF-16' '1 bidi-edit: bytes is UTF-16, not UTF-8: iconv -f UTF-16 -t UTF-8 converts it' bytes
     printf '\177ELF\002\001\001\000\000\377\n' >bytes
     start 8 50 "$top/bidi-edit" bytes
     finish 'opening, a program' 1 50
-    same 'opening, a program: it is no text in another encoding' "$(cat "$folder/errors")" 'bidi-edit: bytes is a binary file and no text: od -c shows it'
+    same 'opening, a program: it is no text in another encoding' "$(cat "$folder/errors")" 'bidi-edit: bytes is a binary file, not text: od -c shows its bytes'
     # lines of 17 bytes, cut after a whole letter; with six bytes more it is one byte too long
     awk 'BEGIN { for (n = 0; n < 16777216; n += 17) print "\327\251\327\234\327\225\327\235 \327\234\327\232 ab" }' | head -c 16777211 >bytes
     start 8 50 "$top/bidi-edit" bytes
@@ -141,7 +141,7 @@ check_refused_texts() {
     type_keys C-q
     finish 'opening, 16 MB of Hebrew' 0 50
     printf '123456' >>bytes
-    refused_at_opening 'opening, too long' '1 bidi-edit: bytes has 16777217 bytes, and 16777216 are the most: split -C 16M cuts it at line ends' bytes
+    refused_at_opening 'opening, too long' '1 bidi-edit: bytes has 16777217 bytes, more than the limit of 16777216: split -C 16M cuts it at line ends' bytes
     rm bytes
 }
 
@@ -158,19 +158,19 @@ check_refused_access() {
     # closed to nobody's own processes, or to this user
     chmod 700 closed
     [ "$(id -u)" = 0 ] || chmod 000 closed
-    refused_to_user 'access, a closed folder' '1 bidi-edit: closed is a folder that is closed to you: its owner can open it by chmod a+x' closed/f
-    folder_told='1 bidi-edit: locked is a folder that you cannot write, so no save can be made: copy the file elsewhere; --force opens it all the same'
+    refused_to_user 'access, a closed folder' '1 bidi-edit: you have no access to the folder closed: if it is yours, chmod u+x gives you access' closed/f
+    folder_told='so no save is possible: edit a copy elsewhere; --force opens the file anyway'
     refused_to_user 'access, a file to write in a folder that is not' "$no_terminal" locked/f
-    refused_to_user 'access, a new file in that folder' "$folder_told" locked/new
+    refused_to_user 'access, a new file in that folder' "1 bidi-edit: you cannot write to the folder locked, $folder_told" locked/new
     refused_to_user 'access, that folder, forced' "$no_terminal" --force locked/new
-    refused_to_user 'access, a file that is not either' "$folder_told" locked/g
-    refused_to_user 'access, a write-protected file' '1 bidi-edit: open/f is write-protected: chmod u+w lets its owner write it, and --force opens it all the same' open/f
+    refused_to_user 'access, a file that is not either' "1 bidi-edit: you cannot write to the folder locked, $folder_told" locked/g
+    refused_to_user 'access, a write-protected file' '1 bidi-edit: open/f is write-protected: if it is yours, chmod u+w makes it writable; --force opens it anyway' open/f
     refused_to_user 'access, that file, forced' "$no_terminal" --force open/f
-    unreadable='open/g cannot be read by you: chmod u+r lets its owner read it, and --force opens an empty text in its place'
+    unreadable='open/g cannot be read: if it is yours, chmod u+r makes it readable; --force opens an empty text in its place'
     refused_to_user 'access, a file that cannot be read' "1 bidi-edit: $unreadable" open/g
     refused_to_user 'access, that file, forced' "$no_terminal" --force open/g
     ln -s ../locked/g open/link
-    refused_to_user 'access, a link into that folder' "1 bidi-edit: $folder/files/${folder_told#*: }" open/link
+    refused_to_user 'access, a link into that folder' "1 bidi-edit: you cannot write to the folder $folder/files/locked, $folder_told" open/link
     chmod 700 closed locked
     rm -rf closed locked open
 }
@@ -187,7 +187,7 @@ refused_in_terminal() { # NAME WANTED FILE
 check_leftovers() {
     printf '\377' >f
     for name in f.bx f.bx9 f.bxx f.ab3defgh.bx f.other.bx 'g h.bx2'; do : >"$name"; done
-    told='bidi-edit: perhaps left by a save that was killed; look at it, and remove what is not wanted:'
+    told='bidi-edit: possibly left by an interrupted save; check, and remove what you do not need:'
     refused_in_terminal 'leftovers' "1 $told f.bx f.bx9 f.ab3defgh.bx" f
     ln -s 'g h' link
     printf '\377' >'g h'

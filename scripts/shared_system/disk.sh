@@ -75,7 +75,7 @@ check_not_begun() {
     close_small_disk
     open_on_full_disk 'full to the end' || return 0
     kill -s TERM "$(editor_process)"
-    expect_in first 'disk, full to the end: what is said' 'what was typed is not kept, since'
+    expect_in first 'disk, full to the end: what is said' 'any unsaved text is lost, since'
     same 'disk, full to the end: nothing stays there' "$(find "$folder/small" -mindepth 1 ! -name other)" "$folder/small/bidi_edit"
     close_editors first
     close_small_disk
@@ -121,7 +121,7 @@ check_begun_later() {
     terminal send-keys -t first y
     wait_for 60 shows_in first '* 1:3'
     kill -s TERM "$(editor_process)"
-    expect_in first 'disk, room at the end: it is said' 'what was typed is kept: '
+    expect_in first 'disk, room at the end: it is said' 'unsaved text is kept: '
     close_editors first
     echo xyab >"$folder/expected"
     recover_from_small_disk 'room at the end'
@@ -155,11 +155,11 @@ check_filled_up() {
     fill_under_editor 'filled up' || return 0
     same 'disk, filled up: told by a bell' "$(bells_of first)" 1
     kill -s TERM "$(editor_process)"
-    expect_in first 'disk, filled up: what is said at the end' 'what was typed is kept up to where its journal could not be written'
+    expect_in first 'disk, filled up: what is said at the end' 'unsaved text is kept up to where its journal could not be written'
     rm -f "$folder/small/other"
     as_user "$host" --recover --to other note >"$folder/output" 2>&1
     same 'disk, filled up: what is had back' "$? $(head -c 1 other)" '0 a'
-    has 'disk, filled up: where it is cut is said' "$(cat "$folder/output")" 'the session is cut off after its key'
+    has 'disk, filled up: where it is cut is said' "$(cat "$folder/output")" 'the session ends after key'
     close_editors first
     close_small_disk
     rm -f note other
@@ -195,7 +195,7 @@ check_told_again() {
     rm -f "$folder/small/other"
     wait_for 40 has_title_without first 'not kept'
     kill -s TERM "$(editor_process)"
-    expect_in first 'disk, told again: what was typed is kept' 'what was typed is kept: bidi-edit --recover note'
+    expect_in first 'disk, told again: what was typed is kept' 'unsaved text is kept: bidi-edit --recover note'
     same 'disk, told again: nothing of a fault' "$(terminal capture-pane -p -J -t first | grep -c 'the journal')" 0
     close_editors first
     { printf a && cat "$folder/letters"; } >"$folder/expected"

@@ -221,7 +221,7 @@ check_state_taken_away() {
     wait_for 30 has_title_with first 'not kept'
     report 'faults, the state folder is gone: told within seconds' $? "$(title_of first)"
     kill -s TERM "$(editor_process)"
-    expect_in first 'faults, the state folder is gone: told at the end' 'what was typed is not kept, since'
+    expect_in first 'faults, the state folder is gone: told at the end' 'any unsaved text is lost, since'
     leave_files
     put_note note
     open_typed '' note
@@ -325,7 +325,7 @@ check_without_proc() {
     fi
     put_note note
     open_editor first "unshare -m sh -c 'mount -t tmpfs none /proc && exec \"\$@\"' sh" note
-    expect_in first 'faults, without /proc: it is refused' 'there is no /proc, which it needs'
+    expect_in first 'faults, without /proc: it is refused' 'the editor needs /proc, which is not mounted'
     expect_in first 'faults, without /proc: the status' 'status 1'
     same 'faults, without /proc: FILE' "$(cat note)" ab
     leave_files

@@ -12,7 +12,7 @@ check_links() {
     as_user ln note 'other name'
     save_a_letter note
     same 'in place, hard links: both names have the text' "$(cat note 'other name' | tr '\n' ' ')$(stat -c %h note)" 'xab xab 2'
-    expect_in first 'in place, hard links: it is said' 'note has other names (hard links): saves are written into the file itself'
+    expect_in first 'in place, hard links: it is said' 'note has other names (hard links): saves overwrite it in place'
     save_a_letter 'other name'
     same 'in place, hard links, by the other name' "$(cat note 'other name' | tr '\n' ' ')$(stat -c %h note)" 'xxab xxab 2'
     close_editors first
@@ -37,7 +37,7 @@ check_mounted_file() {
     mounted="$mounted $folder/files/a?note"
     save_a_letter 'a note'
     same 'in place, a mounted file' "$(cat 'a note' "$folder/host" | tr '\n' ' ')" 'xof the host xof the host '
-    expect_in first 'in place, a mounted file: it is said' "'a note' is mounted by itself: saves are written"
+    expect_in first 'in place, a mounted file: it is said' "'a note' is mounted by itself: saves overwrite it in place"
     close_editors first
     umount 'a note'
     mounted=${mounted%" $folder/files/a?note"}
@@ -56,9 +56,9 @@ check_closed_folder() {
     chmod 555 closed
     save_a_letter closed/note
     same 'in place, a closed folder' "$(cat closed/note)" xab
-    expect_in first 'in place, a closed folder: it is said' 'closed/note is in a folder where you cannot replace it: saves are written'
+    expect_in first 'in place, a closed folder: it is said' 'closed/note is in a folder where you cannot replace it: saves overwrite it in place'
     open_editor first '' closed/new
-    expect_in first 'in place, a closed folder: a new file is refused' 'closed is a folder that you cannot write'
+    expect_in first 'in place, a closed folder: a new file is refused' 'you cannot write to the folder closed'
     close_editors first
     chmod 755 closed
     rm -rf closed
@@ -151,13 +151,13 @@ check_cut_off() { # CALLS COUNT TEXT
     report "in place, killed at $1: the whole text is kept" $? 'there is no mark'
     open_editor first '' note
     expect_in first "in place, killed at $1: the session is asked about" 'an unfinished session'
-    same "in place, killed at $1: what is said" "$(terminal capture-pane -p -J -t first | grep -c 'its whole text is put back')" "$2"
+    same "in place, killed at $1: what is said" "$(terminal capture-pane -p -J -t first | grep -c 'its whole text has been restored')" "$2"
     same "in place, killed at $1: FILE before the answer" "$(cat note note.link | tr '\n' ' ')" "$3 $3 "
     say_in first recover
     if [ "$3" = xab ]; then
         wait_for 60 shows_in first '- 1:1'
         terminal send-keys -t first C-q
-        expect_in first "in place, killed at $1: FILE has all" 'note holds all that was typed in its last session'
+        expect_in first "in place, killed at $1: FILE has all" 'note already contains everything that was typed in its last session'
     else
         expect_in first "in place, killed at $1: what was typed is had back" '* 1:2'
     fi
@@ -192,7 +192,7 @@ check_killed_program() {
     wait_for 60 shows_in first 'save failed'
     stop_injecting
     kill -s KILL "$(program_of_check)"
-    expect_in first 'in place, the program killed: it is said' 'a save of note was cut off; its whole text is put back'
+    expect_in first 'in place, the program killed: it is said' 'a save of note was interrupted; its whole text has been restored'
     wait_for 60 shows_in first status
     same 'in place, the program killed: FILE is whole' "$(cat note note.link | tr '\n' ' ')" 'xab xab '
     same 'in place, the program killed: no session stays, as nothing is unsaved' "$(ls -A "$folder/state/bidi_edit")" ''
@@ -222,7 +222,7 @@ check_cut_off_elsewhere() {
     say_in first yes
     wait_for 60 shows_in first '- 1:1'
     terminal send-keys -t first C-q
-    expect_in first 'in place, cut off on another host: its text is put back' 'its whole text is put back'
+    expect_in first 'in place, cut off on another host: its text is put back' 'its whole text has been restored'
     same 'in place, cut off on another host: FILE' "$(cat note note.link | tr '\n' ' ')" 'xab xab '
     close_editors first
 }
@@ -251,11 +251,11 @@ is_empty() { # FILE
 check_recover_elsewhere() {
     cut_off_save write,pwrite64,writev
     as_user "$host" --recover >"$folder/output" 2>&1 </dev/null
-    has 'in place, --recover alone' "$(cat "$folder/output")" '/note (a save was cut off)'
+    has 'in place, --recover alone' "$(cat "$folder/output")" '/note (a save was interrupted)'
     chmod 444 note
     as_user "$host" --recover --to other note >"$folder/output" 2>&1 </dev/null
     same 'in place, --recover --to' "$? $(cat other)" '0 xab'
-    [ "$who" = root ] || has 'in place, FILE that cannot be written: it is said' "$(cat "$folder/output")" 'its text cannot be put back: it is '
+    [ "$who" = root ] || has 'in place, FILE that cannot be written: it is said' "$(cat "$folder/output")" 'its text cannot be restored: the whole text is in '
     [ "$who" = root ] || same 'in place, FILE that cannot be written: its text is kept' "$(cat "$(session_of_check)/mark")" xab
     chmod 644 note
     open_editor first '' note
@@ -289,7 +289,7 @@ check_failed_end() {
     wait_for 60 shows_in first 'save failed'
     stop_injecting
     terminal send-keys -t first C-q C-q
-    expect_in first 'in place, no save to the end: it is said' 'a save of note was cut off; its whole text is put back'
+    expect_in first 'in place, no save to the end: it is said' 'a save of note was interrupted; its whole text has been restored'
     same 'in place, no save to the end: FILE' "$(cat note note.link | tr '\n' ' ')" 'xab xab '
     close_editors first
 }

@@ -30,7 +30,7 @@ check_no_session() {
     wait_for 60 shows_in first '* 1:7'
     same 'keeping, -n: no file is made' "$(ls -A "$folder/state" 2>/dev/null)$(ls -A)" ''
     terminal send-keys -t first C-q C-q
-    expect_in first 'keeping, -n: it is said' 'unsaved text is not kept, since -n asks for that'
+    expect_in first 'keeping, -n: it is said' 'unsaved text is not kept, since -n was given'
     same 'keeping, -n: no file is left' "$(ls -A "$folder/state" 2>/dev/null)$(ls -A)" ''
     close_editors first
 }

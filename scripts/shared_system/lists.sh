@@ -56,7 +56,7 @@ check_listed_file() { # NAME LIST FOLDER'S-LIST REASON
     save_a_letter common/note
     same "lists, $1: who may read and write" "$(rights_of common/note)" "$rights"
     same "lists, $1: what is saved" "$(cat common/note) $(stat -c %i common/note)" "xab $inode"
-    expect_in first "lists, $1: it is said" "common/note $4: saves are written into the file itself"
+    expect_in first "lists, $1: it is said" "common/note $4: saves overwrite it in place"
     same "lists, $1: nothing stays" "$(ls -A "$folder/state/bidi_edit")$(ls -A common)" note
     close_editors first
     rm -rf common "$folder/state"
@@ -67,7 +67,7 @@ check_unkept_list() {
     printf 'ab\n' | as_user tee note >/dev/null
     setfacl -m "u:$listed:r" note
     open_editor first '' -n note
-    expect_in first 'lists, without a session' 'note has an access list, and a save would drop it, since unsaved text is not kept (-n asks for that): --force opens it'
+    expect_in first 'lists, without a session' 'note has an access list; since unsaved text is not kept (-n was given), a save would remove the list; --force opens it'
     expect_in first 'lists, without a session: refused' 'status 1'
     close_editors first
     same 'lists, without a session: FILE stays' "$(cat note)" ab
@@ -90,6 +90,6 @@ check_lists() {
     check_listed_file 'a listed user' "u:$listed:rw" '' 'has an access list'
     check_listed_file 'a group that may less than the mask' "u:$listed:rw,g::-" '' 'has an access list'
     check_listed_file 'a list that denies' "u:$listed:-,g:$user:-,o::r" '' 'has an access list'
-    check_listed_file 'a folder that gives lists' '' "d:u:$listed:rw,d:g::rw" 'is in a folder that gives access lists'
+    check_listed_file 'a folder that gives lists' '' "d:u:$listed:rw,d:g::rw" 'is in a folder that gives new files an access list'
     check_unkept_list
 }

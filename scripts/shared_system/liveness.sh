@@ -15,7 +15,7 @@ check_other_namespace() {
     terminal send-keys -t first x
     wait_for 60 shows_in first '* 1:2'
     open_editor second '' note
-    expect_in second 'liveness, in another process namespace' 'note is open in another window of yours'
+    expect_in second 'liveness, in another process namespace' 'note is already open in another window of yours'
     say_in second no
     expect_in second 'liveness, in another process namespace: no' 'status 2'
     same 'liveness, its session stays' "$(cat "$(session_of_check)/journal")" x
@@ -32,7 +32,7 @@ check_other_host() {
     session=$(session_of_check)
     echo '1 elsewhere 11111111-1111' | as_user tee "$session/process" >/dev/null
     open_editor second '' note
-    expect_in second 'liveness, on another host' 'may be open in another window of yours, process 1 on elsewhere'
+    expect_in second 'liveness, on another host' 'may be open in another window of yours (process 1 on elsewhere'
     say_in second no
     expect_in second 'liveness, on another host: no' 'status 2'
     same 'liveness, on another host: the session stays' "$(cat "$session/journal")" x
@@ -49,7 +49,7 @@ check_two_starts() {
     open_editor first '' note
     wait_for 60 shows_in first '[d]elete for good'
     open_editor second '' note
-    expect_in second 'liveness, a start while another one asks' 'note is open in another window of yours'
+    expect_in second 'liveness, a start while another one asks' 'note is already open in another window of yours'
     say_in first recover
     expect_in first 'liveness, the start that asked first' '* 1:2'
     say_in second no
@@ -74,7 +74,7 @@ check_unreaped() {
     # its watcher and program end
     sleep 1
     open_editor second '' note
-    expect_in second 'liveness, a dead host that nobody reaped' 'an unfinished session of'
+    expect_in second 'liveness, a dead host that nobody reaped' 'an unfinished session from'
     close_editors first second
 }
 
@@ -98,7 +98,7 @@ check_new_session() {
     open_editor first '' note
     wait_for 60 shows_in first '- 1:1'
     open_editor second '' note
-    expect_in second 'liveness, a session without a key' 'note is open in another window of yours'
+    expect_in second 'liveness, a session without a key' 'note is already open in another window of yours'
     say_in second no
     wait_for 30 shows_in second 'status 2'
     terminal send-keys -t first x

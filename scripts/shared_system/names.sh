@@ -69,7 +69,7 @@ tells_in_terminal() { # CHECK TOLD FILE
 # Prints the message about a FILE, by `word` of hidden_bytes: the cause, but of a name that is not UTF-8 only that.
 cause_of() { # TOLD CAUSE
     case $word in
-    lone-* | cut-* | long-* | surrogate | past-*) printf '%s' "$1 has a name that is not UTF-8: mv gives it another" ;;
+    lone-* | cut-* | long-* | surrogate | past-*) printf '%s' "$1 has a name that is not UTF-8: rename it with mv" ;;
     *) printf '%s' "$2" ;;
     esac
 }
@@ -78,11 +78,11 @@ cause_of() { # TOLD CAUSE
 check_messages() { # WORD TOLD
     word=$1 as_told="\$'$2'" below_told="\$'$2/f'"
     name_of_told "$2"
-    tells "$word, not there" "$(cause_of "$as_told" "$as_told is not there")" --print "$name"
-    tells "$word, a missing folder" "$(cause_of "$below_told" "$as_told is a folder that is not there: mkdir -p $as_told makes it")" "$name/f"
+    tells "$word, not there" "$(cause_of "$as_told" "$as_told does not exist")" --print "$name"
+    tells "$word, a missing folder" "$(cause_of "$below_told" "the folder $as_told does not exist: mkdir -p $as_told creates it")" "$name/f"
     tells "$word, a missing folder, recovered" "$(cause_of "$below_told" "there is no session of $below_told to recover")" --recover --to other "$name/f"
     tells "$word, no session" "$(cause_of "$as_told" "there is no session of $as_told to recover")" --recover --to other "$name"
-    tells "$word, an option" "there is no option \$'-$2'" "-$name"
+    tells "$word, an option" "unknown option \$'-$2'" "-$name"
     tells "$word, a direction" "auto, ltr or rtl, not $as_told" --direction "$name" f
     tells "$word, a line" "a number, not $as_told" --line "$name" f
     tells "$word, columns" "from 1 to 500, not $as_told" --print f --cols "$name"
@@ -91,7 +91,7 @@ check_messages() { # WORD TOLD
     BIDI_EDIT_DATA=$name tells "$word, tables" "BIDI_EDIT_DATA names $as_told, which lacks" f
     as_user rmdir "$name"
     as_user mkfifo "$name"
-    tells "$word, a pipe" "$(cause_of "$as_told" "$as_told is no plain file")" "$name"
+    tells "$word, a pipe" "$(cause_of "$as_told" "$as_told is a device, pipe or socket, not a plain file")" "$name"
     as_user rm "$name"
     as_user sh -c 'printf "\377" >"$1"; : >"$1.bx"' sh "$name"
     # a name that is not UTF-8 is refused first
@@ -102,8 +102,8 @@ check_messages() { # WORD TOLD
         tells "$word, not UTF-8" "$as_told has a name that is not UTF-8" "$name"
         ;;
     *)
-        tells "$word, bytes" "$as_told is not UTF-8 in line 1" --print "$name"
-        tells_in_terminal "$word, a mark" "what is not wanted: \$'$2.bx'" "$name"
+        tells "$word, bytes" "$as_told is not UTF-8 (line 1)" --print "$name"
+        tells_in_terminal "$word, a mark" "what you do not need: \$'$2.bx'" "$name"
         ;;
     esac
     as_user rm "$name" "$name.bx"
@@ -114,12 +114,12 @@ check_printing_messages() { # WORD TOLD
     word=$1 as_told="\$'$2'"
     name_of_told "$2"
     as_user perl -MSocket -e 'socket(S, PF_UNIX, SOCK_STREAM, 0) && bind(S, sockaddr_un($ARGV[0]))' "$name"
-    tells "$1, a socket, printed" "$(cause_of "$as_told" "$as_told is a socket, which has no text")" --print "$name"
+    tells "$1, a socket, printed" "$(cause_of "$as_told" "$as_told is a socket, not a text file")" --print "$name"
     as_user rm -f "$name"
     [ "$who" = plain ] || return 0
     as_user mkfifo "$name"
     as_user chmod 000 "$name"
-    tells "$1, closed, printed" "$(cause_of "$as_told" "$as_told cannot be read by you")" --print "$name"
+    tells "$1, closed, printed" "$(cause_of "$as_told" "$as_told cannot be read")" --print "$name"
     as_user rm -f "$name"
 }
 
@@ -144,7 +144,7 @@ check_building_names() { # TOLD
     name_of_told "$1"
     mkdir "$folder/$name"
     # the check, the message, and the repository, with colons between
-    for each in "a folder that is not there:\$'$folder/$1/none' is no folder:$folder/$name/none" \
+    for each in "a folder that is not there:\$'$folder/$1/none' is not a folder:$folder/$name/none" \
         "no crates:\$'$folder/$1/crates.txt' names no crate x:$folder/$name"; do
         : >"$folder/$name/crates.txt"
         mkdir -p "$folder/$name/crates/x"
@@ -174,10 +174,10 @@ END
     start 8 60 "$recorder" "$name"
     wait_for 50 has_ended
     # shellcheck disable=SC2020
-    same 'names, the title' "$(LC_ALL=C tr '\033\007' '\n\n' <"$folder/output" | LC_ALL=C grep -a '^]2;' | head -n 1)" "]2;\$'$1' - ^S save ^Q quit"
+    same 'names, the title' "$(LC_ALL=C tr '\033\007' '\n\n' <"$folder/output" | LC_ALL=C grep -a '^]2;' | head -n 1)" "]2;\$'$1' - ^S save ^Q quit F1 keys"
     is_harmless "$folder/errors"
     report 'names, what the program says: nothing hidden' $? "$(cat -v "$folder/errors")"
-    has 'names, what the program says' "$(cat "$folder/errors")" "bidi-edit: \$'$1' cannot be read by you"
+    has 'names, what the program says' "$(cat "$folder/errors")" "bidi-edit: \$'$1' cannot be read"
     terminal kill-session -t person
     mv "$program.was" "$program"
 }
@@ -220,9 +220,9 @@ check_names() {
         check_messages "$word" "x${bytes}y" </dev/null
         check_printing_messages "$word" "x${bytes}y" </dev/null
     done <"$folder/bytes"
-    tells 'letters of all scripts' "'שלום عالم é' is not there" --print 'שלום عالم é'
+    tells 'letters of all scripts' "'שלום عالم é' does not exist" --print 'שלום عالم é'
     # joiners are letters of Persian words and parts of emoji
-    tells 'joiners' "'می‌خواهم' is not there" --print 'می‌خواهم'
+    tells 'joiners' "'می‌خواهم' does not exist" --print 'می‌خواهم'
     mkdir "$folder/bin"
     printf '#!/bin/sh\nexit 1\n' >"$folder/bin/rt"
     chmod 755 "$folder/bin/rt"

@@ -74,7 +74,7 @@ check_no_compiler() {
     as_user env CC=no-compiler sh "$source/scripts/install.sh" "$prefix" >"$folder/said" 2>&1
     same 'packages, no compiler: status' "$?" 1
     has 'packages, no compiler: what is told' "$(cat "$folder/said")" \
-        'there is no C compiler no-compiler: on Debian, apt install gcc libc6-dev gives one'
+        'there is no C compiler no-compiler: install one (on Debian, apt install gcc libc6-dev)'
     same 'packages, no compiler: what is there' "$(tree_of "$prefix")" "$before"
     as_user touch "$source/host/out/bidi-edit"
     rm -rf "$prefix"

@@ -76,7 +76,7 @@ check_state_home() {
     type_keys C-q
     finish 'places, a relative state folder' 7 50
     same 'places, a relative state folder: what is told' "$(paste -s -d '|' "$folder/errors")" \
-        'bidi-edit: XDG_STATE_HOME names relative, which is not absolute: ~/.local/state is taken|bidi_edit: output failed'
+        'bidi-edit: XDG_STATE_HOME is ignored, since relative is not an absolute path: ~/.local/state is used instead|bidi_edit: output failed'
     setup=''
     rm -rf "$folder/home/.local"
 }
@@ -136,7 +136,7 @@ check_log() {
     prove
     same 'places, a log: status' "$status" 1
     same 'places, a log: what another put there' "$(cat "$folder/victim")" mine
-    same 'places, a log: where it is' "$(last_said)" "bidi-edit: bidi_edit could not be proved, and $clone/out/proving.log tells why; what is proved is kept"
+    same 'places, a log: where it is' "$(last_said)" "bidi-edit: bidi_edit could not be proved: $clone/out/proving.log says why; what is proved is kept"
     same 'places, a log: it is there' "$(ls "$clone/out/proving.log")" "$clone/out/proving.log"
     rm -f "$folder/private/bidi-edit-bidi_edit.log" "$kit/bad"
     prove
@@ -157,12 +157,12 @@ check_lock() {
     wait_for 50 has_begun
     prove
     same 'places, a second start' "$status" 1
-    has 'places, a second start: what is told' "$(last_said)" ' is building the editor already: wait for it'
+    has 'places, a second start: what is told' "$(last_said)" ' is already building the editor: wait for it'
     if can_unshare; then
         # shellcheck disable=SC2086 # split into words
         prove $unshared
         same 'places, a second start in another namespace' "$status" 1
-        has 'places, a second start in another namespace: what is told' "$(last_said)" ' is building the editor already: wait for it'
+        has 'places, a second start in another namespace: what is told' "$(last_said)" ' is already building the editor: wait for it'
     fi
     rm -f "$kit/slow"
     wait "$first"
@@ -184,7 +184,7 @@ can_unshare() {
 check_first_start_elsewhere() {
     make_clone
     start_there 'a first start with such a TMPDIR' 0 "TMPDIR='$folder/none'"
-    has 'places, a first start with such a TMPDIR: what is told' "$(cat "$folder/errors")" "bidi-edit: TMPDIR names $folder/none, where nothing can be made: /tmp is taken"
+    has 'places, a first start with such a TMPDIR: what is told' "$(cat "$folder/errors")" "bidi-edit: TMPDIR is ignored, since nothing can be created in $folder/none: /tmp is used instead"
     same 'places, a first start with such a TMPDIR: what the toolchain gets' "$(cat "$kit/temporary")" /tmp
     rm -rf "$clone" "$kit"
 }
@@ -219,14 +219,14 @@ start_there() { # NAME STATUS VARIABLE..
 check_read_only() { # NAME
     start_there "$1, not built" 1
     same "places, $1, not built: what is told" "$(cat "$folder/errors")" \
-        "bidi-edit: the editor is not built, and nothing can be written in $clone to build it: build it in a copy of your own"
+        "bidi-edit: the editor is not built, and cannot be built here, since nothing can be written in $clone: build it in your own copy"
 }
 
 # A repository without a host either.
 check_no_host() { # NAME
     start_there "$1, without a host" 1
     same "places, $1, without a host: what is told" "$(cat "$folder/errors")" \
-        "bidi-edit: the host is not built, and nothing can be written in $clone/host to build it: build it in a copy of your own"
+        "bidi-edit: the host is not built, and cannot be built here, since nothing can be written in $clone/host: build it in your own copy"
 }
 
 check_closed_clone() {

@@ -105,7 +105,7 @@ check_question_first() {
     session=$(session_of_check)
     before=$(cd "$session" && find . -exec stat -c '%n %Y %s' {} + | sort)
     open_editor first '' note
-    expect_in first 'trust, what is asked' 'an unfinished session of'
+    expect_in first 'trust, what is asked' 'an unfinished session from'
     same 'trust, nothing is obeyed before the answer' "$(cd "$session" && find . -exec stat -c '%n %Y %s' {} + | sort)" "$before"
     say_in first later
     wait_for 30 shows_in first '- 1:1'

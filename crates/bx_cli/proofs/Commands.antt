@@ -1,8 +1,8 @@
 -- Commands that get one option after another, and options that get a rule on others.
-use Rattle.std.proofs.Common.{◌≡◌, ◌∙◌, ap, ap₂, refl, Bool, true, false, not, is_some, ◌&&◌, List, [], ◌∷◌, ℕ, arith}
+use Rattle.std.proofs.Common.{◌≡◌, ◌∙◌, ap, ap₂, refl, Bool, true, false, not, is_some, ◌&&◌, List, [], ◌∷◌, ℕ}
 use Rattle.std.specs.Borrow.{Bor}
 use Rattle.clap.specs.Words.{AddsArg, AddsConflicts, AddsRequirements, App, Rule, app_of, rule_of, with_rule}
-use Rattle.clap.specs.Walk.{is_empty, is_free_arg, is_simple_arg}
+use Rattle.clap.specs.Walk.{is_empty, is_simple_arg}
 use Rattle.clap.specs.declared.builder.Arg.{Arg}
 use Rattle.clap.specs.declared.builder.Command.{Command}
 use Rattle.clap.specs.declared.builder.ArgPredicate.{ArgPredicate}

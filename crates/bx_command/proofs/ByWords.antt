@@ -1,5 +1,5 @@
 -- The rows of the editor's command, by the words alone.
-use Rattle.std.proofs.Common.{◌≡◌, ◌∙◌, ap, List, true}
+use Rattle.std.proofs.Common.{◌≡◌, ◌∙◌, ap, List}
 use Rattle.clap.specs.Words.{App, HasMatchesOf, Text, is_simple, matches_of}
 use Rattle.clap.specs.declared.parser.matches.ArgMatches.{ArgMatches}
 use Rattle.bx_cli.specs.Arguments.{rows_in}

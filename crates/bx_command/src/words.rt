@@ -1,7 +1,7 @@
 //! The options of the editor's command line, and how they are parsed.
 
-ghost use Rattle.std.specs.Prelude.{◌≡◌, IfOk, IfSome, codes, map, option_map};
-ghost use Rattle.clap.specs.Words.{app_of, rule_of, with_rule};
+ghost use Rattle.std.specs.Prelude.{◌≡◌, IfOk, IfSome, codes, map};
+ghost use Rattle.clap.specs.Words.{app_of, rule_of};
 ghost use Rattle.bx_cli.specs.Arguments.{rows_in, value_in};
 ghost use Rattle.bx_cli.specs.Rules.{DirectionWords, bound, flag_rule, option_rule, with_rules};
 ghost use Rattle.bx_command.specs.Command.{bare_app, bound_rules, editor_app, file_rule, line_rule, plain_rules};

@@ -32,6 +32,7 @@ pub mod QuestionKept
 pub mod Pasted
 pub mod Refused
 pub mod Copied
+pub mod Pointed
 pub mod Unseen
 pub mod OnePaste
 pub mod SentOut

@@ -4,7 +4,7 @@ use Rattle.std.specs.Prelude.{◌==◌, Some, None}
 use Rattle.bx_ucd.specs.Data.{Data}
 use Rattle.bx_editor.specs.declared.message.Message.TheVariants.{TextFull}
 use Rattle.bx_editor.specs.Editor.{Editor, cleared, with_insertion}
-use Rattle.bx_editor.specs.Pasting.{as_before, ended_with, with_pasted, without_paste}
+use Rattle.bx_editor.specs.Pasting.{as_before, ended_with, paste_ended, with_pasted, without_paste}
 use Rattle.bx_editor.specs.Putting.{has_room, put_in, with_selection_replaced}
 use Rattle.bx_editor.specs.Selecting.{is_selection}
 
@@ -66,3 +66,9 @@ taken-back d e list = back-by d e list (length list == 0)
 pub back-again : (e new : Editor) (pasted : Option (List ℕ)) → as_before (record e { pasted = pasted }) new ≡ record e { pasted = pasted }
     → as_before e new ≡ e
 back-again e new pasted back = ap (λ (x : Editor). (let y : Editor = record x { pasted = e.pasted } in y)) back
+
+-- where no paste is under way nothing ends
+pub none-ended : (d : Data) (e : Editor) (left : Option (List ℕ)) → e.pasted ≡ None → left ≡ None
+    → record e { pasted = left } ≡ paste_ended d e
+none-ended d e left none taken =
+    ap (λ pasted. (let x : Editor = record e { pasted = pasted } in x)) (taken ∙ sym none) ∙ ap (λ pasted. ended_with d e pasted) (sym none)

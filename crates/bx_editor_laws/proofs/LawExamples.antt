@@ -1,6 +1,6 @@
 -- Worked examples, each from a law alone.
 use Rattle.std.proofs.Common.{◌≡◌, ℕ, ◌≤◌, ◌<◌, [], ◌∷◌, refl, ap, subst, ◌∙◌, arith, ⊎_elim}
-use Rattle.std.specs.Prelude.{codes, IsCharBoundary, Some, None}
+use Rattle.std.specs.Prelude.{codes, length, IsCharBoundary, List, Some, None}
 use Rattle.std.proofs.lemmas.Bool.{cases_lt}
 use Rattle.std.specs.Fmt.{digits}
 use Rattle.ucd_case.proofs.Computing.{ucd_case}
@@ -9,7 +9,7 @@ use Rattle.unicode_segmentation.proofs.Computing.{unicode_segmentation}
 use Rattle.unicode_width.proofs.Computing.{unicode_width}
 use Rattle.bx_terms.specs.declared.base.Base.TheVariants.{Auto}
 use Rattle.bx_keys.specs.declared.key.Key.TheVariants.{Insert, Erase, Delete, Down, Forward, Find, FindBack, Mark, Save, TextEnd, Undo, Redo}
-use Rattle.bx_text.specs.Edits.{Edited, edit_of}
+use Rattle.bx_text.specs.Edits.{Edit, Edited, edit_of}
 use Rattle.bx_find.specs.Nearest.{MatchesAt}
 use Rattle.bx_find.specs.declared.reading.Reading.TheVariants.{Wide}
 use Rattle.bx_view.specs.Moves.{place_at}
@@ -56,7 +56,8 @@ redo_gives_the_letter law =
 pub undo_takes_it_again : RedoMirrorsUndo → (after (start (codes "x") 2 10) (Insert 0x61 ∷ Undo ∷ Redo ∷ Undo ∷ [])).content.text ≡ codes "x"
 unfolding unicode_segmentation unicode_width digits
 undo_takes_it_again law =
-    ap (λ (t : Edited). t.text) ((law tables (codes "x") 2 10 Auto ((Insert 0x61, None) ∷ (Undo, None) ∷ []) refl).undo (λ none. cc none))
+    ap (λ (t : Edited). t.text) ((law tables (codes "x") 2 10 Auto ((Insert 0x61, None) ∷ (Undo, None) ∷ []) refl).undo
+    (λ none. let count : 1 ≡ 0 = ap (λ (edits : List Edit). length edits) none in cc count))
 
 -- Undo and Redo lead behind the letter, from the text's end and with a mark
 abbrev letter_then_end : Editor

@@ -1,7 +1,7 @@
 -- Pointing at the picture: where it leads, and what is shown then.
-use Rattle.std.proofs.Common.{◌≡◌, ℕ, ◌+◌, ◌-◌, ◌≤◌, ◌<◌, nat_le, Bool, true, false, List, length, Option, None, refl, sym, ap, ap₂, subst, ◌∙◌}
-use Rattle.std.proofs.Common.{arith, inl, inr, ⊎_elim, leb-true, if◌then◌else◌}
-use Rattle.std.specs.Prelude.{◌≢◌}
+use Rattle.std.proofs.Common.{◌≡◌, ℕ, ◌+◌, ◌-◌, ◌≤◌, ◌<◌, nat_le, Bool, true, false, List, Option, None, refl, sym, ap, ap₂, subst, ◌∙◌}
+use Rattle.std.proofs.Common.{arith, inl, inr, leb-true, if◌then◌else◌}
+use Rattle.std.specs.Prelude.{◌≢◌, ◌⊎◌}
 use Rattle.std.proofs.lemmas.Bool.{le-leb}
 use Rattle.bx_keys.specs.declared.key.Key.TheVariants.{Point}
 use Rattle.bx_ucd.specs.Data.{Data}
@@ -17,6 +17,7 @@ use Rattle.bx_view.proofs.LeastMove.{falls-own}
 use Rattle.bx_view.proofs.TextPlaces.{place-in-window}
 use Rattle.bx_view.proofs.Walking.{rows-rise}
 use Rattle.bx_view_laws.specs.Pointed.{ShowsUnit, TopStays, picture_row}
+use Rattle.bx_view_laws.specs.Pointed as pointed
 use Rattle.bx_view_laws.proofs.PointedTop as tops
 use Rattle.bx_view_laws.proofs.PointedUnits.{own-cells-stay, units-are-taken}
 use Rattle.bx_editor.specs.declared.seek.Seek.{Seek}
@@ -30,7 +31,8 @@ use Rattle.bx_editor.specs.Picture.{blank_picture, next_top, text_picture}
 use Rattle.bx_editor.specs.Pointing.{pointed_place}
 use Rattle.bx_editor.specs.Prompts.{HasOnePrompt}
 use Rattle.bx_editor.specs.Selecting.{aged, mark_left, soft_left, unselected}
-use Rattle.bx_editor_laws.specs.PointingLaws.{after_point, cursor_column, cursor_row, followed, IsShown, PointStays, PointTakesUnits, PointTwiceIsOnce, StandsAt}
+use Rattle.bx_editor_laws.specs.WorkLaws.{IsFullEnd, own_row}
+use Rattle.bx_editor_laws.specs.PointingLaws.{after_point, cursor_column, cursor_row, followed, PointStays, PointTakesUnits, PointTwiceIsOnce, StandsAt}
 use Rattle.bx_editor.proofs.InSearch.{any-key, behind}
 use Rattle.bx_editor.proofs.TopOnce.{top-stays}
 
@@ -116,6 +118,11 @@ stays-on-top d e has =
 
 -- ---- at the cursor
 
+-- a cell leads to its place, or the place is a full end
+stays-or-full : (w : ℕ) (r : TextRow) (place at new : ℕ) → new ≡ at → (at ≡ place) ⊎ pointed.IsFullEnd w r place → (new ≡ place) ⊎ IsFullEnd w r place
+stays-or-full w r place at new is (inl same) = inl (is ∙ same)
+stays-or-full w r place at new is (inr full) = inr (record { last = full.last; at_end = full.place_is; full = full.full })
+
 pub point-stays : PointStays
 point-stays d e shown place among =
     let has = shown.has in
@@ -127,7 +134,8 @@ point-stays d e shown place among =
     ap₂ (pointed_place d e) (seen-row d e shown.on) (seen-column d e has shown.on) ∙ in-text d e row column (omega (arith, among.below, among.above)) in
     let new : (after_key d None e (Point (cursor_row d e) (cursor_column d e))).place ≡ pointed_at e.width all e.top row column =
     ap (λ (x : Editor). x.place) ((point-is d e (cursor_row d e) (cursor_column d e) shown.settled).1) ∙ kept in
-    ⊎_elim (λ same. inl (new ∙ same)) (λ full. inr (record { last = full.last; at_end = full.place_is; full = full.full }))
+    stays-or-full e.width (own_row d e) e.place (pointed_at e.width all e.top row column)
+    (after_key d None e (Point (cursor_row d e) (cursor_column d e))).place new
     (own-cells-stay d e.base e.width some e.content.text has.text e.top e.place
     (place-in-window d e.base e.width some e.content.text has.text e.place place) among.above)
 

@@ -1,5 +1,5 @@
 -- Worked examples, each from a law of pointing alone.
-use Rattle.std.proofs.Common.{◌≡◌, ℕ, ◌≤◌, ◌<◌, List, [], ◌∷◌, drop, refl, ap, arith, ⊎_elim}
+use Rattle.std.proofs.Common.{◌≡◌, ℕ, ◌≤◌, ◌<◌, [], ◌∷◌, drop, refl, ap, arith, ⊎_elim}
 use Rattle.std.specs.Prelude.{codes, None}
 use Rattle.std.specs.Fmt.{digits}
 use Rattle.unicode_segmentation.proofs.Computing.{unicode_segmentation}
@@ -65,7 +65,7 @@ its_second_column_leads_to_its_first law =
     let low : 0 ≤ 0 = omega arith in
     let within : 0 < 1 = omega arith in
     let high : 1 ≤ 1 = omega arith in
-    let shown = record {
+    let shown : IsShown wide_ones = record {
       has = record { text = (wide ∷ 0x78 ∷ wide ∷ [], (refl, refl)); columns = refl };
       on = refl;
       settled = refl;

@@ -12,7 +12,7 @@ use Rattle.bx_keys.specs.declared.key.Key.TheVariants.{Cancel, NewLine, PasteSta
 use Rattle.bx_editor.specs.declared.aim.Aim.{Aim}
 use Rattle.bx_editor.specs.declared.aim.Aim.TheVariants as aims
 use Rattle.bx_editor.specs.declared.message.Message.{Message}
-use Rattle.bx_editor.specs.declared.message.Message.TheVariants.{FromStart, FromEnd, NotFound, Replaced}
+use Rattle.bx_editor.specs.declared.message.Message.TheVariants.{FromStart, FromEnd, NotFound, Pasting, Replaced}
 use Rattle.bx_editor.specs.declared.seek.Seek.{Seek}
 use Rattle.bx_editor.specs.declared.seek.Seek.TheVariants.{Off, Begun, Typed, WithBegun, WithTyped, Replacing}
 use Rattle.bx_editor.specs.Editor.{Editor}
@@ -337,7 +337,7 @@ pub a_paste_replaces_nothing : replaced (codes "abab") (showing (codes "b") (cod
 unfolding unicode_segmentation unicode_width digits
 a_paste_replaces_nothing = refl
 
-pub a_paste_ends_a_search_to_find : asked (codes "abab") (Find ∷ PasteStart ∷ Insert 0x62 ∷ enter ∷ []) ≡ (Off, aims.Find, 1, None)
+pub a_paste_ends_a_search_to_find : asked (codes "abab") (Find ∷ PasteStart ∷ Insert 0x62 ∷ enter ∷ []) ≡ (Off, aims.Find, 1, Some Pasting)
 unfolding unicode_segmentation unicode_width digits unicode_normalization ucd_case
 a_paste_ends_a_search_to_find = refl
 

@@ -117,7 +117,7 @@ the_next_b_is_at_three law =
         | inl shown ↦
             let first = shown.1.0 in
             let at = is_three e.at first.not_before (first.least 3 (omega arith) b_stands_at_three) first.is_match in
-            shown.1.1 ∙ ap (place_at (rows tables at_b)) at
+            shown.1.1 ∙ ap (place_at (rows tables e)) at
         | inr ended ↦ absurd (ended.1.1 3 (omega arith) b_stands_at_three)
       ],
     )
@@ -136,6 +136,14 @@ both_are_taken_back law = let back = law tables at_b Replace refl refl refl (inr
 abbrev at_points : Editor
 at_points = showing (0x78 ∷ 0x5d0 ∷ 0x301 ∷ 0x5d1 ∷ 0x301 ∷ 0x79 ∷ []) (0x5d0 ∷ 0x5d1 ∷ []) (0x5d0 ∷ 0x5d1 ∷ [])
 
+points_place : at_points.place ≡ 1
+unfolding unicode_segmentation unicode_width digits
+points_place = refl
+
+points_at : place_at (rows tables at_points) at_points.at ≡ 1
+unfolding unicode_segmentation unicode_width digits
+points_at = refl
+
 points_are_shown : IsShowing tables at_points
 unfolding unicode_segmentation unicode_width digits
 points_are_shown = record {
@@ -144,7 +152,7 @@ points_are_shown = record {
   unasked = refl;
   settled = refl;
   shown = refl;
-  stands = record { aim_is = refl; here = ((omega arith, λ inside high. omega arith), refl); place_is = refl };
+  stands = record { aim_is = refl; here = ((omega arith, λ inside high. omega arith), refl); place_is = points_place ∙ sym points_at };
 }
 
 abbrev points_letters : List ℕ

@@ -1,7 +1,7 @@
 -- A key outside a search and a question does the same to two editors of which the same lasts: what lasts is the same again, by
 -- the same edits and steps.
 use Rattle.std.proofs.Common.{◌≡◌, ℕ, Bool, true, false, List, [], ◌∷◌, ◌+◌, ◌-◌, length, Option, Some, None, refl, sym, ap, subst, ◌∙◌, if◌then◌else◌}
-use Rattle.std.specs.Prelude.{◌==◌, ◌&&◌, encode_utf8}
+use Rattle.std.specs.Prelude.{◌==◌, encode_utf8}
 use Rattle.bx_keys.specs.declared.key.Key.{Key}
 use Rattle.bx_store.specs.declared.store.StoreFault.{StoreFault}
 use Rattle.bx_text.specs.declared.change.Change.{Change}
@@ -26,14 +26,14 @@ use Rattle.bx_editor.specs.Effects.{Effect, Types, BeginsLine, Puts, Removes, Re
 use Rattle.bx_editor.specs.Effects.{Cuts, Seeks, SeeksNext, Saves, Quits, Turns, Helps, AsksLine, AsksName, Tells, Rests, Before, before, by}
 use Rattle.bx_editor.specs.Erasing.{after_erasing, after_erasing_word, after_removing, or_selection, removed_on}
 use Rattle.bx_editor.specs.Keys.{effect_of}
-use Rattle.bx_editor.specs.Putting.{after_character, after_new_line, after_put, has_room, is_paste, line_end, only_paste, put_in, typed}
+use Rattle.bx_editor.specs.Putting.{after_character, after_new_line, after_put, has_room, line_end, only_paste, put_in, typed}
 use Rattle.bx_editor.specs.Putting.{with_selection_replaced, yielding}
-use Rattle.bx_editor.specs.Region.{after_copy, after_cut, after_mark, bytes_in, is_at_mark, is_empty, line, region, taken}
+use Rattle.bx_editor.specs.Region.{after_copy, after_cut, after_mark, bytes_in, held_message, is_at_mark, is_empty, line, region, taken, with_held}
 use Rattle.bx_editor.specs.Runs.{by_run, is_changed_at, run_length}
 use Rattle.bx_editor.specs.Search.{after_beginning, next_or_start, search_from, sought}
 use Rattle.bx_editor.specs.Selecting.{is_selection, selecting, unselected}
-use Rattle.bx_session.proofs.KeyKinds.{effect_kind, is_other, is_quitting, is_saving, not_quitting, not_saving}
-use Rattle.bx_session_laws.proofs.Lasting.{Lasting, lasting, having, effect_is}
+use Rattle.bx_session.proofs.KeyKinds.{effect_kind, is_quitting, is_saving, not_quitting, not_saving}
+use Rattle.bx_session_laws.proofs.Lasting.{Lasting, Serves, lasting, having, effect_is}
 
 -- ---- edits and steps
 
@@ -130,7 +130,7 @@ replaced_alike d e f new =
       other = refl;
     }
 
-put_in_alike : (d : Data) (e f : Editor) (new : List ℕ) (goes_on : Bool)
+pub put_in_alike : (d : Data) (e f : Editor) (new : List ℕ) (goes_on : Bool)
     → Alike e (put_in d e new goes_on) (having (lasting e) f) (put_in d (having (lasting e) f) new goes_on)
 put_in_alike d e f new goes_on =
     let g = having (lasting e) f in
@@ -145,7 +145,7 @@ typed_alike : (d : Data) (typing : Typing) (e f : Editor) (new : List ℕ) (kind
     → Alike e (typed d typing e new kind) (having (lasting e) f) (typed d typing (having (lasting e) f) new kind)
 typed_alike d typing e f new kind =
     let g = having (lasting e) f in
-    going_on (if has_room e new then after_insertion typing kind else only_paste typing) e (put_in d e new (goes_on typing kind)) g
+    going_on (if has_room e new then after_insertion kind else only_paste typing) e (put_in d e new (goes_on typing kind)) g
     (put_in d g new (goes_on typing kind)) (put_in_alike d e f new (goes_on typing kind))
 
 new_line_alike : (d : Data) (typing : Typing) (e f : Editor)
@@ -155,11 +155,7 @@ new_line_alike d typing e f =
 
 character_alike : (d : Data) (typing : Typing) (e f : Editor) (c : ℕ)
     → Alike e (after_character d typing e c) (having (lasting e) f) (after_character d typing (having (lasting e) f) c)
-character_alike d typing e f c =
-    let g = having (lasting e) f in
-    let kind = kind_of (d.class c) in
-    either_alike ((c == 0xA) && is_paste typing) e (after_new_line d typing e) (typed d typing e (encode_utf8 c) kind) g (after_new_line d typing g)
-    (typed d typing g (encode_utf8 c) kind) (new_line_alike d typing e f) (typed_alike d typing e f (encode_utf8 c) kind)
+character_alike d typing e f c = typed_alike d typing e f (encode_utf8 c) (kind_of (d.class c))
 
 put_alike : (d : Data) (e f : Editor) → Alike e (after_put d e) (having (lasting e) f) (after_put d (having (lasting e) f))
 put_alike d e f =
@@ -243,8 +239,8 @@ copy_alike : (d : Data) (e f : Editor) → Alike e (after_copy d e) (having (las
 copy_alike d e f =
     let g = having (lasting e) f in
     let none : Editor → Editor = λ x. record x { mark = None; soft = softness.Off; message = Some NothingToCopy } in
-    let one : Editor → Editor = λ x. record x { mark = None; soft = softness.Off; held = bytes_in x (line d x); message = Some LineCopied } in
-    let all : Editor → Editor = λ x. record x { mark = None; soft = softness.Off; held = bytes_in x (region x); message = Some Copied } in
+    let one : Editor → Editor = λ x. with_held x (bytes_in x (line d x)) LineCopied in
+    let all : Editor → Editor = λ x. with_held x (bytes_in x (region x)) Copied in
     either_alike (is_empty (region e)) e (if is_empty (line d e) then none e else one e) (all e) g (if is_empty (line d e) then none g else one g) (all g)
     (either_alike (is_empty (line d e)) e (none e) (one e) g (none g) (one g) (idle e (none e) g (none g) refl refl refl)
     (idle e (one e) g (one g) refl refl refl)) (idle e (all e) g (all g) refl refl refl)
@@ -255,8 +251,8 @@ cut_alike d e f =
     let part = taken d e in
     let bytes = bytes_in e part in
     let out = removal_alike d e f part.0 part.1 false in
-    let cut : Editor = record (with_removal d e part.0 part.1 false) { held = bytes } in
-    let cut' : Editor = record (with_removal d g part.0 part.1 false) { held = bytes } in
+    let cut : Editor = record (with_removal d e part.0 part.1 false) { held = bytes; message = held_message e.clipboard bytes e.message } in
+    let cut' : Editor = record (with_removal d g part.0 part.1 false) { held = bytes; message = held_message g.clipboard bytes g.message } in
     either_alike (is_empty part) e (after_copy d e) cut g (after_copy d g) cut' (copy_alike d e f)
     (record { lasts = ap (λ (l : Lasting). record l { held = bytes }) out.lasts; deeds = out.deeds; first = out.first; other = out.other })
 
@@ -301,7 +297,7 @@ by_alike d fault was was' e f AsksName s q = record { lasts = refl; deeds = []; 
 by_alike d fault was was' e f Tells s q = record { lasts = refl; deeds = []; first = refl; other = refl }
 by_alike d fault was was' e f Rests s q = record { lasts = refl; deeds = []; first = refl; other = refl }
 
-pub pressed_alike : (d : Data) (fault : Option StoreFault) (was was' : Before) (e f : Editor) (key : Key) → is_other key ≡ true
+pub pressed_alike : (d : Data) (fault : Option StoreFault) (was was' : Before) (e f : Editor) (key : Key) → Serves e f key
     → let g = having (lasting e) f in
     Alike e (by d fault was e (effect_of d e key)) g
     (by d None (record was' { typing = was.typing }) g (effect_of d g key))
@@ -309,5 +305,5 @@ pressed_alike d fault was was' e f key other =
     let g = having (lasting e) f in
     let kind = effect_kind d e key in
     subst (λ effect. Alike e (by d fault was e (effect_of d e key)) g
-    (by d None (record was' { typing = was.typing }) g effect)) (sym (effect_is d e f key))
-    (by_alike d fault was was' e f (effect_of d e key) (kind.0 ∙ not_saving key other) (kind.1 ∙ not_quitting key other))
+    (by d None (record was' { typing = was.typing }) g effect)) (sym (effect_is d e f key other.1))
+    (by_alike d fault was was' e f (effect_of d e key) (kind.0 ∙ not_saving key other.0) (kind.1 ∙ not_quitting key other.0))

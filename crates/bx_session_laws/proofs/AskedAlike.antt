@@ -13,7 +13,6 @@ use Rattle.bx_asking.specs.Line.{asked, is_line_letter}
 use Rattle.bx_asking.specs.Names.{asks_code, closing, named}
 use Rattle.bx_document.specs.Document.{wrapped_text}
 use Rattle.bx_runs.specs.declared.typing.Typing.{Typing}
-use Rattle.bx_runs.specs.declared.typing.Typing.TheVariants as typings
 use Rattle.bx_runs.specs.Typing.{after_insertion, kind_of}
 use Rattle.bx_editor.specs.declared.message.Message.TheVariants.{TextFull, MoreThanOneLine}
 use Rattle.bx_editor.specs.Asking.{after_answer_letter, after_code, after_code_letter, after_going, after_line_letter, after_name_letter, after_named, after_shorter_answer}
@@ -26,8 +25,7 @@ use Rattle.bx_editor.specs.Region.{is_empty, region}
 use Rattle.bx_editor.specs.Search.{lengthened, shortened}
 use Rattle.bx_editor.specs.Wrapping.{after_wrapping, spans_lines, with_wrap}
 use Rattle.bx_editor.proofs.TwoEdits.{runs-of-two, stored-of-two}
-use Rattle.bx_session_laws.proofs.Lasting.{Lasting, lasting, having}
-use Rattle.bx_session.proofs.KeyKinds.{is_other}
+use Rattle.bx_session_laws.proofs.Lasting.{Lasting, Serves, lasting, having}
 use Rattle.bx_session_laws.proofs.Alike.{Alike, either_alike, idle, going_on, insertion_alike, pressed_alike, Edits, work}
 
 -- nothing is asked any more
@@ -55,7 +53,7 @@ coded_alike : (d : Data) (e f : Editor) (c : ℕ) → Alike e (with_character d 
 coded_alike d e f c =
     let g = having (lasting e) f in
     let new = encode_utf8 c in
-    let typing = after_insertion typings.Off (kind_of (d.class c)) in
+    let typing = after_insertion (kind_of (d.class c)) in
     let full : Editor → Editor = λ x. record x { message = Some TextFull } in
     let one : Editor → Editor = λ x. with_insertion d x new false in
     either_alike (fits e.content.text e.place e.place new) e (with_typing (one e) typing) (full e) g (with_typing (one g) typing) (full g)
@@ -159,7 +157,7 @@ shorter_alike asks.Code e f =
     either_alike (length e.answer == 0) e (name e) (shorter e) g (name g) (shorter g) (idle e (name e) g (name g) refl refl refl)
     (idle e (shorter e) g (shorter g) refl refl refl)
 
-ends_alike : (d : Data) (fault : Option StoreFault) (was was' : Before) (e f : Editor) (key : Key) → is_other key ≡ true
+ends_alike : (d : Data) (fault : Option StoreFault) (was was' : Before) (e f : Editor) (key : Key) → Serves e f key
     → let g = having (lasting e) f in
     Alike e (after_pressing d fault was (without_ask e) key) g (after_pressing d None (record was' { typing = was.typing }) (without_ask g) key)
 ends_alike d fault was was' e f key other =
@@ -167,7 +165,7 @@ ends_alike d fault was was' e f key other =
     unasked_alike e (after_pressing d fault was (without_ask e) key) g (after_pressing d None (record was' { typing = was.typing }) (without_ask g) key)
     (pressed_alike d fault was was' (without_ask e) f key other)
 
-pub question_alike : (d : Data) (fault : Option StoreFault) (was was' : Before) (e f : Editor) (key : Key) (answer : Answer) → is_other key ≡ true
+pub question_alike : (d : Data) (fault : Option StoreFault) (was was' : Before) (e f : Editor) (key : Key) (answer : Answer) → Serves e f key
     → Alike e (answered_question d fault was e key answer) (having (lasting e) f)
     (answered_question d None (record was' { typing = was.typing }) (having (lasting e) f) key answer)
 question_alike d fault was was' e f key (Letter c) other = answer_letter_alike d was.typing e.ask e f c

@@ -1,7 +1,7 @@
 -- A journal's bytes restore the session.
-use Rattle.std.proofs.Common.{◌≡◌, ◌≢◌, ℕ, Bool, true, false, List, [], ◌∷◌, ◌++◌, Option, Some, None, Result, Err, length, refl, sym, ap, subst, ◌∙◌, ◌⊎◌, inl}
+use Rattle.std.proofs.Common.{◌≡◌, ◌≢◌, ℕ, Bool, true, false, List, [], ◌∷◌, ◌++◌, Option, Some, None, Result, Ok, Err, length, refl, sym, ap, subst, ◌∙◌, ◌⊎◌, inl}
 use Rattle.std.proofs.Common.{inr, not, if◌then◌else◌, arith}
-use Rattle.std.specs.Prelude.{◌||◌, IfSome, option_map, option_to_list}
+use Rattle.std.specs.Prelude.{◌||◌, ◌&&◌, IfSome, option_map, option_to_list}
 use Rattle.std.specs.Io.KnownBytes.{Appends}
 use Rattle.std.proofs.lemmas.List.{append-nil}
 use Rattle.std.proofs.lemmas.List.Elements.{All-tail}
@@ -14,11 +14,10 @@ use Rattle.bx_store.specs.declared.store.StoreFault.{StoreFault}
 use Rattle.bx_ucd.specs.Data.{Data}
 use Rattle.bx_asking.specs.declared.question.Ask.{Ask}
 use Rattle.bx_asking.specs.declared.question.Ask.TheVariants as asks
-use Rattle.bx_runs.specs.declared.typing.Typing.{Typing}
-use Rattle.bx_runs.specs.declared.typing.Typing.TheVariants as typings
 use Rattle.bx_editor.specs.declared.message.Message.TheVariants.{Unsaved}
 use Rattle.bx_editor.specs.Editor.{Editor, after_save, cleared}
 use Rattle.bx_editor.specs.Effects.{before}
+use Rattle.bx_editor.specs.Pasting.{paste_ended}
 use Rattle.bx_editor.specs.Replay as replay
 use Rattle.bx_editor.specs.Replay.{after_passed_save}
 use Rattle.bx_editor.specs.declared.seek.Seek.{Seek}
@@ -29,19 +28,22 @@ use Rattle.bx_session.specs.declared.error.Refused.TheVariants as refused
 use Rattle.bx_session.specs.declared.status.Status.{Status}
 use Rattle.bx_session.specs.declared.journal.Backlog.{Backlog}
 use Rattle.bx_session.specs.declared.journal.Backlog.TheVariants.{Empty}
-use Rattle.bx_session.specs.Beginning.{Beginning, after_going_to, at_offset, begun, changed_if}
+use Rattle.bx_session.specs.Beginning.{Beginning, after_going_to, at_offset, begun, changed_if, clipboard_if}
 use Rattle.bx_session.specs.Journal.{HasKept, RecorderState, is_lost, waiting}
 use Rattle.bx_session.specs.Laws.{after_replaying}
-use Rattle.bx_session_laws.specs.Recovery.{HasAll, HasBack, IsKnown, IsSettled, JournalsGiveBack, RefusesNoKey}
+use Rattle.bx_session_laws.specs.Recovery.{HasAll, HasBack, IsKnown, IsSettled, JournalsGiveBack, RefusesNoKey, TellsChanges, once_pasted}
 use Rattle.bx_session.specs.Running.{ByteAnswer, FeedsAll, bytes_of}
-use Rattle.bx_session.specs.Saving.{StoreAfter, StoreState, Feeds, is_save_key}
-use Rattle.bx_session.specs.Session.{Session, after_all_replayed, after_replay, after_replayed, at_opening, at_replay_end}
+use Rattle.bx_session.specs.Saving.{StoreAfter, StoreState, Feeds, is_applied, is_save_byte, is_save_key, text_to_save}
+use Rattle.bx_session.specs.Session.{Session, after_all_replayed, after_replay, after_replayed, at_opening, at_replay_end, replayed_on, scrolled}
 use Rattle.bx_session_laws.proofs.Alike.{Work, work, after_deeds}
-use Rattle.bx_session_laws.proofs.KeysAlike.{key_alike}
+use Rattle.bx_session_laws.proofs.KeysAlike.{ended_alike, key_alike}
 use Rattle.bx_session_laws.proofs.Deeds.{Knows, Tells, Traces, deeds_know, deeds_tell, deeds_trace, knows_text, traced_text}
 use Rattle.bx_session_laws.proofs.Lasting.{Lasting, lasting, having}
 use Rattle.bx_session.proofs.KeyKinds.{not_saving}
-use Rattle.bx_session_laws.proofs.Recovered.{Follows, all_follow, byte_follows, ended_back, has_back}
+use Rattle.bx_session.proofs.Ending.{quit_user}
+use Rattle.bx_session_laws.proofs.Recovered.{Follows, Points, PointsAny, PointsByte, PointsOn, all_follow, byte_follows}
+use Rattle.bx_session_laws.proofs.RecoveredParts.{begins_alike, begins_top, ended_back, over_none}
+use Rattle.bx_session_laws.proofs.TopsAlike.{points_on}
 use Rattle.bx_session.proofs.Leaving.{byte_leaves, editor_after}
 use Rattle.bx_session.proofs.Replayed.{applies, each-replayed}
 use Rattle.bx_session_laws.proofs.WorkKept.{quit_works, save_works}
@@ -49,19 +51,26 @@ use Rattle.bx_session_laws.proofs.Versions.{version, version_here}
 
 -- ---- a replay counts as unchanged only with the opened text and no past
 
+over_traces : (d : Data) (first : List ℕ) (e : Editor) → Traces first (work e) → Traces first (work (paste_ended d e))
+over_traces d first e h =
+    let alike = ended_alike d e e in subst (Traces first) (sym alike.first) (deeds_trace first alike.deeds (work e) h)
+
 save_traces : (first : List ℕ) (e : Editor) → Traces first (work e) → Traces first (work (after_passed_save e))
 save_traces first e h = record { chain = h.chain; first_is = h.first_is; stored = inl refl; unchanged = h.unchanged }
 
-key_traces : (d : Data) (first : List ℕ) (e : Editor) (key : Key) → Traces first (work e) → Traces first (work (after_replayed d e.ask e.seek e key))
+key_traces : (d : Data) (first : List ℕ) (e : Editor) (key : Key) → Traces first (work e) → Traces first (work (replayed_on d e key))
 key_traces d first e key h =
-    each-replayed d e.ask e.seek e (λ k new. Traces first (work new)) (save_traces first e h) (subst (Traces first) (sym (quit_works d e.ask e.seek e refl refl)) h)
-    (λ k other. (let alike = key_alike d None e e k other in
+    let over : Editor = paste_ended d e in
+    let traces = over_traces d first e h in
+    each-replayed d over.ask over.seek e (λ k new. Traces first (work new)) (save_traces first over traces)
+    (subst (Traces first) (sym (quit_works d over.ask over.seek e refl refl)) traces)
+    (λ k other. (let alike = key_alike d None e e k (other, inr refl) in
     subst (Traces first) (sym alike.first) (deeds_trace first alike.deeds (work e) h))) key
 
 any_traces : (d : Data) (first : List ℕ) (e : Editor) (key : Option Key) → Traces first (work e)
     → Traces first (work (after_all_replayed d e (option_to_list key)))
 any_traces d first e None h = h
-any_traces d first e (Some key) h = key_traces d first e key h
+any_traces d first e (Some key) h = key_traces d first (scrolled d e) key h
 
 record Replays (first : List ℕ) (new : Session) : Type 0 where
   pub goes_on : new.editor.ended ≡ false
@@ -126,27 +135,35 @@ stays : (save : Bool) (fault : Option StoreFault) (first : List ℕ) (store stor
 stays true fault first store store' w was other stores h = absurd (cc other)
 stays false fault first store store' w was other stores h = subst (λ (s : StoreState). Knows (IsKnownIn first s) w) (sym stores) h
 
+over_knows : (d : Data) (P : List ℕ → Type 0) (e : Editor) → Knows P (work e) → Knows P (work (paste_ended d e))
+over_knows d P e h =
+    let alike = ended_alike d e e in subst (Knows P) (sym alike.first) (deeds_know P alike.deeds (work e) h)
+
 quit_knows : (d : Data) (fault : Option StoreFault) (P : List ℕ → Type 0) (e : Editor) → Knows P (work e) → Knows P (work (after_key d fault e Quit))
 quit_knows d fault P e h =
-    let leaves = quit_leaves d fault e.ask e.seek e in subst (Knows P) (sym leaves.1) (ended_knows P (work e) leaves.0 h)
+    let over : Editor = paste_ended d e in
+    let leaves = quit_leaves d fault over.ask over.seek over in
+    subst (λ (new : Editor). Knows P (work new)) (sym (quit_user d fault e))
+    (subst (Knows P) (sym leaves.1) (ended_knows P (work over) leaves.0 (over_knows d P e h)))
 
 key_knows : (d : Data) (fault : Option StoreFault) (first : List ℕ) (store store' : StoreState) (e : Editor) (key : Key)
-    → StoreAfter (is_save key) fault e.content.text store store' → Knows (IsKnownIn first store) (work e)
+    → StoreAfter (is_save key) fault (text_to_save d e) store store' → Knows (IsKnownIn first store) (work e)
     → Knows (IsKnownIn first store') (work (after_key d fault e key))
 key_knows d fault first store store' e key =
     let P = IsKnownIn first store' in
-    each-replayed d e.ask e.seek e (λ k new. StoreAfter (is_save k) fault e.content.text store store' → Knows (IsKnownIn first store) (work e)
+    each-replayed d e.ask e.seek e (λ k new. StoreAfter (is_save k) fault (text_to_save d e) store store' → Knows (IsKnownIn first store) (work e)
     → Knows P (work (after_key d fault e k)))
-    (λ stores h. subst (Knows P) (sym (save_works d fault e)) (after_saving fault first store store' e stores h))
-    (λ stores h. quit_knows d fault P e (stays false fault first store store' (work e) e.content.text refl stores h))
-    (λ k other stores h. (let alike = key_alike d fault e e k other in
+    (λ stores h. subst (Knows P) (sym (save_works d fault e))
+    (after_saving fault first store store' (paste_ended d e) stores (over_knows d (IsKnownIn first store) e h)))
+    (λ stores h. quit_knows d fault P e (stays false fault first store store' (work e) (text_to_save d e) refl stores h))
+    (λ k other stores h. (let alike = key_alike d fault e e k (other, inr refl) in
     subst (Knows P) (sym alike.first) (deeds_know P alike.deeds (work e)
-    (stays (is_save k) fault first store store' (work e) e.content.text (not_saving k other) stores h)))) key
+    (stays (is_save k) fault first store store' (work e) (text_to_save d e) (not_saving k other) stores h)))) key
 
 any_knows : (d : Data) (fault : Option StoreFault) (first : List ℕ) (store store' : StoreState) (e : Editor) (key : Option Key)
-    → StoreAfter (is_save_key key) fault e.content.text store store' → Knows (IsKnownIn first store) (work e)
+    → StoreAfter (is_save_key key) fault (text_to_save d e) store store' → Knows (IsKnownIn first store) (work e)
     → Knows (IsKnownIn first store') (work (editor_after d fault e key))
-any_knows d fault first store store' e None stores h = stays false fault first store store' (work e) e.content.text refl stores h
+any_knows d fault first store store' e None stores h = stays false fault first store store' (work e) (text_to_save d e) refl stores h
 any_knows d fault first store store' e (Some key) stores h = key_knows d fault first store store' e key stores h
 
 -- ---- a replay counts as changed where the session does
@@ -159,34 +176,64 @@ save_tells : (fault : Option StoreFault) (e f : Editor) → Tells (work e) (work
 save_tells None e f h = record { content = h.content; runs = h.runs; stored = inl refl; changed = λ is. absurd (cc is) }
 save_tells (Some fault) e f h = record { content = h.content; runs = h.runs; stored = inl refl; changed = h.changed }
 
+over_tells : (d : Data) (e f : Editor) → let g = having (lasting e) f in
+    Tells (work e) (work g) → Tells (work (paste_ended d e)) (work (paste_ended d g))
+over_tells d e f h =
+    let g = having (lasting e) f in
+    let alike = ended_alike d e f in
+    subst (λ (w : Work). Tells w (work (paste_ended d g))) (sym alike.first)
+    (subst (Tells (after_deeds alike.deeds (work e))) (sym alike.other) (deeds_tell alike.deeds (work e) (work g) h))
+
+-- the same of two editors of which the same lasts
+both_tell : (d : Data) (e f : Editor) → lasting e ≡ lasting f → Tells (work e) (work f) → Tells (work (paste_ended d e)) (work (paste_ended d f))
+both_tell d e f same h =
+    subst (λ (l : Lasting). Tells (work e) (work (having l f)) → Tells (work (paste_ended d e)) (work (paste_ended d (having l f)))) same
+    (over_tells d e f) h
+
 quit_tells : (d : Data) (fault : Option StoreFault) (e f : Editor) → let g = having (lasting e) f in
-    Tells (work e) (work g) → Tells (work (after_key d fault e Quit)) (work (after_replayed d e.ask e.seek g Quit))
+    let over_g = paste_ended d g in Tells (work e) (work g) → Tells (work (after_key d fault e Quit)) (work (after_replayed d over_g.ask over_g.seek g Quit))
 quit_tells d fault e f h =
     let g = having (lasting e) f in
-    let leaves = quit_leaves d fault e.ask e.seek e in
-    subst (λ (w : Work). Tells w (work (after_replayed d e.ask e.seek g Quit))) (sym leaves.1)
-    (subst (Tells (record (work e) { ended = leaves.0 })) (sym (quit_works d e.ask e.seek g refl refl)) (ended_tells (work e) (work g) leaves.0 h))
+    let x : Editor = paste_ended d e in
+    let y : Editor = paste_ended d g in
+    let leaves = quit_leaves d fault x.ask x.seek x in
+    let new = after_replayed d y.ask y.seek g Quit in
+    subst (λ (z : Editor). Tells (work z) (work new)) (sym (quit_user d fault e))
+    (subst (λ (w : Work). Tells w (work new)) (sym leaves.1)
+    (subst (Tells (record (work x) { ended = leaves.0 })) (sym (quit_works d y.ask y.seek g refl refl))
+    (ended_tells (work x) (work y) leaves.0 (over_tells d e f h))))
 
-like_tells : (d : Data) (fault : Option StoreFault) (e f : Editor) (key : Key) → let g = having (lasting e) f in
-    Tells (work e) (work g) → Tells (work (after_key d fault e key)) (work (after_replayed d e.ask e.seek g key))
-like_tells d fault e f key h =
+like_tells : (d : Data) (fault : Option StoreFault) (e f : Editor) (key : Key) → Points e.top f.top key → let g = having (lasting e) f in
+    Tells (work e) (work g) → Tells (work (after_key d fault e key)) (work (replayed_on d g key))
+like_tells d fault e f key points h =
     let g = having (lasting e) f in
-    each-replayed d e.ask e.seek g (λ k new. Tells (work (after_key d fault e k)) (work new))
-    (subst (λ (w : Work). Tells w (work (after_passed_save g))) (sym (save_works d fault e)) (save_tells fault e g h)) (quit_tells d fault e f h)
-    (λ k other. (let alike = key_alike d fault e f k other in
+    let y : Editor = paste_ended d g in
+    each-replayed d y.ask y.seek g (λ k new. Points e.top f.top k → Tells (work (after_key d fault e k)) (work new))
+    (λ points. subst (λ (w : Work). Tells w (work (after_passed_save y))) (sym (save_works d fault e))
+    (save_tells fault (paste_ended d e) y (over_tells d e f h))) (λ points. quit_tells d fault e f h)
+    (λ k other points. (let alike = key_alike d fault e f k (other, points) in
     subst (λ (w : Work). Tells w (work (after_key d None g k))) (sym alike.first)
-    (subst (Tells (after_deeds alike.deeds (work e))) (sym alike.other) (deeds_tell alike.deeds (work e) (work g) h)))) key
+    (subst (Tells (after_deeds alike.deeds (work e))) (sym alike.other) (deeds_tell alike.deeds (work e) (work g) h)))) key points
 
-any_tells : (d : Data) (fault : Option StoreFault) (e f : Editor) (key : Option Key) → lasting e ≡ lasting f → Tells (work e) (work f)
+any_tells : (d : Data) (fault : Option StoreFault) (e f : Editor) (key : Option Key) → lasting e ≡ lasting f
+    → PointsAny e.top (scrolled d f).top key → Tells (work e) (work f)
     → Tells (work (editor_after d fault e key)) (work (after_all_replayed d f (option_to_list key)))
-any_tells d fault e f None same h = h
-any_tells d fault e f (Some key) same h =
-    subst (λ (l : Lasting). Tells (work e) (work (having l f)) → Tells (work (after_key d fault e key)) (work (after_replayed d l.ask l.seek (having l f) key))) same
-    (like_tells d fault e f key) h
+any_tells d fault e f None same points h = h
+any_tells d fault e f (Some key) same points h =
+    let g = scrolled d f in
+    subst (λ (l : Lasting). Tells (work e) (work (having l g)) → Tells (work (after_key d fault e key)) (work (replayed_on d (having l g) key))) same
+    (like_tells d fault e g key points) h
 
 key_here : (ended : Bool) (key : Option Key) → ended ≡ false → (if ended then None else key) ≡ key
 key_here true key h = absurd (cc h)
 key_here false key h = refl
+
+-- a key that is not refused is applied
+applied : (a : Result Status Refused) → a ≢ Err refused.Edit → is_applied a ≡ true
+applied (Ok status) some = refl
+applied (Err refused.Edit) some = absurd (some refl)
+applied (Err refused.Paint) some = refl
+applied (Err refused.Size) some = refl
 
 -- ---- all bytes
 
@@ -195,84 +242,93 @@ record Agrees (first : List ℕ) (store : StoreState) (s r : Session) : Type 0 w
   pub knows : Knows (IsKnownIn first store) (work s.editor)
 
 byte_agrees : (d : Data) (first : List ℕ) (s r : Session) (store store' : StoreState) (b : ℕ) (a : Result Status Refused) (new : Session) → Follows s r
-    → Agrees first store s r → s.editor.ended ≡ false → a ≢ Err refused.Edit → Feeds d s store b a new store' → Agrees first store' new (after_replay d r b)
-byte_agrees d first s r store store' b a new before h runs some feeds =
+    → Agrees first store s r → s.editor.ended ≡ false → a ≢ Err refused.Edit → PointsByte d s r b → Feeds d s store b a new store'
+    → Agrees first store' new (after_replay d r b)
+byte_agrees d first s r store store' b a new before h runs some points feeds =
     let key = key_after s.rest b in
     let leaves = byte_leaves d feeds.0 s b a new runs some feeds.2 in
     let each = applies d r b before.goes_on in
     let same : (after_replay d r b).editor ≡ after_all_replayed d r.editor (option_to_list key) =
     each.editor ∙ ap (λ rest. after_all_replayed d r.editor (option_to_list (key_after rest b))) (sym before.rest_is) in
-    let stores = subst (λ k. StoreAfter (is_save_key k) feeds.0 s.editor.content.text store store') (key_here s.editor.ended key runs) feeds.1 in record {
+    let saves = subst (λ yes. StoreAfter (yes && is_save_byte s b) feeds.0 (text_to_save d s.editor) store store') (applied a some) feeds.1 in
+    let stores = subst (λ k. StoreAfter (is_save_key k) feeds.0 (text_to_save d s.editor) store store') (key_here s.editor.ended key runs) saves in record {
       tells = subst (λ (e : Editor). Tells (work new.editor) (work e)) (sym same)
           (subst (λ (e : Editor). Tells (work e) (work (after_all_replayed d r.editor (option_to_list key)))) (sym leaves.editor)
-          (any_tells d feeds.0 s.editor r.editor key before.lasts h.tells));
+          (any_tells d feeds.0 s.editor r.editor key before.lasts points h.tells));
       knows = subst (λ (e : Editor). Knows (IsKnownIn first store') (work e)) (sym leaves.editor)
           (any_knows d feeds.0 first store store' s.editor key stores h.knows);
     }
 
 all_agree : (d : Data) (first : List ℕ) (s r : Session) (store store' : StoreState) (answered : List ByteAnswer) (new : Session) → Follows s r
-    → Agrees first store s r → FeedsAll d s store answered new store' → RefusesNoKey answered
+    → Agrees first store s r → (feeds : FeedsAll d s store answered new store') → RefusesNoKey answered → PointsOn d s r store answered new store' feeds
     → Agrees first store' new (after_replaying d r (bytes_of answered))
-all_agree d first s r store store' [] new before h feeds none =
+all_agree d first s r store store' [] new before h feeds none points =
     subst (λ (x : StoreState). Agrees first x new r) (sym feeds.1) (subst (λ (x : Session). Agrees first store x r) (sym feeds.0) h)
-all_agree d first s r store store' (a ∷ answered) new before h feeds none =
+all_agree d first s r store store' (a ∷ answered) new before h feeds none points =
     let some = none 0 a (omega arith) in
     all_agree d first feeds.0 (after_replay d r a.0) feeds.1 store' answered new
-    (byte_follows d s r store feeds.1 a.0 a.1 feeds.0 before feeds.2 some feeds.3)
-    (byte_agrees d first s r store feeds.1 a.0 a.1 feeds.0 before h feeds.2 some feeds.3)
-    feeds.5 (All-tail (λ (x : ByteAnswer). x.1 ≢ Err refused.Edit) a answered none)
+    (byte_follows d s r store feeds.1 a.0 a.1 feeds.0 before feeds.2 some points.0 feeds.3)
+    (byte_agrees d first s r store feeds.1 a.0 a.1 feeds.0 before h feeds.2 some points.0 feeds.3)
+    feeds.5 (All-tail (λ (x : ByteAnswer). x.1 ≢ Err refused.Edit) a answered none) points.1
 
 -- ---- the start
 
-starts_at : (d : Data) (text : List ℕ) (height width : ℕ) (base : Base) (offset : Option ℕ) (unsaved : Bool)
-    → Replays text (changed_if unsaved (after_going_to d (at_opening d text height width base) offset))
-starts_at d text height width base None true = record {
+starts_at : (d : Data) (text : List ℕ) (height width : ℕ) (base : Base) (clipboard : Bool) (offset : Option ℕ) (unsaved : Bool)
+    → Replays text (changed_if unsaved (after_going_to d (clipboard_if clipboard (at_opening d text height width base)) offset))
+starts_at d text height width base true None true = record {
   goes_on = refl;
   traces = record { chain = record { past = tt; future = tt }; first_is = refl; stored = inl refl; unchanged = λ is. refl };
 }
-starts_at d text height width base None false = record {
+starts_at d text height width base true None false = record {
   goes_on = refl;
   traces = record { chain = record { past = tt; future = tt }; first_is = refl; stored = inr refl; unchanged = λ is. refl };
 }
-starts_at d text height width base (Some offset) true = record {
+starts_at d text height width base true (Some offset) true = record {
   goes_on = refl;
   traces = record { chain = record { past = tt; future = tt }; first_is = refl; stored = inl refl; unchanged = λ is. refl };
 }
-starts_at d text height width base (Some offset) false = record {
+starts_at d text height width base true (Some offset) false = record {
+  goes_on = refl;
+  traces = record { chain = record { past = tt; future = tt }; first_is = refl; stored = inr refl; unchanged = λ is. refl };
+}
+starts_at d text height width base false None true = record {
+  goes_on = refl;
+  traces = record { chain = record { past = tt; future = tt }; first_is = refl; stored = inl refl; unchanged = λ is. refl };
+}
+starts_at d text height width base false None false = record {
+  goes_on = refl;
+  traces = record { chain = record { past = tt; future = tt }; first_is = refl; stored = inr refl; unchanged = λ is. refl };
+}
+starts_at d text height width base false (Some offset) true = record {
+  goes_on = refl;
+  traces = record { chain = record { past = tt; future = tt }; first_is = refl; stored = inl refl; unchanged = λ is. refl };
+}
+starts_at d text height width base false (Some offset) false = record {
   goes_on = refl;
   traces = record { chain = record { past = tt; future = tt }; first_is = refl; stored = inr refl; unchanged = λ is. refl };
 }
 
 starts : (d : Data) (b : Beginning) → Replays b.text (at_offset d b)
-starts d b = starts_at d b.text b.height b.width b.base b.offset b.unsaved
+starts d b = starts_at d b.text b.height b.width b.base b.clipboard b.offset b.unsaved
 
--- where a journal leaves the editor settled, the end of the replay and the painting make no difference
-settled_lasts : (e : Editor) → IsSettled e → lasting (replay.at_replay_end e) ≡ lasting e
-settled_lasts e settled =
-    let was = lasting e in
-    ap (λ (seek : Seek). record was { seek = seek; ask = asks.Off; typing = typings.Off }) (sym settled.seek)
-    ∙ ap (λ (ask : Ask). record was { ask = ask; typing = typings.Off }) (sym settled.ask)
-    ∙ ap (λ (typing : Typing). record was { typing = typing }) (sym settled.typing)
-
-begins_alike : (d : Data) (b : Beginning) → IsSettled (after_replaying d (at_offset d b) b.journal).editor
-    → Follows (begun d b) (after_replaying d (at_offset d b) b.journal)
-begins_alike d b settled = record {
-  lasts = settled_lasts (after_replaying d (at_offset d b) b.journal).editor settled;
-  rest_is = refl;
-  goes_on = (replays d b.text (at_offset d b) b.journal (starts d b)).goes_on;
-  one = λ asked. refl;
-}
-
-begins_telling : (first : List ℕ) (e : Editor) → Traces first (work e) → IsSettled e → Tells (work (replay.at_replay_end e)) (work e)
-begins_telling first e traces settled = record { content = refl; runs = refl; stored = by_change e.changed refl traces.stored; changed = λ h. h } where
+end_tells : (first : List ℕ) (e : Editor) → Traces first (work e) → IsSettled e → Tells (work (replay.at_replay_end e)) (work e)
+end_tells first e traces settled = record { content = refl; runs = refl; stored = by_change e.changed refl traces.stored; changed = λ h. h } where
   by_change : (changed : Bool) → e.changed ≡ changed → (e.stored ≡ None) ⊎ (e.stored ≡ Some 0)
       → (e.stored ≡ None) ⊎ (e.stored ≡ (if changed then None else Some (length e.content.past)))
   by_change true is stored = inl (settled.stored is)
   by_change false is (inl none) = inl none
   by_change false is (inr zero) = inr (zero ∙ ap (λ (past : List Edit). Some (length past)) (sym (traces.unchanged is)))
 
-begins_knowing : (first : List ℕ) (store : StoreState) (e : Editor) → Traces first (work e) → Knows (IsKnownIn first store) (work (replay.at_replay_end e))
-begins_knowing first store e traces = record {
+-- the editor with which a run begins, before it is scrolled
+abbrev begins : Data → Editor → Editor
+begins d e = replay.at_replay_end (paste_ended d e)
+
+begins_telling : (d : Data) (first : List ℕ) (e : Editor) → Traces first (work e) → IsSettled e → Tells (work (begins d e)) (work e)
+begins_telling d first e traces settled =
+    subst (λ (x : Editor). Tells (work (replay.at_replay_end x)) (work e)) (sym (over_none d e settled.pasted)) (end_tells first e traces settled)
+
+end_knows : (first : List ℕ) (store : StoreState) (e : Editor) → Traces first (work e) → Knows (IsKnownIn first store) (work (replay.at_replay_end e))
+end_knows first store e traces = record {
   chain = traces.chain;
   stored = by_change e.changed refl;
   unchanged = λ is. ap (λ changed. if changed then None else Some (length e.content.past)) is;
@@ -281,6 +337,9 @@ begins_knowing first store e traces = record {
       → IfSome (if changed then None else Some (length e.content.past)) (λ k. IsKnownIn first store (version k e.content))
   by_change true is = tt
   by_change false is = subst (IsKnownIn first store) (sym (version_here e.content)) (inl (traced_text first (work e) traces is))
+
+begins_knowing : (d : Data) (first : List ℕ) (store : StoreState) (e : Editor) → Traces first (work e) → Knows (IsKnownIn first store) (work (begins d e))
+begins_knowing d first store e traces = end_knows first store (paste_ended d e) (over_traces d first e traces)
 
 -- ---- the journal's bytes
 
@@ -307,8 +366,9 @@ journal_is contents failures old new before bytes all kept had has =
 -- ---- the law
 
 -- bytes that wait for the terminal make no difference
-unsent : (all new replayed : Session) → new ≡ record all { pending = new.pending } → HasBack all replayed → HasBack new replayed
-unsent all new replayed is h = subst (λ (x : Session). HasBack x replayed) (sym is) (record {
+unsent : (d : Data) (all new replayed : Session) → new ≡ record all { pending = new.pending } → HasBack (once_pasted d all) replayed
+    → HasBack (once_pasted d new) replayed
+unsent d all new replayed is h = subst (λ (x : Session). HasBack (once_pasted d x) replayed) (sym is) (record {
   content = h.content;
   runs = h.runs;
   place = h.place;
@@ -318,6 +378,7 @@ unsent all new replayed is h = subst (λ (x : Session). HasBack x replayed) (sym
   query = h.query;
   aim = h.aim;
   other = h.other;
+  pasted = h.pasted;
   base = h.base;
   goal = h.goal;
   height = h.height;
@@ -329,8 +390,27 @@ unsent all new replayed is h = subst (λ (x : Session). HasBack x replayed) (sym
 known_text : (first : List ℕ) (store : StoreState) (e : Editor) → Knows (IsKnownIn first store) (work e) → IsKnown first store e
 known_text first store e h is = knows_text (IsKnownIn first store) (work e) h is
 
+-- a replay counts as changed where the session does, once a paste has ended
+tells_changes : (d : Data) (first : List ℕ) (store : StoreState) (s r : Session) → lasting s.editor ≡ lasting r.editor → Agrees first store s r
+    → Traces first (work r.editor) → TellsChanges first store (once_pasted d s) (at_replay_end d r)
+tells_changes d first store s r lasts agree traces =
+    let tells = both_tell d s.editor r.editor lasts agree.tells in
+    let traced = over_traces d first r.editor traces in record {
+      changed = tells.changed;
+      unchanged = λ h. (traced_text first (work (paste_ended d r.editor)) traced h, traced.unchanged h);
+      known = known_text first store (paste_ended d s.editor) (over_knows d (IsKnownIn first store) s.editor agree.knows);
+    }
+
+ended_run : (d : Data) (first : List ℕ) (store : StoreState) (all new r : Session) → new.editor ≡ all.editor
+    → TellsChanges first store (once_pasted d all) (at_replay_end d r) → TellsChanges first store (once_pasted d new) (at_replay_end d r)
+ended_run d first store all new r same h = record {
+  changed = λ is. h.changed (ap (λ (e : Editor). (paste_ended d e).changed) (sym same) ∙ is);
+  unchanged = h.unchanged;
+  known = subst (λ (e : Editor). IsKnown first store (paste_ended d e)) (sym same) h.known;
+}
+
 pub journals_give_back : {J : Type 0} (contents : J → Option (List ℕ)) (failures : J → ℕ) → JournalsGiveBack contents failures
-journals_give_back contents failures d b new store store' reader reader' writer writer' journal journal' bytes run had settled has none =
+journals_give_back contents failures d b new store store' reader reader' writer writer' journal journal' bytes run had settled has none seen =
     let opened_at = at_offset d b in
     let replayed = after_replaying d opened_at b.journal in
     let answered = run.0 in
@@ -340,19 +420,20 @@ journals_give_back contents failures d b new store store' reader reader' writer 
     let is : bytes ≡ b.journal ++ bytes_of answered = journal_is contents failures journal journal' b.journal (bytes_of answered) bytes run.5 had has in
     let whole : after_replaying d opened_at bytes ≡ end = ap (after_replaying d opened_at) is ∙ replaying_more d opened_at b.journal (bytes_of answered) in
     let same : new.editor ≡ all.editor = ap (λ (x : Session). x.editor) ran.session in
-    let starts_alike = begins_alike d b settled in
     let through = replays d b.text opened_at b.journal (starts d b) in
-    let on = replays d b.text opened_at bytes (starts d b) in
+    let alike = begins_alike d b settled through.goes_on in
+    let on = replays d b.text replayed (bytes_of answered) through in
     let first : Agrees b.text store (begun d b) replayed = record {
-      tells = begins_telling b.text replayed.editor through.traces settled;
-      knows = begins_knowing b.text store replayed.editor through.traces;
+      tells = begins_telling d b.text replayed.editor through.traces settled;
+      knows = begins_knowing d b.text store replayed.editor through.traces;
     } in
-    let agree = all_agree d b.text (begun d b) replayed store store' answered all starts_alike first ran.feeds none in
-    let back = ended_back all end (has_back all end (all_follow d (begun d b) replayed store store' answered all starts_alike ran.feeds none)) in (
-      unsent all new (at_replay_end (after_replaying d opened_at bytes)) ran.session (subst (λ (x : Session). HasBack all (at_replay_end x)) (sym whole) back),
-      record {
-        changed = λ h. ap (λ (x : Session). x.editor.changed) whole ∙ agree.tells.changed (sym (ap (λ (e : Editor). e.changed) same) ∙ h);
-        unchanged = λ h. (traced_text b.text (work (after_replaying d opened_at bytes).editor) on.traces h, on.traces.unchanged h);
-        known = subst (IsKnown b.text store') (sym same) (known_text b.text store' all.editor agree.knows);
-      },
+    let points = points_on d (begun d b) replayed store store' answered all alike (begins_top d b settled) ran.feeds none seen in
+    let follow = all_follow d (begun d b) replayed store store' answered all alike ran.feeds none points in
+    let agree = all_agree d b.text (begun d b) replayed store store' answered all alike first ran.feeds none points in
+    let back = ended_back d all end follow in
+    let tells = tells_changes d b.text store' all end follow.lasts agree on.traces in (
+      unsent d all new (at_replay_end d (after_replaying d opened_at bytes)) ran.session
+          (subst (λ (x : Session). HasBack (once_pasted d all) (at_replay_end d x)) (sym whole) back),
+      subst (λ (x : Session). TellsChanges b.text store' (once_pasted d new) (at_replay_end d x)) (sym whole)
+          (ended_run d b.text store' all new end same tells),
     )

@@ -1,7 +1,8 @@
 -- What lasts in a replay, and the effects of keys on it.
-use Rattle.std.proofs.Common.{◌≡◌, ℕ, List, Option, refl}
+use Rattle.std.proofs.Common.{◌≡◌, ℕ, true, false, nat_le, List, Option, refl, ap, inl, inr, if◌then◌else◌}
+use Rattle.std.specs.Prelude.{◌⊎◌}
 use Rattle.bx_keys.specs.declared.key.Key.{Key}
-use Rattle.bx_keys.specs.declared.key.Key.TheVariants.{Save, Quit}
+use Rattle.bx_keys.specs.declared.key.Key.TheVariants.{Point}
 use Rattle.bx_terms.specs.declared.base.Base.{Base}
 use Rattle.bx_text.specs.Edits.{Edited}
 use Rattle.bx_ucd.specs.Data.{Data}
@@ -10,8 +11,12 @@ use Rattle.bx_runs.specs.declared.typing.Typing.{Typing}
 use Rattle.bx_editor.specs.declared.aim.Aim.{Aim}
 use Rattle.bx_editor.specs.declared.seek.Seek.{Seek}
 use Rattle.bx_editor.specs.declared.soft.Soft.{Soft}
-use Rattle.bx_editor.specs.Editor.{Editor}
+use Rattle.bx_view.specs.Pointing.{pointed_at}
+use Rattle.bx_editor.specs.Editor.{Editor, rows, text_height}
+use Rattle.bx_editor.specs.Effects.{Goes}
 use Rattle.bx_editor.specs.Keys.{effect_of}
+use Rattle.bx_session_laws.specs.Recovery.{is_point}
+use Rattle.bx_session.proofs.KeyKinds.{is_other}
 
 -- ---- lasting state
 
@@ -32,6 +37,7 @@ pub record Lasting : Type 0 where
   pub count : ℕ
   pub ask : Ask
   pub answer : List ℕ
+  pub pasted : Option (List ℕ)
   pub typing : Typing
   pub base : Base
   pub goal : Option ℕ
@@ -55,6 +61,7 @@ lasting e = record {
   count = e.count;
   ask = e.ask;
   answer = e.answer;
+  pasted = e.pasted;
   typing = e.typing;
   base = e.base;
   goal = e.goal;
@@ -80,6 +87,7 @@ having l e = record e {
   count = l.count;
   ask = l.ask;
   answer = l.answer;
+  pasted = l.pasted;
   typing = l.typing;
   base = l.base;
   goal = l.goal;
@@ -89,7 +97,17 @@ having l e = record e {
 
 -- ---- effects
 
+-- a key that a replay applies as it is, and that points at no row, or in the picture of the same top
+abbrev pub Serves : Editor → Editor → Key → Type 0
+Serves e f key = (is_other key ≡ true) × ((is_point key ≡ false) ⊎ (f.top ≡ e.top))
+
+point_is : (d : Data) (e f : Editor) (row column : ℕ) → (is_point (Point row column) ≡ false) ⊎ (f.top ≡ e.top)
+    → effect_of d (having (lasting e) f) (Point row column) ≡ effect_of d e (Point row column)
+point_is d e f row column (inl none) = absurd (cc none)
+point_is d e f row column (inr same) =
+    ap (λ top. Goes (if nat_le row (text_height e.height) then pointed_at e.width (rows d e) top row column else e.place)) same
+
 -- a key's effect is the same where the same lasts
-pub effect_is : (d : Data) (e f : Editor) (key : Key) → effect_of d (having (lasting e) f) key ≡ effect_of d e key
-effect_is d e f Save = refl
-effect_is d e f key = refl
+pub effect_is : (d : Data) (e f : Editor) (key : Key) → (is_point key ≡ false) ⊎ (f.top ≡ e.top) → effect_of d (having (lasting e) f) key ≡ effect_of d e key
+effect_is d e f (Point row column) same = point_is d e f row column same
+effect_is d e f key same = refl

@@ -1,13 +1,14 @@
 -- Worked examples, each from a law alone.
-use Rattle.std.proofs.Common.{◌≡◌, ℕ, true, false, List, [], ◌∷◌, ◌++◌, Option, Some, None, Result, Err, refl, sym, ap, ◌∙◌}
+use Rattle.std.proofs.Common.{◌≡◌, ℕ, Bool, true, false, not, List, [], ◌∷◌, ◌++◌, Option, Some, None, Result, Err, refl, sym, ap, subst, ◌∙◌, inl, inr}
 use Rattle.std.specs.Global.{Vec}
-use Rattle.std.specs.Prelude.{◌≢◌, codes}
+use Rattle.std.specs.Prelude.{◌≢◌, ◌&&◌, All, codes}
 use Rattle.std.specs.Fmt.{digits}
 use Rattle.std.proofs.lemmas.List.{append-nil, append_cancel_right}
 use Rattle.std.proofs.lemmas.List.Elements.{All-cons, All-nil}
 use Rattle.unicode_segmentation.proofs.Computing.{unicode_segmentation}
 use Rattle.unicode_width.proofs.Computing.{unicode_width}
 use Rattle.bx_terms.specs.declared.base.Base.TheVariants.{Auto}
+use Rattle.bx_keys.specs.declared.key.Key.{Key}
 use Rattle.bx_keys.specs.declared.key.Key.TheVariants.{Insert, Up}
 use Rattle.bx_store.specs.Stores.{no_faults}
 use Rattle.bx_text.specs.Edits.{Edited}
@@ -21,13 +22,14 @@ use Rattle.bx_session_laws.specs.Anew.{AlwaysStaysPainted}
 use Rattle.bx_session.specs.Beginning.{Beginning, at_offset, begun, unpainted_at}
 use Rattle.bx_session.specs.Journal.{RecorderState, RunsRecorded}
 use Rattle.bx_session.specs.Laws.{AlwaysShowsState, HasKeysOfInput, ReplaysKeys, after_journal, after_replaying, keys_from}
-use Rattle.bx_session_laws.specs.Recovery.{HasAll, HasBackMidway, IsSettled, JournalsGiveBack, RefusesNoKey, RecoveryGivesBack}
+use Rattle.bx_session_laws.specs.Recovery.{HasAll, HasBackMidway, HaveRows, IsSettled, JournalsGiveBack, PointsAsSeen, RecoveryGivesBack, RefusesNoKey}
+use Rattle.bx_session_laws.specs.Recovery.{RefusesNoPainting, is_point, once_pasted}
 use Rattle.bx_session.specs.Running.{ByteAnswer, FeedsAll, bytes_of}
 use Rattle.bx_session.specs.Saving.{StoreState}
 use Rattle.bx_session.specs.Session.{Session, after_byte, after_sending, owing_after_byte, with_painting}
 use Rattle.bx_session.proofs.Computed.{start, csi}
 use Rattle.bx_session_laws.proofs.GivenBack.{journal_is}
-use Rattle.bx_session_laws.proofs.Recovered.{has_back}
+use Rattle.bx_session_laws.proofs.RecoveredParts.{has_back}
 
 abbrev opened : Session
 opened = start (codes "ab") 1 5
@@ -55,17 +57,45 @@ saves_and_quits_are_passed_over law = ap (λ (e : Editor). e.content.text) (law 
 
 -- ---- recovery
 
+-- no key points at a row of the picture
+abbrev none_point : List Key → Bool
+none_point [] = true
+none_point (key ∷ keys) = not (is_point key) && none_point keys
+
+first_no : (b c : Bool) → (not b && c) ≡ true → (b ≡ false) × (c ≡ true)
+first_no true c h = absurd (cc h)
+first_no false c h = (refl, h)
+
+no_points : (keys : List Key) → none_point keys ≡ true → All (λ (key : Key). is_point key ≡ false) keys
+no_points [] h = All-nil (λ (key : Key). is_point key ≡ false)
+no_points (key ∷ keys) h =
+    let both = first_no (is_point key) (none_point keys) h in
+    All-cons (λ (key : Key). is_point key ≡ false) key keys both.0 (no_points keys both.1)
+
+no_points_in : (bytes keys : List ℕ) → bytes ≡ keys → none_point (keys_from [] keys) ≡ true
+    → All (λ (key : Key). is_point key ≡ false) (keys_from [] bytes)
+no_points_in bytes keys is none =
+    subst (λ xs. All (λ (key : Key). is_point key ≡ false) (keys_from [] xs)) (sym is) (no_points (keys_from [] keys) none)
+
+-- a session's text once a paste that is under way has ended
+abbrev text_of : Session → List ℕ
+text_of s = (once_pasted tables s).editor.content.text
+
 -- a, Save, b, Undo
+abbrev input : List ℕ
+input = 0x61 ∷ 0x13 ∷ 0x62 ∷ 0x1a ∷ []
+
 abbrev fed : Result Status Refused → Result Status Refused → Result Status Refused → Result Status Refused → List ByteAnswer
 fed a save b undo = (0x61, a) ∷ (0x13, save) ∷ (0x62, b) ∷ (0x1a, undo) ∷ []
 
 -- a session that was fed them and refused no key has the text of their replay, whatever its other answers
 pub a_save_is_no_end_of_the_past : RecoveryGivesBack → (store store' : StoreState) (a save b undo : Result Status Refused) (new : Session)
     → FeedsAll tables (start (codes "x") 1 5) store (fed a save b undo) new store' → RefusesNoKey (fed a save b undo)
-    → new.editor.content.text ≡ codes "ax"
+    → text_of new ≡ codes "ax"
 unfolding unicode_segmentation unicode_width digits
 a_save_is_no_end_of_the_past law store store' a save b undo new feeds none =
-    ap (λ (t : Edited). t.text) (sym (law.gives_back tables (codes "x") 1 5 Auto store store' (fed a save b undo) new feeds none).content)
+    let keys = no_points_in (bytes_of (fed a save b undo)) input refl refl in
+    ap (λ (t : Edited). t.text) (sym (law.gives_back tables (codes "x") 1 5 Auto store store' (fed a save b undo) new feeds none (inl keys)).content)
 
 -- Forward, Mark, Forward, Copy, Mark
 abbrev marked : List ℕ
@@ -74,11 +104,12 @@ marked = (0x06 ∷ csi (codes "72~")) ++ (0x06 ∷ csi (codes "73~")) ++ csi (co
 -- a session that was fed them over abc has the mark and the held bytes of their replay
 pub mark_and_held_bytes_come_back : RecoveryGivesBack → (store store' : StoreState) (answered : List ByteAnswer) (new : Session)
     → bytes_of answered ≡ marked → FeedsAll tables (start (codes "abc") 1 5) store answered new store' → RefusesNoKey answered
-    → (new.editor.mark ≡ Some 2) × (new.editor.held ≡ codes "b")
+    → ((once_pasted tables new).editor.mark ≡ Some 2) × ((once_pasted tables new).editor.held ≡ codes "b")
 unfolding unicode_segmentation unicode_width digits
 mark_and_held_bytes_come_back law store store' answered new fed_them feeds none =
     let opened_at = start (codes "abc") 1 5 in
-    let back = law.gives_back tables (codes "abc") 1 5 Auto store store' answered new feeds none in (
+    let keys = no_points_in (bytes_of answered) marked fed_them refl in
+    let back = law.gives_back tables (codes "abc") 1 5 Auto store store' answered new feeds none (inl keys) in (
       sym back.mark ∙ ap (λ bytes. (after_journal tables opened_at bytes).editor.mark) fed_them,
       sym back.held ∙ ap (λ bytes. (after_journal tables opened_at bytes).editor.held) fed_them,
     )
@@ -101,9 +132,6 @@ of_x bs = owing bs (start (codes "x") 1 5)
 
 abbrev storing : List ℕ → StoreState
 storing text = record { contents = Some text; faults = no_faults }
-
-abbrev input : List ℕ
-input = 0x61 ∷ 0x13 ∷ 0x62 ∷ 0x1a ∷ []
 
 is_fed : FeedsAll tables (start (codes "x") 1 5) (storing []) (unpainted input) (of_x input) (storing (codes "ax"))
 unfolding unicode_segmentation unicode_width digits
@@ -130,22 +158,24 @@ is_fed = (
   ),
 )
 
-has_text : (of_x input).editor.content.text ≡ codes "ax"
+has_text : text_of (of_x input) ≡ codes "ax"
 unfolding unicode_segmentation unicode_width digits
 has_text = refl
 
 -- the replay of what a session was fed has its text
 replays_to : RecoveryGivesBack → (store store' : StoreState) (answered : List ByteAnswer) (new : Session)
     → FeedsAll tables (start (codes "x") 1 5) store answered new store' → RefusesNoKey answered
-    → (after_journal tables (start (codes "x") 1 5) (bytes_of answered)).editor.content.text ≡ new.editor.content.text
-replays_to law store store' answered new feeds none =
-    ap (λ (t : Edited). t.text) (law.gives_back tables (codes "x") 1 5 Auto store store' answered new feeds none).content
+    → All (λ (key : Key). is_point key ≡ false) (keys_from [] (bytes_of answered))
+    → (after_journal tables (start (codes "x") 1 5) (bytes_of answered)).editor.content.text ≡ text_of new
+replays_to law store store' answered new feeds none keys =
+    ap (λ (t : Edited). t.text) (law.gives_back tables (codes "x") 1 5 Auto store store' answered new feeds none (inl keys)).content
 
 pub its_replay_gives_the_text_back : RecoveryGivesBack → (after_journal tables (start (codes "x") 1 5) input).editor.content.text ≡ codes "ax"
 its_replay_gives_the_text_back law =
     let fed_them : bytes_of (unpainted input) ≡ input = refl in
     ap (λ bytes. (after_journal tables (start (codes "x") 1 5) bytes).editor.content.text) (sym fed_them)
     ∙ replays_to law (storing []) (storing (codes "ax")) (unpainted input) (of_x input) is_fed (none_refused input)
+    (no_points_in (bytes_of (unpainted input)) input refl refl)
     ∙ has_text
 
 -- where the session refused b when memory ran out, its replay has abx
@@ -163,40 +193,79 @@ a_recovered_session_goes_on law store store' b new feeds none =
     let same : HasBackMidway (with_painting tables replayed) replayed =
     has_back (with_painting tables replayed) replayed (record { lasts = refl; rest_is = refl; goes_on = refl; one = λ asked. refl }) in
     ap (λ (t : Edited). t.text)
-    (sym (law.keeps_up tables (with_painting tables replayed) replayed store store' ((0x62, b) ∷ []) new same feeds none).parts.content)
+    (sym (law.keeps_up tables (with_painting tables replayed) replayed store store' ((0x62, b) ∷ []) new same feeds none
+    (record { painted = refl; top = λ on. refl }) (inl (no_points (Insert 0x62 ∷ []) refl))).parts.content)
+
+-- PasteStart and c, over ab; the paste is not over yet
+abbrev pasting : List ℕ
+pasting = csi (codes "90~") ++ codes "c"
+
+pub an_open_paste_comes_back : RecoveryGivesBack → (store store' : StoreState) (answered : List ByteAnswer) (new : Session)
+    → bytes_of answered ≡ pasting → FeedsAll tables (start (codes "ab") 1 5) store answered new store' → RefusesNoKey answered
+    → text_of new ≡ codes "cab"
+unfolding unicode_segmentation unicode_width digits
+an_open_paste_comes_back law store store' answered new fed_them feeds none =
+    let keys = no_points_in (bytes_of answered) pasting fed_them refl in
+    let back = law.gives_back tables (codes "ab") 1 5 Auto store store' answered new feeds none (inl keys) in
+    ap (λ (t : Edited). t.text) (sym back.content)
+    ∙ ap (λ bytes. (after_journal tables (start (codes "ab") 1 5) bytes).editor.content.text) fed_them
+
+-- Point at the second column of the first row, then c
+abbrev pointing : List ℕ
+pointing = csi (codes "7;1;2t") ++ codes "c"
+
+pub a_row_pointed_at_comes_back : RecoveryGivesBack → (store store' : StoreState) (answered : List ByteAnswer) (new : Session)
+    → bytes_of answered ≡ pointing → (feeds : FeedsAll tables (start (codes "ab") 1 5) store answered new store') → RefusesNoKey answered
+    → RefusesNoPainting answered → HaveRows tables (start (codes "ab") 1 5) store answered new store' feeds → text_of new ≡ codes "acb"
+unfolding unicode_segmentation unicode_width digits
+a_row_pointed_at_comes_back law store store' answered new fed_them feeds none paints have =
+    let back = law.gives_back tables (codes "ab") 1 5 Auto store store' answered new feeds none (inr (paints, have)) in
+    ap (λ (t : Edited). t.text) (sym back.content)
+    ∙ ap (λ bytes. (after_journal tables (start (codes "ab") 1 5) bytes).editor.content.text) fed_them
 
 -- ---- from a journal
 
 -- a row of five columns over ab
 abbrev over_ab : Beginning
-over_ab = record { text = codes "ab"; height = 1; width = 5; base = Auto; offset = None; unsaved = false; journal = [] }
+over_ab = record { text = codes "ab"; height = 1; width = 5; base = Auto; clipboard = false; offset = None; unsaved = false; journal = [] }
 
 abbrev replay_of : List ℕ → Session
 replay_of bytes = unpainted_at tables (record over_ab { journal = bytes })
 
 -- before any key
 settled : IsSettled (after_replaying tables (at_offset tables over_ab) over_ab.journal).editor
-settled = record { seek = refl; ask = refl; typing = refl; stored = λ h. absurd (cc h) }
+settled = record { seek = refl; ask = refl; pasted = refl; typing = refl; stored = λ h. absurd (cc h) }
 
 module _ {J : Type 0} (contents : J → Option (List ℕ)) (failures : J → ℕ) (law : JournalsGiveBack contents failures) (new : Session)
     (store store' : StoreState) (writer writer' : Option (List ℕ)) (journal journal' : RecorderState J) where
   abbrev Ran : Option (List ℕ) → Option (List ℕ) → Type 0
   Ran reader reader' = RunsRecorded contents failures tables (begun tables over_ab) new store store' reader reader' writer writer' journal journal'
 
+  -- where no key of the journal points
+  seen : (reader reader' : Option (List ℕ)) (run : Ran reader reader') (bytes : List ℕ) → HasAll contents journal [] → HasAll contents journal' bytes
+      → none_point (keys_from [] bytes) ≡ true → PointsAsSeen tables (begun tables over_ab) store run.0 run.3 store' run.4.feeds
+  unfolding unicode_segmentation unicode_width digits
+  seen reader reader' run bytes had has none =
+      inl (no_points_in (bytes_of run.0) bytes (sym (journal_is contents failures journal journal' [] (bytes_of run.0) bytes run.5 had has)) none)
+
   -- x, Save, y; then the session was killed
   pub a_killed_session_comes_back : (reader reader' : Option (List ℕ)) (run : Ran reader reader') → HasAll contents journal []
-      → HasAll contents journal' (0x78 ∷ 0x13 ∷ 0x79 ∷ []) → RefusesNoKey run.0 → new.editor.content.text ≡ codes "xyab"
+      → HasAll contents journal' (0x78 ∷ 0x13 ∷ 0x79 ∷ []) → RefusesNoKey run.0 → text_of new ≡ codes "xyab"
   unfolding unicode_segmentation unicode_width digits
   a_killed_session_comes_back reader reader' run had has none =
-      let given = law tables over_ab new store store' reader reader' writer writer' journal journal' (0x78 ∷ 0x13 ∷ 0x79 ∷ []) run had settled has none in
+      let bytes = 0x78 ∷ 0x13 ∷ 0x79 ∷ [] in
+      let given = law tables over_ab new store store' reader reader' writer writer' journal journal' bytes run had settled has none
+      (seen reader reader' run bytes had has refl) in
       ap (λ (t : Edited). t.text) (sym given.0.content)
 
   -- Forward: no key edited
   pub an_unedited_text_is_the_opened_one : (reader reader' : Option (List ℕ)) (run : Ran reader reader') → HasAll contents journal []
-      → HasAll contents journal' (0x06 ∷ []) → RefusesNoKey run.0 → (new.editor.content.text ≡ codes "ab") × (new.editor.content.past ≡ []) × (new.editor.changed ≢ true)
+      → HasAll contents journal' (0x06 ∷ []) → RefusesNoKey run.0 → let e = (once_pasted tables new).editor in
+      (e.content.text ≡ codes "ab") × (e.content.past ≡ []) × (e.changed ≢ true)
   unfolding unicode_segmentation unicode_width digits
   an_unedited_text_is_the_opened_one reader reader' run had has none =
-      let given = law tables over_ab new store store' reader reader' writer writer' journal journal' (0x06 ∷ []) run had settled has none in
+      let given = law tables over_ab new store store' reader reader' writer writer' journal journal' (0x06 ∷ []) run had settled has none
+      (seen reader reader' run (0x06 ∷ []) had has refl) in
       let unchanged = given.1.unchanged refl in (
         ap (λ (t : Edited). t.text) (sym given.0.content) ∙ unchanged.0,
         ap (λ (t : Edited). t.past) (sym given.0.content) ∙ unchanged.1,
@@ -206,15 +275,18 @@ module _ {J : Type 0} (contents : J → Option (List ℕ)) (failures : J → ℕ
   -- of x, Quit, Quit and z, all read at once, z was dropped
   pub what_follows_the_end_does_not_come_back : (run : Ran (Some (0x78 ∷ 0x11 ∷ 0x11 ∷ 0x7a ∷ [])) (Some [])) → run.1 ≡ 0x7a ∷ [] → (bytes : List ℕ)
       → HasAll contents journal [] → HasAll contents journal' bytes → RefusesNoKey run.0
-      → (new.editor.content.text ≡ codes "xab") × ((replay_of bytes).editor.content.text ≡ codes "xab")
+      → (text_of new ≡ codes "xab") × ((replay_of bytes).editor.content.text ≡ codes "xab")
   unfolding unicode_segmentation unicode_width digits
   what_follows_the_end_does_not_come_back run dropped bytes had has none =
+      let all = Some (0x78 ∷ 0x11 ∷ 0x11 ∷ 0x7a ∷ []) in
       let fed : bytes_of run.0 ≡ 0x78 ∷ 0x11 ∷ 0x11 ∷ [] =
       append_cancel_right (bytes_of run.0) (0x78 ∷ 0x11 ∷ 0x11 ∷ []) (0x7a ∷ [])
       (ap (λ xs. bytes_of run.0 ++ xs) (sym dropped) ∙ sym (append-nil (bytes_of run.0 ++ run.1)) ∙ sym run.4.reads) in
       let is : bytes ≡ 0x78 ∷ 0x11 ∷ 0x11 ∷ [] = journal_is contents failures journal journal' [] (bytes_of run.0) bytes run.5 had has ∙ fed in
       let text : (replay_of bytes).editor.content.text ≡ codes "xab" = ap (λ xs. (replay_of xs).editor.content.text) is in
-      let given = law tables over_ab new store store' (Some (0x78 ∷ 0x11 ∷ 0x11 ∷ 0x7a ∷ [])) (Some []) writer writer' journal journal' bytes run had settled has none in
+      let none_points : none_point (keys_from [] bytes) ≡ true = ap (λ xs. none_point (keys_from [] xs)) is in
+      let given = law tables over_ab new store store' all (Some []) writer writer' journal journal' bytes run had settled has none
+      (seen all (Some []) run bytes had has none_points) in
       (ap (λ (t : Edited). t.text) (sym given.0.content) ∙ text, text)
 
 -- while bytes wait, the law says nothing

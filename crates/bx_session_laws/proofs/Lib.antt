@@ -7,6 +7,9 @@ pub mod KeysAlike
 pub mod Versions
 pub mod Deeds
 pub mod Recovered
+pub mod TopsKept
+pub mod TopsAlike
+pub mod RecoveredParts
 pub mod GivenBack
 pub mod PaintedAnew
 pub mod WholeLog

@@ -1,25 +1,67 @@
 -- If no painting is owed, another painting changes nothing.
-use Rattle.std.proofs.Common.{◌≡◌, ℕ, Bool, true, false, List, [], ◌∷◌, ◌++◌, length, drop, refl, ap, ◌∙◌, arith, length-append, if◌then◌else◌}
+use Rattle.std.proofs.Common.{◌≡◌, ℕ, Bool, true, false, List, ◌++◌, Option, Some, None, refl, sym, ap, ◌∙◌, if◌then◌else◌}
+use Rattle.std.specs.Prelude.{◌||◌, ◌&&◌, is_some}
 use Rattle.std.proofs.lemmas.List.{append-nil}
 use Rattle.bx_paint.proofs.Few.{same_changes}
-use Rattle.bx_keys.specs.Keys.{rest_after}
+use Rattle.bx_keys.specs.declared.key.Key.{Key}
+use Rattle.bx_keys.specs.declared.key.Key.TheVariants.{Insert, PasteStart}
+use Rattle.bx_keys.specs.Keys.{key_after, rest_after}
 use Rattle.bx_keys.specs.Waiting.{head_of}
+use Rattle.bx_store.specs.declared.store.StoreFault.{StoreFault}
 use Rattle.bx_ucd.specs.Data.{Data}
-use Rattle.bx_editor.specs.Picture.{picture, next_top}
+use Rattle.bx_editor.specs.Editor.{Editor, HasRows, with_top}
+use Rattle.bx_editor.specs.Keys.{after_key, asks_for_whole, needs_no_painting}
+use Rattle.bx_editor.specs.Picture.{next_top, picture}
 use Rattle.bx_editor.proofs.TopOnce.{top-stays}
-use Rattle.bx_session.specs.Session.{Session, painting, with_picture, with_painting, after_spending, after_sending, before_painting, is_idle, unpainted_after_byte}
-use Rattle.bx_session.specs.Session.{unpainted_after_told}
+use Rattle.bx_session.specs.Session.{Session, after_sending, after_spending, at_opening, is_painted, key_of_byte, needs_painting, painted_after}
+use Rattle.bx_session.specs.Session.{painting, picture_of, session_after_any, session_after_key, unpainted_after_byte, unpainted_after_told, with_painting}
+use Rattle.bx_session.specs.Session.{with_clipboard, with_painting_and_clip, with_picture}
+use Rattle.bx_session.proofs.KeySizes.{key_goes_on}
+use Rattle.bx_session.proofs.Tops.{clipboard_unseen, opening_stays}
 use Rattle.bx_session_laws.specs.Anew.{StaysPainted, AlwaysStaysPainted}
-use Rattle.bx_editor.specs.Editor.{HasRows}
+use Rattle.bx_session_laws.proofs.TopsAlike.{not_not, unseen}
+use Rattle.bx_session_laws.proofs.TopsKept.{key_top}
 
--- a second painting changes nothing
-twice : (d : Data) (s : Session) → HasRows s.editor → with_painting d (with_painting d s) ≡ with_painting d s
-twice d s has =
-    let new = with_painting d s in
-    let p = picture d s.editor new.top in
-    ap (λ top. with_picture new top (picture d s.editor top)) (top-stays d s.editor s.top has)
-    ∙ ap (λ bytes. record new { pending = new.pending ++ bytes }) (same_changes p p refl)
-    ∙ ap (λ bytes. record new { pending = bytes }) (append-nil new.pending)
+-- ---- what a painting leaves, and what another one finds
+
+-- scrolling leaves the top, and the screen is taken to show the picture
+record Shown (d : Data) (s : Session) : Type 0 where
+  pub stays : next_top d s.editor s.editor.top ≡ s.editor.top
+  pub painted : s.painted ≡ Some (picture_of d s.editor)
+  pub known : s.known ≡ Some (picture_of d s.editor)
+
+shown : (d : Data) (s : Session) → with_painting d s ≡ s → Shown d s
+shown d s same =
+    let e : Editor = s.editor in
+    let stays : next_top d e e.top ≡ e.top = ap (λ (x : Session). x.editor.top) same in
+    let from_top = ap (λ top. Some (picture_of d (with_top e top))) stays in record {
+      stays = stays;
+      painted = sym (ap (λ (x : Session). x.painted) same) ∙ from_top;
+      known = sym (ap (λ (x : Session). x.known) same) ∙ from_top;
+    }
+
+again : (d : Data) (s : Session) → s.painting_owed ≡ false → Shown d s → with_painting d s ≡ s
+again d s owed h =
+    let e : Editor = s.editor in
+    let p = picture_of d e in
+    ap (λ top. with_picture s (with_top e top) (picture_of d (with_top e top))) h.stays
+    ∙ ap (λ known. record s { painted = Some p; known = Some p; painting_owed = false; pending = s.pending ++ painting known p }) h.known
+    ∙ ap (λ bytes. record s { painted = Some p; known = Some p; painting_owed = false; pending = s.pending ++ bytes }) (same_changes p p refl)
+    ∙ ap (λ bytes. record s { painted = Some p; known = Some p; painting_owed = false; pending = bytes }) (append-nil s.pending)
+    ∙ ap (λ painted. record s { painted = painted; known = Some p; painting_owed = false }) (sym h.painted)
+    ∙ ap (λ known. record s { known = known; painting_owed = false }) (sym h.known)
+    ∙ ap (λ owed. record s { painting_owed = owed }) (sym owed)
+
+-- a painting leaves it so, with a clip behind it or without
+after_painting : (d : Data) (s : Session) (clip : Option (List ℕ)) → HasRows (with_painting d s).editor → Shown d (with_painting_and_clip d s clip)
+after_painting d s clip has = record {
+  stays = top-stays d s.editor s.editor.top (record { text = has.text; columns = has.columns });
+  painted = refl;
+  known = refl;
+}
+
+twice : (d : Data) (s : Session) → HasRows (with_painting d s).editor → with_painting d (with_painting d s) ≡ with_painting d s
+twice d s has = let h = after_painting d s None has in again d (with_painting d s) refl (record { stays = h.stays; painted = refl; known = refl })
 
 -- ---- changes that leave the picture as it is
 
@@ -30,37 +72,92 @@ spending_at false d s rest h = λ owed. ap (λ (x : Session). record x { rest = 
 spending_stays : (d : Data) (s : Session) (b : ℕ) → StaysPainted d s → StaysPainted d (after_spending s b)
 spending_stays d s b h = spending_at s.editor.ended d s (head_of (rest_after s.rest b)) h
 
-none_more : (queue more : List ℕ) → queue ++ more ≡ queue → more ≡ []
-none_more queue [] same = refl
-none_more queue (b ∷ bs) same = absurd (omega (arith, ap length same, length-append queue (b ∷ bs)))
-
 sending_stays : (d : Data) (s : Session) (count : ℕ) → StaysPainted d s → StaysPainted d (after_sending s count)
 sending_stays d s count h owed =
-    let queue = drop count s.pending in
-    let top = next_top d s.editor s.top in
-    let bytes = painting s.known (picture d s.editor top) in
-    let none : bytes ≡ [] = none_more s.pending bytes (ap (λ (x : Session). x.pending) (h owed)) in
-    ap (λ (x : Session). record x { pending = queue ++ bytes }) (h owed)
-    ∙ ap (λ bs. record s { pending = queue ++ bs }) none
-    ∙ ap (λ bs. record s { pending = bs }) (append-nil queue)
+    let had = shown d s (h owed) in again d (after_sending s count) owed (record { stays = had.stays; painted = had.painted; known = had.known })
+
+clipboard_stays : (d : Data) (s : Session) → StaysPainted d s → StaysPainted d (with_clipboard s)
+clipboard_stays d s h owed =
+    let had = shown d s (h owed) in
+    let same : Some (picture_of d s.editor) ≡ Some (picture_of d (with_clipboard s).editor) =
+    ap Some (sym (clipboard_unseen d s.editor true s.editor.top)) in
+    again d (with_clipboard s) owed (record { stays = had.stays; painted = had.painted ∙ same; known = had.known ∙ same })
+
+-- a key that needs no painting
+second : (b c : Bool) → (b && c) ≡ true → c ≡ true
+second true c h = h
+second false c h = absurd (cc h)
+
+not_whole : (d : Data) (fault : Option StoreFault) (e : Editor) (key : Key) → needs_no_painting e key ≡ true → e.ended ≡ false
+    → (asks_for_whole key || (after_key d fault e key).ended) ≡ false
+not_whole d fault e (Insert c) h runs = key_goes_on d fault e (Insert c) refl ∙ runs
+not_whole d fault e PasteStart h runs = key_goes_on d fault e PasteStart refl ∙ runs
+not_whole d fault e key h runs = absurd (cc (second (is_some e.pasted) false h))
+
+known_stays : {X : Type 0} (whole : Bool) (known : Option X) → whole ≡ false → (if whole then None else known) ≡ known
+known_stays true known h = absurd (cc h)
+known_stays false known h = refl
+
+key_shown : (d : Data) (fault : Option StoreFault) (s : Session) (key : Key) → needs_no_painting s.editor key ≡ true → s.editor.ended ≡ false → Shown d s
+    → Shown d (session_after_key d fault s key)
+key_shown d fault s key none runs had =
+    let e : Editor = s.editor in
+    let new = after_key d fault e key in
+    let looks = unseen d fault e key none in
+    let top = key_top d fault e key in
+    let same : Some (picture_of d e) ≡ Some (picture_of d new) = ap Some (sym (ap (picture d new) top ∙ looks.same e.top)) in record {
+      stays = ap (next_top d new) top ∙ looks.top e.top ∙ had.stays ∙ sym top;
+      painted = had.painted ∙ same;
+      known = known_stays (asks_for_whole key || new.ended) s.known (not_whole d fault e key none runs) ∙ had.known ∙ same;
+    }
+
+any_shown : (d : Data) (fault : Option StoreFault) (s : Session) (key : Option Key) → needs_painting s.editor key ≡ false → s.editor.ended ≡ false → Shown d s
+    → Shown d (session_after_any d fault s key)
+any_shown d fault s None none runs had = had
+any_shown d fault s (Some key) none runs had = key_shown d fault s key (not_not (needs_no_painting s.editor key) none) runs had
+
+unpainted_shown : (ended : Bool) (d : Data) (fault : Option StoreFault) (s : Session) (b : ℕ) → s.editor.ended ≡ ended
+    → let key = if ended then None else key_after s.rest b in
+    needs_painting s.editor key ≡ false → Shown d s
+    → Shown d (session_after_any d fault (if ended then s else record s { rest = head_of (rest_after s.rest b) }) key)
+unpainted_shown true d fault s b is none had = had
+unpainted_shown false d fault s b is none had =
+    any_shown d fault (record s { rest = head_of (rest_after s.rest b) }) (key_after s.rest b) none is
+    (record { stays = had.stays; painted = had.painted; known = had.known })
 
 -- ---- every call, whether it succeeds or is refused
 
-either_stays : (idle : Bool) (d : Data) (s spent : Session) → HasRows (if idle then spent else with_painting d s).editor → StaysPainted d spent
-    → StaysPainted d (if idle then spent else with_painting d s)
-either_stays true d s spent has h = h
-either_stays false d s spent has h = λ owed. twice d s has
+neither : (b c : Bool) → (b || c) ≡ false → (b ≡ false) × (c ≡ false)
+neither true c h = absurd (cc h)
+neither false c h = (refl, h)
+
+byte_stays : (paints : Bool) (d : Data) (fault : Option StoreFault) (s : Session) (b : ℕ) → is_painted s b ≡ paints
+    → let key = key_of_byte s b in
+    let u = unpainted_after_byte d fault s b in
+    let new = if paints then painted_after d u key else u in
+    HasRows new.editor → StaysPainted d s → StaysPainted d new
+byte_stays true d fault s b is has h owed =
+    let u = unpainted_after_byte d fault s b in
+    let new = painted_after d u (key_of_byte s b) in
+    let left = after_painting d u None (record { text = has.text; columns = has.columns }) in
+    again d new owed (record { stays = left.stays; painted = refl; known = refl })
+byte_stays false d fault s b is has h owed =
+    let both = neither s.painting_owed (needs_painting s.editor (key_of_byte s b)) is in
+    again d (unpainted_after_byte d fault s b) owed (unpainted_shown s.editor.ended d fault s b refl both.1 (shown d s (h both.0)))
 
 pub always_stays : AlwaysStaysPainted
 always_stays = record {
-  opening = λ d text height width base has owed. twice d (before_painting text height width base) has;
-  byte = λ d fault s b has h. either_stays (is_idle s b) d (unpainted_after_byte d fault s b) (after_spending s b) has (spending_stays d s b h);
+  opening = λ d text height width base has owed.
+      again d (at_opening d text height width base) refl
+      (record { stays = opening_stays d text height width base has; painted = refl; known = refl });
+  byte = λ d fault s b has h. byte_stays (is_painted s b) d fault s b refl has h;
   refused_key = spending_stays;
   owing_byte = λ d fault s b owed. absurd (cc owed);
   told = λ d s height width has owed. twice d (unpainted_after_told s height width) has;
   owing_told = λ d s height width owed. absurd (cc owed);
   replay = λ d s b owed. absurd (cc owed);
   replay_end = λ d s owed. absurd (cc owed);
+  clipboard = clipboard_stays;
   going = λ d s offset owed. absurd (cc owed);
   sending = sending_stays;
 }

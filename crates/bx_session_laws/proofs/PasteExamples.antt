@@ -12,6 +12,7 @@ use Rattle.bx_text.specs.Edits.{Edit, edit_of}
 use Rattle.bx_runs.specs.declared.typing.Typing.{Typing}
 use Rattle.bx_runs.specs.declared.typing.Typing.TheVariants as typings
 use Rattle.bx_editor.specs.Editor.{Editor, at_start}
+use Rattle.bx_editor.specs.Pasting.{paste_ended}
 use Rattle.bx_editor.specs.Replay.{at_replay_end}
 use Rattle.bx_editor.proofs.Computed.{tables}
 use Rattle.bx_session.specs.Session.{after_all_replayed, after_journal}
@@ -60,7 +61,7 @@ next_typed = refl
 abbrev left : Editor → List ℕ × List Edit × List ℕ × Typing
 left e = (e.content.text, e.content.future, e.runs, e.typing)
 
-last_left : left (at_replay_end (after_all_replayed tables both_words last_keys)) ≡ (codes "ab e", [], 0 ∷ 3 ∷ [], typings.Off)
+last_left : left (at_replay_end (paste_ended tables (after_all_replayed tables both_words last_keys))) ≡ (codes "ab e", [], 0 ∷ 3 ∷ [], typings.Off)
 unfolding unicode_segmentation unicode_width digits
 last_left = refl
 
@@ -74,7 +75,7 @@ keys_are = refl
 pub a_paste_is_over_at_the_end : left (after_journal tables (start [] 2 20) journal).editor ≡ (codes "ab e", [], 0 ∷ 3 ∷ [], typings.Off)
 a_paste_is_over_at_the_end =
     let opened = at_start [] 2 20 Auto in
-    ap (λ (e : Editor). left (at_replay_end e))
+    ap (λ (e : Editor). left (at_replay_end (paste_ended tables e)))
     (replays_keys tables (start [] 2 20) journal refl
     ∙ ap (after_all_replayed tables opened) keys_are
     ∙ keys_in_parts tables opened first_keys (next_keys ++ last_keys)

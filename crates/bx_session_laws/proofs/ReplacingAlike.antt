@@ -1,5 +1,5 @@
 -- A key in replacing does the same to two editors of which the same lasts.
-use Rattle.std.proofs.Common.{◌≡◌, ℕ, Bool, true, false, List, [], ◌∷◌, ◌+◌, length, Option, Some, None, refl, ap, subst, if◌then◌else◌}
+use Rattle.std.proofs.Common.{ℕ, true, false, List, [], ◌∷◌, ◌+◌, length, Option, Some, None, refl, ap, subst, if◌then◌else◌}
 use Rattle.std.specs.Prelude.{◌==◌, ◌&&◌, not}
 use Rattle.bx_keys.specs.declared.key.Key.{Key}
 use Rattle.bx_store.specs.declared.store.StoreFault.{StoreFault}
@@ -21,8 +21,7 @@ use Rattle.bx_editor.specs.Replacing.{after_asking_other, after_ending, after_ma
 use Rattle.bx_editor.specs.Replacing.{after_showing, asked_at, at_match, longest_other, match_stop, matches_on, next_match, on_from, other_typed}
 use Rattle.bx_editor.specs.Replacing.{shown_at, with_matches_replaced, with_other}
 use Rattle.bx_editor.specs.Search.{is_no_letter, kept, landed, landing_from, lengthened, sought, without_search}
-use Rattle.bx_session_laws.proofs.Lasting.{Lasting, lasting, having}
-use Rattle.bx_session.proofs.KeyKinds.{is_other}
+use Rattle.bx_session_laws.proofs.Lasting.{Lasting, Serves, lasting, having}
 use Rattle.bx_session_laws.proofs.Alike.{Alike, Edits, either_alike, idle, going_on, pressed_alike, removal_alike}
 
 -- ---- matches give way
@@ -154,7 +153,7 @@ match_letter_alike d typing e f c =
     let g = having (lasting e) f in
     either_alike ((c == 0xA) && not (is_paste typing)) e (after_replacing d e) e g (after_replacing d g) g (replacing_alike d e f) (same e f)
 
-pub other_alike : (d : Data) (fault : Option StoreFault) (was was' : Before) (e f : Editor) (key : Key) (answer : Answer) → is_other key ≡ true
+pub other_alike : (d : Data) (fault : Option StoreFault) (was was' : Before) (e f : Editor) (key : Key) (answer : Answer) → Serves e f key
     → Alike e (answered_other d fault was e key answer) (having (lasting e) f)
     (answered_other d None (record was' { typing = was.typing }) (having (lasting e) f) key answer)
 other_alike d fault was was' e f key (Letter c) other =
@@ -169,7 +168,7 @@ other_alike d fault was was' e f key Stays other = record { lasts = refl; deeds 
 other_alike d fault was was' e f key Ends other =
     unsought_alike e _ (having (lasting e) f) _ (pressed_alike d fault was was' (without_search e) f key other)
 
-pub match_alike : (d : Data) (fault : Option StoreFault) (was was' : Before) (e f : Editor) (key : Key) (answer : Answer) → is_other key ≡ true
+pub match_alike : (d : Data) (fault : Option StoreFault) (was was' : Before) (e f : Editor) (key : Key) (answer : Answer) → Serves e f key
     → Alike e (answered_match d fault was e key answer) (having (lasting e) f)
     (answered_match d None (record was' { typing = was.typing }) (having (lasting e) f) key answer)
 match_alike d fault was was' e f key (Letter c) other =

@@ -1,5 +1,5 @@
--- What a Quit and a Save leave of the parts that edits and steps change.
-use Rattle.std.proofs.Common.{◌≡◌, Option, Some, None, refl, ap, ap₂}
+-- What a Quit and a Save leave of the parts that edits and steps change, once they have ended a paste.
+use Rattle.std.proofs.Common.{◌≡◌, Option, Some, None, refl, sym, ap, ap₂, ◌∙◌}
 use Rattle.bx_keys.specs.declared.key.Key.TheVariants.{Save, Quit}
 use Rattle.bx_store.specs.declared.store.StoreFault.{StoreFault}
 use Rattle.bx_ucd.specs.Data.{Data}
@@ -11,15 +11,23 @@ use Rattle.bx_editor.specs.declared.seek.Seek.{Seek}
 use Rattle.bx_editor.specs.declared.seek.Seek.TheVariants.{Off, Begun, Typed}
 use Rattle.bx_editor.specs.Effects.{Before, before}
 use Rattle.bx_editor.specs.Keys.{after_any, after_key}
+use Rattle.bx_editor.specs.Pasting.{paste_ended}
 use Rattle.bx_editor.specs.Search.{without_search}
+use Rattle.bx_editor.proofs.InSearch.{any-key}
 use Rattle.bx_session.specs.Session.{after_replayed}
+use Rattle.bx_session.proofs.Ending.{over, quit_user, save_ahead}
 use Rattle.bx_session_laws.proofs.Alike.{work}
 
 -- a Quit changes nothing that edits and steps change, whether a search or a question is on or not
-pub quit_works : (d : Data) (ask : Ask) (seek : Seek) (e : Editor) → e.ask ≡ ask → e.seek ≡ seek → work (after_replayed d ask seek e Quit) ≡ work e
+pub quit_works : (d : Data) (ask : Ask) (seek : Seek) (e : Editor) → (paste_ended d e).ask ≡ ask → (paste_ended d e).seek ≡ seek
+    → work (after_replayed d ask seek e Quit) ≡ work (paste_ended d e)
 quit_works d asks.Off Off e asked is = refl
-quit_works d asks.Off seek e asked is = ap₂ (λ (a : Ask) (s : Seek). work (after_any d None (before e) a s (cleared e) Quit)) asked is
-quit_works d ask seek e asked is = ap (λ (a : Ask). work (after_any d None (before e) a e.seek (cleared e) Quit)) asked
+quit_works d asks.Off seek e asked is =
+    ap work (quit_user d None e)
+    ∙ ap₂ (λ (a : Ask) (s : Seek). work (after_any d None (before (paste_ended d e)) a s (cleared (paste_ended d e)) Quit)) asked is
+quit_works d ask seek e asked is =
+    ap work (quit_user d None e)
+    ∙ ap (λ (a : Ask). work (after_any d None (before (paste_ended d e)) a (paste_ended d e).seek (cleared (paste_ended d e)) Quit)) asked
 
 -- nor does a Save of a session change more of that than any Save does
 saved_work : (e : Editor) (fault : Option StoreFault) → work (after_save (without_ask e) fault) ≡ work (after_save e fault)
@@ -38,5 +46,8 @@ save_any d fault was asks.Off Typed e = refl
 save_any d fault was asks.Off seek e = sought_work e fault
 save_any d fault was ask seek e = saved_work e fault
 
-pub save_works : (d : Data) (fault : Option StoreFault) (e : Editor) → work (after_key d fault e Save) ≡ work (after_save (cleared e) fault)
-save_works d fault e = save_any d fault (before e) e.ask e.seek (cleared e)
+pub save_works : (d : Data) (fault : Option StoreFault) (e : Editor)
+    → work (after_key d fault e Save) ≡ work (after_save (cleared (paste_ended d e)) fault)
+save_works d fault e =
+    let x : Editor = paste_ended d e in
+    ap work (sym (save_ahead d fault e) ∙ any-key d fault x Save (over d e) refl) ∙ save_any d fault (before x) x.ask x.seek (cleared x)

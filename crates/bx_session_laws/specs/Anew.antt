@@ -5,7 +5,7 @@ use Rattle.bx_terms.specs.declared.base.Base.{Base}
 use Rattle.bx_store.specs.declared.store.StoreFault.{StoreFault}
 use Rattle.bx_ucd.specs.Data.{Data}
 use Rattle.bx_session.specs.Session.{Session, with_painting, at_opening, after_spending, after_byte, owing_after_byte, after_told, owing_after_told, after_sending}
-use Rattle.bx_session.specs.Session.{after_going, after_replay, at_replay_end}
+use Rattle.bx_session.specs.Session.{after_going, after_replay, at_replay_end, with_clipboard}
 use Rattle.bx_editor.specs.Editor.{HasRows}
 
 -- if no painting is owed, another painting changes nothing: it queues no byte, and the top and the picture stay
@@ -24,6 +24,7 @@ pub record AlwaysStaysPainted : Type 0 where
   pub told : (d : Data) (s : Session) (height width : ℕ) → HasRows (after_told d s height width).editor → StaysPainted d (after_told d s height width)
   pub owing_told : (d : Data) (s : Session) (height width : ℕ) → StaysPainted d (owing_after_told s height width)
   pub replay : (d : Data) (s : Session) (b : ℕ) → StaysPainted d (after_replay d s b)
-  pub replay_end : (d : Data) (s : Session) → StaysPainted d (at_replay_end s)
+  pub replay_end : (d : Data) (s : Session) → StaysPainted d (at_replay_end d s)
+  pub clipboard : (d : Data) (s : Session) → StaysPainted d s → StaysPainted d (with_clipboard s)
   pub going : (d : Data) (s : Session) (offset : ℕ) → StaysPainted d (after_going d s offset)
   pub sending : (d : Data) (s : Session) (count : ℕ) → StaysPainted d s → StaysPainted d (after_sending s count)

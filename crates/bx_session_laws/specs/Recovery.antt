@@ -1,13 +1,15 @@
 -- Recovery: what the replay of a session's bytes gives back. `had` and `old` are of the session that was run, `replayed` is the
 -- one that replays its bytes. `d` is Unicode's data, `e` an editor, `s` a session, `b` what a session starts with.
-use Rattle.std.specs.Prelude.{◌≡◌, ◌≢◌, ◌⊎◌, ℕ, true, false, List, [], All, Err, Option, Some, None, IfSome}
+use Rattle.std.specs.Prelude.{◌≡◌, ◌≢◌, ◌⊎◌, ℕ, Bool, true, false, List, [], ◌∷◌, All, Err, Option, Some, None, IfSome}
 use Rattle.bx_terms.specs.declared.base.Base.{Base}
-use Rattle.bx_keys.specs.Keys.{decoding}
-use Rattle.bx_keys.specs.declared.key.Key.TheVariants.{Save}
+use Rattle.bx_keys.specs.Keys.{decoding, keys_from}
+use Rattle.bx_keys.specs.declared.key.Key.{Key}
+use Rattle.bx_keys.specs.declared.key.Key.TheVariants.{Point, Save}
 use Rattle.bx_ucd.specs.Data.{Data}
 use Rattle.bx_asking.specs.declared.question.Ask.TheVariants as asks
 use Rattle.bx_runs.specs.declared.typing.Typing.TheVariants as typings
-use Rattle.bx_editor.specs.Editor.{Editor, at_start}
+use Rattle.bx_editor.specs.Editor.{Editor, HasRows, at_start}
+use Rattle.bx_editor.specs.Pasting.{paste_ended}
 use Rattle.bx_editor.specs.Prompts.{HasOnePrompt}
 use Rattle.bx_editor.specs.declared.seek.Seek.TheVariants.{Off}
 use Rattle.bx_session.specs.declared.error.Refused.TheVariants as refused
@@ -17,15 +19,42 @@ use Rattle.bx_session.specs.Journal.{RecorderState, RunsRecorded}
 use Rattle.bx_session.specs.Laws.{after_journal, after_replaying}
 use Rattle.bx_session.specs.Running.{ByteAnswer, FeedsAll, bytes_of}
 use Rattle.bx_session.specs.Saving.{StoreState}
-use Rattle.bx_session.specs.Session.{Session, after_all_replayed, after_replay, at_opening, at_replay_end, key_of_byte}
+use Rattle.bx_session.specs.Session.{Session, after_all_replayed, after_replay, at_opening, at_replay_end, key_of_byte, scrolled}
 
 -- no key was refused because memory ran out
 abbrev pub RefusesNoKey : List ByteAnswer → Type 0
 RefusesNoKey answered = All (λ (a : ByteAnswer). a.1 ≢ Err refused.Edit) answered
 
+-- no painting was refused because memory ran out
+abbrev pub RefusesNoPainting : List ByteAnswer → Type 0
+RefusesNoPainting answered = All (λ (a : ByteAnswer). a.1 ≢ Err refused.Paint) answered
+
+-- a key that points at a row of the picture
+abbrev pub is_point : Key → Bool
+is_point (Point row column) = true
+is_point _ = false
+
+-- before each byte the text is UTF-8 and the window has from 1 to 500 columns, as in every session of the code
+abbrev pub HaveRows : (d : Data) (old : Session) (store : StoreState) (answered : List ByteAnswer) (new : Session) (store' : StoreState)
+    → FeedsAll d old store answered new store' → Type 0
+HaveRows d old store [] new store' feeds = Unit {0}
+HaveRows d old store (a ∷ answered) new store' feeds = HasRows old.editor × HaveRows d feeds.0 feeds.1 answered new store' feeds.5
+
+-- A replay takes the rows that are pointed at as the session did: no key points at one, or no painting was refused. After a refused
+-- painting the session's picture stands at the row first at which it stood, and the replay's does not.
+abbrev pub PointsAsSeen : (d : Data) (old : Session) (store : StoreState) (answered : List ByteAnswer) (new : Session) (store' : StoreState)
+    → FeedsAll d old store answered new store' → Type 0
+PointsAsSeen d old store answered new store' feeds =
+    All (λ key. is_point key ≡ false) (keys_from old.rest (bytes_of answered))
+    ⊎ (RefusesNoPainting answered × HaveRows d old store answered new store' feeds)
+
+-- the session once a paste that is under way has ended
+abbrev pub once_pasted : Data → Session → Session
+once_pasted d s = record s { editor = paste_ended d s.editor }
+
 -- A replayed session has, of the session that was run: text with past and future, runs, cursor's place, mark, softness, held
--- bytes, query with what it was sought for, the text that replaces matches, direction, kept column, window and unfinished
--- input. It has not ended.
+-- bytes, query with what it was sought for, the text that replaces matches, what a paste has brought, direction, kept column, window
+-- and unfinished input. It has not ended.
 pub record HasBack (had replayed : Session) : Type 0 where
   pub content : replayed.editor.content ≡ had.editor.content
   pub runs : replayed.editor.runs ≡ had.editor.runs
@@ -36,6 +65,7 @@ pub record HasBack (had replayed : Session) : Type 0 where
   pub query : replayed.editor.query ≡ had.editor.query
   pub aim : replayed.editor.aim ≡ had.editor.aim
   pub other : replayed.editor.other ≡ had.editor.other
+  pub pasted : replayed.editor.pasted ≡ had.editor.pasted
   pub base : replayed.editor.base ≡ had.editor.base
   pub goal : replayed.editor.goal ≡ had.editor.goal
   pub height : replayed.editor.height ≡ had.editor.height
@@ -57,28 +87,40 @@ pub record HasBackMidway (had replayed : Session) : Type 0 where
   pub one : HasOnePrompt had.editor
   pub typing : replayed.editor.typing ≡ had.editor.typing
 
+-- The picture of the session that was run is painted, and until its end the replayed one scrolls to the same row first.
+pub record HasTop (d : Data) (had replayed : Session) : Type 0 where
+  pub painted : had.painting_owed ≡ false
+  pub top : had.editor.ended ≡ false → (scrolled d replayed.editor).top ≡ had.editor.top
+
 -- The end of a replay would change nothing here but which text counts as stored, and this only where the text counts as
--- unchanged: no search is on, nothing is asked, the next edit begins a run, and no undo leads from a changed text to a stored
--- one.
+-- unchanged: no search is on, nothing is asked, no paste is under way, the next edit begins a run, and no undo leads from a changed
+-- text to a stored one.
 pub record IsSettled (e : Editor) : Type 0 where
   pub seek : e.seek ≡ Off
   pub ask : e.ask ≡ asks.Off
+  pub pasted : e.pasted ≡ None
   pub typing : e.typing ≡ typings.Off
   pub stored : e.changed ≡ true → e.stored ≡ None
 
 -- the state after a replay of a session's bytes
 pub record RecoveryGivesBack : Type 0 where
-  -- replayed over the opened text, the bytes restore the session, if no key was refused, wherever it saved and even if it quit
+  -- replayed over the opened text, the bytes restore the session, if no key was refused, wherever it saved and even if it quit; a
+  -- paste that is under way ends
   pub gives_back : (d : Data) (text : List ℕ) (height width : ℕ) (base : Base) (store store' : StoreState) (answered : List ByteAnswer)
-      (new : Session) → FeedsAll d (at_opening d text height width base) store answered new store' → RefusesNoKey answered
-      → HasBack new (after_journal d (at_opening d text height width base) (bytes_of answered))
-  -- the same from any start at which the two sessions agree, in a search or a question too: such a start comes after the cursor
-  -- was sent to a line, or after a recovery from a journal that leaves the editor settled
+      (new : Session) → let opened = at_opening d text height width base in (feeds : FeedsAll d opened store answered new store') → RefusesNoKey answered
+      → PointsAsSeen d opened store answered new store' feeds → HasBack (once_pasted d new) (after_journal d opened (bytes_of answered))
+  -- the same from any start at which the two sessions agree, in a search, a question or a paste too: such a start comes after the
+  -- cursor was sent to a line, or after a recovery from a journal that leaves the editor settled
   pub keeps_up : (d : Data) (old replayed : Session) (store store' : StoreState) (answered : List ByteAnswer) (new : Session)
-      → HasBackMidway old replayed → FeedsAll d old store answered new store' → RefusesNoKey answered
-      → HasBackMidway new (after_replaying d replayed (bytes_of answered))
-  -- the end of the replay ends a search or a question and changes none of these parts
-  pub ends : (new replayed : Session) → HasBackMidway new replayed → HasBack new (at_replay_end replayed)
+      → HasBackMidway old replayed → (feeds : FeedsAll d old store answered new store') → RefusesNoKey answered → HasTop d old replayed
+      → PointsAsSeen d old store answered new store' feeds → HasBackMidway new (after_replaying d replayed (bytes_of answered))
+  -- and, where no painting was refused, with the same row first
+  pub keeps_top : (d : Data) (old replayed : Session) (store store' : StoreState) (answered : List ByteAnswer) (new : Session)
+      → HasBackMidway old replayed → (feeds : FeedsAll d old store answered new store') → RefusesNoKey answered → HasTop d old replayed
+      → RefusesNoPainting answered → HaveRows d old store answered new store' feeds
+      → HasTop d new (after_replaying d replayed (bytes_of answered))
+  -- the end of the replay ends a search, a question or a paste and changes none of these parts else
+  pub ends : (d : Data) (new replayed : Session) → HasBackMidway new replayed → HasBack (once_pasted d new) (at_replay_end d replayed)
   -- before any key of a journal the editor is settled, and so it is after each Save
   pub settled_first : (d : Data) (b : Beginning) → IsSettled (at_offset d b).editor
   pub save_settles : (d : Data) (s : Session) (byte : ℕ) → key_of_byte s byte ≡ Some Save → IsSettled (after_replay d s byte).editor
@@ -98,21 +140,22 @@ pub record HasAll {J : Type 0} (contents : J → Option (List ℕ)) (recorder : 
 abbrev pub IsKnown : List ℕ → StoreState → Editor → Type 0
 IsKnown text store e = e.changed ≡ false → (e.content.text ≡ text) ⊎ IfSome store.contents (λ stored. stored ≡ e.content.text)
 
--- A replay of a session over this text counts as changed wherever the session does. It counts as unchanged only with the opened
--- text and no past: no key edited, or an undo of a run led back.
+-- A replay of a session over this text counts as changed wherever the session does, once a paste that is under way has ended. It
+-- counts as unchanged only with the opened text and no past: no key edited, or an undo of a run led back.
 pub record TellsChanges (text : List ℕ) (store : StoreState) (had replayed : Session) : Type 0 where
   pub changed : had.editor.changed ≡ true → replayed.editor.changed ≡ true
   pub unchanged : replayed.editor.changed ≡ false → (replayed.editor.content.text ≡ text) × (replayed.editor.content.past ≡ [])
   pub known : IsKnown text store had.editor
 
 -- A run starts from `b`: its journal had the bytes that were replayed, which left the editor settled; after the run it has
--- `bytes`. If none is missing and no key was refused, a replay of `bytes` over the opened text restores the session, whatever
--- was typed after its end.
+-- `bytes`. If none is missing, no key was refused and rows were pointed at as seen, a replay of `bytes` over the opened text restores
+-- the session, whatever was typed after its end.
 abbrev pub JournalsGiveBack : {J : Type 0} → (J → Option (List ℕ)) → (J → ℕ) → Type 0
 JournalsGiveBack {J} contents failures =
     (d : Data) (b : Beginning) (new : Session) (store store' : StoreState) (reader reader' writer writer' : Option (List ℕ))
     (journal journal' : RecorderState J) (bytes : List ℕ)
     (run : RunsRecorded contents failures d (begun d b) new store store' reader reader' writer writer' journal journal')
     → HasAll contents journal b.journal → IsSettled (after_replaying d (at_offset d b) b.journal).editor → HasAll contents journal' bytes
-    → RefusesNoKey run.0
-    → HasBack new (unpainted_at d (record b { journal = bytes })) × TellsChanges b.text store' new (unpainted_at d (record b { journal = bytes }))
+    → RefusesNoKey run.0 → PointsAsSeen d (begun d b) store run.0 run.3 store' run.4.feeds
+    → let replayed = unpainted_at d (record b { journal = bytes }) in
+    HasBack (once_pasted d new) replayed × TellsChanges b.text store' (once_pasted d new) replayed

@@ -56,7 +56,6 @@ fn add_options(line: &mut String, options: &Options<'_>) -> Result<(), AllocErro
         ("clipboard", options.clipboard),
         ("new", options.is_new),
         ("frames", options.frames),
-        ("clipboard", options.clipboard),
         ("erases-by-delete", options.erases_by_delete),
     ] {
         if is_given {

@@ -1,4 +1,4 @@
-use Rattle.bx_session_laws.proofs.Recovered.{recovery_gives_back}
+use Rattle.bx_session_laws.proofs.RecoveredParts.{recovery_gives_back}
 use Rattle.bx_session_laws.proofs.laws.recovery_gives_back.Goals as goal
 
 pub returns : goal.returns

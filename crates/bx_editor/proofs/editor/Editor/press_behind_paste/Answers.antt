@@ -1,10 +1,10 @@
 use Rattle.std.proofs.Common.{◌≡◌, ℕ, List, None, Some, ap, sym, subst, string_bytes, ◌∙◌}
-use Rattle.std.specs.Prelude.{Option, option_map}
-use Rattle.std.proofs.lemmas.Result.{on_ok_weaker}
+use Rattle.std.specs.Prelude.{OnOk, Option, option_map}
 use Rattle.bx_ucd.specs.Data.{Data}
 use Rattle.bx_editor.specs.Editor.{Editor, EditorState}
 use Rattle.bx_editor.specs.Keys.{after_user}
 use Rattle.bx_editor.specs.Pasting.{ended_with, paste_ended, with_pasted}
+use Rattle.bx_editor.proofs.Pasted.{none-ended}
 use Rattle.bx_editor.proofs.Refused.{all-restored, with_document}
 use Rattle.bx_editor.proofs.Viewed.{holds_of, value}
 use Rattle.bx_editor.proofs.editor.Editor.press_behind_paste.Goals as goal
@@ -41,13 +41,13 @@ returns-in-Ok-clause-ok g c =
 
 pub returns-in_default-clause-ok : goal.returns-in_default-clause-ok
 returns-in_default-clause-ok g c =
-    let was : EditorState g.row.D.Denot = value g.D.BidiData c.self.inside in
-    let d : Data = g.D.BidiData.data was.tables in
-    let e : Editor = was.editor in
-    let none : c.self.inside.pasted ≡ None = sym c.take.ensures.value ∙ c.in_default.is in
-    on_ok_weaker c.press_key.result
-    (λ pressed. pressed
-    ∙ ap (λ pasted. after_user d None (record e { pasted = option_map string_bytes pasted }) c.args.key) (c.take.ensures.after ∙ sym none)
-    ∙ ap (λ pasted. after_user d None (ended_with d e (option_map string_bytes pasted)) c.args.key) (sym none)
-    ∙ ap (λ (s : EditorState g.row.D.Denot). after_user (g.D.BidiData.data s.tables) None (paste_ended (g.D.BidiData.data s.tables) s.editor) c.args.key)
-    c.self.view_is) c.press_key.ensures.ok
+    let i = c.self.inside in
+    let was : EditorState g.row.D.Denot = value g.D.BidiData i in
+    let none : was.editor.pasted ≡ None = ap (option_map string_bytes) (sym c.take.ensures.value ∙ c.in_default.is) in
+    let left : option_map string_bytes c.take.new.self ≡ None = ap (option_map string_bytes) c.take.ensures.after in
+    let ended : EditorState g.row.D.Denot → EditorState g.row.D.Denot = λ s. record s { editor = paste_ended (g.D.BidiData.data s.tables) s.editor } in
+    subst (λ (s : EditorState g.row.D.Denot). OnOk c.press_key.result
+    (c.press_key.new.self.editor ≡ after_user (g.D.BidiData.data s.tables) None s.editor c.args.key))
+    (ap (λ (x : Editor). (let s : EditorState g.row.D.Denot = record was { editor = x } in s))
+    (none-ended (g.D.BidiData.data was.tables) was.editor (option_map string_bytes c.take.new.self) none left)
+    ∙ ap ended c.self.view_is) c.press_key.ensures.ok
