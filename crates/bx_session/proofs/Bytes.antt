@@ -1,6 +1,7 @@
 -- The session after a byte and after a told size, from the contracts of the calls within.
 use Rattle.std.proofs.Common.{◌≡◌, ℕ, Bool, true, false, List, [], drop, Option, Some, None, Result, Ok, Err, IsUtf8, refl, sym, ap, subst, ◌∙◌, if◌then◌else◌}
-use Rattle.std.specs.Prelude.{not, ◌||◌, ◌&&◌, is_some, OnOk, OnErr}
+use Rattle.std.specs.Prelude.{not, ◌||◌, ◌&&◌, is_some, IfErr, OnOk, OnErr}
+use Rattle.std.specs.Result.{result_err}
 use Rattle.bx_terms.specs.Sizes.{is_side}
 use Rattle.bx_terms.specs.declared.base.Base.{Base}
 use Rattle.bx_grid.specs.Picture.{PictureState, is_size}
@@ -8,6 +9,7 @@ use Rattle.bx_keys.specs.declared.key.Key.{Key}
 use Rattle.bx_keys.specs.declared.key.Key.TheVariants.{Save}
 use Rattle.bx_keys.specs.Keys.{rest_after}
 use Rattle.bx_keys.specs.Waiting.{head_of}
+use Rattle.bx_store.specs.Stores.{with_fault}
 use Rattle.bx_store.specs.declared.store.StoreFault.{StoreFault}
 use Rattle.bx_ucd.specs.Data.{Data}
 use Rattle.bx_editor.specs.Editor.{Editor, EditorState, HasRows, at_start, with_top}
@@ -17,12 +19,12 @@ use Rattle.bx_session.specs.declared.error.Refused.{Refused}
 use Rattle.bx_session.specs.declared.error.Refused.TheVariants.{Edit, Paint, Size}
 use Rattle.bx_session.specs.Session.{Session, SessionState, with_painting, with_painting_owed, with_picture, at_opening, before_painting, key_of_byte}
 use Rattle.bx_session.specs.Session.{after_spending, session_after_any, unpainted_after_byte, is_idle, is_painted, needs_painting, painted_after, picture_of}
-use Rattle.bx_session.specs.Session.{after_byte, unpainted_after_told}
+use Rattle.bx_session.specs.Session.{after_byte, session_after_key, unpainted_after_told}
 use Rattle.bx_session.specs.Painting.{AppendsPainting, FeedAppends, QueuesPicture, FeedPaints}
-use Rattle.bx_session.specs.Saving.{AfterByte, ToldBy, may_refuse_key}
+use Rattle.bx_session.specs.Saving.{AfterByte, SaveEnds, StoreState, ToldBy, may_refuse_key, with_text}
 use Rattle.bx_session.specs.declared.status.Status.{Status}
 use Rattle.bx_session.proofs.Ending.{save_ahead}
-use Rattle.bx_session.proofs.KeySizes.{same_ended}
+use Rattle.bx_session.proofs.KeySizes.{key_goes_on, same_ended}
 use Rattle.bx_session.proofs.Tops.{opening_stays}
 
 -- ---- opening
@@ -101,6 +103,26 @@ save_is {D} says fault old ended new is saved =
     saved
     ∙ ap (λ (x : EditorState D). record x { editor = after_key (says x.tables) fault x.editor Save }) is
     ∙ ap (λ (x : Editor). record { tables = old.tables; editor = x }) (save_ahead (says old.tables) fault old.editor)
+
+-- how it ended
+pub save_ends : (result : Result (Unit {0}) StoreFault) (fault : Option StoreFault) (text : List ℕ) (old new : StoreState) → fault ≡ result_err result
+    → OnOk result (new ≡ with_text text old) → OnErr result (new.contents ≡ old.contents) → IfErr result (λ e. new.faults ≡ with_fault e old.faults)
+    → SaveEnds fault text old new
+save_ends (Ok done) fault text old new is ok stored failure = subst (λ (f : Option StoreFault). SaveEnds f text old new) (sym is) ok
+save_ends (Err e) fault text old new is ok stored failure = subst (λ (f : Option StoreFault). SaveEnds f text old new) (sym is) (stored, failure)
+
+pub saved_is : {D : Type 0} (says : D → Data) (fault : Option StoreFault) (s : SessionState D) (ended new : EditorState D) → s.session.editor.ended ≡ false
+    → ended ≡ record { tables = s.tables; editor = paste_ended (says s.tables) s.session.editor }
+    → new ≡ record ended { editor = after_key (says ended.tables) fault ended.editor Save }
+    → record { tables = new.tables; session = record s.session { editor = new.editor } }
+    ≡ record s { session = session_after_key (says s.tables) fault s.session Save }
+saved_is {D} says fault s ended new on is saved =
+    let d = says s.tables in
+    let e : Editor = after_key d fault s.session.editor Save in
+    let before : EditorState D = record { tables = s.tables; editor = s.session.editor } in
+    let runs : e.ended ≡ false = key_goes_on d fault s.session.editor Save refl ∙ on in
+    ap (λ (x : EditorState D). record { tables = x.tables; session = record s.session { editor = x.editor } }) (save_is says fault before ended new is saved)
+    ∙ ap (λ (ended : Bool). record { tables = s.tables; session = record s.session { editor = e; known = if ended then None else s.session.known } }) (sym runs)
 
 -- ---- a byte
 

@@ -16,7 +16,8 @@ use Rattle.bx_editor.specs.Pasting.{ended_with, paste_ended}
 use Rattle.bx_editor.specs.Replay.{after_passed_quit, after_passed_save}
 use Rattle.bx_editor.proofs.Pasted.{ended-none}
 use Rattle.bx_session.specs.Painting.{FitsEditor}
-use Rattle.bx_session.specs.Session.{Session, SessionState, after_replayed_key, known_after, session_after_replayed, session_replayed_on, session_scrolled}
+use Rattle.bx_session.specs.Session.{Session, SessionState, after_replay, after_replayed_key, after_spending, key_of_byte, known_after, session_after_replayed}
+use Rattle.bx_session.specs.Session.{session_replayed_on, session_scrolled, with_painting_owed}
 use Rattle.bx_session.proofs.KeySizes.{SameSize, ended_goes_on, fits_still, still_fits}
 
 -- no paste is under way any more
@@ -101,12 +102,24 @@ pub scrolled_first : {D : Type 0} (says : D → Data) (old mid new : SessionStat
 scrolled_first {D} says old mid new key is pressed =
     pressed ∙ ap (λ (x : SessionState D). record x { session = session_replayed_on (says x.tables) x.session key }) is
 
+-- a byte, once it is decoded
+pub replay_is : {D : Type 0} (says : D → Data) (old mid new : SessionState D) (b : ℕ) (key : Option Key) → key ≡ key_of_byte old.session b
+    → mid ≡ record old { session = after_spending old.session b }
+    → new ≡ record mid { session = after_replayed_key (says mid.tables) mid.session key }
+    → record new { session = with_painting_owed new.session } ≡ record old { session = after_replay (says old.tables) old.session b }
+replay_is {D} says old mid new b key completes is pressed =
+    let d = says old.tables in
+    ap (λ (x : SessionState D). record x { session = with_painting_owed x.session })
+    (pressed
+    ∙ ap (λ (x : SessionState D). record x { session = after_replayed_key (says x.tables) x.session key }) is
+    ∙ ap (λ (k : Option Key). record old { session = after_replayed_key d (after_spending old.session b) k }) completes)
+
 -- ---- the window's size
 
 -- a painted picture fits as before
 pub ended_fits : (d : Data) (painted : Option PictureState) (e new : Editor) → new ≡ paste_ended d e → FitsEditor painted e → FitsEditor painted new
 ended_fits d painted e new is was = fits_still painted e new (subst (SameSize e) (sym is) (ended_goes_on d e).1) was
 
-pub save_fits : (d : Data) (fault : Option StoreFault) (painted : Option PictureState) (e mid new : Editor) → mid ≡ paste_ended d e
-    → new ≡ after_key d fault mid Save → FitsEditor painted e → FitsEditor painted new
-save_fits d fault painted e mid new is saved was = still_fits d fault painted mid new Save refl saved (ended_fits d painted e mid is was)
+pub save_fits : (d d' : Data) (fault : Option StoreFault) (painted : Option PictureState) (e mid new : Editor) → mid ≡ paste_ended d e
+    → new ≡ after_key d' fault mid Save → FitsEditor painted e → FitsEditor painted new
+save_fits d d' fault painted e mid new is saved was = still_fits d' fault painted mid new Save refl saved (ended_fits d painted e mid is was)

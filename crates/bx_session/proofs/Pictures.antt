@@ -84,10 +84,10 @@ clip_is_held : (e : Editor) (key : Option Key) (text : List ℕ) → clip_after 
 clip_is_held e None text is = absurd (cc is)
 clip_is_held e (Some key) text is = held_if (e.clipboard && is_clip key e.message) e.held text is
 
-held_clip : (clip : Option (List ℕ)) {P : List ℕ → Type 0} {held : List ℕ} → ((text : List ℕ) → clip ≡ Some text → text ≡ held) → IfSome clip P
+held_clip : (P : List ℕ → Type 0) (held : List ℕ) (clip : Option (List ℕ)) → ((text : List ℕ) → clip ≡ Some text → text ≡ held) → IfSome clip P
     → IfSome clip (λ text. (text ≡ held) × P text)
-held_clip None own gives = tt
-held_clip (Some text) own gives = (own text refl, gives)
+held_clip P held None own gives = tt
+held_clip P held (Some text) own gives = (own text refl, gives)
 
 -- ---- a session with this painting queued
 
@@ -150,4 +150,5 @@ module _ (d : Data) (s : Session) (e : Editor) (top : ℕ) (p : PictureState) (c
 
   pub painting_appends : (key : Option Key) → clip ≡ clip_after s.editor key → IsUnseen clip → AppendsPainting d s.pending s.known new
   painting_appends key clips unseen =
-      appends_by clip appends (held_clip clip (λ text one. clip_is_held s.editor key text (sym clips ∙ one)) unseen.gives)
+      appends_by clip appends
+      (held_clip (λ text. decode_of standard (encode_of standard text) ≡ Ok text) s.editor.held clip (λ text one. clip_is_held s.editor key text (sym clips ∙ one)) unseen.gives)

@@ -68,8 +68,9 @@ pub clipboard_unseen : (d : Data) (e : Editor) (clipboard : Bool) (top : ℕ) �
 clipboard_unseen d e clipboard top = looks_same d e e.top clipboard top
 
 -- the picture that was drawn from a top is that of the editor which shows it first
-pub drawn_is : (d : Data) (e new : Editor) (top : ℕ) (p : PictureState) → new ≡ with_top e top → p ≡ picture d e top → p ≡ picture_of d new
-drawn_is d e new top p same is = is ∙ sym (top_unseen d e top top) ∙ ap (picture_of d) (sym same)
+pub drawn_is : (d : Data) (e scrolled : Editor) (top : ℕ) (p : PictureState) → scrolled ≡ with_top e top → p ≡ picture d e top
+    → p ≡ picture_of d scrolled
+drawn_is d e scrolled top p same is = is ∙ sym (top_unseen d e top top) ∙ ap (picture_of d) (sym same)
 
 -- and its cursor is on the cell of its place as before
 pub stands_on : (d : Data) (e : Editor) (top : ℕ) (p : PictureState) → StandsOnItsCell d e top p → StandsOnItsCell d (with_top e top) top p

@@ -1,6 +1,6 @@
 //! Replay of a journal's bytes in a session that opened the same text: keys are applied again, and nothing is stored.
 
-ghost use Rattle.std.specs.Prelude.{◌≡◌, ◌↔◌, ◌⊎◌, IsErrOf, IsOk, IsTrue, true, None, Some, is_some, IfErr, OnErr, OnOk};
+ghost use Rattle.std.specs.Prelude.{◌≡◌, ◌↔◌, ◌⊎◌, IsErrOf, IsOk, IsTrue, true, None, Some, is_some, IfErr, IfSome, OnErr, OnOk};
 ghost use Rattle.bx_session.specs.Saving.{may_refuse_key, store_state, with_text};
 ghost use Rattle.bx_keys.specs.Keys.{HasSides};
 ghost use Rattle.bx_editor.specs.Keys.{may_refuse};
@@ -121,6 +121,25 @@ impl<D: BidiData + Drop> Session<D> {
         }
     }
 
+    /// Applies the key of a journal that a byte completed, if it completed one.
+    ///
+    /// Errors: `Edit` and `Paint` if memory runs out for the key and for scrolling before it; nothing has changed.
+    fn press_completed(&mut self, key: Option<Key>) -> Result<(), Refused>
+        requires sides { IfSome key HasSides }
+        ensures after_key { OnOk result (self.new ≡ record self.old {
+          session = after_replayed_key (D.data self.old.tables) self.old.session key;
+        }) }
+        ensures err { OnErr result (self.new ≡ self.old) }
+        ensures edits { IsErrOf result Refused.Edit → may_refuse_key self.old.session.editor key ≡ true }
+        ensures scrolls { IsErrOf result Refused.Paint → is_some key ≡ true }
+        ensures refused { OnErr result ((result ≡ Err Refused.Edit) ⊎ (result ≡ Err Refused.Paint)) }
+    {
+        match key {
+            Some(key) => self.scroll_and_press(key),
+            None => Ok(()),
+        }
+    }
+
     /// Decodes a byte of a journal and applies the key that it completes, without painting. A Save stores nothing, and a Quit
     /// does not end the session. Call [`Session::end_replay`] after the last byte.
     ///
@@ -133,9 +152,8 @@ impl<D: BidiData + Drop> Session<D> {
         ensures scrolls { IsErrOf result Refused.Paint → is_some (key_of_byte self.old.session byte) ≡ true }
         ensures refused { OnErr result ((result ≡ Err Refused.Edit) ⊎ (result ≡ Err Refused.Paint)) }
     {
-        if let Some(key) = self.decode(byte) {
-            self.scroll_and_press(key)?;
-        }
+        let key = self.decode(byte);
+        self.press_completed(key)?;
         self.painting_owed = true;
         Ok(())
     }

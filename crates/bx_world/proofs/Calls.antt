@@ -3,7 +3,6 @@ use Rattle.std.proofs.Common.{◌≡◌, ℕ, zero, suc, Bool, true, false, List
 use Rattle.std.proofs.Common.{refl, sym, ap, subst, ◌∙◌, if◌then◌else◌}
 use Rattle.std.specs.Prelude.{IfSome, IsSome, OnOk, OnErr, ◌&&◌, ◌==◌, ◌≢◌, option_map}
 use Rattle.bx_terms.specs.declared.base.Base.{Base}
-use Rattle.bx_keys.specs.declared.key.Key.{Key}
 use Rattle.bx_keys.specs.Keys.{rest_after}
 use Rattle.bx_keys.specs.Waiting.{head_of}
 use Rattle.bx_grid.specs.declared.error.GridError.TheVariants as grid
@@ -28,7 +27,7 @@ use Rattle.bx_world.specs.declared.step.StepFault.TheVariants as faults
 use Rattle.bx_world.specs.Answers.{answer_of, is_applied, mark_after}
 use Rattle.bx_world.specs.Steps.{AfterByteStep, AfterToldStep, AfterReadStep}
 use Rattle.bx_world.specs.declared.world.World.TheInside.{Inside}
-use Rattle.bx_world.specs.World.{World, unknown_terminal, with_byte, with_told_size, told_after, told_after_key, is_window, after_send}
+use Rattle.bx_world.specs.World.{World, unknown_terminal, with_byte, with_told_size, told_after_key, is_window, after_send}
 use Rattle.bx_world.specs.Showing.{CursorStands, IsInStep}
 use Rattle.bx_world.proofs.Keys.{spent, byte_keeps, byte_pending, both, same_number}
 use Rattle.bx_world.proofs.Steps.{opened, kept, painted, resized, sent, received, failed}
