@@ -8,7 +8,7 @@ shift
 # shellcheck source=launcher/names.sh
 . "$top/launcher/names.sh"
 
-# Has the toolchain make its temporary files in /tmp where TMPDIR takes none.
+# Makes the toolchain use /tmp if nothing can be created in TMPDIR.
 settle_folder() {
     [ -n "${TMPDIR:-}" ] || return 0
     if folder=$(mktemp -d 2>/dev/null); then
@@ -20,7 +20,7 @@ settle_folder() {
 }
 
 settle_folder
-# first, since it takes a second, and tells what is to be installed
+# first, since it takes a second, and says what has to be installed
 sh "$top/host/build.sh" || exit
 [ $# != 0 ] || exit 0
 # Ctrl-C reaches both scripts; prove.sh cleans up and reports before this one ends

@@ -96,8 +96,8 @@ is_unpacked() { # FOLDER
     [ -f "$1/lib/bidi_edit/SOURCES" ] && [ "$(cat "$1/lib/bidi_edit/SOURCES")" = "$(cat "$top/dist/SOURCES")" ]
 }
 
-# Whether a start need not look further: no file of the host was exchanged since, as git does it, and no table or source of a program
-# was written. The folders proofs stay out, since looking at all of them takes longer than all else.
+# Whether a start need not check further: since the unpacking, git has replaced no file of the host, and no table and no source of a
+# program was written. The folders `proofs` are left out, since looking through them takes longer than everything else.
 is_ready() { # FOLDER
     # shellcheck disable=SC3013 # dash, bash and busybox have it
     [ "$1/bin/bidi-edit" -nt "$top/host" ] && is_unpacked "$1" &&

@@ -1,6 +1,6 @@
 # shellcheck shell=sh
 # shellcheck disable=SC2154 # top is set by the script that reads this file
-# Refusals before the first build, of words that no program needs to judge. For the script bidi-edit, which sets `top`.
+# Refusals before the first build, of arguments that are wrong in any case. For the script bidi-edit, which sets `top`.
 
 # shellcheck source=launcher/names.sh
 . "$top/launcher/names.sh"
@@ -10,7 +10,7 @@ usage='usage: bidi-edit [--direction auto|ltr|rtl] [--line N | +N] [--force] FIL
        bidi-edit --recover [[--to OTHER] FILE] | --forget [FILE]
        bidi-edit --print FILE [--cols N] [--marks]: its rows to standard output'
 
-# Tells the cause and the usage without its last line, as the host does.
+# Prints the cause and the usage without its last line, as the host does.
 refuse_words() { # CAUSE
     printf 'bidi-edit: %s\n%s\n' "$1" "${usage%
 *}" >&2

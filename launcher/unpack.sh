@@ -6,7 +6,7 @@ say_fault() { # WORDS
     printf 'bidi-edit: %s\n' "$1" >&2
 }
 
-# Prints the cause that commands told in English, without their names. tar tells of a full disk by what it could not write.
+# Prints the cause from messages of commands in English, without their names. On a full disk, tar only says what it could not write.
 cause_of() { # WORDS
     case $1 in
     *'No space left on device'* | *'Wrote only'*) echo 'No space left on device' ;;
@@ -19,7 +19,7 @@ mark() { # FOLDER
     TZ=UTC0 touch -t "$begun" "$1/lib/bidi_edit/SOURCES" 2>/dev/null || :
 }
 
-# Says that there is no room for the folder, and gives the status for that.
+# Says that the folder cannot be written, and returns the status for that.
 refuse_place() { # WORDS
     say_fault "dist/ cannot be unpacked in $(shown "${place%/*}"): $(cause_of "$1")"
     return 2
@@ -78,7 +78,7 @@ run_here() { # FOLDER
     [ $? -lt 126 ]
 }
 
-# Makes the folder beside its place and then renames it, so that it is never there in part. `beside` is removed at the end.
+# Makes the folder beside its place and then renames it, so that its place never has a part of it. `beside` is removed at the end.
 unpack() {
     beside=$(in_english mktemp -d "$place.XXXXXX") || {
         refuse_place "$beside"
@@ -93,7 +93,7 @@ unpack() {
     make_host "$beside/tree" || return
     run_here "$beside/tree" || return 3
     mark "$beside/tree"
-    # without a lock another start may have put its own there, now or before the rename
+    # without the lock, another start may put its own folder there, before this line or before the rename
     ! is_unpacked "$place" || return 0
     [ ! -e "$place" ] || mv -T -- "$place" "$beside/old" 2>/dev/null || :
     told=$(in_english mv -T -- "$beside/tree" "$place") || is_unpacked "$place" || refuse_place "$told"

@@ -325,7 +325,7 @@ check_without_proc() {
     fi
     put_note note
     open_editor first "unshare -m sh -c 'mount -t tmpfs none /proc && exec \"\$@\"' sh" note
-    expect_in first 'faults, without /proc: it is refused' 'there is no /proc, which it needs'
+    expect_in first 'faults, without /proc: it is refused' 'the editor needs /proc, which is not mounted'
     expect_in first 'faults, without /proc: the status' 'status 1'
     same 'faults, without /proc: FILE' "$(cat note)" ab
     leave_files

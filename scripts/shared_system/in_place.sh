@@ -37,7 +37,7 @@ check_mounted_file() {
     mounted="$mounted $folder/files/a?note"
     save_a_letter 'a note'
     same 'in place, a mounted file' "$(cat 'a note' "$folder/host" | tr '\n' ' ')" 'xof the host xof the host '
-    expect_in first 'in place, a mounted file: it is said' "'a note' is mounted by itself: saves are written"
+    expect_in first 'in place, a mounted file: it is said' "'a note' is mounted by itself: saves overwrite it in place"
     close_editors first
     umount 'a note'
     mounted=${mounted%" $folder/files/a?note"}
@@ -56,9 +56,9 @@ check_closed_folder() {
     chmod 555 closed
     save_a_letter closed/note
     same 'in place, a closed folder' "$(cat closed/note)" xab
-    expect_in first 'in place, a closed folder: it is said' 'closed/note is in a folder where you cannot replace it: saves are written'
+    expect_in first 'in place, a closed folder: it is said' 'closed/note is in a folder where you cannot replace it: saves overwrite it in place'
     open_editor first '' closed/new
-    expect_in first 'in place, a closed folder: a new file is refused' 'closed is a folder that you cannot write'
+    expect_in first 'in place, a closed folder: a new file is refused' 'you cannot write to the folder closed'
     close_editors first
     chmod 755 closed
     rm -rf closed

@@ -74,7 +74,7 @@ check_unreaped() {
     # its watcher and program end
     sleep 1
     open_editor second '' note
-    expect_in second 'liveness, a dead host that nobody reaped' 'an unfinished session of'
+    expect_in second 'liveness, a dead host that nobody reaped' 'an unfinished session from'
     close_editors first second
 }
 

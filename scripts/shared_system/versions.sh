@@ -68,7 +68,7 @@ check_no_snapshot() {
     open_editor first '' note
     wait_for 60 shows_in first '[d]elete for good'
     say_in first recover
-    expect_in first 'versions, nothing is sure' 'the keys may make another text now'
+    expect_in first 'versions, nothing is sure' 'its keys may give another text now'
     say_in first yes
     expect_in first 'versions, recovered all the same' '* 1:3'
     close_editors first
@@ -85,7 +85,7 @@ check_other_tables() {
     printf 'ab\n' | as_user tee note >/dev/null
     leave_session note
     open_editor first "BIDI_EDIT_DATA='$folder/tables'" --recover note
-    expect_in first 'versions, with other tables' "another version of the editor, or of Unicode's tables"
+    expect_in first 'versions, with other tables' "another version of the editor or of Unicode's tables"
     close_editors first
     rm -rf "$folder/tables"
 }

@@ -14,8 +14,7 @@ use Rattle.bx_store.specs.declared.store.StoreFault.{StoreFault}
 use Rattle.bx_editor.specs.declared.seek.Seek.TheVariants.{Off}
 use Rattle.bx_editor.specs.Editor.{Editor}
 use Rattle.bx_editor.specs.Pasting.{pastes_crlf}
-use Rattle.bx_editor_laws.specs.Laws.{after_typing}
-use Rattle.bx_editor_laws.specs.PastingLaws.{IsFree, KeysEndPastes, PasteComesBack, PasteIsTyping, PastesAreAlone}
+use Rattle.bx_editor_laws.specs.PastingLaws.{KeysEndPastes, PasteComesBack, PasteIsTyping, PastesAreAlone}
 use Rattle.bx_editor.proofs.Computed.{tables, start, after, letters}
 
 -- text and place

@@ -22,12 +22,12 @@ use Rattle.bx_editor.specs.declared.soft.Soft.{Soft}
 use Rattle.bx_editor.specs.declared.soft.Soft.TheVariants.{Off, Fresh, Old}
 use Rattle.bx_editor.specs.Editor.{Editor, cleared, place_after, with_insertion, with_typing}
 use Rattle.bx_editor.specs.Keys.{after_key, after_keys, as_left}
-use Rattle.bx_editor.specs.PasteLaws.{after_paste, brought, place_between}
+use Rattle.bx_editor.specs.PasteLaws.{after_paste, brought, place_between, written}
 use Rattle.bx_editor.specs.Pasting.{after_paste_end, after_paste_start, longer, paste_begun, pasted_bytes, pastes_crlf}
 use Rattle.bx_editor.specs.Putting.{has_room, only_paste, put_in, with_selection_replaced}
 use Rattle.bx_editor.specs.Region.{is_empty, region}
 use Rattle.bx_editor.specs.Selecting.{aged, is_selection, is_soft}
-use Rattle.bx_editor_laws.specs.PastingLaws.{typed_from, EndAtTheirPlaces, HaveSameText, IsFree, PasteComesBack, PasteIsTyping}
+use Rattle.bx_editor_laws.specs.PastingLaws.{EndAtTheirPlaces, IsFree, PasteComesBack, PasteIsTyping}
 use Rattle.bx_editor.proofs.OnePaste.{paste-is-one-edit}
 use Rattle.bx_editor_laws.proofs.OneRun.{insert-is, no-selection, paste-is-a-run}
 
@@ -44,9 +44,21 @@ grown d e cs false is free settled some room =
     let size : length (after_paste d e cs).content.past ≡ suc (length e.content.past) = ap (λ (t : Edited). length t.past) content in
     omega (arith, size)
 
+some-bytes : (is_crlf : Bool) (c : ℕ) (more : List ℕ) → pasted_bytes is_crlf c ++ more ≢ []
+some-bytes true c more none = cc none
+some-bytes false c more none =
+    let size : length (encode_utf8 c ++ more) ≡ 0 = ap length none in
+    omega (arith, size, length-append (encode_utf8 c) more, encode_utf8_nonempty c)
+
 pub paste-comes-back : PasteComesBack
-paste-comes-back d e cs free settled some room =
-    paste-is-a-run d e cs free.unasked free.unsought (grown d e cs (is_selection e) refl free settled some room)
+paste-comes-back d e [] free settled some room = absurd (some refl)
+paste-comes-back d e (c ∷ cs) free settled some room =
+    let text = e.content.text in
+    let all = (paste-is-one-edit d e (c ∷ cs) free.unasked free.unsought settled).all in
+    let fits = all.same_room ∙ room in
+    let list-some : brought d text [] (c ∷ cs) ≢ [] =
+    λ none. some-bytes (pastes_crlf d text c) c (written d text cs) (sym (all.whole fits) ∙ none) in
+    paste-is-a-run d e (c ∷ cs) free.unasked free.unsought (grown d e (c ∷ cs) (is_selection e) refl free settled list-some fits)
 
 -- ---- what is put in behind what was put in
 

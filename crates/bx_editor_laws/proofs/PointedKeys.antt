@@ -1,5 +1,5 @@
 -- Pointing at the picture: where it leads, and what is shown then.
-use Rattle.std.proofs.Common.{◌≡◌, ℕ, ◌+◌, ◌-◌, ◌≤◌, ◌<◌, nat_le, Bool, true, false, List, length, Option, None, refl, sym, ap, ap₂, subst, ◌∙◌}
+use Rattle.std.proofs.Common.{◌≡◌, ℕ, ◌+◌, ◌-◌, ◌≤◌, ◌<◌, nat_le, Bool, true, false, List, Option, None, refl, sym, ap, ap₂, subst, ◌∙◌}
 use Rattle.std.proofs.Common.{arith, inl, inr, leb-true, if◌then◌else◌}
 use Rattle.std.specs.Prelude.{◌≢◌, ◌⊎◌}
 use Rattle.std.proofs.lemmas.Bool.{le-leb}
@@ -32,7 +32,7 @@ use Rattle.bx_editor.specs.Pointing.{pointed_place}
 use Rattle.bx_editor.specs.Prompts.{HasOnePrompt}
 use Rattle.bx_editor.specs.Selecting.{aged, mark_left, soft_left, unselected}
 use Rattle.bx_editor_laws.specs.WorkLaws.{IsFullEnd, own_row}
-use Rattle.bx_editor_laws.specs.PointingLaws.{after_point, cursor_column, cursor_row, followed, IsShown, PointStays, PointTakesUnits, PointTwiceIsOnce, StandsAt}
+use Rattle.bx_editor_laws.specs.PointingLaws.{after_point, cursor_column, cursor_row, followed, PointStays, PointTakesUnits, PointTwiceIsOnce, StandsAt}
 use Rattle.bx_editor.proofs.InSearch.{any-key, behind}
 use Rattle.bx_editor.proofs.TopOnce.{top-stays}
 

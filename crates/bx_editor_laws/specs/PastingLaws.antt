@@ -1,5 +1,5 @@
 -- Laws of pastes: which keys end one, what one puts in, and when one is under way. `d`, `e` and `new` are as in Laws.antt.
-use Rattle.std.specs.Prelude.{◌≡◌, ◌≢◌, ℕ, ◌+◌, ◌≤◌, true, false, List, [], ◌∷◌, length, map, encode_utf8, encode_utf8_all, All, Option, Some, None, if◌then◌else◌}
+use Rattle.std.specs.Prelude.{◌≡◌, ◌≢◌, ℕ, ◌+◌, ◌≤◌, true, false, List, [], ◌∷◌, length, map, encode_utf8, encode_utf8_all, All, Option, None, if◌then◌else◌}
 use Rattle.bx_terms.specs.declared.base.Base.{Base}
 use Rattle.bx_keys.specs.declared.key.Key.{Key}
 use Rattle.bx_keys.specs.declared.key.Key.TheVariants.{Insert, UndoRun}
@@ -9,7 +9,7 @@ use Rattle.bx_asking.specs.declared.question.Ask.TheVariants as asks
 use Rattle.bx_editor.specs.declared.seek.Seek.TheVariants.{Off}
 use Rattle.bx_editor.specs.Editor.{Editor, at_start}
 use Rattle.bx_editor.specs.Keys.{after_key, after_keys, ends_paste}
-use Rattle.bx_editor.specs.PasteLaws.{after_paste, brought, place_between}
+use Rattle.bx_editor.specs.PasteLaws.{after_paste, place_between, written}
 use Rattle.bx_editor.specs.Pasting.{paste_ended, pastes_crlf}
 use Rattle.bx_editor.specs.Putting.{has_room}
 use Rattle.bx_editor.specs.Region.{region}
@@ -41,12 +41,12 @@ PastesAreAlone =
 
 -- ---- what a paste puts in
 
--- outside a search, a question and a paste one UndoRun takes back a paste that brought something for which there was room, and puts
--- back the selection that gave way to it
+-- outside a search, a question and a paste one UndoRun takes back a paste of characters for which there was room, and puts back the
+-- selection that gave way to them
 abbrev pub PasteComesBack : Type 0
 PasteComesBack =
-    (d : Data) (e : Editor) (cs : List ℕ) → IsFree e → e.pasted ≡ None → brought d e.content.text [] cs ≢ []
-    → has_room e (brought d e.content.text [] cs) ≡ true → IsBackBefore e (after_key d None (after_paste d e cs) UndoRun)
+    (d : Data) (e : Editor) (cs : List ℕ) → IsFree e → e.pasted ≡ None → cs ≢ []
+    → has_room e (written d e.content.text cs) ≡ true → IsBackBefore e (after_key d None (after_paste d e cs) UndoRun)
 
 -- the place at which a typed character is put in: that of the cursor, once a selection is removed
 abbrev pub typed_from : Data → Editor → ℕ

@@ -13,8 +13,8 @@ pub fn pastes_are_alone()
     ensures { PastesAreAlone }
 {}
 
-/// Outside a search, a question and a paste, one UndoRun takes back a paste that brought something for which there was room, and
-/// puts back the selection that gave way to it.
+/// Outside a search, a question and a paste, one UndoRun takes back a paste of characters for which there was room, and puts back
+/// the selection that gave way to them.
 pub fn paste_comes_back()
     ensures { PasteComesBack }
 {}

@@ -433,7 +433,7 @@ journals_give_back contents failures d b new store store' reader reader' writer 
     let back = ended_back d all end follow in
     let tells = tells_changes d b.text store' all end follow.lasts agree on.traces in (
       unsent d all new (at_replay_end d (after_replaying d opened_at bytes)) ran.session
-      (subst (λ (x : Session). HasBack (once_pasted d all) (at_replay_end d x)) (sym whole) back),
+          (subst (λ (x : Session). HasBack (once_pasted d all) (at_replay_end d x)) (sym whole) back),
       subst (λ (x : Session). TellsChanges b.text store' (once_pasted d new) (at_replay_end d x)) (sym whole)
-      (ended_run d b.text store' all new end same tells),
+          (ended_run d b.text store' all new end same tells),
     )

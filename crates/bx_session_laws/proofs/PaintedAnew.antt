@@ -1,8 +1,7 @@
 -- If no painting is owed, another painting changes nothing.
-use Rattle.std.proofs.Common.{◌≡◌, ℕ, Bool, true, false, List, [], ◌++◌, Option, Some, None, refl, sym, ap, ◌∙◌, if◌then◌else◌}
+use Rattle.std.proofs.Common.{◌≡◌, ℕ, Bool, true, false, List, ◌++◌, Option, Some, None, refl, sym, ap, ◌∙◌, if◌then◌else◌}
 use Rattle.std.specs.Prelude.{◌||◌, ◌&&◌, is_some}
 use Rattle.std.proofs.lemmas.List.{append-nil}
-use Rattle.bx_terms.specs.declared.base.Base.{Base}
 use Rattle.bx_paint.proofs.Few.{same_changes}
 use Rattle.bx_keys.specs.declared.key.Key.{Key}
 use Rattle.bx_keys.specs.declared.key.Key.TheVariants.{Insert, PasteStart}
@@ -15,7 +14,7 @@ use Rattle.bx_editor.specs.Keys.{after_key, asks_for_whole, needs_no_painting}
 use Rattle.bx_editor.specs.Picture.{next_top, picture}
 use Rattle.bx_editor.proofs.TopOnce.{top-stays}
 use Rattle.bx_session.specs.Session.{Session, after_sending, after_spending, at_opening, is_painted, key_of_byte, needs_painting, painted_after}
-use Rattle.bx_session.specs.Session.{painting, picture_of, session_after_any, session_after_key, then_clip, unpainted_after_byte, unpainted_after_told, with_painting}
+use Rattle.bx_session.specs.Session.{painting, picture_of, session_after_any, session_after_key, unpainted_after_byte, unpainted_after_told, with_painting}
 use Rattle.bx_session.specs.Session.{with_clipboard, with_painting_and_clip, with_picture}
 use Rattle.bx_session.proofs.KeySizes.{key_goes_on}
 use Rattle.bx_session.proofs.Tops.{clipboard_unseen, opening_stays}

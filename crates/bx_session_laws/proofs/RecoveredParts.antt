@@ -1,5 +1,5 @@
 -- What a replay gives back, part for part, in its middle and at its end.
-use Rattle.std.proofs.Common.{◌≡◌, ℕ, Bool, true, false, List, [], ◌∷◌, Option, Some, None, refl, sym, ap, subst, ◌∙◌, inl, inr}
+use Rattle.std.proofs.Common.{◌≡◌, ℕ, Bool, true, false, List, Option, Some, None, refl, sym, ap, subst, ◌∙◌}
 use Rattle.bx_terms.specs.declared.base.Base.{Base}
 use Rattle.bx_keys.specs.declared.key.Key.{Key}
 use Rattle.bx_keys.specs.declared.key.Key.TheVariants as keys
@@ -16,8 +16,7 @@ use Rattle.bx_editor.specs.declared.seek.Seek.{Seek}
 use Rattle.bx_editor.proofs.TopOnce.{top-stays}
 use Rattle.bx_session.specs.Beginning.{Beginning, after_going_to, at_offset, begun, changed_if, clipboard_if}
 use Rattle.bx_session.specs.Laws.{after_replaying}
-use Rattle.bx_session.specs.Running.{ByteAnswer, FeedsAll, bytes_of}
-use Rattle.bx_session.specs.Saving.{StoreState}
+use Rattle.bx_session.specs.Running.{bytes_of}
 use Rattle.bx_session.specs.Session.{Session, after_all_replayed, after_replay, after_replayed_key, after_spending, at_opening, at_replay_end, key_of_byte, scrolled}
 use Rattle.bx_session.specs.Session.{with_painting_owed}
 use Rattle.bx_session.proofs.Ending.{over}
@@ -25,7 +24,7 @@ use Rattle.bx_session.proofs.Input.{keys_of_input}
 use Rattle.bx_session.proofs.KeySizes.{ended_goes_on}
 use Rattle.bx_session.proofs.Replayed.{replays_keys}
 use Rattle.bx_session.proofs.Tops.{opening_stays}
-use Rattle.bx_session_laws.specs.Recovery.{HasBack, HasBackMidway, HasTop, IsSettled, PointsAsSeen, RecoveryGivesBack, RefusesNoKey, once_pasted}
+use Rattle.bx_session_laws.specs.Recovery.{HasBack, HasBackMidway, HasTop, IsSettled, RecoveryGivesBack, once_pasted}
 use Rattle.bx_session_laws.proofs.KeysAlike.{ended_alike}
 use Rattle.bx_session_laws.proofs.Lasting.{Lasting, lasting, having}
 use Rattle.bx_session_laws.proofs.Recovered.{Follows, all_follow}
@@ -67,7 +66,7 @@ same_lasts e f content runs place mark soft held query seek aim origin other at 
     ∙ ap (λ x. record sought { base = f.base; goal = f.goal; height = x }) (sym height)
     ∙ ap (λ x. record sought { base = f.base; goal = f.goal; height = f.height; width = x }) (sym width)
 
-pub follows : (s r : Session) → HasBackMidway s r → Follows s r
+follows : (s r : Session) → HasBackMidway s r → Follows s r
 follows s r h =
     let p = h.parts in record {
       lasts = same_lasts s.editor r.editor p.content p.runs p.place p.mark p.soft p.held p.query h.seek p.aim h.origin p.other h.at h.count h.ask h.answer p.pasted h.typing p.base p.goal p.height p.width;
@@ -113,7 +112,7 @@ pub over_none : (d : Data) (e : Editor) → e.pasted ≡ None → paste_ended d 
 over_none d e none = ap (ended_with d e) none
 
 -- it leaves the same of two editors of which the same lasts
-pub over_lasts : (d : Data) (e f : Editor) → lasting e ≡ lasting f → lasting (paste_ended d e) ≡ lasting (paste_ended d f)
+over_lasts : (d : Data) (e f : Editor) → lasting e ≡ lasting f → lasting (paste_ended d e) ≡ lasting (paste_ended d f)
 over_lasts d e f same = (ended_alike d e f).lasts ∙ ap (λ (l : Lasting). lasting (paste_ended d (having l f))) same
 
 pub ended_back : (d : Data) (s r : Session) → Follows s r → HasBack (once_pasted d s) (at_replay_end d r)

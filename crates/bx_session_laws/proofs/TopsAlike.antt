@@ -1,7 +1,7 @@
 -- A replay has the same row first as the session that was run, until a painting is refused.
 use Rattle.std.proofs.Common.{◌≡◌, ℕ, Bool, true, false, not, List, [], ◌∷◌, ◌++◌, Option, Some, None, Result, Ok, Err, refl, sym, ap, subst, ◌∙◌, inl, inr}
-use Rattle.std.proofs.Common.{arith, if◌then◌else◌}
-use Rattle.std.specs.Prelude.{◌≢◌, ◌⊎◌, ◌||◌, ◌&&◌, is_some, option_to_list, All}
+use Rattle.std.proofs.Common.{if◌then◌else◌}
+use Rattle.std.specs.Prelude.{◌≢◌, ◌||◌, ◌&&◌, is_some, option_to_list, All}
 use Rattle.std.proofs.lemmas.List.Elements.{All-head, All-tail}
 use Rattle.bx_keys.specs.declared.key.Key.{Key}
 use Rattle.bx_keys.specs.declared.key.Key.TheVariants.{Insert, PasteStart}
@@ -62,7 +62,7 @@ unseen d fault e key h = subst (LooksAs d e) (any_fault d fault e key h) (paste-
 abbrev TopIs : Data → Session → Editor → Type 0
 TopIs d had e = (had.painting_owed ≡ false) × (had.editor.ended ≡ false → (scrolled d e).top ≡ had.editor.top)
 
-pub not_owed : (owed needs : Bool) → owed ≡ false → (owed || needs) ≡ needs
+not_owed : (owed needs : Bool) → owed ≡ false → (owed || needs) ≡ needs
 not_owed true needs h = absurd (cc h)
 not_owed false needs h = refl
 
@@ -70,7 +70,7 @@ pub not_not : (b : Bool) → not b ≡ false → b ≡ true
 not_not true h = refl
 not_not false h = absurd (cc h)
 
-pub points_any : (top other : ℕ) (key : Option Key) → other ≡ top → PointsAny top other key
+points_any : (top other : ℕ) (key : Option Key) → other ≡ top → PointsAny top other key
 points_any top other None same = tt
 points_any top other (Some key) same = inr same
 
@@ -171,7 +171,7 @@ split_points : (top other : ℕ) (key : Option Key) (rest : List Key) → All No
 split_points top other None rest h = (tt, h)
 split_points top other (Some key) rest h = (inl (All-head NotPoint key rest h), All-tail NotPoint key rest h)
 
-pub none_points : (d : Data) (s r : Session) (store store' : StoreState) (answered : List ByteAnswer) (new : Session)
+none_points : (d : Data) (s r : Session) (store store' : StoreState) (answered : List ByteAnswer) (new : Session)
     → (feeds : FeedsAll d s store answered new store') → RefusesNoKey answered → All NotPoint (keys_from s.rest (bytes_of answered))
     → PointsOn d s r store answered new store' feeds
 none_points d s r store store' [] new feeds none keys = tt
@@ -179,10 +179,12 @@ none_points d s r store store' (a ∷ answered) new feeds none keys =
     let some = All-head (λ (x : ByteAnswer). x.1 ≢ Err refused.Edit) a answered none in
     let next = head_of (rest_after s.rest a.0) in
     let both = split_points s.editor.top (scrolled d r.editor).top (key_after s.rest a.0) (keys_from next (bytes_of answered)) keys in
-    let leaves = byte_leaves d feeds.3.0 s a.0 a.1 feeds.0 feeds.2 some feeds.3.2 in
-    (both.0, none_points d feeds.0 (after_replay d r a.0) feeds.1 store' answered new feeds.5
-    (All-tail (λ (x : ByteAnswer). x.1 ≢ Err refused.Edit) a answered none)
-    (subst (λ rest. All NotPoint (keys_from rest (bytes_of answered))) (sym leaves.rest_is) both.1))
+    let leaves = byte_leaves d feeds.3.0 s a.0 a.1 feeds.0 feeds.2 some feeds.3.2 in (
+      both.0,
+      none_points d feeds.0 (after_replay d r a.0) feeds.1 store' answered new feeds.5
+          (All-tail (λ (x : ByteAnswer). x.1 ≢ Err refused.Edit) a answered none)
+          (subst (λ rest. All NotPoint (keys_from rest (bytes_of answered))) (sym leaves.rest_is) both.1),
+    )
 
 -- in both cases; `first`: what a start has whose text and window are sound
 pub points_on : (d : Data) (s r : Session) (store store' : StoreState) (answered : List ByteAnswer) (new : Session) → Follows s r
