@@ -1,8 +1,9 @@
-use Rattle.std.proofs.Common.{◌≡◌, ◌≤◌, ◌+◌, List, ℕ, drop, get_or, ap, subst, ◌∙◌, arith}
-use Rattle.std.proofs.lemmas.List.{drop_more, take_more}
+use Rattle.std.proofs.Common.{◌≡◌, ◌≤◌, ◌+◌, ◌⊎◌, ◌↔◌, Contains, IsTrue, List, ℕ, drop, get_or, ap, subst, ◌∙◌, arith}
+use Rattle.std.proofs.lemmas.List.{drop_all, drop_more, take_all, take_more}
 use Rattle.bx_ucd.specs.Data.{Data}
 use Rattle.bx_session.specs.Session.{SessionState, after_replay}
-use Rattle.bx_recovery.proofs.Replays.{HasMet, met_at_first, met_more, one_key_at_most, replayed_one}
+use Rattle.bx_recovery.proofs.Replays.{HasMet, holds_beside, journal_is, met_at_first, met_more, one_key_at_most, replayed_one}
+use Rattle.bx_recovery.specs.Recovery.{known_texts, texts_at_saves}
 use Rattle.bx_recovery.proofs.replaying.replay_beside.Goals as goal
 
 pub loop-byte-init : goal.loop-byte-init
@@ -35,3 +36,22 @@ loop-byte-preserved g c =
           c.loop-byte.met.is_known _ c.loop-byte.met.keys _ met c.key_of-key.ensures c.met_with-met.ensures.known c.met_with-met.ensures.keys next;
       few = let one = one_key_at_most c.key_of-key.result in omega (arith, one, was.few, c.met_with-met.ensures.keys);
     }
+
+pub returns-clause-replays : goal.returns-clause-replays
+returns-clause-replays g c =
+    let says : g.row.D.Denot → Data = g.D.BidiData.data in
+    let keys = c.args.keys.now in
+    journal_is says c.args.session.now.tables c.loop-byte.session c.end_replay.new.self c.args.session.now.session keys _ c.loop-byte.invariant.goes
+    (take_all c.loop-byte.byte-index keys (omega (arith, c.loop-byte-test.false))) c.in_ok-end_replay.ensures.ok
+
+pub returns-clause-holds : goal.returns-clause-holds
+returns-clause-holds g c =
+    let d = g.D.BidiData.data c.args.session.now.tables in
+    let old = c.args.session.now.session in
+    let keys = c.args.keys.now in
+    let file = c.args.file.now in
+    let known = c.loop-byte.met.is_known in
+    let knows = subst (λ (rest : List ℕ). (IsTrue known ⊎ Contains (texts_at_saves d c.loop-byte.session.session rest) file) ↔ Contains (known_texts d old keys) file)
+    (drop_all c.loop-byte.byte-index keys (omega (arith, c.loop-byte-test.false))) c.loop-byte.invariant.met.known in
+    holds_beside d old c.end_replay.new.self.session keys file c.has_text-2.result known c.held_by.result (returns-clause-replays g c) c.has_text-2.ensures knows
+    c.held_by.ensures.same c.held_by.ensures.known c.held_by.ensures.foreign
