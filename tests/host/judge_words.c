@@ -185,7 +185,7 @@ static const char *const versions[][2] = {
 };
 
 static void check_version(const char *first_line, const char *wanted) {
-    char path[] = "/tmp/judge_words.XXXXXX";
+    char path[] = P_tmpdir "/judge_words.XXXXXX";
     int file = mkstemp(path);
     if (file < 0 || write(file, first_line, strlen(first_line)) < 0) exit(1);
     close(file);

@@ -685,10 +685,10 @@ def many_links(check):
 def lost_folder(check):
     """A FILE whose folder is gone is named as it was, also from a working folder that is gone."""
     check.same("a folder that is gone", opened_as(check, "gone/deep/note", "--lost", "--force"), f"opened {check.folder}/gone/deep/note")
-    os.mkdir(f"{check.folder}/work")
-    script = f"cd {check.folder}/work && rmdir {check.folder}/work && {driver} --force note </dev/null"
+    os.mkdir(f"{check.folder}/gone")
+    script = f"cd {check.folder}/gone && rmdir {check.folder}/gone && {driver} --force note </dev/null"
     said = subprocess.run(["sh", "-c", script], capture_output=True, text=True).stdout.strip()
-    check.same("a working folder that is gone", said, f"opened {check.folder}/work/note")
+    check.same("a working folder that is gone", said, f"opened {check.folder}/gone/note")
 
 
 def leftovers(check):

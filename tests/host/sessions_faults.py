@@ -113,7 +113,7 @@ class Place:
         return started
 
     def parts(self, name):
-        folders = [f'{self.variables["XDG_STATE_HOME"]}/bidi_edit', *glob.glob(f'{self.top}/tmp/bidi_edit.*')]
+        folders = [f'{self.variables["XDG_STATE_HOME"]}/bidi_edit', *glob.glob(os.path.join(self.top, 'tmp', 'bidi_edit.*'))]
         return [path for folder in folders for path in glob.glob(f'{folder}/2*/{name}')]
 
     def part(self, name):
@@ -200,8 +200,9 @@ def foreign_folders(place):
 def hard_links(place):
     """One name of FILE is in a folder for temporary files: its session is found by both."""
     place.put('a')
-    os.link(f'{place.files}/a', f'{place.top}/tmp/b')
-    for one, other in ((f'{place.files}/a', f'{place.top}/tmp/b'), (f'{place.top}/tmp/b', f'{place.files}/a')):
+    names = f'{place.files}/a', os.path.join(place.top, 'tmp', 'b')
+    os.link(*names)
+    for one, other in (names, names[::-1]):
         first = place.edit(one).types(b'abc')
         place.start(other).is_told_of_other()
         first.hangs_up()

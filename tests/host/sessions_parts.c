@@ -442,7 +442,7 @@ static void check_links(void) {
     setenv("TMPDIR", path_in("tmp"), 1);
     find_folder(&sessions, path_in("tmp"));
     check(sessions_make(&sessions), "links: the folder of one name");
-    check(strstr(sessions.path, "/tmp/bidi_edit.") != NULL || strstr(sessions.path, "state") != NULL, "links: where it is");
+    check(strstr(sessions.path, path_in("tmp/bidi_edit.")) != NULL || strstr(sessions.path, "state") != NULL, "links: where it is");
     look_at(&target, "tmp/note");
     check(begin(&session, &sessions, &target) == 0, "links: it begins");
     fill(&session);
