@@ -8,7 +8,7 @@ use Rattle.bx_keys.specs.Keys.{decoding}
 use Rattle.bx_keys.specs.declared.key.Key.TheVariants.{Notice, Size}
 use Rattle.bx_keys.specs.declared.notice.Notice.TheVariants.{NoSpace, FolderGone, NotPermitted, ReadOnly, Unkept, KeptAgain, Recovered, RecoveredAside, InPlace}
 
--- the letter Alef of Hebrew is D7 90: a size that comes between goes in behind it
+-- the Hebrew letter Alef has two bytes; a size that arrives between them goes in after the letter
 pub a_size_cuts_no_letter : heard (codes "b\0\u{1}" ++ 0xD7 ∷ (codes "z\0\u{4}\0\u{18}\0P" ++ (codes "b\0\u{1}" ++ 0x90 ∷ []))) (begun false)
     ≡ 0xD7 ∷ 0x90 ∷ codes "\u{1b}[8;24;80t"
 unfolding digits
