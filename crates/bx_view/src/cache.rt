@@ -35,8 +35,8 @@ fn is_cached(cache: &[ParagraphLayout], i: usize, text: &Text, span: TextSpan) -
     body.len() == span.stop - span.start && stands_at(text, span.start, body.as_bytes())
 }
 
-/// The index of the cached paragraph whose body is the text's in a span. Tries index `recent` first, then the next, since
-/// the paragraphs of a page are cached in order, and keeps the found one in `recent`.
+/// The index of the cached paragraph whose body is the text's in a span, which is kept in `recent`. Searches outward from the old
+/// `recent`, since neighbours on a page are cached close to one another, in either order.
 pub(crate) fn find_in(
     cache: &[ParagraphLayout],
     recent: &mut usize,
@@ -47,18 +47,13 @@ pub(crate) fn find_in(
     requires within { span.stop ≤ length text.now.edited.text }
     ensures { IfSome result (HasBody (slice_range text.now.edited.text span.start span.stop) cache.now) }
 {
-    let first = *recent;
-    if is_cached(cache, first, text, span) {
-        return Some(first);
-    }
-    if first < cache.len() && is_cached(cache, first + 1, text, span) {
-        *recent = first + 1;
-        return Some(first + 1);
-    }
-    for i in 0..cache.len() {
-        if is_cached(cache, i, text, span) {
-            *recent = i;
-            return Some(i);
+    let middle = cache.len().saturating_sub(1).min(*recent);
+    for away in 0..cache.len() {
+        for i in [middle.saturating_add(away), middle.saturating_sub(away)] {
+            if is_cached(cache, i, text, span) {
+                *recent = i;
+                return Some(i);
+            }
         }
     }
     None
