@@ -135,17 +135,18 @@ impl<D: BidiData + Drop> Session<D> {
         self.painting_owed || needs_painting(&self.editor, key)
     }
 
-    /// Decodes a byte and applies the key that it completes. Returns whether to paint.
+    /// Decodes a byte and applies the key that it completes. Returns whether to paint, and the key.
     ///
     /// Errors: `Edit` if memory runs out, only for a key that edits, moves, copies, finds or ends a paste; the byte is consumed, and
     /// nothing else has changed.
-    fn enter<S: Store>(&mut self, byte: u8, store: &mut S) -> Result<bool, Refused>
+    fn enter<S: Store>(&mut self, byte: u8, store: &mut S) -> Result<(bool, Option<Key>), Refused>
         ensures after_byte { (fault : Option StoreFault)
             × StoreAfter (is_applied result && is_save_byte self.old.session byte) fault
             (text_to_save (D.data self.old.tables) self.old.session.editor)
             (store_state S.contents S.faults store.old) (store_state S.contents S.faults store.new)
             × OnOk result (self.new ≡ record self.old { session = unpainted_after_byte (D.data self.old.tables) fault self.old.session byte }) }
-        ensures asks { IfOk result (λ asks. asks ≡ is_painted self.old.session byte) }
+        ensures asks { IfOk result (λ entered. entered.0 ≡ is_painted self.old.session byte) }
+        ensures key { IfOk result (λ entered. entered.1 ≡ key_of_byte self.old.session byte) }
         ensures untouched { is_save_byte self.old.session byte ≡ false → store.new ≡ store.old }
         ensures err { OnErr result (self.new ≡ record self.old { session = after_spending self.old.session byte }) }
         ensures edits { OnErr result (may_refuse_key self.old.session.editor (key_of_byte self.old.session byte) ≡ true) }
@@ -156,13 +157,13 @@ impl<D: BidiData + Drop> Session<D> {
         match key {
             Some(Key::Save) => {
                 self.save(store)?;
-                Ok(asks)
+                Ok((asks, key))
             }
-            Some(key) => {
-                self.press(key)?;
-                Ok(asks)
+            Some(pressed) => {
+                self.press(pressed)?;
+                Ok((asks, key))
             }
-            None => Ok(asks),
+            None => Ok((asks, key)),
         }
     }
 
@@ -187,8 +188,8 @@ impl<D: BidiData + Drop> Session<D> {
         ensures idle { is_idle self.old.session byte ≡ true → IsOk result }
         ensures unchanged { is_idle self.old.session byte ≡ true → self.new.session ≡ after_spending self.old.session byte }
     {
-        let key = self.key_of(byte);
-        if !self.enter(byte, store)? {
+        let (asks, key) = self.enter(byte, store)?;
+        if !asks {
             return Ok(self.status());
         }
         self.paint_after(key)?;
