@@ -1,5 +1,7 @@
 -- The number of paragraphs of some characters, and of their bytes.
 use Rattle.std.proofs.Common.{◌≡◌, ◌<◌, ◌≤◌, ◌+◌, ◌∙◌, ℕ, Bool, true, false, ◌==◌, List, [], ◌∷◌, ◌++◌, length, refl, ap, sym, subst, arith, length-append}
+use Rattle.std.proofs.Common.{cond, count_by}
+use Rattle.std.proofs.lemmas.List.Sums.{sum_by-cons}
 use Rattle.std.proofs.lemmas.Bool.Decides.{nat_tests}
 use Rattle.bx_ucd.specs.Data.{Data}
 use Rattle.bx_index.specs.declared.lengths.Lengths.{Lengths}
@@ -142,6 +144,19 @@ module _ (says : Data) where
   pub count_few : (cs : List ℕ) → count cs ≤ length cs + 1
   count_few [] = omega arith
   count_few (c ∷ cs) = omega (arith, count_few cs, (next c cs).few)
+
+  -- there is at most one paragraph more than characters that are separators
+  count_separating_at : (c : ℕ) (cs : List ℕ) (ended paired : Bool) → ends says c ≡ ended → is_paired says c cs ≡ paired
+      → count cs ≤ count_by (ends says) cs + 1 → count (c ∷ cs) ≤ cond ended 1 0 + count_by (ends says) cs + 1
+  count_separating_at c cs false paired e p h = omega (arith, h, count_plain c cs e)
+  count_separating_at c cs true true e p h = omega (arith, h, count_paired c cs e p)
+  count_separating_at c cs true false e p h = omega (arith, h, count_ended c cs e p)
+
+  pub count_separating : (cs : List ℕ) → count cs ≤ count_by (ends says) cs + 1
+  count_separating [] = omega arith
+  count_separating (c ∷ cs) =
+      subst (λ n. count (c ∷ cs) ≤ n + 1) (sym (sum_by-cons (λ d. cond (ends says d) 1 0) c cs))
+      (count_separating_at c cs (ends says c) (is_paired says c cs) refl refl (count_separating cs))
 
   -- CR and LF at a seam
   pair_is_two : (c : ℕ) (ds : List ℕ) → is_paired says c ds ≡ true → 2 ≤ count ds

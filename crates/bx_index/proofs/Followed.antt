@@ -3,13 +3,14 @@ use Rattle.std.proofs.Common.{◌≡◌, ◌<◌, ◌≤◌, ◌+◌, ◌-◌, �
 use Rattle.std.proofs.Common.{Option, Some, None, IfSome, ◌*◌, MatchOption, IsUtf8, IsCharBoundary, min, refl, ap, sym, subst, arith, length-append}
 use Rattle.std.proofs.Common.{append_assoc, append-nil}
 use Rattle.std.proofs.lemmas.Bool.Decides.{nat_tests}
-use Rattle.std.proofs.lemmas.List.{take-append-drop, take-take, drop_more, take_all, drop_all}
+use Rattle.std.proofs.Common.{chars}
+use Rattle.std.proofs.lemmas.List.{length-take-le, take-append-drop, take-take, take_at, drop_at, drop_more, take_all, drop_all}
 use Rattle.bx_ucd.specs.Data.{Data}
 use Rattle.bx_text.specs.declared.change.Change.{Change}
-use Rattle.bx_text.specs.Edits.{IsChange, largest_text}
+use Rattle.bx_text.specs.Edits.{IsChange, largest_text, splice}
 use Rattle.bx_index.specs.declared.lengths.Lengths.{Lengths}
 use Rattle.bx_index.specs.declared.paragraph_span.ParagraphSpan.{ParagraphSpan}
-use Rattle.bx_index.specs.Paragraphs.{lengths, separator_count}
+use Rattle.bx_index.specs.Paragraphs.{lengths, separating, separator_count}
 use Rattle.bx_index.specs.Capacity.{block_capacity}
 use Rattle.bx_index.specs.Positions.{bytes_of, total}
 use Rattle.bx_index.specs.Ended.{ended_within}
@@ -17,6 +18,7 @@ use Rattle.bx_text.specs.Text.{HasRoomFor}
 use Rattle.bx_index.specs.Index.{CoversBytes, HasSpares}
 use Rattle.bx_index.specs.Flat.{IsSpanAround}
 use Rattle.bx_index.specs.Touched.{IsTouched}
+use Rattle.bx_index.proofs.Counts.{count_separating}
 use Rattle.bx_index.proofs.Cuts.{unended}
 use Rattle.bx_index.proofs.Totals.{total_append, total_more, total_push, total_front}
 use Rattle.bx_index.proofs.Rewritten.{IsRewritten, change_inside, change_at_end, few_separators}
@@ -230,3 +232,16 @@ pub covers_bytes : (room : Option ℕ) (n : ℕ) → room ≡ Some n → CoversB
 covers_bytes room n e says text utf8 enough =
     let few : separator_count says text ≤ n = omega (arith, few_lengths says text utf8, enough) in
     rw e few
+
+-- so does as much room as separators, where a text is put in: it is all that is added
+put_in : (old new : List ℕ) (at : ℕ) → at ≤ length old → take (length new) (drop at (splice old at at new)) ≡ new
+put_in old new at within =
+    ap (λ xs. take (length new) (drop at xs)) (append_assoc (take at old) new (drop at old))
+    ∙ ap (take (length new)) (drop_at (take at old) (new ++ drop at old) at (length-take-le at old within))
+    ∙ take_at new (drop at old) (length new) refl
+
+pub room_for_put : (says : Data) (old new : List ℕ) (at : ℕ) → at ≤ length old → (room : Option ℕ) (n : ℕ) → room ≡ Some n → separating says new ≤ n
+    → HasRoomFor room (separator_count says (take (length new) (drop at (splice old at at new))))
+room_for_put says old new at within room n e enough =
+    let few : separator_count says new ≤ n = omega (arith, count_separating says (chars new), enough) in
+    rw e (subst (λ t. separator_count says t ≤ n) (sym (put_in old new at within)) few)

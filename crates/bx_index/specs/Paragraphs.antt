@@ -1,6 +1,6 @@
 -- The paragraphs of a text: the text cut at each paragraph separator (UAX #9, P1). CR LF, 13 and 10, is one separator.
 -- `says` is Unicode's data.
-use Rattle.std.specs.Prelude.{ℕ, ◌-◌, ◌==◌, ◌&&◌, Bool, true, false, List, [], ◌∷◌, ◌++◌, map, length, chars, encode_utf8}
+use Rattle.std.specs.Prelude.{ℕ, ◌-◌, ◌==◌, ◌&&◌, Bool, true, false, List, [], ◌∷◌, ◌++◌, map, length, chars, count_by, encode_utf8}
 use Rattle.bx_ucd.specs.Data.{Data}
 use Rattle.bx_ucd.specs.declared.class.Class.{Class}
 use Rattle.bx_ucd.specs.declared.class.Class.TheVariants.{B}
@@ -61,3 +61,7 @@ lengths says text = map lengths_of (paragraphs says text)
 -- the number of paragraphs of a text that end with a separator: all but the last
 abbrev pub separator_count : Data → List ℕ → ℕ
 separator_count says text = length (lengths says text) - 1
+
+-- the number of characters of a text that are separators; CR and the LF after it are two
+abbrev pub separating : Data → List ℕ → ℕ
+separating says text = count_by (λ c. is_separator (says.class c)) (chars text)

@@ -165,8 +165,8 @@ impl Index {
     }
 
     /// Makes room: after Ok the index follows an edit without an allocation if the added text has at most this number of
-    /// separators. No text has more of them than bytes, so a count of bytes suffices. The edit frees the rest of the
-    /// room.
+    /// separators. [`separating`] counts them, and no text has more of them than bytes, so a count of bytes suffices too. The
+    /// edit frees the rest of the room.
     ///
     /// Errors: `OutOfMemory`, and the index and the room made before are unchanged.
     pub fn ready(&mut self, separators: usize) -> Result<(), OutOfMemory>

@@ -20,5 +20,5 @@ mod walk;
 
 pub use index::Index;
 pub use laws::{bodies_match_spans, paragraphs_join_to_text};
-pub use scan::separates;
+pub use scan::{separates, separating};
 pub use walk::ParagraphWalk;

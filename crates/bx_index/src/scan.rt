@@ -2,7 +2,7 @@
 
 ghost use Rattle.std.specs.Prelude.{◌≡◌, ℕ, ◌<◌, ◌≤◌, ◌+◌, ◌==◌, ◌&&◌, chars, take, drop, false};
 ghost use Rattle.std.specs.Prelude.{get_or, length, slice_get, encode_utf8, if◌then◌else◌, IsCharBoundary, IsUtf8, MatchOption};
-ghost use Rattle.bx_index.specs.Paragraphs.{is_separator, begins_with_lf, lengths};
+ghost use Rattle.bx_index.specs.Paragraphs.{is_separator, begins_with_lf, lengths, separating};
 ghost use Rattle.bx_index.specs.Ended.{first};
 ghost use Rattle.bx_index.specs.Scan.{HasNone, NoneAt, BeginsAt, IsAt};
 ghost use Rattle.bx_index.specs.LeadBytes.{CoversSeparators};
@@ -19,6 +19,14 @@ pub fn separates<D: BidiData>(tables: &D, c: char) -> bool
     ensures { result ≡ is_separator ((D.data tables.now).class c) }
 {
     matches!(tables.class(c), Class::B)
+}
+
+/// The number of characters of a text that separate paragraphs; CR and the LF after it are two. No text has more separators.
+/// Allocates nothing.
+pub fn separating<D: BidiData>(tables: &D, text: &str) -> usize
+    ensures { result ≡ separating (D.data tables.now) text.now }
+{
+    text.chars().filter(|c| separates(tables, *c)).count()
 }
 
 /// The character that begins at an offset of a text.
