@@ -12,7 +12,7 @@ use crate::backup::Backup;
 use crate::error::DocumentError;
 use crate::history::{HistoryStep, next_changes, step_in};
 use bx_find::Haystack;
-use bx_index::Index;
+use bx_index::{Index, separating};
 use bx_terms::OutOfMemory;
 use bx_text::{Change, EditPlaces, Slices, Text, TextError};
 use bx_ucd::BidiData;
@@ -202,11 +202,12 @@ impl<D: BidiData + Drop> OwnText<D> {
         ensures ok { OnOk result (self.new ≡ record self.old { content = inserted self.old.content at new.now before after }) }
         ensures err { OnErr result (self.new ≡ self.old) }
     {
-        self.index.ready(new.len())?;
+        // A long text needs no room for as many separators as it has bytes.
+        self.index.ready(separating(&self.tables, new))?;
         let Ok(change) = self.text.insert(at, new, before, after) else {
             return Err(OutOfMemory);
         };
-        follow(&mut self.index, &self.text, &self.tables, &change);
+        self.index.edited(&self.text, &self.tables, &change);
         Ok(())
     }
 
