@@ -1,6 +1,7 @@
 //! A sequence of pieces of text in a balanced tree, searched and split by offset.
 #![tactic(auto)]
 
+mod comparing;
 mod copying;
 mod cutting;
 mod joining;

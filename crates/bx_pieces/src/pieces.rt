@@ -1,6 +1,7 @@
 //! A sequence of pieces, which is a text: searched, split and joined at offsets in bytes of the text.
 
-ghost use Rattle.std.specs.Prelude.{◌≡◌, [], ◌++◌, ◌+◌, ◌/◌, ◌<◌, ◌≤◌, ◌^◌, IfOk, length};
+ghost use Rattle.std.specs.Prelude.{◌≡◌, [], ◌++◌, ◌+◌, ◌/◌, ◌<◌, ◌≤◌, ◌^◌, IfOk, IsTrue, drop, length, take};
+ghost use Rattle.bx_pieces.specs.Bytes.{AreWithin, bytes_in};
 ghost use Rattle.bx_pieces.specs.Pieces.{total, front, back, holding, pushed, IsAddressable};
 
 use crate::copying::copy;
@@ -113,6 +114,14 @@ impl Pieces {
         ensures { result ≡ holding self.now at }
     {
         tree::holding(&self.tree, at)
+    }
+
+    /// Whether the text, whose pieces lie in these two buffers, has these bytes at an offset. Allocates nothing.
+    pub fn has(&self, opened: &[u8], added: &[u8], at: usize, bytes: &[u8]) -> bool
+        requires { AreWithin opened.now added.now self.now }
+        ensures { IsTrue result → take (length bytes.now) (drop at (bytes_in opened.now added.now self.now)) ≡ bytes.now }
+    {
+        tree::has(&self.tree, opened, added, at, bytes)
     }
 
     /// The pieces before an offset in bytes, and those after it. A piece with bytes on both sides is split,

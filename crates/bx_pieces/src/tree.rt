@@ -1,9 +1,11 @@
 //! An AVL tree of pieces in order: the depths of the two sides of each node differ by at most one.
 
-ghost use Rattle.std.specs.Prelude.{◌≡◌, ◌∷◌, ◌++◌, ◌+◌, ◌<◌, ◌≤◌, ◌^◌, length};
+ghost use Rattle.std.specs.Prelude.{◌≡◌, ◌∷◌, ◌++◌, ◌+◌, ◌<◌, ◌≤◌, ◌^◌, IsTrue, drop, length, take};
+ghost use Rattle.bx_pieces.specs.Bytes.{AreWithin, bytes_in};
 ghost use Rattle.bx_pieces.specs.Pieces.{total, holding, last_of, longer};
 ghost use Rattle.bx_pieces.specs.Tree.{sequence, depth_of, fork, DifferByAtMost, IsShallow};
 
+use crate::comparing::piece_has;
 use crate::piece::{Buffer, Piece};
 use std::marker::Model;
 use std::mem;
@@ -198,4 +200,49 @@ fn holding_in(tree: &Tree, at: usize) -> Option<(Piece, usize)>
         return Some((tree.piece, past));
     }
     holding(&tree.right, past - tree.piece.len)
+}
+
+/// Whether the text of a tree, whose pieces lie in these two buffers, has these bytes at an offset. Visits each of its pieces
+/// once, and searches for none. Allocates nothing.
+#[cycle(comparing)]
+pub fn has(tree: &Link, opened: &[u8], added: &[u8], at: usize, bytes: &[u8]) -> bool
+    requires within { AreWithin opened.now added.now (sequence tree.now) }
+    ensures { IsTrue result → take (length bytes.now) (drop at (bytes_in opened.now added.now (sequence tree.now))) ≡ bytes.now }
+{
+    if bytes.is_empty() {
+        return true;
+    }
+    match tree {
+        None => false,
+        Some(tree) => has_in(&**tree, opened, added, at, bytes),
+    }
+}
+
+/// `has` of a tree with a piece.
+#[cycle(comparing)]
+fn has_in(tree: &Tree, opened: &[u8], added: &[u8], at: usize, bytes: &[u8]) -> bool
+    requires within { AreWithin opened.now added.now tree.now.pieces }
+    ensures { IsTrue result → take (length bytes.now) (drop at (bytes_in opened.now added.now tree.now.pieces)) ≡ bytes.now }
+{
+    let before = len(&tree.left);
+    if before <= at && tree.piece.len <= at - before {
+        return has(
+            &tree.right,
+            opened,
+            added,
+            at - before - tree.piece.len,
+            bytes,
+        );
+    }
+    let on_left = bytes.len().min(before.saturating_sub(at));
+    let skipped = at.saturating_sub(before);
+    let rest = &bytes[on_left..];
+    let own = rest.len().min(tree.piece.len - skipped);
+    if !has(&tree.left, opened, added, at, &bytes[..on_left]) {
+        return false;
+    }
+    if !piece_has(opened, added, tree.piece, skipped, &rest[..own]) {
+        return false;
+    }
+    has(&tree.right, opened, added, 0, &rest[own..])
 }
