@@ -14,3 +14,4 @@ pub mod Examples
 pub mod Lent
 pub mod OneStep
 pub mod Without
+pub mod Compared

@@ -1,6 +1,6 @@
 //! Reads the text of pieces in their two buffers: `opened`, the text as opened, and `added`, all text inserted since.
 
-ghost use Rattle.std.specs.Prelude.{◌≡◌, ◌<◌, ◌↔◌, IsSome, IfSome, length, IsCharBoundary};
+ghost use Rattle.std.specs.Prelude.{◌≡◌, ◌<◌, ◌↔◌, IsSome, IsTrue, IfSome, drop, length, take, IsCharBoundary};
 ghost use Rattle.bx_text.specs.Buffers.{Buffers, buffer_bytes, bytes_of, AreInBuffers, IsRest};
 
 use bx_pieces::{Buffer, Pieces};
@@ -31,4 +31,12 @@ pub fn rest_in<'a>(opened: &'a str, added: &'a str, pieces: &Pieces, at: usize) 
         return None;
     }
     Some(&text[start..piece.start + piece.len])
+}
+
+/// Whether the text has these bytes at an offset.
+pub fn has_in(opened: &str, added: &str, pieces: &Pieces, at: usize, bytes: &[u8]) -> bool
+    requires { AreInBuffers (record { opened = opened.now; added = added.now }) pieces.now }
+    ensures { IsTrue result → take (length bytes.now) (drop at (bytes_of (record { opened = opened.now; added = added.now }) pieces.now)) ≡ bytes.now }
+{
+    pieces.has(opened.as_bytes(), added.as_bytes(), at, bytes)
 }

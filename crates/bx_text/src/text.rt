@@ -9,7 +9,7 @@ ghost use Rattle.bx_text.specs.Slices.{lends, joined};
 ghost use Rattle.std.specs.Iterator.{Drains};
 ghost use Rattle.std.specs.Borrow.{Bor};
 
-use crate::buffers::rest_in;
+use crate::buffers::{has_in, rest_in};
 use crate::change::Change;
 use crate::error::TextError;
 use crate::slices::Slices;
@@ -200,6 +200,14 @@ impl Text {
     {
         let (opened, added) = (self.opened.as_str(), self.added.as_str());
         rest_in(opened, added, &self.pieces, offset)
+    }
+
+    /// Whether the text has these bytes at an offset. Allocates nothing.
+    pub fn has_at(&self, start: usize, bytes: &[u8]) -> bool
+        ensures { IsTrue result → take (length bytes.now) (drop start self.now.edited.text) ≡ bytes.now }
+    {
+        let (opened, added) = (self.opened.as_str(), self.added.as_str());
+        has_in(opened, added, &self.pieces, start, bytes)
     }
 
     /// Whether an offset is the text's end or the first byte of a character.
