@@ -6,7 +6,6 @@ ghost use Rattle.bx_text.specs.Edits.{IsRange};
 ghost use Rattle.bx_view.specs.Caching.{AreCached, FitsLimit, HasBody, Caches, IsCached, cached_bytes, most_cached};
 
 use crate::error::ViewError;
-use crate::in_text::stands_at;
 use crate::text_span::TextSpan;
 use bx_paragraph::ParagraphLayout;
 use bx_terms::Base;
@@ -32,7 +31,7 @@ fn is_cached(cache: &[ParagraphLayout], i: usize, text: &Text, span: TextSpan) -
         return false;
     }
     let body = cache[i].body();
-    body.len() == span.stop - span.start && stands_at(text, span.start, body.as_bytes())
+    body.len() == span.stop - span.start && text.has_at(span.start, body.as_bytes())
 }
 
 /// The index of the cached paragraph whose body is the text's in a span, which is kept in `recent`. Searches outward from the old
