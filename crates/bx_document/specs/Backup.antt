@@ -5,8 +5,8 @@ use Rattle.bx_ucd.specs.Data.{Data}
 use Rattle.bx_document.specs.declared.backup.Backup.{Backup}
 use Rattle.bx_document.specs.Past.{KeepsPlaces}
 
--- the copy is one of a document's: its index is that of its text, and the places of its history are places; `says` is what the
--- tables say
+-- A document can return to this copy: the index belongs to the text, and the history has only places of the text. `says` is what
+-- the tables say.
 pub record IsBackup (says : Data) (b : Backup) : Type 0 where
   pub paragraphs : b.index.paragraphs ≡ lengths says b.text.edited.text
   pub utf8 : IsUtf8 b.text.edited.text

@@ -298,7 +298,7 @@ undone_up_to_it : text_at (after erased (UndoRun ∷ UndoRun ∷ [])) ≡ (codes
 unfolding unicode_segmentation unicode_width digits
 undone_up_to_it = refl
 
--- ---- what it lets go
+-- ---- what a paste resets
 
 two_quits_around_it : (edited (codes "ab") (letters (codes "x") ++ Quit ∷ PasteStart ∷ PasteEnd ∷ Quit ∷ [])).ended ≡ true
 unfolding unicode_segmentation unicode_width digits

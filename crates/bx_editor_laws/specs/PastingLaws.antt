@@ -48,7 +48,7 @@ PasteComesBack =
     (d : Data) (e : Editor) (cs : List ℕ) → IsFree e → e.pasted ≡ None → cs ≢ []
     → has_room e (written d e.content.text cs) ≡ true → IsBackBefore e (after_key d None (after_paste d e cs) UndoRun)
 
--- the place at which a typed character is put in: that of the cursor, once a selection is removed
+-- A typed character goes in at the cursor, after the selection is removed.
 abbrev pub typed_from : Data → Editor → ℕ
 typed_from d e = if is_selection e then place_between d e else e.place
 

@@ -48,8 +48,8 @@ pub record StandsAt (d : Data) (row column place : ℕ) (new : Editor) : Type 0 
   pub row_is : cursor_row d (followed d new) ≡ row
   pub column_is : cursor_column d (followed d new) ≡ column
 
--- pointing at a column of a unit that is shown leads to the unit's place, and the cursor then stands on the unit's leftmost cell, in the
--- same row of the picture
+-- A Point at any column of a visible unit moves the cursor to that unit: its place is the unit's, and its cell the unit's leftmost, in
+-- the same row of the picture.
 abbrev pub PointTakesUnits : Type 0
 PointTakesUnits =
     (d : Data) (e : Editor) (k place column stop c : ℕ) → IsShown e → row_of (rows d e) e.top ≤ k → k < length (rows d e)

@@ -8,8 +8,7 @@ pub fn point_stays()
     ensures { PointStays }
 {}
 
-/// Pointing at any column of a unit that is shown leads to the unit's place, and the cursor then stands on the unit's leftmost cell,
-/// in the same row of the picture.
+/// A Point at any column of a visible unit moves the cursor to that unit, onto its leftmost cell, in the same row of the picture.
 pub fn point_takes_units()
     ensures { PointTakesUnits }
 {}

@@ -1,5 +1,5 @@
--- Mouse reports, in the form that the host asks terminals for (mode 1006 of xterm): CSI < button ; column ; row, and M, or m where a
--- button is let go. `ps` are the bytes behind CSI <, `bs` are bytes.
+-- Mouse reports, in the form that the host asks terminals for (mode 1006 of xterm): CSI < button ; column ; row and a final M, or a
+-- final m for a released button. `ps` are the bytes after CSI <, `bs` are bytes.
 use Rattle.std.specs.Prelude.{ℕ, Bool, false, ◌&&◌, ◌||◌, nat_le, ◌==◌, List, [], ◌∷◌, ◌++◌, length, codes, Option, Some, None, is_some, if◌then◌else◌}
 use Rattle.std.specs.List.{list_all, slice_split}
 use Rattle.std.specs.Char.{is_ascii_digit}
@@ -56,7 +56,7 @@ report_fate ps = if is_some (report_of ps) then Ends else if begins_report ps th
 abbrev pub point_bytes : List ℕ → List ℕ → List ℕ
 point_bytes row column = csi (codes "7;") ++ ((row ++ 0x3B ∷ column) ++ codes "t")
 
--- the sequence of the key Select, and then that of Point
+-- the keys Select and Point, as sequences
 abbrev pub select_bytes : List ℕ → List ℕ → List ℕ
 select_bytes row column = csi (codes "81~") ++ point_bytes row column
 
