@@ -207,6 +207,8 @@ impl<D: BidiData + Drop> OwnText<D> {
         let Ok(change) = self.text.insert(at, new, before, after) else {
             return Err(OutOfMemory);
         };
+        // proof only: the text is UTF-8
+        let _utf8 = self.text.len();
         self.index.edited(&self.text, &self.tables, &change);
         Ok(())
     }
