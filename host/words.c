@@ -165,11 +165,13 @@ static bool take_option(struct reading *reading, const char *word) {
     return true;
 }
 
-static const char no_file[] = "FILE is missing", several_files[] = "only one FILE can be given", empty_name[] = "the name of FILE is empty";
+static const char no_file[] = "FILE is missing", several_files[] = "only one FILE can be given", empty_name[] = "the name of FILE is empty",
+                  input_name[] = "- is standard input, not a file: write the input to a file, and edit that (./- names a file -)";
 
 static void take_file(struct reading *reading, const char *word) {
     if (reading->file) reading->cause = several_files;
     else if (!*word) reading->cause = empty_name;
+    else if (strcmp(word, "-") == 0) reading->cause = input_name;
     else reading->file = word;
 }
 
@@ -203,6 +205,7 @@ static void take_files(struct reading *reading, int count, char *const *words) {
     if (is_lone) return;
     if (count > 1) reading->cause = "only one FILE can be given, after the options";
     else if (count == 1 && !*words[0]) reading->cause = empty_name;
+    else if (count == 1 && strcmp(words[0], "-") == 0) reading->cause = input_name;
     else if (reading->is_recovery && reading->is_forgetting) reading->cause = "--recover and --forget cannot be combined";
     else if (count == 0) reading->cause = no_file;
     else if (reading->other && !reading->is_recovery) reading->cause = "--to needs --recover";
