@@ -43,8 +43,8 @@ const char help_text[] = USAGE "\n"
     "\n"
     "The last row: * if changes are not saved, else -; line:letter; a message.\n"
     "Invisible characters, shown in reverse video. Ctrl-K and the letter insert one:\n"
-    "  e LRE E RLE o LRO O RLO p PDF i LRI I RLI f FSI P PDI; not shown: l LRM r RLM\n"
-    "  a ALM n ZWNJ j ZWJ; by code: u 5D0 Enter. Also ? control ~ no width # too wide\n";
+    "  e LRE E RLE o LRO O RLO p PDF i LRI I RLI f FSI P PDI; as ~: l LRM r RLM a ALM\n"
+    "  no symbol: n ZWNJ j ZWJ; by code: u 5D0 Enter. ? control, # too wide, ~ other\n";
 
 static const char *const directions[] = {[DIRECTION_AUTO] = "auto", [DIRECTION_LTR] = "ltr", [DIRECTION_RTL] = "rtl"};
 
