@@ -61,3 +61,11 @@ mod SeenMatchExamples
 mod PasteLawExamples
 mod PointingLawExamples
 mod ReplaceLawExamples
+pub mod WordErased
+pub mod LineBegun
+pub mod Cancelled
+pub mod MarksTaken
+pub mod ColumnKept
+pub mod InReach
+pub mod StoredUnchanged
+mod KeyLawExamples

@@ -29,7 +29,7 @@ use Rattle.bx_editor.specs.PasteLaws.{after_paste}
 use Rattle.bx_editor.specs.Pasting.{after_paste_start, ended_with, longer, paste_begun, pasted_with, pastes_crlf, with_pasted, without_paste}
 use Rattle.bx_editor.specs.Putting.{after_character, has_room, only_paste, put_in, typed, with_selection_replaced, yielding}
 use Rattle.bx_editor.specs.Region.{is_empty, region}
-use Rattle.bx_editor_laws.specs.RunLaws.{AreOfKind, IsBackBefore, PasteIsARun, WordIsARun}
+use Rattle.bx_editor_laws.specs.RunLaws.{AreOfKind, IsBackBefore, WordIsARun}
 use Rattle.bx_editor.specs.Runs.{run_length}
 use Rattle.bx_editor.specs.Selecting.{is_selection, is_soft}
 use Rattle.bx_editor.proofs.InSearch.{any-key}
@@ -67,7 +67,8 @@ pub record Going (first : Editor) (t : Edited) (place : ℕ) (runs : List ℕ) :
 abbrev pub IsOneRun : Editor → Editor → Type 0
 IsOneRun first e = Going first e.content e.place e.runs
 
-undo-going : (d : Data) (first e : Editor) (text : List ℕ) (past future : List Edit) → e.pasted ≡ None → let now : Editor = record e { content = version text past future } in IsOneRun first now
+undo-going : (d : Data) (first e : Editor) (text : List ℕ) (past future : List Edit) → e.pasted ≡ None
+    → let now : Editor = record e { content = version text past future } in IsOneRun first now
     → IsBackBefore first (after_key d None now UndoRun)
 undo-going d first e text [] future settled h = let no = h.over in absurd (cc no)
 undo-going d first e text (edit ∷ past) future settled h =
@@ -132,7 +133,9 @@ shaped d typing e new kind room selected on =
 
 pub insert-is : (d : Data) (e : Editor) (c : ℕ) → e.pasted ≡ None → e.ask ≡ asks.Off → e.seek ≡ seeks.Off
     → after_key d None e (Insert c) ≡ as_left (Insert c) (after_character d e.typing (cleared e) c)
-insert-is d e c settled unasked off = any-key d None e (Insert c) settled refl ∙ ap₂ (λ a s. as_left (Insert c) (after_any d None (before e) a s (cleared e) (Insert c))) unasked off
+insert-is d e c settled unasked off =
+    any-key d None e (Insert c) settled refl
+    ∙ ap₂ (λ a s. as_left (Insert c) (after_any d None (before e) a s (cleared e) (Insert c))) unasked off
 
 pub no-selection : (e : Editor) → e.soft ≡ softness.Off → is_selection e ≡ false
 no-selection e off = ap (λ s. is_soft s && not (is_empty (region e))) off
@@ -199,7 +202,8 @@ paste-back : (d : Data) (first e : Editor) → e.pasted ≡ None → InRun first
 paste-back d first e settled (inl h) more = absurd (omega (arith, more, over-length first 0 e.content.text e.place e.content.past h))
 paste-back d first e settled (inr h) more = goes-back d first e settled h
 
-pub paste-is-a-run : PasteIsARun
+pub paste-is-a-run : (d : Data) (e : Editor) (cs : List ℕ) → e.ask ≡ asks.Off → e.seek ≡ seeks.Off
+    → length e.content.past < length (after_paste d e cs).content.past → IsBackBefore e (after_key d None (after_paste d e cs) UndoRun)
 paste-is-a-run d e cs unasked off more =
     let begun = after_paste_start e in
     paste-back d e (after_paste d e cs) (paste-over d begun cs)
@@ -259,7 +263,8 @@ type-on d first e c typing kind left on is h =
       room = omega (arith, h.room, spliced e.content.text e.place e.place new (omega arith));
     })
 
-first-typed : (d : Data) (first e : Editor) (c : ℕ) (left : ℕ) (selected : Bool) → e.pasted ≡ None → Nothing first e → e.ask ≡ asks.Off → length e.content.text + (length (encode_utf8 c) + left) ≤ largest_text
+first-typed : (d : Data) (first e : Editor) (c : ℕ) (left : ℕ) (selected : Bool) → e.pasted ≡ None → Nothing first e → e.ask ≡ asks.Off
+    → length e.content.text + (length (encode_utf8 c) + left) ≤ largest_text
     → Types first (as_left (Insert c) (shaped d typings.Off e (encode_utf8 c) Letter true selected false)) typings.Word left
 first-typed d first e c left true settled h unasked room =
     let new = encode_utf8 c in
@@ -293,7 +298,8 @@ first-typed d first e c left false settled h unasked room =
       room = omega (arith, room, spliced e.content.text e.place e.place new (omega arith));
     }
 
-type-first : (d : Data) (e : Editor) (c : ℕ) (left : ℕ) → e.pasted ≡ None → e.ask ≡ asks.Off → e.seek ≡ seeks.Off → e.typing ≡ typings.Off → kind_of (d.class c) ≡ Letter
+type-first : (d : Data) (e : Editor) (c : ℕ) (left : ℕ) → e.pasted ≡ None → e.ask ≡ asks.Off → e.seek ≡ seeks.Off → e.typing ≡ typings.Off
+    → kind_of (d.class c) ≡ Letter
     → length e.content.text + (length (encode_utf8 c) + left) ≤ largest_text → Types e (after_key d None e (Insert c)) typings.Word left
 type-first d e c left settled unasked off none is room =
     let was = cleared e in
@@ -337,8 +343,9 @@ letters-on d first e (c ∷ cs) blanks all behind h =
     (type-on d first e c typings.Word Letter (length (encode_utf8_all (cs ++ blanks))) refl (All-head Is c cs all)
     (with-size first e typings.Word c (cs ++ blanks) h))
 
-word-goes : (d : Data) (e : Editor) (letters blanks : List ℕ) → e.pasted ≡ None → e.ask ≡ asks.Off → e.seek ≡ seeks.Off → e.typing ≡ typings.Off → letters ≢ [] → AreOfKind d Letter letters
-    → AreOfKind d Blank blanks → length e.content.text + length (encode_utf8_all (letters ++ blanks)) ≤ largest_text
+word-goes : (d : Data) (e : Editor) (letters blanks : List ℕ) → e.pasted ≡ None → e.ask ≡ asks.Off → e.seek ≡ seeks.Off
+    → e.typing ≡ typings.Off → letters ≢ [] → AreOfKind d Letter letters → AreOfKind d Blank blanks
+    → length e.content.text + length (encode_utf8_all (letters ++ blanks)) ≤ largest_text
     → Ran e (after_keys d None e (map Insert (letters ++ blanks)))
 word-goes d e [] blanks settled unasked off none some all behind room = absurd (some refl)
 word-goes d e (c ∷ cs) blanks settled unasked off none some all behind room =

@@ -1,5 +1,5 @@
 -- Worked examples, each from a law of pastes alone.
-use Rattle.std.proofs.Common.{◌≡◌, ℕ, ◌≤◌, false, List, [], ◌∷◌, ◌++◌, map, refl, ap, arith}
+use Rattle.std.proofs.Common.{◌≡◌, ℕ, ◌<◌, ◌≤◌, false, List, [], ◌∷◌, ◌++◌, map, refl, ap, arith}
 use Rattle.std.specs.Prelude.{codes, Option, None}
 use Rattle.std.specs.Fmt.{digits}
 use Rattle.std.proofs.lemmas.List.Elements.{All-cons, All-nil}
@@ -52,8 +52,16 @@ two_selected = after (start (codes "abcd") 2 40) (Select ∷ Forward ∷ Select 
 pub a_selection_comes_back : PasteComesBack → Has (codes "abcd") 2 (after two_selected (PasteStart ∷ letters (codes "xy") ++ PasteEnd ∷ UndoRun ∷ []))
 unfolding unicode_segmentation unicode_width digits
 a_selection_comes_back law =
-    let back = law tables two_selected (codes "xy") (record { unasked = refl; unsought = refl }) refl (λ none. cc none) refl in
+    let back = (law tables two_selected (codes "xy") (record { unasked = refl; unsought = refl })).with_room refl (λ none. cc none) refl in
     (back.text_is, back.unmarked.place_is)
+
+pub a_pasted_line_end_comes_back : PasteComesBack
+    → (after (start (codes "xy") 2 40) (Forward ∷ PasteStart ∷ letters (codes "b\nc") ++ PasteEnd ∷ UndoRun ∷ [])).content.text ≡ codes "xy"
+unfolding unicode_segmentation unicode_width digits
+a_pasted_line_end_comes_back law =
+    let more : 0 < 1 = omega arith in
+    let inside = after (start (codes "xy") 2 40) (Forward ∷ []) in
+    ((law tables inside (codes "b\nc") (record { unasked = refl; unsought = refl })).back more).text_is
 
 -- between a and b
 abbrev between : Editor

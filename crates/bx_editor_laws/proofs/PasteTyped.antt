@@ -50,15 +50,23 @@ some-bytes false c more none =
     let size : length (encode_utf8 c ++ more) ≡ 0 = ap length none in
     omega (arith, size, length-append (encode_utf8 c) more, encode_utf8_nonempty c)
 
-pub paste-comes-back : PasteComesBack
-paste-comes-back d e [] free settled some room = absurd (some refl)
-paste-comes-back d e (c ∷ cs) free settled some room =
+put-in-grows : (d : Data) (e : Editor) (cs : List ℕ) → IsFree e → e.pasted ≡ None → cs ≢ []
+    → has_room e (written d e.content.text cs) ≡ true
+    → length e.content.past < length (after_paste d e cs).content.past
+put-in-grows d e [] free settled some room = absurd (some refl)
+put-in-grows d e (c ∷ cs) free settled some room =
     let text = e.content.text in
     let all = (paste-is-one-edit d e (c ∷ cs) free.unasked free.unsought settled).all in
     let fits = all.same_room ∙ room in
     let list-some : brought d text [] (c ∷ cs) ≢ [] =
     λ none. some-bytes (pastes_crlf d text c) c (written d text cs) (sym (all.whole fits) ∙ none) in
-    paste-is-a-run d e (c ∷ cs) free.unasked free.unsought (grown d e (c ∷ cs) (is_selection e) refl free settled list-some fits)
+    grown d e (c ∷ cs) (is_selection e) refl free settled list-some fits
+
+pub paste-comes-back : PasteComesBack
+paste-comes-back d e cs free = record {
+  back = paste-is-a-run d e cs free.unasked free.unsought;
+  with_room = λ settled some room. paste-is-a-run d e cs free.unasked free.unsought (put-in-grows d e cs free settled some room);
+}
 
 -- ---- what is put in behind what was put in
 

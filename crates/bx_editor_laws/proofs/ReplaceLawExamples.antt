@@ -1,5 +1,6 @@
 -- Worked examples, each from a law of replacing alone.
-use Rattle.std.proofs.Common.{◌≡◌, ℕ, zero, suc, ◌<◌, ◌≤◌, List, [], ◌∷◌, ◌++◌, length, map, get_or, refl, sym, ap, ap₂, subst, ◌∙◌, arith, inl, inr}
+use Rattle.std.proofs.Common.{◌≡◌, ℕ, zero, suc, ◌<◌, ◌≤◌, false, List, [], ◌∷◌, ◌++◌, length, map, get_or, drop, refl, sym, ap, ap₂}
+use Rattle.std.proofs.Common.{subst, ◌∙◌, arith, inl, inr}
 use Rattle.std.specs.Prelude.{codes, encode_utf8_all, All, IsUtf8, Option, None}
 use Rattle.std.specs.Fmt.{digits}
 use Rattle.std.specs.Str.{chars}
@@ -13,11 +14,12 @@ use Rattle.bx_keys.specs.declared.key.Key.TheVariants.{Find, Insert, Replace, Un
 use Rattle.bx_store.specs.declared.store.StoreFault.{StoreFault}
 use Rattle.bx_find.specs.Nearest.{MatchesAt}
 use Rattle.bx_find.specs.Letters.{letters}
-use Rattle.bx_find.specs.Spans.{match_end}
+use Rattle.bx_find.specs.Spans.{is_attached, match_end}
 use Rattle.bx_find.specs.declared.reading.Reading.TheVariants.{Close}
 use Rattle.bx_view.specs.Moves.{place_at}
 use Rattle.bx_editor.specs.Editor.{Editor, rows}
-use Rattle.bx_editor_laws.specs.ReplaceLaws.{with_all, AreApart, EnterReplaces, FindPassesOver, IsMatch, IsShowing, LiesIn, ReplacedComesBack, ReplaceReplacesAll, SameLettersStay, ShownStands}
+use Rattle.bx_editor_laws.specs.ReplaceLaws.{with_all, AreApart, EnterReplaces, FindPassesOver, IsMatch, IsShowing, LiesIn}
+use Rattle.bx_editor_laws.specs.ReplaceLaws.{MatchTakesMarks, ReplacedComesBack, ReplaceReplacesAll, SameLettersStay, ShownStands}
 use Rattle.bx_editor.proofs.Computed.{tables, start, after, letters as keys_of}
 
 abbrev enter : Key
@@ -162,6 +164,15 @@ pub points_go_and_letters_stay : SameLettersStay
     → (spelt (after at_points (enter ∷ [])).content.text ≡ points_letters) × (spelt (after at_points (Replace ∷ [])).content.text ≡ points_letters)
 unfolding unicode_segmentation unicode_width digits
 points_go_and_letters_stay law = (law tables at_points enter points_are_shown (inl refl) refl, law tables at_points Replace points_are_shown (inr refl) refl)
+
+-- the mark behind bet goes with it
+pub no_match_ends_before_a_mark : MatchTakesMarks → (stop : ℕ) → IsMatch tables at_points (1, stop) → stop ≡ 7 → ⊥
+unfolding unicode_segmentation unicode_width digits
+no_match_ends_before_a_mark law stop is seven =
+    let text = at_points.content.text in
+    let left : is_attached tables 0x301 ≡ false =
+    law tables at_points (1, stop) points_are_shown.text is 0x301 (0x79 ∷ []) (ap (λ n. chars (drop n text)) seven) in
+    absurd (cc left)
 
 -- ---- all are replaced
 

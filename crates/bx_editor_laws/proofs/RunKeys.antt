@@ -7,7 +7,7 @@ use Rattle.bx_keys.specs.declared.key.Key.{Key}
 use Rattle.bx_keys.specs.declared.key.Key.TheVariants.{Redo, RedoRun, Undo, UndoRun}
 use Rattle.bx_text.specs.Edits.{Edit, Edited, change_back, change_of}
 use Rattle.bx_text.specs.Times.{merged, next_redos, next_undos, redone_times, undone_times}
-use Rattle.bx_document.specs.History.{next_changes}
+use Rattle.bx_document.specs.History.{next_changes, stepped_times}
 use Rattle.bx_document.specs.declared.history.HistoryStep.TheVariants as steps
 use Rattle.bx_runs.specs.Runs.{run_end, run_start}
 use Rattle.bx_runs.proofs.RunLaws.{redo-ends, undo-ends}
@@ -26,6 +26,7 @@ use Rattle.bx_editor_laws.specs.RunLaws.{redos, undos, IsManySteps, RunKeysAreSt
 use Rattle.bx_editor.specs.Runs.{after_run_step, by_run, is_changed_at, run_goal, run_length}
 use Rattle.bx_editor.specs.Search.{without_search}
 use Rattle.bx_editor.proofs.InSearch.{any-key}
+use Rattle.bx_editor.proofs.RunSteps.{run-ends}
 use Rattle.bx_editor.proofs.ManySteps.{again, back, place-again, place-back, redone-again, undone-back, version}
 
 -- an editor once a key has led to another text of its history
@@ -224,10 +225,15 @@ redo-length numbers n left = omega (arith, end-bound numbers n (n + suc left) (o
 
 -- ---- as many steps
 
-but-changed : (new many to : Editor) (changed : Bool) → new ≡ record to { changed = changed } → many ≡ to
-    → new ≡ record many { changed = new.changed }
-but-changed new many to changed is same =
-    is ∙ ap₂ (λ (e : Editor) b. record e { changed = b }) (sym same) (sym (ap (λ (e : Editor). e.changed) is))
+-- whether the text counts as changed, by its number of edits
+abbrev counted : Editor → Editor
+counted e = record e { changed = is_changed_at (length e.content.past) e.stored }
+
+as-counted : (new many to : Editor) (goal : ℕ) → new ≡ record to { changed = is_changed_at goal to.stored } → many ≡ to
+    → goal ≡ length to.content.past
+    → new ≡ counted many
+as-counted new many to goal is same at =
+    is ∙ ap (λ n. record to { changed = is_changed_at n to.stored }) at ∙ ap counted (sym same)
 
 -- a key that finds nothing to step over
 no-steps : (d : Data) (e : Editor) (key one : Key) (n : ℕ) → after_key d None e key ≡ after_key d None e one → IsManySteps d e key one n []
@@ -250,11 +256,14 @@ undo-steps d e text (edit ∷ past) future settled =
     let at = iterate back (suc n) (version text (edit ∷ past) future, e.place) in
     let ran = undo-run d e n text edit past future settled long in
     let whole = ap (λ t. run_to e t at.1 (is_changed_at (run_goal steps.Undo now) e.stored)) (undone-back (suc n) (version text (edit ∷ past) future) e.place) in
+    let goal : run_goal steps.Undo now ≡ length at.0.past =
+    sym (run-ends steps.Undo now) ∙ ap (λ k. length (stepped_times steps.Undo k now.content).past) long
+    ∙ ap (λ (t : Edited). length t.past) (undone-back (suc n) (version text (edit ∷ past) future) e.place) in
     record {
       many = λ some.
-          but-changed (after_key d None now UndoRun) (after_keys d None now (replicate (undos now) Undo)) (stepped_to e at.0 at.1)
-          (is_changed_at (run_goal steps.Undo now) e.stored) (ran ∙ whole)
-          (ap (λ k. after_keys d None now (replicate k Undo)) same ∙ all-undos d e n text edit past future settled (omega arith));
+          as-counted (after_key d None now UndoRun) (after_keys d None now (replicate (undos now) Undo)) (stepped_to e at.0 at.1)
+          (run_goal steps.Undo now) (ran ∙ whole)
+          (ap (λ k. after_keys d None now (replicate k Undo)) same ∙ all-undos d e n text edit past future settled (omega arith)) goal;
       some = λ some. omega (arith, same);
       none = λ is. absurd (cc is);
     }
@@ -278,11 +287,14 @@ redo-steps d e text past (edit ∷ future) settled =
     let at = iterate again (suc n) (version text past (edit ∷ future), e.place) in
     let ran = redo-run d e n text edit past future settled long in
     let whole = ap (λ t. run_to e t at.1 (is_changed_at (run_goal steps.Redo now) e.stored)) (redone-again (suc n) (version text past (edit ∷ future)) e.place) in
+    let goal : run_goal steps.Redo now ≡ length at.0.past =
+    sym (run-ends steps.Redo now) ∙ ap (λ k. length (stepped_times steps.Redo k now.content).past) long
+    ∙ ap (λ (t : Edited). length t.past) (redone-again (suc n) (version text past (edit ∷ future)) e.place) in
     record {
       many = λ some.
-          but-changed (after_key d None now RedoRun) (after_keys d None now (replicate (redos now) Redo)) (stepped_to e at.0 at.1)
-          (is_changed_at (run_goal steps.Redo now) e.stored) (ran ∙ whole)
-          (ap (λ k. after_keys d None now (replicate k Redo)) same ∙ all-redos d e n text edit past future settled few);
+          as-counted (after_key d None now RedoRun) (after_keys d None now (replicate (redos now) Redo)) (stepped_to e at.0 at.1)
+          (run_goal steps.Redo now) (ran ∙ whole)
+          (ap (λ k. after_keys d None now (replicate k Redo)) same ∙ all-redos d e n text edit past future settled few) goal;
       some = λ some. omega (arith, same);
       none = λ is. absurd (cc is);
     }

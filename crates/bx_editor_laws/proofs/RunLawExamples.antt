@@ -11,7 +11,7 @@ use Rattle.bx_terms.specs.Sizes.{largest_text}
 use Rattle.bx_terms.specs.declared.base.Base.TheVariants.{Auto}
 use Rattle.bx_keys.specs.declared.key.Key.{Key}
 use Rattle.bx_keys.specs.declared.key.Key.TheVariants.{Insert, Erase, Delete, Back, Forward, Save, Undo, Mark, Cut, Put, Find, TextEnd, TextStart}
-use Rattle.bx_keys.specs.declared.key.Key.TheVariants.{Repaint, Select, UndoRun, RedoRun, PasteStart, PasteEnd}
+use Rattle.bx_keys.specs.declared.key.Key.TheVariants.{Repaint, UndoRun, RedoRun, PasteStart, PasteEnd}
 use Rattle.bx_store.specs.declared.store.StoreFault.{StoreFault}
 use Rattle.bx_text.specs.Edits.{Edited}
 use Rattle.bx_runs.specs.Typing.{kind_of}
@@ -22,7 +22,7 @@ use Rattle.bx_editor.specs.declared.message.Message.{Message}
 use Rattle.bx_editor.specs.declared.message.Message.TheVariants.{NothingToUndo}
 use Rattle.bx_editor.specs.Editor.{Editor}
 use Rattle.bx_editor_laws.specs.Laws.{after_typing}
-use Rattle.bx_editor_laws.specs.RunLaws.{PasteIsARun, RedoRunMirrorsUndoRun, RunKeysAreSteps, UnchangedIsStored, IsWord, WordIsARun}
+use Rattle.bx_editor_laws.specs.RunLaws.{RedoRunMirrorsUndoRun, RunKeysAreSteps, UnchangedIsStored, IsWord, WordIsARun}
 use Rattle.bx_editor.proofs.Computed.{tables, start, after, letters}
 
 -- text and place after keys
@@ -117,7 +117,11 @@ pub letters_of_a_query_are_of_no_run : run_at (codes "ab") (Insert 0x78 ∷ Find
 unfolding unicode_segmentation unicode_width digits unicode_normalization ucd_case
 letters_of_a_query_are_of_no_run = refl
 
-pub each_paste_is_a_run : run_at [] (PasteStart ∷ letters (codes "a") ++ Repaint ∷ letters (codes "b") ++ PasteEnd ∷ PasteStart ∷ letters (codes "c") ++ PasteEnd ∷ []) ≡ (0 ∷ 1 ∷ [], Off)
+abbrev two_pastes : List Key
+two_pastes =
+    PasteStart ∷ letters (codes "a") ++ Repaint ∷ letters (codes "b") ++ PasteEnd ∷ PasteStart ∷ letters (codes "c") ++ PasteEnd ∷ []
+
+pub each_paste_is_a_run : run_at [] two_pastes ≡ (0 ∷ 1 ∷ [], Off)
 unfolding unicode_segmentation unicode_width digits
 each_paste_is_a_run = refl
 
@@ -199,6 +203,11 @@ a_run_is_three_undos law =
     let many = (law tables behind_a_word refl).undo.many (λ none. let three : 3 ≡ 0 = ap length none in cc three) in
     (ap (λ (e : Editor). e.content.text) many, ap (λ (e : Editor). e.place) many)
 
+pub back_at_the_opened_text_it_does_not : RunKeysAreSteps → (after behind_a_word (UndoRun ∷ [])).changed ≡ false
+unfolding unicode_segmentation unicode_width digits
+back_at_the_opened_text_it_does_not law =
+    ap (λ (e : Editor). e.changed) ((law tables behind_a_word refl).undo.many (λ none. let three : 3 ≡ 0 = ap length none in cc three))
+
 pub without_an_edit_the_message_is_that_of_undo : RunKeysAreSteps → (after (start (codes "a") 5 40) (UndoRun ∷ [])).message ≡ Some NothingToUndo
 unfolding unicode_segmentation unicode_width digits
 without_an_edit_the_message_is_that_of_undo law = ap (λ (e : Editor). e.message) ((law tables (start (codes "a") 5 40) refl).undo.none refl)
@@ -212,21 +221,6 @@ undone_and_made_again law =
     let some : 0 < 5 = omega arith in
     let all : 5 ≤ 5 = omega arith in
     ap (λ (t : Edited). t.text) ((law tables [] 5 40 Auto (typed two_words) refl).redo (some, all, inr refl))
-
-pub pasted_text_is_taken_back : PasteIsARun → (after (start (codes "xy") 5 40) (Forward ∷ PasteStart ∷ letters (codes "b\nc") ++ PasteEnd ∷ UndoRun ∷ [])).content.text ≡ codes "xy"
-unfolding unicode_segmentation unicode_width digits
-pasted_text_is_taken_back law =
-    let more : 0 < 1 = omega arith in
-    (law tables (after (start (codes "xy") 5 40) (Forward ∷ [])) (codes "b\nc") refl refl more).text_is
-
-pub a_pasted_over_selection_comes_back : PasteIsARun
-    → let e = after (start (codes "abcd") 5 40) (Select ∷ Forward ∷ Select ∷ Forward ∷ PasteStart ∷ letters (codes "xy z") ++ PasteEnd ∷ UndoRun ∷ []) in
-    (e.content.text ≡ codes "abcd") × (e.place ≡ 2)
-unfolding unicode_segmentation unicode_width digits
-a_pasted_over_selection_comes_back law =
-    let more : 0 < 2 = omega arith in
-    let back = law tables (after (start (codes "abcd") 5 40) (Select ∷ Forward ∷ Select ∷ Forward ∷ [])) (codes "xy z") refl refl more in
-    (back.text_is, back.unmarked.place_is)
 
 pub a_word_and_its_blank_are_taken_back : WordIsARun → (after (start (codes "x") 5 40) (letters (codes "ab ") ++ UndoRun ∷ [])).content.text ≡ codes "x"
 unfolding unicode_segmentation unicode_width digits

@@ -1,14 +1,16 @@
 -- Moves from row to row in a kept column, there and back.
-use Rattle.std.proofs.Common.{◌≡◌, ◌≢◌, ◌⊎◌, ⊎_elim, ℕ, zero, suc, ◌+◌, ◌-◌, ◌<◌, ◌≤◌, Bool, true, false, List, [], ◌∷◌, ◌++◌, length, map, get_or, replicate}
-use Rattle.std.proofs.Common.{Option, Some, None, unwrap_or, IsUtf8, refl, sym, ap, subst, ◌∙◌, arith, eq-eqb, ne_eqb, ◌==◌}
+use Rattle.std.proofs.Common.{◌≡◌, ◌≢◌, ◌⊎◌, ⊎_elim, ℕ, zero, suc, ◌+◌, ◌-◌, ◌*◌, ◌<◌, ◌≤◌, Bool, true, false, List, [], ◌∷◌, ◌++◌}
+use Rattle.std.proofs.Common.{length, map, get_or, nat_le, replicate}
+use Rattle.std.proofs.Common.{Option, Some, None, unwrap_or, IsUtf8, refl, sym, ap, subst, ◌∙◌, arith, eq-eqb, ne_eqb, ◌==◌, if◌then◌else◌}
 use Rattle.std.specs.Prelude.{Contains, IfSome, MatchOption}
 use Rattle.std.proofs.lemmas.Bool.{eqb-true}
+use Rattle.std.proofs.lemmas.Bool.Decides.{nat_tests}
 use Rattle.std.proofs.lemmas.List.Elements.{Contains-get_or}
 use Rattle.bx_rows.specs.RowPicture.{columns_used}
 use Rattle.std.proofs.lemmas.List.{get_or-map, length-map}
 use Rattle.std.proofs.lemmas.List.Sorted.{Contains-permutation}
 use Rattle.bx_keys.specs.declared.key.Key.{Key}
-use Rattle.bx_keys.specs.declared.key.Key.TheVariants.{LineDown, LineUp}
+use Rattle.bx_keys.specs.declared.key.Key.TheVariants.{LineDown, LineUp, PageBack, PageOn}
 use Rattle.bx_ucd.specs.Data.{Data}
 use Rattle.bx_asking.specs.declared.question.Ask.{Ask}
 use Rattle.bx_asking.specs.declared.question.Ask.TheVariants as asks
@@ -32,12 +34,12 @@ use Rattle.bx_editor.specs.declared.seek.Seek.TheVariants.{Off}
 use Rattle.bx_editor.specs.declared.soft.Soft.{Soft}
 use Rattle.bx_runs.specs.declared.typing.Typing.TheVariants as typings
 use Rattle.bx_editor.specs.Asking.{without_ask}
-use Rattle.bx_editor.specs.Editor.{Editor, cleared, rows, HasRows}
+use Rattle.bx_editor.specs.Editor.{Editor, cleared, rows, text_height, HasRows}
 use Rattle.bx_editor.specs.Effects.{Before, before}
 use Rattle.bx_editor.specs.Goal.{after_row_move}
-use Rattle.bx_editor.specs.Keys.{after_any, after_key, after_keys, as_left}
+use Rattle.bx_editor.specs.Keys.{after_any, after_key, after_keys, as_left, is_told_key}
 use Rattle.bx_editor.specs.Selecting.{aged, mark_left, soft_left, unselected}
-use Rattle.bx_editor_laws.specs.WorkLaws.{LeadsBack, LineMovesGoBack, own_row}
+use Rattle.bx_editor_laws.specs.WorkLaws.{LeadsBack, LineMovesGoBack, PageMovesGoBack, own_row}
 use Rattle.bx_editor.proofs.InSearch.{any-key}
 use Rattle.bx_editor_laws.proofs.EnteredAgain.{IsEnteredBy, IsFull, entered-again, entered-at-edge}
 use Rattle.bx_editor_laws.proofs.UnitColumns.{rows-have-columns}
@@ -77,21 +79,21 @@ module _ (says : Data) (base : Base) (w : ℕ) (some : 1 ≤ w) (text : List ℕ
   pub falls-there : (k : ℕ) → k < length all → row_of all (enter k) ≡ k
   falls-there k within = falls-by k within (k == row_of all (enter k)) refl
 
-  -- one row down, one row up
+  -- some rows down, some rows up
   to-other : (place j : ℕ) → j ≢ row_of all place → j < length all → to_row w all column place j ≡ enter j
   to-other place j other within =
       ap (λ t. elim t [ true ↦ place | false ↦ unwrap_or (entry_in w (row_at all j) column) place ]) (ne_eqb j (row_of all place) other)
       ∙ (entered-there j place within).0
 
-  pub one-down : (place k : ℕ) → row_of all place ≡ k → k + 1 < length all → rows_away w all Down 1 column place ≡ enter (k + 1)
-  one-down place k at more =
-      let next : row_away (length all) Down 1 (row_of all place) ≡ k + 1 = omega (arith, at, more) in
-      ap (to_row w all column place) next ∙ to-other place (k + 1) (λ same. omega (arith, same, at)) more
+  pub far-down : (place k t : ℕ) → row_of all place ≡ k → 1 ≤ t → k + t < length all → rows_away w all Down t column place ≡ enter (k + t)
+  far-down place k t at some more =
+      let next : row_away (length all) Down t (row_of all place) ≡ k + t = omega (arith, at, more) in
+      ap (to_row w all column place) next ∙ to-other place (k + t) (λ same. omega (arith, same, at, some)) more
 
-  pub one-up : (place k : ℕ) → row_of all place ≡ k → 1 ≤ k → k < length all → rows_away w all Up 1 column place ≡ enter (k - 1)
-  one-up place k at more within =
-      let next : row_away (length all) Up 1 (row_of all place) ≡ k - 1 = omega (arith, at) in
-      ap (to_row w all column place) next ∙ to-other place (k - 1) (λ same. omega (arith, same, at, more)) (omega (arith, within))
+  pub far-up : (place k t : ℕ) → row_of all place ≡ k → 1 ≤ t → t ≤ k → k < length all → rows_away w all Up t column place ≡ enter (k - t)
+  far-up place k t at some more within =
+      let next : row_away (length all) Up t (row_of all place) ≡ k - t = omega (arith, at) in
+      ap (to_row w all column place) next ∙ to-other place (k - t) (λ same. omega (arith, same, at, some, more)) (omega (arith, within))
 
 -- ---- keys
 
@@ -99,16 +101,31 @@ keys-append : (d : Data) (e : Editor) (xs ys : List Key) → after_keys d None e
 keys-append d e [] ys = refl
 keys-append d e (x ∷ xs) ys = keys-append d (after_key d None e x) xs ys
 
--- a move by one row
-abbrev row_key : Vertical → Key
-row_key Up = LineUp
-row_key Down = LineDown
+-- a move by a row, or by a page
+abbrev pub move_key : Bool → Vertical → Key
+move_key false Up = LineUp
+move_key false Down = LineDown
+move_key true Up = PageBack
+move_key true Down = PageOn
+
+-- the rows by which it moves, in a window of this height
+abbrev pub size : Bool → ℕ → ℕ
+size false height = 1
+size true height = text_height height
+
+height-some : (height : ℕ) (b : Bool) → nat_le 2 height ≡ b → 1 ≤ (if b then height - 1 else 1)
+height-some height true is = grind (arith, nat_tests, is)
+height-some height false is = omega arith
+
+size-some : (paged : Bool) (height : ℕ) → 1 ≤ size paged height
+size-some false height = omega arith
+size-some true height = height-some height (nat_le 2 height) refl
 
 -- the mark and its softness, and what a move makes of them
-abbrev Marks : Type 0
+abbrev pub Marks : Type 0
 Marks = Option ℕ × Soft
 
-abbrev left : Marks → Marks
+abbrev pub left : Marks → Marks
 left m = (mark_left m.1 m.0, aged (soft_left m.1))
 
 abbrev left_after : ℕ → Marks → Marks
@@ -116,31 +133,59 @@ left_after zero m = m
 left_after (suc n) m = left_after n (left m)
 
 -- a move ends a question
-up-any : (d : Data) (was : Before) (ask : Ask) (e : Editor) → e.ask ≡ ask
-    → after_any d None was ask Off e LineUp ≡ after_row_move d (unselected (without_ask e)) Up 1
-up-any d was asks.Off e is = ap (λ a. after_row_move d (unselected (record e { ask = a })) Up 1) is
-up-any d was asks.Line e is = refl
-up-any d was asks.Name e is = refl
-up-any d was asks.Code e is = refl
+moves-any : (d : Data) (was : Before) (paged : Bool) (way : Vertical) (ask : Ask) (e : Editor) → e.ask ≡ ask
+    → after_any d None was ask Off e (move_key paged way) ≡ after_row_move d (unselected (without_ask e)) way (size paged e.height)
+moves-any d was false Up asks.Off e is = ap (λ a. after_row_move d (unselected (record e { ask = a })) Up 1) is
+moves-any d was false Up asks.Line e is = refl
+moves-any d was false Up asks.Name e is = refl
+moves-any d was false Up asks.Code e is = refl
+moves-any d was false Down asks.Off e is = ap (λ a. after_row_move d (unselected (record e { ask = a })) Down 1) is
+moves-any d was false Down asks.Line e is = refl
+moves-any d was false Down asks.Name e is = refl
+moves-any d was false Down asks.Code e is = refl
+moves-any d was true Up asks.Off e is = ap (λ a. after_row_move d (unselected (record e { ask = a })) Up (text_height e.height)) is
+moves-any d was true Up asks.Line e is = refl
+moves-any d was true Up asks.Name e is = refl
+moves-any d was true Up asks.Code e is = refl
+moves-any d was true Down asks.Off e is = ap (λ a. after_row_move d (unselected (record e { ask = a })) Down (text_height e.height)) is
+moves-any d was true Down asks.Line e is = refl
+moves-any d was true Down asks.Name e is = refl
+moves-any d was true Down asks.Code e is = refl
 
-down-any : (d : Data) (was : Before) (ask : Ask) (e : Editor) → e.ask ≡ ask
-    → after_any d None was ask Off e LineDown ≡ after_row_move d (unselected (without_ask e)) Down 1
-down-any d was asks.Off e is = ap (λ a. after_row_move d (unselected (record e { ask = a })) Down 1) is
-down-any d was asks.Line e is = refl
-down-any d was asks.Name e is = refl
-down-any d was asks.Code e is = refl
+left-by : (paged : Bool) (way : Vertical) (e : Editor) → as_left (move_key paged way) e ≡ record e { soft = aged e.soft }
+left-by false Up e = refl
+left-by false Down e = refl
+left-by true Up e = refl
+left-by true Down e = refl
 
-module _ (d : Data) (e : Editor) (off : e.seek ≡ Off) (settled : e.pasted ≡ None) (column : ℕ) where
+not-told : (paged : Bool) (way : Vertical) → is_told_key (move_key paged way) ≡ false
+not-told false Up = refl
+not-told false Down = refl
+not-told true Up = refl
+not-told true Down = refl
+
+module _ (d : Data) (e : Editor) (off : e.seek ≡ Off) (settled : e.pasted ≡ None) (paged : Bool) (column : ℕ) where
+  -- the rows of a move
+  abbrev t : ℕ
+  t = size paged e.height
+
   -- at a place, with the column kept
-  abbrev kept-at : Marks → ℕ → Editor
+  abbrev pub kept-at : Marks → ℕ → Editor
   kept-at m place = record e { place = place; mark = m.0; soft = m.1; ask = asks.Off; typing = typings.Off; message = None; quit_before = false; goal = Some column }
 
-  key-moves : (way : Vertical) (m : Marks) (place : ℕ)
-      → after_key d None (kept-at m place) (row_key way) ≡ kept-at (left m) (rows_away e.width (rows d e) way 1 column place)
-  key-moves Up m place =
-      any-key d None (kept-at m place) LineUp settled refl ∙ ap (λ s. as_left LineUp (after_any d None (before (kept-at m place)) asks.Off s (kept-at m place) LineUp)) off
-  key-moves Down m place =
-      any-key d None (kept-at m place) LineDown settled refl ∙ ap (λ s. as_left LineDown (after_any d None (before (kept-at m place)) asks.Off s (kept-at m place) LineDown)) off
+  -- where a key leads
+  key-by : (x : Editor) (way : Vertical) → x.seek ≡ Off → x.pasted ≡ None
+      → after_key d None x (move_key paged way)
+      ≡ (let new = after_row_move d (unselected (without_ask (cleared x))) way (size paged x.height) in record new { soft = aged new.soft })
+  key-by x way unsought none =
+      any-key d None x (move_key paged way) none (not-told paged way)
+      ∙ ap (λ s. as_left (move_key paged way) (after_any d None (before x) x.ask s (cleared x) (move_key paged way))) unsought
+      ∙ ap (as_left (move_key paged way)) (moves-any d (before x) paged way x.ask (cleared x) refl)
+      ∙ left-by paged way (after_row_move d (unselected (without_ask (cleared x))) way (size paged x.height))
+
+  pub key-moves : (way : Vertical) (m : Marks) (place : ℕ)
+      → after_key d None (kept-at m place) (move_key paged way) ≡ kept-at (left m) (rows_away e.width (rows d e) way t column place)
+  key-moves way m place = key-by (kept-at m place) way off settled
 
   -- the first one keeps the cursor's column
   abbrev first-at : Vertical → Option ℕ → Editor
@@ -148,7 +193,7 @@ module _ (d : Data) (e : Editor) (off : e.seek ≡ Off) (settled : e.pasted ≡ 
       let c = unwrap_or goal (cell_of e.width (rows d e) e.place) in
       let m = left (e.mark, e.soft) in
       record e {
-        place = rows_away e.width (rows d e) way 1 c e.place;
+        place = rows_away e.width (rows d e) way t c e.place;
         mark = m.0;
         soft = m.1;
         ask = asks.Off;
@@ -158,18 +203,15 @@ module _ (d : Data) (e : Editor) (off : e.seek ≡ Off) (settled : e.pasted ≡ 
         goal = Some c;
       }
 
-  first-key : (way : Vertical) → after_key d None e (row_key way) ≡ first-at way e.goal
-  first-key Up =
-      any-key d None e LineUp settled refl ∙ ap (λ s. as_left LineUp (after_any d None (before e) e.ask s (cleared e) LineUp)) off ∙ ap (as_left LineUp) (up-any d (before e) e.ask (cleared e) refl)
-  first-key Down =
-      any-key d None e LineDown settled refl ∙ ap (λ s. as_left LineDown (after_any d None (before e) e.ask s (cleared e) LineDown)) off ∙ ap (as_left LineDown) (down-any d (before e) e.ask (cleared e) refl)
+  first-key : (way : Vertical) → after_key d None e (move_key paged way) ≡ first-at way e.goal
+  first-key way = key-by e way off settled
 
   -- the marks at first
   abbrev own : Marks
   own = (e.mark, e.soft)
 
-  keys-from : (way : Vertical) (keys : List Key) → e.goal ≡ None → column ≡ cell_of e.width (rows d e) e.place
-      → after_keys d None e (row_key way ∷ keys) ≡ after_keys d None (kept-at own e.place) (row_key way ∷ keys)
+  pub keys-from : (way : Vertical) (keys : List Key) → e.goal ≡ None → column ≡ cell_of e.width (rows d e) e.place
+      → after_keys d None e (move_key paged way ∷ keys) ≡ after_keys d None (kept-at own e.place) (move_key paged way ∷ keys)
   keys-from way keys none is =
       ap (λ new. after_keys d None new keys)
       (first-key way ∙ ap (first-at way) none
@@ -177,40 +219,63 @@ module _ (d : Data) (e : Editor) (off : e.seek ≡ Off) (settled : e.pasted ≡ 
       ∙ sym (key-moves way own e.place))
 
   module _ (some : 1 ≤ e.width) (utf8 : IsUtf8 e.content.text) where
+    down-to : (place k : ℕ) → row_of (rows d e) place ≡ k → k + t < length (rows d e)
+        → rows_away e.width (rows d e) Down t column place ≡ enter d e.base e.width some e.content.text utf8 column (k + t)
+    down-to place k at more =
+        far-down d e.base e.width some e.content.text utf8 column place k t at (size-some paged e.height) more
+
+    up-to : (place k : ℕ) → row_of (rows d e) place ≡ k → t ≤ k → k < length (rows d e)
+        → rows_away e.width (rows d e) Up t column place ≡ enter d e.base e.width some e.content.text utf8 column (k - t)
+    up-to place k at more within =
+        far-up d e.base e.width some e.content.text utf8 column place k t at (size-some paged e.height) more within
+
     abbrev at-row : Marks → ℕ → Editor
     at-row m k = kept-at m (enter d e.base e.width some e.content.text utf8 column k)
 
-    goes-down : (n k place : ℕ) (m : Marks) → row_of (rows d e) place ≡ k → k + suc n < length (rows d e)
-        → after_keys d None (kept-at m place) (replicate (suc n) LineDown) ≡ at-row (left_after (suc n) m) (k + suc n)
+    goes-down : (n k place : ℕ) (m : Marks) → row_of (rows d e) place ≡ k → k + suc n * t < length (rows d e)
+        → after_keys d None (kept-at m place) (replicate (suc n) (move_key paged Down)) ≡ at-row (left_after (suc n) m) (k + suc n * t)
     goes-down zero k place m at more =
-        key-moves Down m place ∙ ap (kept-at (left m)) (one-down d e.base e.width some e.content.text utf8 column place k at more)
+        let there : k + t ≡ k + 1 * t = omega arith in
+        key-moves Down m place
+        ∙ ap (kept-at (left m)) (down-to place k at (omega (arith, more)))
+        ∙ ap (at-row (left m)) there
     goes-down (suc n) k place m at more =
-        let next : k + 1 < length (rows d e) = omega (arith, more) in
-        let there : k + 1 + suc n ≡ k + suc (suc n) = omega arith in
-        ap (λ new. after_keys d None new (replicate (suc n) LineDown))
-        (key-moves Down m place ∙ ap (kept-at (left m)) (one-down d e.base e.width some e.content.text utf8 column place k at next))
-        ∙ goes-down n (k + 1) (enter d e.base e.width some e.content.text utf8 column (k + 1)) (left m)
-        (falls-there d e.base e.width some e.content.text utf8 column (k + 1) next) (omega (arith, more)) ∙ ap (at-row (left_after (suc (suc n)) m)) there
+        let next : k + t < length (rows d e) = omega (arith, more) in
+        let there : k + t + suc n * t ≡ k + suc (suc n) * t = omega arith in
+        ap (λ new. after_keys d None new (replicate (suc n) (move_key paged Down)))
+        (key-moves Down m place
+        ∙ ap (kept-at (left m)) (down-to place k at next))
+        ∙ goes-down n (k + t) (enter d e.base e.width some e.content.text utf8 column (k + t)) (left m)
+        (falls-there d e.base e.width some e.content.text utf8 column (k + t) next) (omega (arith, more))
+        ∙ ap (at-row (left_after (suc (suc n)) m)) there
 
-    goes-up : (n k place : ℕ) (m : Marks) → row_of (rows d e) place ≡ k → suc n ≤ k → k < length (rows d e)
-        → after_keys d None (kept-at m place) (replicate (suc n) LineUp) ≡ at-row (left_after (suc n) m) (k - suc n)
+    goes-up : (n k place : ℕ) (m : Marks) → row_of (rows d e) place ≡ k → suc n * t ≤ k → k < length (rows d e)
+        → after_keys d None (kept-at m place) (replicate (suc n) (move_key paged Up)) ≡ at-row (left_after (suc n) m) (k - suc n * t)
     goes-up zero k place m at more within =
-        key-moves Up m place ∙ ap (kept-at (left m)) (one-up d e.base e.width some e.content.text utf8 column place k at more within)
+        let there : k - t ≡ k - 1 * t = omega arith in
+        key-moves Up m place
+        ∙ ap (kept-at (left m)) (up-to place k at (omega (arith, more)) within)
+        ∙ ap (at-row (left m)) there
     goes-up (suc n) k place m at more within =
-        let there : k - 1 - suc n ≡ k - suc (suc n) = omega arith in
-        let lower : k - 1 < length (rows d e) = omega (arith, within) in
-        ap (λ new. after_keys d None new (replicate (suc n) LineUp))
-        (key-moves Up m place ∙ ap (kept-at (left m)) (one-up d e.base e.width some e.content.text utf8 column place k at (omega (arith, more)) within))
-        ∙ goes-up n (k - 1) (enter d e.base e.width some e.content.text utf8 column (k - 1)) (left m)
-        (falls-there d e.base e.width some e.content.text utf8 column (k - 1) lower) (omega (arith, more)) lower ∙ ap (at-row (left_after (suc (suc n)) m)) there
+        let there : k - t - suc n * t ≡ k - suc (suc n) * t = omega arith in
+        let lower : k - t < length (rows d e) = omega (arith, within) in
+        ap (λ new. after_keys d None new (replicate (suc n) (move_key paged Up)))
+        (key-moves Up m place
+        ∙ ap (kept-at (left m)) (up-to place k at (omega (arith, more)) within))
+        ∙ goes-up n (k - t) (enter d e.base e.width some e.content.text utf8 column (k - t)) (left m)
+        (falls-there d e.base e.width some e.content.text utf8 column (k - t) lower) (omega (arith, more)) lower
+        ∙ ap (at-row (left_after (suc (suc n)) m)) there
 
     there-and-back : (way other : Vertical) (n k : ℕ) (m m' : Marks) → e.goal ≡ None → column ≡ cell_of e.width (rows d e) e.place
-        → after_keys d None (kept-at own e.place) (replicate (suc n) (row_key way)) ≡ at-row m k
-        → after_keys d None (at-row m k) (replicate (suc n) (row_key other)) ≡ at-row m' (row_of (rows d e) e.place)
-        → after_keys d None e (replicate (suc n) (row_key way) ++ replicate (suc n) (row_key other)) ≡ at-row m' (row_of (rows d e) e.place)
+        → after_keys d None (kept-at own e.place) (replicate (suc n) (move_key paged way)) ≡ at-row m k
+        → after_keys d None (at-row m k) (replicate (suc n) (move_key paged other)) ≡ at-row m' (row_of (rows d e) e.place)
+        → after_keys d None e (replicate (suc n) (move_key paged way) ++ replicate (suc n) (move_key paged other))
+        ≡ at-row m' (row_of (rows d e) e.place)
     there-and-back way other n k m m' none is go back =
-        keys-append d e (replicate (suc n) (row_key way)) (replicate (suc n) (row_key other))
-        ∙ ap (λ new. after_keys d None new (replicate (suc n) (row_key other))) (keys-from way (replicate n (row_key way)) none is ∙ go) ∙ back
+        let there = replicate (suc n) (move_key paged way) in
+        let again = replicate (suc n) (move_key paged other) in
+        keys-append d e there again
+        ∙ ap (λ new. after_keys d None new again) (keys-from way (replicate n (move_key paged way)) none is ∙ go) ∙ back
 
 -- ---- the place's own row
 
@@ -276,40 +341,50 @@ module _ (d : Data) (e : Editor) (has : HasRows e) (place : IsTextPlace d e.cont
   stays : LeadsBack d e 0 e
   stays = record { to_place = λ not. refl; to_edge = λ full more. absurd (omega (arith, more)) }
 
-  module _ (off : e.seek ≡ Off) (settled : e.pasted ≡ None) (none : e.goal ≡ None) where
-    down-and-up : (n : ℕ) → k + n < length (rows d e) → LeadsBack d e n (after_keys d None e (replicate n LineDown ++ replicate n LineUp))
+  module _ (off : e.seek ≡ Off) (settled : e.pasted ≡ None) (none : e.goal ≡ None) (paged : Bool) where
+    down-and-up : (n : ℕ) → k + n * size paged e.height < length (rows d e)
+        → LeadsBack d e n (after_keys d None e (replicate n (move_key paged Down) ++ replicate n (move_key paged Up)))
     down-and-up zero below = stays
     down-and-up (suc m) below =
-        let new = after_keys d None e (replicate (suc m) LineDown ++ replicate (suc m) LineUp) in
-        let far = k + suc m in
-        let same : far - suc m ≡ k = omega arith in
+        let new = after_keys d None e (replicate (suc m) (move_key paged Down) ++ replicate (suc m) (move_key paged Up)) in
+        let span = suc m * size paged e.height in
+        let far = k + span in
+        let same : far - span ≡ k = omega arith in
         let first = left_after (suc m) (e.mark, e.soft) in
         let last = left_after (suc m) first in
         leads-back (suc m) new
         (ap (λ (x : Editor). x.place)
-        (there-and-back d e off settled column some has.text Down Up m far first last none refl
-        (goes-down d e off settled column some has.text m k e.place (e.mark, e.soft) refl below)
-        (goes-up d e off settled column some has.text m far (enter d e.base e.width some e.content.text has.text column far) first
+        (there-and-back d e off settled paged column some has.text Down Up m far first last none refl
+        (goes-down d e off settled paged column some has.text m k e.place (e.mark, e.soft) refl below)
+        (goes-up d e off settled paged column some has.text m far (enter d e.base e.width some e.content.text has.text column far) first
         (falls-there d e.base e.width some e.content.text has.text column far below) (omega arith) below
-        ∙ ap (at-row d e off settled column some has.text last) same)))
+        ∙ ap (at-row d e off settled paged column some has.text last) same)))
 
-    up-and-down : (n : ℕ) → n ≤ k → LeadsBack d e n (after_keys d None e (replicate n LineUp ++ replicate n LineDown))
+    up-and-down : (n : ℕ) → n * size paged e.height ≤ k
+        → LeadsBack d e n (after_keys d None e (replicate n (move_key paged Up) ++ replicate n (move_key paged Down)))
     up-and-down zero above = stays
     up-and-down (suc m) above =
-        let new = after_keys d None e (replicate (suc m) LineUp ++ replicate (suc m) LineDown) in
-        let far = k - suc m in
-        let same : far + suc m ≡ k = omega (arith, above) in
+        let new = after_keys d None e (replicate (suc m) (move_key paged Up) ++ replicate (suc m) (move_key paged Down)) in
+        let span = suc m * size paged e.height in
+        let far = k - span in
+        let same : far + span ≡ k = omega (arith, above) in
         let within : far < length (rows d e) = omega (arith, one.row) in
         let first = left_after (suc m) (e.mark, e.soft) in
         let last = left_after (suc m) first in
         leads-back (suc m) new
         (ap (λ (x : Editor). x.place)
-        (there-and-back d e off settled column some has.text Up Down m far first last none refl
-        (goes-up d e off settled column some has.text m k e.place (e.mark, e.soft) refl above one.row)
-        (goes-down d e off settled column some has.text m far (enter d e.base e.width some e.content.text has.text column far) first
+        (there-and-back d e off settled paged column some has.text Up Down m far first last none refl
+        (goes-up d e off settled paged column some has.text m k e.place (e.mark, e.soft) refl above one.row)
+        (goes-down d e off settled paged column some has.text m far (enter d e.base e.width some e.content.text has.text column far) first
         (falls-there d e.base e.width some e.content.text has.text column far within) (omega (arith, above, one.row))
-        ∙ ap (at-row d e off settled column some has.text last) same)))
+        ∙ ap (at-row d e off settled paged column some has.text last) same)))
 
 pub line-moves-go-back : LineMovesGoBack
-line-moves-go-back d e n has off settled none place =
-    record { below = down-and-up d e has place off settled none n; above = up-and-down d e has place off settled none n }
+line-moves-go-back d e n has off settled none place = record {
+  below = λ below. down-and-up d e has place off settled none false n (omega (arith, below));
+  above = λ above. up-and-down d e has place off settled none false n (omega (arith, above));
+}
+
+pub page-moves-go-back : PageMovesGoBack
+page-moves-go-back d e n has off settled none place =
+    record { below = down-and-up d e has place off settled none true n; above = up-and-down d e has place off settled none true n }

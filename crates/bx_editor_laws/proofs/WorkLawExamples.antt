@@ -2,16 +2,20 @@
 use Rattle.std.proofs.Common.{◌≡◌, ℕ, zero, suc, ◌+◌, ◌<◌, [], ◌∷◌, true, get_or, refl, sym, ap, subst, ◌∙◌, arith}
 use Rattle.std.specs.Prelude.{codes, Some}
 use Rattle.std.specs.Fmt.{digits}
+use Rattle.std.proofs.lemmas.List.Elements.{All-cons, All-nil}
 use Rattle.ucd_case.proofs.Computing.{ucd_case}
 use Rattle.unicode_normalization.proofs.Computing.{unicode_normalization}
 use Rattle.unicode_segmentation.proofs.Computing.{unicode_segmentation}
 use Rattle.unicode_width.proofs.Computing.{unicode_width}
+use Rattle.bx_keys.specs.declared.key.Key.{Key}
 use Rattle.bx_keys.specs.declared.key.Key.TheVariants.{Insert, Down, Forward, Find, RowEnd, ErasePoint, FindNext, LineDown, LineUp}
+use Rattle.bx_keys.specs.declared.key.Key.TheVariants.{PageBack, PageOn}
 use Rattle.bx_paragraph.specs.declared.slot.Slot.{Slot}
 use Rattle.bx_paragraph.specs.Slots.{covers, row_slots}
 use Rattle.bx_editor.specs.declared.message.Message.TheVariants.{FromStart}
-use Rattle.bx_editor.specs.Editor.{Editor}
-use Rattle.bx_editor_laws.specs.WorkLaws.{ErasePointLeavesBeginning, FindNextIsFindTwice, LineMovesGoBack, own_row}
+use Rattle.bx_editor.specs.Editor.{Editor, HasRows}
+use Rattle.bx_editor_laws.specs.WorkLaws.{ColumnIsKept, ErasePointLeavesBeginning, FindNextIsFindTwice, LineMovesGoBack, PageMovesGoBack}
+use Rattle.bx_editor_laws.specs.WorkLaws.{keeps_column, own_row}
 use Rattle.bx_editor.proofs.Computed.{tables, start, after}
 
 -- ---- a point erased
@@ -84,3 +88,25 @@ from_a_full_end_to_the_unit_at_the_edge law =
     let back = (law tables at_a_full_end 1 (record { text = (codes "ab\nab", (refl, refl)); columns = refl }) refl refl refl (2, omega arith, refl)).below (omega arith) in
     let edge = back.to_edge (record { last = refl; at_end = refl; full = refl }) (omega arith) in
     edge.place_is ∙ the_slot_of_b edge.is_slot.0 edge.slot edge.is_slot.1 edge.is_slot.2 edge.covered
+
+-- at the end of the first of three lines with an empty one between each two; a page has two rows
+abbrev before_pages : Editor
+before_pages = after (start (codes "abcd\n\nabcd\n\nabcd") 3 20) (RowEnd ∷ [])
+
+pub two_pages_on_and_back : PageMovesGoBack → (after before_pages (PageOn ∷ PageOn ∷ PageBack ∷ PageBack ∷ [])).place ≡ 4
+unfolding unicode_segmentation unicode_width digits
+two_pages_on_and_back law =
+    let text = codes "abcd\n\nabcd\n\nabcd" in
+    let more : 4 < 5 = omega arith in
+    let has : HasRows before_pages = record { text = (text, (refl, refl)); columns = refl } in
+    ((law tables before_pages 2 has refl refl refl (4, omega arith, refl)).below more).to_place (λ end. cc end.full)
+
+pub the_fifth_column_is_kept_over_empty_lines : ColumnIsKept
+    → (after before_pages (LineDown ∷ PageOn ∷ PageOn ∷ PageOn ∷ PageBack ∷ [])).goal ≡ Some 5
+unfolding unicode_segmentation unicode_width digits
+the_fifth_column_is_kept_over_empty_lines law =
+    let Keeps = λ (key : Key). keeps_column key ≡ true in
+    law tables before_pages LineDown (PageOn ∷ PageOn ∷ PageOn ∷ PageBack ∷ []) refl refl refl refl
+    (All-cons Keeps PageOn (PageOn ∷ PageOn ∷ PageBack ∷ []) refl
+    (All-cons Keeps PageOn (PageOn ∷ PageBack ∷ []) refl
+    (All-cons Keeps PageOn (PageBack ∷ []) refl (All-cons Keeps PageBack [] refl (All-nil Keeps)))))

@@ -6,3 +6,6 @@ pub mod AskingLaws
 pub mod ReplaceLaws
 pub mod PastingLaws
 pub mod PointingLaws
+pub mod LineLaws
+pub mod WordLaws
+pub mod StoredLaws

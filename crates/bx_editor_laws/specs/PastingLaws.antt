@@ -1,5 +1,6 @@
 -- Laws of pastes: which keys end one, what one puts in, and when one is under way. `d`, `e` and `new` are as in Laws.antt.
-use Rattle.std.specs.Prelude.{◌≡◌, ◌≢◌, ℕ, ◌+◌, ◌≤◌, true, false, List, [], ◌∷◌, length, map, encode_utf8, encode_utf8_all, All, Option, None, if◌then◌else◌}
+use Rattle.std.specs.Prelude.{◌≡◌, ◌≢◌, ℕ, ◌+◌, ◌<◌, ◌≤◌, true, false, List, [], ◌∷◌, length, map, encode_utf8, encode_utf8_all, All}
+use Rattle.std.specs.Prelude.{Option, None, if◌then◌else◌}
 use Rattle.bx_terms.specs.declared.base.Base.{Base}
 use Rattle.bx_keys.specs.declared.key.Key.{Key}
 use Rattle.bx_keys.specs.declared.key.Key.TheVariants.{Insert, UndoRun}
@@ -41,12 +42,17 @@ PastesAreAlone =
 
 -- ---- what a paste puts in
 
--- outside a search, a question and a paste one UndoRun takes back a paste of characters for which there was room, and puts back the
--- selection that gave way to them
+-- One UndoRun takes back all that a paste put in, and puts back the selection that gave way to it. Where no paste was under way, one of
+-- some characters puts them in if there was room for them.
+pub record TakesPasteBack (d : Data) (e : Editor) (cs : List ℕ) : Type 0 where
+  pub back : length e.content.past < length (after_paste d e cs).content.past
+      → IsBackBefore e (after_key d None (after_paste d e cs) UndoRun)
+  pub with_room : e.pasted ≡ None → cs ≢ [] → has_room e (written d e.content.text cs) ≡ true
+      → IsBackBefore e (after_key d None (after_paste d e cs) UndoRun)
+
+-- so it is outside a search and a question
 abbrev pub PasteComesBack : Type 0
-PasteComesBack =
-    (d : Data) (e : Editor) (cs : List ℕ) → IsFree e → e.pasted ≡ None → cs ≢ []
-    → has_room e (written d e.content.text cs) ≡ true → IsBackBefore e (after_key d None (after_paste d e cs) UndoRun)
+PasteComesBack = (d : Data) (e : Editor) (cs : List ℕ) → IsFree e → TakesPasteBack d e cs
 
 -- A typed character goes in at the cursor, after the selection is removed.
 abbrev pub typed_from : Data → Editor → ℕ

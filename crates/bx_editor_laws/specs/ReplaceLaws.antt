@@ -7,7 +7,7 @@ use Rattle.bx_ucd.specs.Data.{Data}
 use Rattle.bx_asking.specs.declared.question.Ask.TheVariants as asks
 use Rattle.bx_find.specs.Nearest.{IsFirst, MatchesAt}
 use Rattle.bx_find.specs.Letters.{letters}
-use Rattle.bx_find.specs.Spans.{match_end}
+use Rattle.bx_find.specs.Spans.{is_attached, match_end}
 use Rattle.bx_find.specs.declared.reading.Reading.TheVariants.{Close}
 use Rattle.bx_document.specs.Swapped.{behind_character, last_stop, swapped}
 use Rattle.bx_keys.specs.declared.key.Key.{Key}
@@ -122,6 +122,12 @@ LiesIn i spans = (s : ℕ × ℕ) × Contains spans s × (s.0 ≤ i) × (i < s.1
 -- a pair of offsets is a match and its end
 abbrev pub IsMatch : Data → Editor → ℕ × ℕ → Type 0
 IsMatch d e s = MatchesAt d Close (sought d e) e.content.text s.0 × (s.1 ≡ match_end d Close (sought d e) e.content.text s.0)
+
+-- no match leaves a mark behind that goes with its last letter: the character at its end, if there is one, is not attached
+abbrev pub MatchTakesMarks : Type 0
+MatchTakesMarks =
+    (d : Data) (e : Editor) (s : ℕ × ℕ) → IsUtf8 e.content.text → IsMatch d e s
+    → (c : ℕ) (cs : List ℕ) → chars (drop s.1 e.content.text) ≡ c ∷ cs → is_attached d c ≡ false
 
 -- The spans are the matches from the shown one on: they are apart, each has the query's letters, and each offset from there on at
 -- which the query stands lies in one of them.

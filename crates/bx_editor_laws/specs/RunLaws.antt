@@ -16,8 +16,8 @@ use Rattle.bx_asking.specs.declared.question.Ask.TheVariants as asks
 use Rattle.bx_editor.specs.declared.seek.Seek.TheVariants.{Off}
 use Rattle.bx_editor.specs.Editor.{Editor, at_start}
 use Rattle.bx_editor.specs.Keys.{after_key, after_keys, is_save}
-use Rattle.bx_editor.specs.PasteLaws.{after_paste}
 use Rattle.bx_editor.specs.Pasting.{paste_ended}
+use Rattle.bx_editor.specs.Runs.{is_changed_at}
 use Rattle.bx_editor_laws.specs.Laws.{after_typing, IsUnmarkedAt}
 
 -- ---- a run, edit by edit
@@ -31,9 +31,11 @@ abbrev pub redos : Editor → ℕ
 redos e = redone e.runs (length e.content.past) (length e.content.future) - length e.content.past
 
 -- `key` steps over a run, `one` over an edit; `edits` are those that are left to step over. If there are some, `key` does what
--- `n` presses of `one` do, one at least, except to `changed`; if there are none, it does what `one` does.
+-- `n` presses of `one` do, one at least; but the text then counts as changed only if it is not the one that was stored or opened
+-- last, which its number of edits tells. If there are none, `key` does what `one` does.
 pub record IsManySteps (d : Data) (e : Editor) (key one : Key) (n : ℕ) (edits : List Edit) : Type 0 where
-  pub many : edits ≢ [] → let new = after_key d None e key in new ≡ record (after_keys d None e (replicate n one)) { changed = new.changed }
+  pub many : edits ≢ [] → let all = after_keys d None e (replicate n one) in
+      after_key d None e key ≡ record all { changed = is_changed_at (length all.content.past) all.stored }
   pub some : edits ≢ [] → 0 < n
   pub none : edits ≡ [] → after_key d None e key ≡ after_key d None e one
 
@@ -42,7 +44,7 @@ pub record RunsAreSteps (d : Data) (e : Editor) : Type 0 where
   pub undo : IsManySteps d e UndoRun Undo (undos e) e.content.past
   pub redo : IsManySteps d e RedoRun Redo (redos e) e.content.future
 
--- outside a paste UndoRun does what `undos` presses of Undo do, RedoRun what `redos` presses of Redo do, but for `changed`
+-- outside a paste UndoRun does what `undos` presses of Undo do, RedoRun what `redos` presses of Redo do, but for what counts as changed
 abbrev pub RunKeysAreSteps : Type 0
 RunKeysAreSteps = (d : Data) (e : Editor) → e.pasted ≡ None → RunsAreSteps d e
 
@@ -75,12 +77,6 @@ pub record IsBackBefore (e new : Editor) : Type 0 where
   pub text_is : new.content.text ≡ e.content.text
   pub past_is : new.content.past ≡ e.content.past
   pub unmarked : IsUnmarkedAt e.place new
-
--- outside a search and a question one UndoRun takes back all that a paste put in, and puts back the selection that gave way to it
-abbrev pub PasteIsARun : Type 0
-PasteIsARun =
-    (d : Data) (e : Editor) (cs : List ℕ) → e.ask ≡ asks.Off → e.seek ≡ Off → length e.content.past < length (after_paste d e cs).content.past
-    → IsBackBefore e (after_key d None (after_paste d e cs) UndoRun)
 
 -- each character is of a kind, by its class: a letter, or a blank
 abbrev pub AreOfKind : Data → Kind → List ℕ → Type 0

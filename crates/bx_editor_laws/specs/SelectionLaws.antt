@@ -4,7 +4,7 @@ use Rattle.bx_terms.specs.Sizes.{largest_text}
 use Rattle.bx_keys.specs.declared.key.Key.{Key}
 use Rattle.bx_keys.specs.declared.key.Key.TheVariants.{Insert, Erase, Delete, Back, Forward, Up, Down, Right, Left, RowHome, RowEnd, PageUp, PageDown, Put}
 use Rattle.bx_keys.specs.declared.key.Key.TheVariants.{WordLeft, WordRight, TextStart, TextEnd, Find, FindBack, FindNext, Replace, EraseWord, DeleteWord, ErasePoint, NewLine}
-use Rattle.bx_keys.specs.declared.key.Key.TheVariants.{LineUp, LineDown, PageBack, PageOn, Point, Select, UndoRun}
+use Rattle.bx_keys.specs.declared.key.Key.TheVariants.{Cancel, LineUp, LineDown, PageBack, PageOn, Point, Select, UndoRun}
 use Rattle.bx_ucd.specs.Data.{Data}
 use Rattle.bx_asking.specs.declared.question.Ask.TheVariants as asks
 use Rattle.bx_editor.specs.declared.message.Message.TheVariants.{TextFull}
@@ -16,6 +16,8 @@ use Rattle.bx_editor_laws.specs.Laws.{IsPart}
 use Rattle.bx_editor.specs.Putting.{line_end}
 use Rattle.bx_editor.specs.Region.{region}
 use Rattle.bx_editor_laws.specs.RunLaws.{IsBackBefore}
+use Rattle.bx_editor.specs.Selecting.{aged}
+use Rattle.bx_runs.specs.declared.typing.Typing.TheVariants as typings
 
 -- ---- moves
 
@@ -63,6 +65,20 @@ seeks _ = false
 -- outside a search and a paste, a key that seeks leaves or removes the mark as a move does
 abbrev pub SeekingTakesSelectionOff : Type 0
 SeekingTakesSelectionOff = (d : Data) (e : Editor) (key : Key) → e.seek ≡ searches.Off → e.pasted ≡ None → seeks key ≡ true → LeavesMark d e key
+
+-- ---- Cancel
+
+-- Outside a question Cancel removes the mark, a selection's too; in one it ends the question, and the mark stays. The message, an
+-- earlier Quit and a kept column are gone, and the next edit begins a run; nothing else changes.
+pub record IsCancelled (e new : Editor) : Type 0 where
+  pub unmarked : e.ask ≡ asks.Off
+      → new ≡ record e { mark = None; soft = Off; typing = typings.Off; message = None; quit_before = false; goal = None }
+  pub unasked : e.ask ≢ asks.Off
+      → new ≡ record e { ask = asks.Off; soft = aged e.soft; typing = typings.Off; message = None; quit_before = false; goal = None }
+
+-- outside a search and a paste
+abbrev pub CancelUnmarks : Type 0
+CancelUnmarks = (d : Data) (e : Editor) → e.seek ≡ searches.Off → e.pasted ≡ None → IsCancelled e (after_key d None e Cancel)
 
 -- ---- a selection gives way
 

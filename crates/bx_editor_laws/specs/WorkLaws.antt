@@ -1,7 +1,9 @@
 -- Laws of ErasePoint, FindNext, and the moves that keep their column. `d`, `e` and `new` are as in Laws.antt; `r` is a row of the
 -- text, `w` the window's columns.
-use Rattle.std.specs.Prelude.{◌≡◌, ◌≢◌, ℕ, ◌+◌, ◌<◌, ◌≤◌, true, false, [], ◌∷◌, ◌++◌, length, take, drop, replicate, None, Contains}
-use Rattle.bx_keys.specs.declared.key.Key.TheVariants.{ErasePoint, Find, FindNext, LineDown, LineUp}
+use Rattle.std.specs.Prelude.{◌≡◌, ◌≢◌, ℕ, ◌+◌, ◌*◌, ◌<◌, ◌≤◌, Bool, true, false, List, [], ◌∷◌, ◌++◌, length, take, drop, replicate}
+use Rattle.std.specs.Prelude.{Some, None, All, Contains}
+use Rattle.bx_keys.specs.declared.key.Key.{Key}
+use Rattle.bx_keys.specs.declared.key.Key.TheVariants.{ErasePoint, Find, FindNext, LineDown, LineUp, PageBack, PageOn}
 use Rattle.bx_ucd.specs.Data.{Data}
 use Rattle.bx_asking.specs.declared.question.Ask.TheVariants as asks
 use Rattle.bx_rows.specs.RowPicture.{columns_used}
@@ -12,7 +14,7 @@ use Rattle.bx_view.specs.Moves.{step_logical}
 use Rattle.bx_view.specs.Places.{IsTextPlace}
 use Rattle.bx_view.specs.TextRows.{TextRow, cell_of, row_at, row_of}
 use Rattle.bx_editor.specs.declared.seek.Seek.TheVariants.{Off}
-use Rattle.bx_editor.specs.Editor.{Editor, rows, HasRows}
+use Rattle.bx_editor.specs.Editor.{Editor, rows, text_height, HasRows}
 use Rattle.bx_editor.specs.Erasing.{point_before}
 use Rattle.bx_editor.specs.Keys.{after_key, after_keys}
 use Rattle.bx_editor.specs.Search.{sought}
@@ -81,3 +83,33 @@ abbrev pub LineMovesGoBack : Type 0
 LineMovesGoBack =
     (d : Data) (e : Editor) (n : ℕ) → HasRows e → e.seek ≡ Off → e.pasted ≡ None → e.goal ≡ None → IsTextPlace d e.content.text e.place
     → LineMovesLeadBack d e n
+
+-- `n` pages down and up again lead back, if there are as many rows below; and `n` pages up and down again, if there are as many above.
+-- A page has the window's text rows.
+pub record PageMovesLeadBack (d : Data) (e : Editor) (n : ℕ) : Type 0 where
+  pub below : row_of (rows d e) e.place + n * text_height e.height < length (rows d e)
+      → LeadsBack d e n (after_keys d None e (replicate n PageOn ++ replicate n PageBack))
+  pub above : n * text_height e.height ≤ row_of (rows d e) e.place
+      → LeadsBack d e n (after_keys d None e (replicate n PageBack ++ replicate n PageOn))
+
+-- these moves lead back as those by rows do
+abbrev pub PageMovesGoBack : Type 0
+PageMovesGoBack =
+    (d : Data) (e : Editor) (n : ℕ) → HasRows e → e.seek ≡ Off → e.pasted ≡ None → e.goal ≡ None → IsTextPlace d e.content.text e.place
+    → PageMovesLeadBack d e n
+
+-- the keys that keep a column
+abbrev pub keeps_column : Key → Bool
+keeps_column LineUp = true
+keeps_column LineDown = true
+keeps_column PageBack = true
+keeps_column PageOn = true
+keeps_column _ = false
+
+-- outside a search and a paste, with no column kept: however many of these keys follow one another, and however far there is a row for
+-- them, the column that they keep is the cursor's before the first
+abbrev pub ColumnIsKept : Type 0
+ColumnIsKept =
+    (d : Data) (e : Editor) (first : Key) (keys : List Key) → e.seek ≡ Off → e.pasted ≡ None → e.goal ≡ None
+    → keeps_column first ≡ true → All (λ key. keeps_column key ≡ true) keys
+    → (after_keys d None e (first ∷ keys)).goal ≡ Some (cell_of e.width (rows d e) e.place)

@@ -3,11 +3,13 @@
 
 mod asking_laws;
 mod laws;
+mod line_laws;
 mod pasting_laws;
 mod pointing_laws;
 mod replace_laws;
 mod run_laws;
 mod selection_laws;
+mod word_laws;
 mod work_laws;
 
 pub use asking_laws::{
@@ -20,18 +22,23 @@ pub use laws::{
     goes_to_both_ends, mark_twice_is_nothing, put_restores_cut, redo_mirrors_undo, top_stays,
     undo_gives_back,
 };
+pub use line_laws::new_line_puts_separator;
 pub use pasting_laws::{keys_end_pastes, paste_comes_back, paste_is_typing, pastes_are_alone};
 pub use pointing_laws::{point_stays, point_takes_units, point_twice_is_once};
 pub use replace_laws::{
-    enter_replaces, find_passes_over, replace_replaces_all, replaced_comes_back, same_letters_stay,
-    shown_stands,
+    enter_replaces, find_passes_over, match_takes_marks, replace_replaces_all, replaced_comes_back,
+    same_letters_stay, shown_stands,
 };
 pub use run_laws::{
-    paste_is_a_run, redo_run_mirrors_undo_run, run_keys_are_steps, unchanged_is_stored,
+    redo_run_mirrors_undo_run, run_keys_are_steps, stored_is_unchanged, unchanged_is_stored,
     word_is_a_run,
 };
 pub use selection_laws::{
-    move_takes_selection_off, seeking_takes_selection_off, selection_comes_back,
+    cancel_unmarks, move_takes_selection_off, seeking_takes_selection_off, selection_comes_back,
     selection_gives_way, selection_is_removed,
 };
-pub use work_laws::{erase_point_leaves_beginning, find_next_is_find_twice, line_moves_go_back};
+pub use word_laws::word_keys_erase;
+pub use work_laws::{
+    column_is_kept, erase_point_leaves_beginning, find_next_is_find_twice, line_moves_go_back,
+    page_moves_go_back,
+};

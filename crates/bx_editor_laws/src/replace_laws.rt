@@ -1,6 +1,7 @@
 //! Laws of replacing matches one by one or all at once. The functions are empty: their contracts are the laws.
 
-ghost use Rattle.bx_editor_laws.specs.ReplaceLaws.{EnterReplaces, FindPassesOver, ReplaceReplacesAll, ReplacedComesBack, SameLettersStay, ShownStands};
+ghost use Rattle.bx_editor_laws.specs.ReplaceLaws.{EnterReplaces, FindPassesOver, MatchTakesMarks, ReplaceReplacesAll, ReplacedComesBack};
+ghost use Rattle.bx_editor_laws.specs.ReplaceLaws.{SameLettersStay, ShownStands};
 
 /// A match is shown only where the query stands, and the cursor is at its place.
 pub fn shown_stands()
@@ -10,6 +11,12 @@ pub fn shown_stands()
 /// The end of a line replaces the match that is shown, and nothing else.
 pub fn enter_replaces()
     ensures { EnterReplaces }
+{}
+
+/// A match that is replaced takes all marks that go with its last letter: the character behind it is no nonspacing mark and no ARABIC
+/// TATWEEL.
+pub fn match_takes_marks()
+    ensures { MatchTakesMarks }
 {}
 
 /// Find passes over the match that is shown: nothing is replaced, and the next match is shown.

@@ -1,9 +1,11 @@
 //! Laws of runs of edits, and of the text that was stored. The functions are empty: their contracts are the laws.
 
-ghost use Rattle.bx_editor_laws.specs.RunLaws.{PasteIsARun, RedoRunMirrorsUndoRun, RunKeysAreSteps, UnchangedIsStored, WordIsARun};
+ghost use Rattle.bx_editor_laws.specs.RunLaws.{RedoRunMirrorsUndoRun, RunKeysAreSteps, UnchangedIsStored, WordIsARun};
+ghost use Rattle.bx_editor_laws.specs.StoredLaws.{StoredIsUnchanged};
 
 /// Outside a paste, UndoRun does what Undo does once for each edit since a run began, and RedoRun what Redo does once for each edit
-/// up to the next run. They differ in whether the text counts as changed, and in nothing else.
+/// up to the next run. They differ in one thing: after UndoRun or RedoRun the text that was stored or opened last counts as unchanged,
+/// and no other does.
 pub fn run_keys_are_steps()
     ensures { RunKeysAreSteps }
 {}
@@ -14,12 +16,6 @@ pub fn redo_run_mirrors_undo_run()
     ensures { RedoRunMirrorsUndoRun }
 {}
 
-/// Outside a search and a question, one UndoRun takes back all that a paste put in, and puts back the selection that gave way
-/// to it.
-pub fn paste_is_a_run()
-    ensures { PasteIsARun }
-{}
-
 /// Outside a search, a question and a paste, one UndoRun takes back a typed word and the blanks typed after it.
 pub fn word_is_a_run()
     ensures { WordIsARun }
@@ -28,4 +24,10 @@ pub fn word_is_a_run()
 /// Whatever was typed over an opened text, it counts as unchanged only if it is the text that was stored or opened last.
 pub fn unchanged_is_stored()
     ensures { UnchangedIsStored }
+{}
+
+/// Outside a paste, UndoRun and RedoRun find the text unchanged that a Save stored, or that was opened, if they lead back to it by its
+/// number of edits; any other text is changed. So it is until another text is stored, or an edit drops the stored one.
+pub fn stored_is_unchanged()
+    ensures { StoredIsUnchanged }
 {}

@@ -1,6 +1,7 @@
 //! Laws of selections. The functions are empty: their contracts are the laws.
 
-ghost use Rattle.bx_editor_laws.specs.SelectionLaws.{MoveTakesSelectionOff, SeekingTakesSelectionOff, SelectionComesBack, SelectionGivesWay, SelectionIsRemoved};
+ghost use Rattle.bx_editor_laws.specs.SelectionLaws.{CancelUnmarks, MoveTakesSelectionOff, SeekingTakesSelectionOff, SelectionComesBack};
+ghost use Rattle.bx_editor_laws.specs.SelectionLaws.{SelectionGivesWay, SelectionIsRemoved};
 
 /// Outside a paste, a move takes an old selection off, one after whose Select another key came, and leaves any other mark; right
 /// after Select it leaves the mark that is then set.
@@ -12,6 +13,12 @@ pub fn move_takes_selection_off()
 /// other mark, as a move does.
 pub fn seeking_takes_selection_off()
     ensures { SeekingTakesSelectionOff }
+{}
+
+/// Outside a search and a paste, Cancel removes the mark, a selection's too; in a question it ends that instead. It takes the message
+/// away and forgets an earlier Quit, a kept column and the run of edits, and changes nothing else.
+pub fn cancel_unmarks()
+    ensures { CancelUnmarks }
 {}
 
 /// Outside a search, a question and a paste, a key that removes text removes the selection, and no more.

@@ -1,6 +1,7 @@
 //! Laws of ErasePoint, FindNext, and the moves that keep their column. The functions are empty: their contracts are the laws.
 
-ghost use Rattle.bx_editor_laws.specs.WorkLaws.{ErasePointLeavesBeginning, FindNextIsFindTwice, LineMovesGoBack};
+ghost use Rattle.bx_editor_laws.specs.WorkLaws.{ColumnIsKept, ErasePointLeavesBeginning, FindNextIsFindTwice, LineMovesGoBack};
+ghost use Rattle.bx_editor_laws.specs.WorkLaws.{PageMovesGoBack};
 
 /// Outside a search, a question and a paste, without a selection, ErasePoint removes the end of the unit before the place, from the start
 /// of its last point on, and leaves all text before and after that.
@@ -19,4 +20,16 @@ pub fn find_next_is_find_twice()
 /// they lead to the unit at the window's edge, whose column the cursor has.
 pub fn line_moves_go_back()
     ensures { LineMovesGoBack }
+{}
+
+/// PageOn `n` times and then PageBack `n` times lead back as LineDown and LineUp do, if there are `n` pages of rows below; PageBack and
+/// then PageOn likewise, if there are `n` pages above.
+pub fn page_moves_go_back()
+    ensures { PageMovesGoBack }
+{}
+
+/// Outside a search and a paste, with no column kept: LineUp, LineDown, PageBack and PageOn keep the column that the cursor has before
+/// the first of them, however many follow one another, also where they meet the first or the last row.
+pub fn column_is_kept()
+    ensures { ColumnIsKept }
 {}

@@ -19,3 +19,6 @@ pub mod ReplayExamples
 pub mod PasteExamples
 mod ClauseExamples
 mod LogExamples
+pub mod QuitsEndParts
+pub mod WholeSaves
+mod PartExamples

@@ -1,3 +1,5 @@
 pub mod Recovery
 pub mod Anew
 pub mod Devices
+pub mod Parts
+pub mod Memory

@@ -3,6 +3,8 @@
 ghost use Rattle.bx_session_laws.specs.Anew.{AlwaysStaysPainted};
 ghost use Rattle.bx_session_laws.specs.Devices.{HasWholeLog};
 ghost use Rattle.bx_session.specs.Laws.{AlwaysShowsState, HasKeysOfInput, ReplaysKeys};
+ghost use Rattle.bx_session_laws.specs.Memory.{MemoryStoresWholeSaves};
+ghost use Rattle.bx_session_laws.specs.Parts.{PartsEndAtQuits};
 ghost use Rattle.bx_session_laws.specs.Recovery.{JournalsGiveBack, RecoveryGivesBack};
 
 use bx_session::Journal;
@@ -45,4 +47,14 @@ pub fn journals_give_back<J: Journal + Drop>()
 /// The log of a device in memory has all that was done to the device, in order, unless memory ran out for it.
 pub fn devices_log_all()
     ensures { HasWholeLog }
+{}
+
+/// The bytes of a read are journaled and obeyed in parts. A part ends with the byte that completes the first Quit, or with the bytes.
+pub fn parts_end_at_quits()
+    ensures { PartsEndAtQuits }
+{}
+
+/// A store in memory has what was put between the begin and the commit of the latest save that succeeded; a failed call stores nothing.
+pub fn memory_stores_whole_saves()
+    ensures { MemoryStoresWholeSaves }
 {}

@@ -1,0 +1,47 @@
+-- The column that moves from row to row keep.
+use Rattle.std.proofs.Common.{◌≡◌, ℕ, Bool, true, false, List, [], ◌∷◌, Some, None, refl, sym, ap, ◌∙◌}
+use Rattle.std.specs.Prelude.{All}
+use Rattle.std.proofs.lemmas.List.Elements.{All-cons, All-head, All-tail}
+use Rattle.bx_keys.specs.declared.key.Key.{Key}
+use Rattle.bx_keys.specs.declared.key.Key.TheVariants.{LineDown, LineUp, PageBack, PageOn}
+use Rattle.bx_ucd.specs.Data.{Data}
+use Rattle.bx_view.specs.declared.moves.Vertical.{Vertical}
+use Rattle.bx_view.specs.declared.moves.Vertical.TheVariants.{Up, Down}
+use Rattle.bx_view.specs.Moves.{rows_away}
+use Rattle.bx_view.specs.TextRows.{cell_of}
+use Rattle.bx_editor.specs.declared.seek.Seek.TheVariants.{Off}
+use Rattle.bx_editor.specs.Editor.{Editor, rows}
+use Rattle.bx_editor.specs.Keys.{after_key, after_keys}
+use Rattle.bx_editor_laws.specs.WorkLaws.{ColumnIsKept, keeps_column}
+use Rattle.bx_editor_laws.proofs.ThereAndBack.{Marks, key-moves, kept-at, keys-from, left, move_key, size}
+
+-- a key that keeps the column is one by rows or by pages
+is-move : (key : Key) → keeps_column key ≡ true → (paged : Bool) × (way : Vertical) × (key ≡ move_key paged way)
+is-move LineUp is = (false, Up, refl)
+is-move LineDown is = (false, Down, refl)
+is-move PageBack is = (true, Up, refl)
+is-move PageOn is = (true, Down, refl)
+is-move _ is = absurd (cc is)
+
+module _ (d : Data) (e : Editor) (off : e.seek ≡ Off) (settled : e.pasted ≡ None) (column : ℕ) where
+  keeps : (keys : List Key) (m : Marks) (place : ℕ) → All (λ key. keeps_column key ≡ true) keys
+      → (after_keys d None (kept-at d e off settled false column m place) keys).goal ≡ Some column
+  keeps [] m place all = refl
+  keeps (key ∷ keys) m place all =
+      let Is = λ (key : Key). keeps_column key ≡ true in
+      let move = is-move key (All-head Is key keys all) in
+      let moved = key-moves d e off settled move.0 column move.1 m place in
+      ap (λ k. (after_keys d None (after_key d None (kept-at d e off settled false column m place) k) keys).goal) move.2
+      ∙ ap (λ (x : Editor). (after_keys d None x keys).goal) moved
+      ∙ keeps keys (left m) (rows_away e.width (rows d e) move.1 (size move.0 e.height) column place) (All-tail Is key keys all)
+
+pub column-is-kept : ColumnIsKept
+column-is-kept d e first keys off settled none is all =
+    let column = cell_of e.width (rows d e) e.place in
+    let own : Marks = (e.mark, e.soft) in
+    let move = is-move first is in
+    let column-of = λ (x : Editor) (key : Key). (after_keys d None x (key ∷ keys)).goal in
+    ap (column-of e) move.2
+    ∙ ap (λ (x : Editor). x.goal) (keys-from d e off settled move.0 column move.1 keys none refl)
+    ∙ ap (column-of (kept-at d e off settled false column own e.place)) (sym move.2)
+    ∙ keeps d e off settled column (first ∷ keys) own e.place (All-cons (λ key. keeps_column key ≡ true) first keys is all)
