@@ -1,8 +1,9 @@
 //! The opening of a session from its files, without its journal's keys.
 
-ghost use Rattle.std.specs.Prelude.{◌≡◌, IfOk, OnOk};
+ghost use Rattle.std.specs.Prelude.{◌≡◌, IfErr, IfOk, OnErr, OnOk};
 ghost use Rattle.bx_session.specs.Beginning.{after_going_to, changed_if, clipboard_if};
 ghost use Rattle.bx_recovery.specs.Beginnings.{AreOfFiles, IsOpened, beginning_of, offset_of};
+ghost use Rattle.bx_recovery.specs.Refusals.{CanOpen, IsFirstCause};
 
 use crate::beginning::Beginning;
 use crate::fault::RecoveryFault;
@@ -24,6 +25,8 @@ fn offset_of(text: &[u8], line: Option<u64>) -> Option<usize>
 pub fn open(beginning: Beginning<'_>) -> Result<Session<Tables>, RecoveryFault>
     ensures tables { IfOk result (λ s. AreOfFiles (⟦<Tables as BidiData>⟧.data s.tables) beginning.entry.unicode) }
     ensures opens { IfOk result (λ s. IsOpened (⟦<Tables as BidiData>⟧.data s.tables) (beginning_of beginning.entry) s.session) }
+    ensures openable { OnOk result (CanOpen beginning.entry) }
+    ensures refused { IfErr result (IsFirstCause beginning.entry) }
 {
     let alloc = beginning.alloc;
     let (rows, cols, direction) = (beginning.rows, beginning.cols, beginning.direction);
@@ -51,9 +54,10 @@ fn prepare<D: BidiData + Drop>(
     offset: Option<usize>,
     unsaved: bool,
 ) -> Result<(), RecoveryFault>
-    ensures { OnOk result (session.new ≡ record session.old {
+    ensures ok { OnOk result (session.new ≡ record session.old {
       session = changed_if unsaved (after_going_to (D.data session.old.tables) (clipboard_if clipboard session.old.session) offset);
     }) }
+    ensures err { OnErr result (result ≡ Err RecoveryFault.OutOfMemory) }
 {
     if clipboard {
         session.use_clipboard();

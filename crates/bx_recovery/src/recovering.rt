@@ -1,9 +1,10 @@
 //! Recovery of a text from a journal, without a terminal: the replayed text is stored.
 
-ghost use Rattle.std.specs.Prelude.{◌≡◌, IfOk, OnErr};
+ghost use Rattle.std.specs.Prelude.{◌≡◌, IfErr, IfOk, OnErr, OnOk};
 ghost use Rattle.bx_session.specs.Saving.{store_state};
 ghost use Rattle.bx_recovery.specs.Beginnings.{beginning_of};
 ghost use Rattle.bx_recovery.specs.Recovery.{RecoversFrom, Recovers};
+ghost use Rattle.bx_recovery.specs.Refusals.{CanOpen, IsLaterCause, IsRecoveryCause};
 
 use crate::beginning::Beginning;
 use crate::fault::RecoveryFault;
@@ -24,6 +25,7 @@ fn store_replayed<D: BidiData + Drop, S: Store>(
     ensures recovers { IfOk result (λ r. RecoversFrom (D.data session.old.tables) session.old.session keys.now file.now r
         (store_state S.contents S.faults store.old) (store_state S.contents S.faults store.new)) }
     ensures stored { OnErr result (S.contents store.new ≡ S.contents store.old) }
+    ensures refused { IfErr result (IsLaterCause (S.faults store.old) (S.faults store.new)) }
 {
     let replayed = replay_beside(session, keys, file)?;
     match session.copy_to(store) {
@@ -44,6 +46,8 @@ pub fn recover<S: Store>(
     ensures recovers { IfOk result (λ r. Recovers (beginning_of beginning.entry) beginning.entry.unicode file.now r
         (store_state S.contents S.faults store.old) (store_state S.contents S.faults store.new)) }
     ensures stored { OnErr result (S.contents store.new ≡ S.contents store.old) }
+    ensures openable { OnOk result (CanOpen beginning.entry) }
+    ensures refused { IfErr result (IsRecoveryCause beginning.entry (S.faults store.old) (S.faults store.new)) }
 {
     let keys = beginning.keys;
     let mut session = open(beginning)?;
