@@ -172,14 +172,6 @@ module _ {J : Type 0} (contents : J → Option (List ℕ)) (failures : J → ℕ
       (Appends-trans (contents old.journal) (contents mid) (contents new.journal) (waiting old.backlog) (take n bytes) before appends.1)
       (appends.3 ∙ ap one_more same) there
 
--- the journal failed behind the first `count` bytes
-pub refused_new : {J : Type 0} (contents : J → Option (List ℕ)) (failures : J → ℕ) (old new : J) (space count : ℕ) (k : Backlog) (bytes : List ℕ)
-    → Appends (contents old) (contents new) (take count bytes) → Holds space [] (drop count bytes) k → failures new ≡ one_more (failures old)
-    → AppendsNew contents failures old new space k bytes
-refused_new contents failures old new space count Empty bytes grows holds fault = absurd holds
-refused_new contents failures old new space count (Waiting held) bytes grows holds fault = (count, grows, holds, fault)
-refused_new contents failures old new space count (Lost held) bytes grows holds fault = (count, grows, holds, fault)
-
 -- ---- calls in sequence
 
 -- nothing was read
@@ -271,9 +263,3 @@ kept_more {J} contents failures old mid new bytes more begun next = by_mid (is_l
         fault = faulty;
         first = λ h k. let some = next.first there k in omega (arith, some);
       }
-
--- one more call, with no byte
-pub kept_again : {J : Type 0} (contents : J → Option (List ℕ)) (failures : J → ℕ) (old mid new : RecorderState J) (bytes : List ℕ)
-    → HasKept contents failures old mid bytes → HasKept contents failures mid new [] → HasKept contents failures old new bytes
-kept_again contents failures old mid new bytes begun last =
-    subst (HasKept contents failures old new) (append-nil bytes) (kept_more contents failures old mid new bytes [] begun last)
