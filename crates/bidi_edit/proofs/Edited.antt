@@ -1,15 +1,17 @@
 -- The start and the end of a run, from the contracts of the calls within.
-use Rattle.std.proofs.Common.{◌≡◌, ℕ, Bool, true, false, List, Option, Result, Ok, Err, IsErrAnd, sym, ap, subst, ◌∙◌}
+use Rattle.std.proofs.Common.{◌≡◌, ℕ, Bool, true, false, List, None, Result, Ok, Err, IsErrAnd, sym, ap, subst, ◌∙◌}
 use Rattle.bx_editor.specs.Pasting.{has_changes}
 use Rattle.bx_ucd.specs.Data.{Data}
 use Rattle.bx_cli.specs.declared.unicode.UnicodeFiles.{UnicodeFiles}
+use Rattle.bx_session.specs.declared.action.Action.{Action}
 use Rattle.bx_session.specs.declared.end.End.{End}
 use Rattle.bx_session.specs.declared.end.End.TheVariants.{Quit, InputEnded}
 use Rattle.bx_session.specs.declared.end.RunFault.{RunFault}
 use Rattle.bx_session.specs.Session.{Session, SessionState, after_journal, with_painting}
 use Rattle.bx_session.specs.Painting.{QueuesPicture}
-use Rattle.bx_session.specs.Running.{EndsWith}
-use Rattle.bx_session.specs.Journal.{RunsRecorded}
+use Rattle.bx_session.specs.Saving.{StoreState}
+use Rattle.bx_session.specs.Running.{ByteAnswer, EndsWith}
+use Rattle.bx_session.specs.Log.{HasLogged}
 use Rattle.bx_session.specs.Beginning.{Beginning, at_offset}
 use Rattle.bx_recovery.specs.declared.fault.RecoveryFault.{RecoveryFault}
 use Rattle.bx_recovery.specs.declared.fault.RecoveryFault.TheVariants as recovery
@@ -18,7 +20,7 @@ use Rattle.bidi_edit.specs.declared.edit.Changes.{Changes}
 use Rattle.bidi_edit.specs.declared.fault.ProgramFault.{ProgramFault}
 use Rattle.bidi_edit.specs.declared.fault.ProgramFault.TheVariants as fault
 use Rattle.bidi_edit.specs.Faults.{fault_of_recovery}
-use Rattle.bidi_edit.specs.Run.{Edits, Outside, Resumes, RunsTo, RunsUnless, outcome_of}
+use Rattle.bidi_edit.specs.Run.{Edits, Resumes, RunsTo, RunsUnless, most_reads, outcome_of}
 
 -- ---- which results come of a run
 
@@ -55,52 +57,47 @@ runs_further P P' Q (Err fault.OutOfMemory) f h = h
 
 -- ---- after the opening
 
-pub resumes_of : {J D : Type 0} (Q : Type 0) (says : D → Data) (contents : J → Option (List ℕ)) (failures : J → ℕ) (old begun : SessionState D) (new : Session)
-    (journal : List ℕ) (out out' : Outside J) (end : Result End RunFault) (changed : Bool) (result : Result Changes ProgramFault)
-    → begun.tables ≡ old.tables
-    → begun.session ≡ with_painting (says old.tables) (after_journal (says old.tables) old.session journal)
-    → QueuesPicture (says old.tables) (after_journal (says old.tables) old.session journal).pending
-    (after_journal (says old.tables) old.session journal).known begun.session
-    → RunsRecorded contents failures (says begun.tables) begun.session new out.store out'.store out.unread out'.unread out.written out'.written
-    out.recorder out'.recorder
-    → EndsWith end new out'.unread → result ≡ outcome_of end changed → changed ≡ has_changes new.editor
-    → RunsUnless result (Resumes contents failures (says old.tables) old.session journal out out' result) Q
-resumes_of {J} {D} Q says contents failures old begun new journal out out' end changed result same is paints runs ends tells changes =
-    let d = says old.tables in
-    let from = after_journal d old.session journal in
-    let from_tables : RunsRecorded contents failures d begun.session new out.store out'.store out.unread out'.unread out.written out'.written
-    out.recorder out'.recorder =
-    subst (λ (t : D). RunsRecorded contents failures (says t) begun.session new out.store out'.store out.unread out'.unread out.written out'.written
-    out.recorder out'.recorder) same runs in
-    let all : Resumes contents failures d old.session journal out out' result = record {
-      session = new;
-      end = end;
-      painted = subst (QueuesPicture d from.pending from.known) is paints;
-      runs = record {
-        runs = subst (λ (s : Session). RunsRecorded contents failures d s new out.store out'.store out.unread out'.unread out.written out'.written
-            out.recorder out'.recorder) is from_tables;
-        ends = ends;
-      };
-      tells = tells ∙ ap (outcome_of end) changes;
-    } in
-    subst (λ (r : Result Changes ProgramFault). RunsUnless r (Resumes contents failures d old.session journal out out' result) Q) (sym tells)
-    (runs_outcome _ Q end changed all)
+module _ {V : Type 0} (did : V → Action → V → Type 0) (obeyed : V → Session → ByteAnswer → V → Session → Type 0) (stored : V → StoreState) where
+  pub resumes_of : {D : Type 0} (Q : Type 0) (says : D → Data) (old begun : SessionState D) (new : Session) (journal : List ℕ) (device device' : V)
+      (end : Result End RunFault) (changed : Bool) (result : Result Changes ProgramFault) → begun.tables ≡ old.tables
+      → begun.session ≡ with_painting (says old.tables) (after_journal (says old.tables) old.session journal)
+      → QueuesPicture (says old.tables) (after_journal (says old.tables) old.session journal).pending
+      (after_journal (says old.tables) old.session journal).known begun.session
+      → HasLogged did obeyed stored (says begun.tables) most_reads end begun.session new device device'
+      → EndsWith end new None → result ≡ outcome_of end changed → changed ≡ has_changes new.editor
+      → RunsUnless result (Resumes did obeyed stored (says old.tables) old.session journal device device' result) Q
+  resumes_of {D} Q says old begun new journal device device' end changed result same is paints logged ends tells changes =
+      let d = says old.tables in
+      let from = after_journal d old.session journal in
+      let from_tables : HasLogged did obeyed stored d most_reads end begun.session new device device' =
+      subst (λ (t : D). HasLogged did obeyed stored (says t) most_reads end begun.session new device device') same logged in
+      let all : Resumes did obeyed stored d old.session journal device device' result = record {
+        session = new;
+        end = end;
+        painted = subst (QueuesPicture d from.pending from.known) is paints;
+        runs = record {
+          logged = subst (λ (s : Session). HasLogged did obeyed stored d most_reads end s new device device') is from_tables;
+          ends = ends;
+        };
+        tells = tells ∙ ap (outcome_of end) changes;
+      } in
+      subst (λ (r : Result Changes ProgramFault). RunsUnless r (Resumes did obeyed stored d old.session journal device device' result) Q) (sym tells)
+      (runs_outcome _ Q end changed all)
 
--- ---- a whole run
+  -- ---- a whole run
 
-pub edits_of : {J : Type 0} (Q : Type 0) (contents : J → Option (List ℕ)) (failures : J → ℕ) (b : Beginning) (files : UnicodeFiles) (d : Data) (s : Session)
-    (out out' : Outside J) (result : Result Changes ProgramFault) → AreOfFiles d files → IsOpened d b s
-    → RunsUnless result (Resumes contents failures d s b.journal out out' result) Q
-    → RunsUnless result (Edits contents failures b files out out' result) Q
-edits_of {J} Q contents failures b files d s out out' result are opened =
-    runs_further _ _ Q result (λ (given : Resumes contents failures d s b.journal out out' result).
-    let here : Resumes contents failures d (at_offset d b) b.journal out out' result =
-    subst (λ (t : Session). Resumes contents failures d t b.journal out out' result) opened.session given in record {
-      tables = d;
-      session = here.session;
-      end = here.end;
-      answers = are;
-      begins = record { opened = opened.paints; painted = here.painted };
-      runs = here.runs;
-      tells = here.tells;
-    })
+  pub edits_of : (Q : Type 0) (b : Beginning) (files : UnicodeFiles) (d : Data) (s : Session) (device device' : V) (result : Result Changes ProgramFault)
+      → AreOfFiles d files → IsOpened d b s → RunsUnless result (Resumes did obeyed stored d s b.journal device device' result) Q
+      → RunsUnless result (Edits did obeyed stored b files device device' result) Q
+  edits_of Q b files d s device device' result are opened =
+      runs_further _ _ Q result (λ (given : Resumes did obeyed stored d s b.journal device device' result).
+      let here : Resumes did obeyed stored d (at_offset d b) b.journal device device' result =
+      subst (λ (t : Session). Resumes did obeyed stored d t b.journal device device' result) opened.session given in record {
+        tables = d;
+        session = here.session;
+        end = here.end;
+        answers = are;
+        begins = record { opened = opened.paints; painted = here.painted };
+        runs = here.runs;
+        tells = here.tells;
+      })

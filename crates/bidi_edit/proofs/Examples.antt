@@ -1,25 +1,33 @@
 -- Worked examples: how a run's end is reported, and what follows from the clause of a run alone.
-use Rattle.std.proofs.Common.{◌≡◌, ◌≢◌, ◌++◌, ℕ, Bool, true, false, List, [], ◌∷◌, Option, Some, None, Result, Ok, Err, IsOk, refl, sym, ap, subst, ◌∙◌, if◌then◌else◌}
+use Rattle.std.proofs.Common.{◌≡◌, ◌≢◌, ◌++◌, ℕ, Bool, true, false, List, [], ◌∷◌, length, Option, Some, None, Result, Ok, Err, IsOk, refl, sym, ap, subst, ◌∙◌, if◌then◌else◌}
 use Rattle.std.specs.Prelude.{◌&&◌, codes}
 use Rattle.bx_editor.specs.Pasting.{has_changes}
+use Rattle.bx_store.specs.declared.faults.Faults.{Faults}
 use Rattle.bx_ucd.specs.Data.{Data}
 use Rattle.bx_keys.specs.Keys.{key_after}
 use Rattle.bx_cli.specs.declared.unicode.UnicodeFiles.{UnicodeFiles}
+use Rattle.bx_session.specs.declared.action.Action.{Action}
 use Rattle.bx_session.specs.declared.end.End.{End}
 use Rattle.bx_session.specs.declared.end.End.TheVariants.{Quit, InputEnded}
 use Rattle.bx_session.specs.declared.end.RunFault.{RunFault}
-use Rattle.bx_session.specs.declared.end.RunFault.TheVariants.{WriteFault}
+use Rattle.bx_session.specs.declared.end.RunFault.TheVariants.{ReadLimit, WriteFault}
 use Rattle.bx_session.specs.declared.error.Refused.{Refused}
 use Rattle.bx_session.specs.declared.status.Status.{Status}
+use Rattle.bx_session.specs.declared.wired.Wired.{Wired}
 use Rattle.bx_session.specs.Session.{Session, after_journal, with_painting}
-use Rattle.bx_session.specs.Saving.{StoreAfter, StoreState, is_applied, is_save_byte, is_save_key, text_to_save}
-use Rattle.bx_session.specs.Running.{FeedsAll}
+use Rattle.bx_session.specs.Saving.{StoreAfter, StoreState, is_applied, is_save_byte, is_save_key, store_state, text_to_save}
+use Rattle.bx_session.specs.Running.{ByteAnswer, EndsWith, FeedsAll}
+use Rattle.bx_session.specs.Journal.{RunsRecorded}
+use Rattle.bx_session.specs.Wire.{DidWired, ObeyedWired}
 use Rattle.bx_session.specs.Beginning.{Beginning, at_offset, begun}
 use Rattle.bx_session.proofs.KeySizes.{ended_goes_on}
+use Rattle.bx_session.proofs.Moved.{ended_with, recorded}
 use Rattle.bx_recovery.proofs.Opened.{reads_all}
 use Rattle.bidi_edit.specs.declared.edit.Changes.TheVariants.{Saved, Dropped}
 use Rattle.bidi_edit.specs.declared.fault.ProgramFault.TheVariants as fault
-use Rattle.bidi_edit.specs.Run.{Edits, Outside, RunsUnless, outcome_of}
+use Rattle.bidi_edit.specs.declared.edit.Changes.{Changes}
+use Rattle.bidi_edit.specs.declared.fault.ProgramFault.{ProgramFault}
+use Rattle.bidi_edit.specs.Run.{Edits, RunsTo, RunsUnless, most_reads, outcome_of}
 
 -- ---- how an end is reported
 
@@ -56,9 +64,32 @@ a_write_fault changed = refl
 -- ---- what follows from the clause of a run
 
 -- a run that is said to have ended saved left no change
-pub a_saved_run : {J : Type 0} (contents : J → Option (List ℕ)) (failures : J → ℕ) (b : Beginning) (files : UnicodeFiles) (out out' : Outside J)
-    → (e : Edits contents failures b files out out' (Ok Saved)) → has_changes e.session.editor ≡ false
-a_saved_run contents failures b files out out' e = saved_leaves_nothing e.end (has_changes e.session.editor) (sym e.tells)
+pub a_saved_run : {V : Type 0} (did : V → Action → V → Type 0) (obeyed : V → Session → ByteAnswer → V → Session → Type 0) (stored : V → StoreState)
+    (b : Beginning) (files : UnicodeFiles) (device device' : V) → (e : Edits did obeyed stored b files device device' (Ok Saved))
+    → has_changes e.session.editor ≡ false
+a_saved_run did obeyed stored b files device device' e = saved_leaves_nothing e.end (has_changes e.session.editor) (sym e.tells)
+
+-- A run over a reader, a recorder, a writer and a store handed to the recorder all that it obeyed, and at the end of the input nothing
+-- was unread.
+pub a_run_is_recorded : {R J W S : Type 0} (remaining : R → Option (List ℕ)) (contents : J → Option (List ℕ)) (failures : J → ℕ)
+    (out : W → Option (List ℕ)) (saved : S → Option (List ℕ)) (faults : S → Faults) (b : Beginning) (files : UnicodeFiles)
+    (device device' : Wired R J W S) (result : Result Changes ProgramFault)
+    → let stored : Wired R J W S → StoreState = λ x. store_state saved faults x.store.now in
+    (e : Edits (DidWired remaining contents failures out) (λ from s a to t. ObeyedWired from to) stored b files device device' result)
+    → RunsRecorded contents failures e.tables (begun e.tables b) e.session (stored device) (stored device')
+    (remaining device.reader.now) (remaining device'.reader.now) (out device.writer.now) (out device'.writer.now)
+    device.recorder.now device'.recorder.now
+    × EndsWith e.end e.session (remaining device'.reader.now)
+a_run_is_recorded remaining contents failures out saved faults b files device device' result e = (
+  recorded remaining contents failures out saved faults e.tables most_reads e.end (begun e.tables b) e.session device device' e.runs.logged,
+  ended_with remaining contents failures out saved faults e.tables most_reads e.end (begun e.tables b) e.session device device' e.runs.logged e.runs.ends,
+)
+
+-- a run that stopped at the limit of reads has made all of them
+pub a_run_stops_at_the_limit : {V : Type 0} (did : V → Action → V → Type 0) (obeyed : V → Session → ByteAnswer → V → Session → Type 0)
+    (stored : V → StoreState) (d : Data) (old new : Session) (device device' : V) → (r : RunsTo did obeyed stored d old new device device' (Err ReadLimit))
+    → length r.logged.turns ≡ 1_000_000_000
+a_run_stops_at_the_limit did obeyed stored d old new device device' r = r.logged.order.1
 
 -- one that ran out of memory before it began stored nothing
 pub a_run_that_did_not_begin : (Runs : Type 0) (store store' : ℕ) → RunsUnless (Err fault.OutOfMemory) Runs (store' ≡ store) → store' ≡ store

@@ -1,17 +1,18 @@
 -- The start, the end and the result of a run of the program. Names without a prime are of before a run, those with one of after
 -- it. `d` is Unicode's data, `b` what the session starts with.
-use Rattle.std.specs.Prelude.{◌≡◌, ℕ, Bool, true, false, List, Option, Result, Ok, Err}
+use Rattle.std.specs.Prelude.{◌≡◌, ℕ, Bool, true, false, List, None, Result, Ok, Err}
 use Rattle.bx_editor.specs.Pasting.{has_changes}
 use Rattle.bx_ucd.specs.Data.{Data}
 use Rattle.bx_cli.specs.declared.unicode.UnicodeFiles.{UnicodeFiles}
+use Rattle.bx_session.specs.declared.action.Action.{Action}
 use Rattle.bx_session.specs.declared.end.End.{End}
 use Rattle.bx_session.specs.declared.end.End.TheVariants.{Quit, InputEnded}
 use Rattle.bx_session.specs.declared.end.RunFault.{RunFault}
 use Rattle.bx_session.specs.Session.{Session, after_journal, with_painting}
 use Rattle.bx_session.specs.Saving.{StoreState}
 use Rattle.bx_session.specs.Painting.{QueuesPicture}
-use Rattle.bx_session.specs.Running.{EndsWith}
-use Rattle.bx_session.specs.Journal.{RecorderState, RunsRecorded}
+use Rattle.bx_session.specs.Running.{ByteAnswer, EndsWith}
+use Rattle.bx_session.specs.Log.{HasLogged}
 use Rattle.bx_session.specs.Beginning.{Beginning, IsBegun, begun}
 use Rattle.bx_recovery.specs.Beginnings.{AreOfFiles}
 use Rattle.bidi_edit.specs.declared.edit.Changes.{Changes}
@@ -26,39 +27,36 @@ outcome_of (Ok end) false = Ok Saved
 outcome_of (Ok Quit) true = Ok Dropped
 outcome_of (Ok (InputEnded unsaved)) true = Err fault.Unsaved
 
--- what a run works on besides its session: the store, the bytes that the reader has left and those written (None if they are not
--- known), and the recorder of the journal
-pub record Outside (J : Type 0) : Type 0 where
-  pub store : StoreState
-  pub unread : Option (List ℕ)
-  pub written : Option (List ℕ)
-  pub recorder : RecorderState J
+-- The most reads of a run: a proved loop needs a limit, and no session of a user reaches this.
+abbrev pub most_reads : ℕ
+most_reads = 1_000_000_000
 
--- the session `old` was run and became `new`, and the run ended so
-pub record RunsTo {J : Type 0} (contents : J → Option (List ℕ)) (failures : J → ℕ) (d : Data) (old new : Session) (out out' : Outside J)
-    (end : Result End RunFault) : Type 0 where
-  pub runs : RunsRecorded contents failures d old new out.store out'.store out.unread out'.unread out.written out'.written out.recorder out'.recorder
-  pub ends : EndsWith end new out'.unread
+-- The session `old` was run over a device and became `new`, and the run ended so. Its log has all that was done, in order. Of a
+-- device, `did` says what a call does to it, `obeyed` what the obeying of a byte does, and `stored` what its store has.
+pub record RunsTo {V : Type 0} (did : V → Action → V → Type 0) (obeyed : V → Session → ByteAnswer → V → Session → Type 0) (stored : V → StoreState)
+    (d : Data) (old new : Session) (device device' : V) (end : Result End RunFault) : Type 0 where
+  pub logged : HasLogged did obeyed stored d most_reads end old new device device'
+  pub ends : EndsWith end new None
 
 -- a session that replayed a journal was painted and run, and the result tells how that ended
-pub record Resumes {J : Type 0} (contents : J → Option (List ℕ)) (failures : J → ℕ) (d : Data) (old : Session) (journal : List ℕ) (out out' : Outside J)
-    (result : Result Changes ProgramFault) : Type 0 where
+pub record Resumes {V : Type 0} (did : V → Action → V → Type 0) (obeyed : V → Session → ByteAnswer → V → Session → Type 0) (stored : V → StoreState)
+    (d : Data) (old : Session) (journal : List ℕ) (device device' : V) (result : Result Changes ProgramFault) : Type 0 where
   pub session : Session
   pub end : Result End RunFault
   pub painted : QueuesPicture d (after_journal d old journal).pending (after_journal d old journal).known
       (with_painting d (after_journal d old journal))
-  pub runs : RunsTo contents failures d (with_painting d (after_journal d old journal)) session out out' end
+  pub runs : RunsTo did obeyed stored d (with_painting d (after_journal d old journal)) session device device' end
   pub tells : result ≡ outcome_of end (has_changes session.editor)
 
 -- a session was begun from this start, by tables that agree with these files, and run, and the result tells how that ended
-pub record Edits {J : Type 0} (contents : J → Option (List ℕ)) (failures : J → ℕ) (b : Beginning) (files : UnicodeFiles) (out out' : Outside J)
-    (result : Result Changes ProgramFault) : Type 0 where
+pub record Edits {V : Type 0} (did : V → Action → V → Type 0) (obeyed : V → Session → ByteAnswer → V → Session → Type 0) (stored : V → StoreState)
+    (b : Beginning) (files : UnicodeFiles) (device device' : V) (result : Result Changes ProgramFault) : Type 0 where
   pub tables : Data
   pub session : Session
   pub end : Result End RunFault
   pub answers : AreOfFiles tables files
   pub begins : IsBegun tables b
-  pub runs : RunsTo contents failures tables (begun tables b) session out out' end
+  pub runs : RunsTo did obeyed stored tables (begun tables b) session device device' end
   pub tells : result ≡ outcome_of end (has_changes session.editor)
 
 -- `Runs` if the result is of a run that began, `Stays` if a fault came before it

@@ -21,7 +21,7 @@ use bx_cli::{refuse, refuse_words, words_of};
 use bx_command::{Files, JournalFile, Options, command_line, empty_journal};
 use bx_input::FrameReader;
 use bx_recovery::{Beginning, Replayed, recover};
-use bx_session::{Recorder, WrittenJournal};
+use bx_session::{Recorder, Wired, WrittenJournal};
 use bx_store::{FileStore, MemoryStore, Store};
 use edit::{Changes, edit};
 use ending::end_of;
@@ -45,7 +45,9 @@ fn edit_file<'a, R: Read + Drop, W: Write, S: Store>(
 ) -> Result<(), ProgramFault<'a>> {
     let journal = JournalFile::open(*rt, options.journal, journal_notes(options));
     let mut recorder = Recorder::new(rt.alloc(), WrittenJournal::new(journal));
-    let changes = edit(&mut reader, &mut recorder, writer, store, beginning);
+    let mut device = Wired::new(&mut reader, &mut recorder, writer, store);
+    let changes = edit(&mut device, beginning);
+    drop(device);
     if !recorder.has_all() {
         tell_lost_journal(rt, options);
     }

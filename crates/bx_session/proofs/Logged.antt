@@ -1,6 +1,5 @@
 -- The log of a run, turn by turn.
-use Rattle.std.proofs.Common.{◌≡◌, ℕ, ◌+◌, ◌≤◌, Bool, false, List, [], ◌∷◌, ◌++◌, length, None, Result, Ok, Err, inl, inr}
-use Rattle.std.specs.List.{concat}
+use Rattle.std.proofs.Common.{◌≡◌, ℕ, ◌+◌, ◌≤◌, Bool, false, List, [], ◌∷◌, ◌++◌, length, map, None, Result, Ok, Err, inl, inr}
 use Rattle.std.proofs.Common.{refl, sym, ap, subst, ◌∙◌, append_assoc}
 use Rattle.std.proofs.lemmas.List.{append-nil, length-append, map-append}
 use Rattle.bx_ucd.specs.Data.{Data}
@@ -13,298 +12,308 @@ use Rattle.bx_session.specs.declared.end.RunFault.TheVariants.{ReadFault, WriteF
 use Rattle.bx_session.specs.Session.{Session}
 use Rattle.bx_session.specs.Saving.{StoreState}
 use Rattle.bx_session.specs.Running.{ByteAnswer, FedUntilEnd, Sent, Turn, bytes_of, read_in, read_size}
-use Rattle.bx_session.specs.Log.{DidAll, HasLogged, IsLog, FailsLast, IsFailedSending, LoggedTurn, appends}
-use Rattle.bx_session.specs.Log.{bytes_by, read_by, kept_by, written_by, turn_actions, turns_actions, run_actions}
-use Rattle.bx_session.proofs.Turns.{started, turned, read_on, run_drops}
+use Rattle.bx_session.specs.Log.{Step, Calls, AreTaken, HasLogged, IsLog, FailsLast, IsFailedSending, LoggedTurn}
+use Rattle.bx_session.specs.Log.{bytes_by, in_parts, obeyed_in, read_by, kept_by, written_by, part_steps, sending, turn_steps, run_steps}
+use Rattle.bx_session.proofs.Steps.{bytes_more, obeyed_more, parts_read, parts_keep, parts_write, parts_obey, run_more, taken_more, unwritten}
+use Rattle.bx_session.proofs.Turns.{started, stored_on, turned, read_on, run_drops}
 
--- ---- lists of actions
+-- ---- a sending
 
-pub did_more : {V : Type 0} (did : V → Action → V → Type 0) (a b c : V) (first others : List Action) → DidAll did a first b
-    → DidAll did b others c → DidAll did a (first ++ others) c
-did_more {V} did a b c [] others h k = subst (λ (x : V). DidAll did x others c) h k
-did_more {V} did a b c (action ∷ first) others h k = (h.0, h.1, did_more did h.0 b c first others h.2 k)
+-- what a sending reads, hands to the journal, obeys and writes
+record IsSentAlone (written : List ℕ) (steps : List Step) : Type 0 where
+  reads : bytes_by read_by steps ≡ []
+  keeps : bytes_by kept_by steps ≡ []
+  obeys : obeyed_in steps ≡ []
+  writes : bytes_by written_by steps ≡ written
 
-pub bytes_more : (bytes : Action → List ℕ) (first others : List Action) → bytes_by bytes (first ++ others) ≡ bytes_by bytes first ++ bytes_by bytes others
-bytes_more bytes [] others = refl
-bytes_more bytes (action ∷ first) others =
-    ap (λ xs. bytes action ++ xs) (bytes_more bytes first others) ∙ sym (append_assoc (bytes action) (bytes_by bytes first) (bytes_by bytes others))
-
-turns_more : (turns : List LoggedTurn) (turn : LoggedTurn) → turns_actions (turns ++ turn ∷ []) ≡ turns_actions turns ++ turn_actions turn
-turns_more [] turn = append-nil (turn_actions turn)
-turns_more (first ∷ turns) turn =
-    ap (λ xs. turn_actions first ++ xs) (turns_more turns turn) ∙ sym (append_assoc (turn_actions first) (turns_actions turns) (turn_actions turn))
-
-run_more : (first : List ℕ) (turns : List LoggedTurn) (turn : LoggedTurn) → run_actions first (turns ++ turn ∷ []) ≡ run_actions first turns ++ turn_actions turn
-run_more first turns turn = ap (λ xs. Write first ∷ Flush ∷ xs) (turns_more turns turn)
-
--- what appends read, hand to the journal and write
-pub appends_read : (parts : List (List ℕ)) → bytes_by read_by (appends parts) ≡ []
-appends_read [] = refl
-appends_read (part ∷ parts) = appends_read parts
-
-pub appends_keep : (parts : List (List ℕ)) → bytes_by kept_by (appends parts) ≡ concat parts
-appends_keep [] = refl
-appends_keep (part ∷ parts) = ap (λ xs. part ++ xs) (appends_keep parts)
-
-pub appends_write : (parts : List (List ℕ)) → bytes_by written_by (appends parts) ≡ []
-appends_write [] = refl
-appends_write (part ∷ parts) = appends_write parts
-
-pub appends_more : (parts others : List (List ℕ)) → appends (parts ++ others) ≡ appends parts ++ appends others
-appends_more [] others = refl
-appends_more (part ∷ parts) others = ap (λ xs. Append part ∷ xs) (appends_more parts others)
-
--- what a sending reads, hands to the journal and writes
-record IsSentAlone (written : List ℕ) (actions : List Action) : Type 0 where
-  reads : bytes_by read_by actions ≡ []
-  keeps : bytes_by kept_by actions ≡ []
-  writes : bytes_by written_by actions ≡ written
-
-whole_alone : (written : List ℕ) (actions : List Action) → actions ≡ Write written ∷ Flush ∷ [] → IsSentAlone written actions
-whole_alone written actions is = record {
+whole_alone : (written : List ℕ) (steps : List Step) → steps ≡ sending written → IsSentAlone written steps
+whole_alone written steps is = record {
   reads = ap (bytes_by read_by) is;
   keeps = ap (bytes_by kept_by) is;
+  obeys = ap obeyed_in is;
   writes = ap (bytes_by written_by) is ∙ append-nil written;
 }
 
-failed_alone : (written : List ℕ) (actions : List Action) → IsFailedSending written actions → IsSentAlone written actions
-failed_alone written actions (inl is) = record {
+failed_alone : (written : List ℕ) (steps : List Step) → IsFailedSending written steps → IsSentAlone written steps
+failed_alone written steps (inl is) = record {
   reads = ap (bytes_by read_by) is;
   keeps = ap (bytes_by kept_by) is;
+  obeys = ap obeyed_in is;
   writes = ap (bytes_by written_by) is ∙ append-nil written;
 }
-failed_alone written actions (inr is) = record {
+failed_alone written steps (inr is) = record {
   reads = ap (bytes_by read_by) is;
   keeps = ap (bytes_by kept_by) is;
+  obeys = ap obeyed_in is;
   writes = ap (bytes_by written_by) is ∙ append-nil written;
 }
 
-pub as_write_fault : {V : Type 0} (did : V → Action → V → Type 0) (d : Data) (limit : ℕ) (result : Result End RunFault) (old new : Session)
-    (store store' : StoreState) (device device' : V) → result ≡ Err WriteFault → HasLogged did d limit (Err WriteFault) old new store store' device device'
-    → HasLogged did d limit result old new store store' device device'
-as_write_fault did d limit result old new store store' device device' is logged =
-    subst (λ (r : Result End RunFault). HasLogged did d limit r old new store store' device device') (sym is) logged
+-- the steps of a turn that sends by these steps
+abbrev turn_by : List ℕ → List (List ByteAnswer) → List Step → List Step
+turn_by bytes parts sends = Calls (Read bytes) ∷ (part_steps parts ++ sends)
 
--- ---- the first sending
-
-pub first_sent : {V : Type 0} (did : V → Action → V → Type 0) (d : Data) (limit : ℕ) (s s1 : Session) (store : StoreState) (device device1 : V)
-    (written : List ℕ) (actions : List Action) → Sent s s1 None None written → DidAll did device actions device1
-    → actions ≡ Write written ∷ Flush ∷ [] → HasLogged did d limit (Ok Quit) s s1 store store device device1
-unfolding started
-first_sent did d limit s s1 store device device1 written actions sent dids is = record {
-  answered = [];
-  dropped = [];
-  written = written;
-  all = s;
-  run = started d s s1 store None None None written sent;
-  log = actions;
-  did_all = dids;
-  turns = [];
-  in_turns = refl;
-  order = is;
-  reads = (whole_alone written actions is).reads;
-  keeps = (whole_alone written actions is).keeps;
-  writes = (whole_alone written actions is).writes;
-}
-
-pub no_turns : {V : Type 0} (did : V → Action → V → Type 0) (d : Data) (limit : ℕ) (s s1 : Session) (store : StoreState) (device device1 : V)
-    (written : List ℕ) (actions : List Action) (sent : Sent s s1 None None written) (dids : DidAll did device actions device1)
-    (is : actions ≡ Write written ∷ Flush ∷ [])
-    → length (first_sent did d limit s s1 store device device1 written actions sent dids is).turns ≡ 0
-unfolding first_sent
-no_turns did d limit s s1 store device device1 written actions sent dids is = refl
-
-pub first_failed : {V : Type 0} (did : V → Action → V → Type 0) (d : Data) (limit : ℕ) (s s1 : Session) (store : StoreState) (device device1 : V)
-    (written : List ℕ) (actions : List Action) → Sent s s1 None None written → DidAll did device actions device1
-    → IsFailedSending written actions → HasLogged did d limit (Err WriteFault) s s1 store store device device1
-unfolding started
-first_failed did d limit s s1 store device device1 written actions sent dids failed = record {
-  answered = [];
-  dropped = [];
-  written = written;
-  all = s;
-  run = started d s s1 store None None None written sent;
-  log = actions;
-  did_all = dids;
-  turns = [];
-  in_turns = refl;
-  order = ([], written, actions, refl, refl, failed);
-  reads = (failed_alone written actions failed).reads;
-  keeps = (failed_alone written actions failed).keeps;
-  writes = (failed_alone written actions failed).writes;
-}
-
--- ---- one turn more
-
--- the actions of a turn that sends by these actions
-abbrev turn_by : List ℕ → List (List ℕ) → List Action → List Action
-turn_by bytes parts sending = Read bytes ∷ (appends parts ++ sending)
-
-whole_turn : (log : List Action) (first : List ℕ) (turns : List LoggedTurn) (logged : LoggedTurn) (bytes : List ℕ) (actions : List Action)
-    → log ≡ run_actions first turns → bytes ≡ read_in logged.turn → actions ≡ Write logged.turn.written ∷ Flush ∷ []
-    → log ++ turn_by bytes logged.parts actions ≡ run_actions first (turns ++ logged ∷ [])
-whole_turn log first turns logged bytes actions order are is =
-    ap (λ xs. xs ++ turn_by bytes logged.parts actions) order
-    ∙ ap (λ xs. run_actions first turns ++ turn_by xs logged.parts actions) are
-    ∙ ap (λ xs. run_actions first turns ++ turn_by (read_in logged.turn) logged.parts xs) is
+whole_turn : (log : List Step) (first : List ℕ) (turns : List LoggedTurn) (logged : LoggedTurn) (bytes : List ℕ) (sends : List Step)
+    → log ≡ run_steps first turns → bytes ≡ read_in logged.turn → sends ≡ sending logged.turn.written
+    → log ++ turn_by bytes logged.parts sends ≡ run_steps first (turns ++ logged ∷ [])
+whole_turn log first turns logged bytes sends order are is =
+    ap (λ xs. xs ++ turn_by bytes logged.parts sends) order
+    ∙ ap (λ xs. run_steps first turns ++ turn_by xs logged.parts sends) are
+    ∙ ap (λ xs. run_steps first turns ++ turn_by (read_in logged.turn) logged.parts xs) is
     ∙ sym (run_more first turns logged)
 
-failed_turn : (log : List Action) (first : List ℕ) (turns : List LoggedTurn) (logged : LoggedTurn) (bytes : List ℕ) (actions : List Action)
-    → log ≡ run_actions first turns → bytes ≡ read_in logged.turn → IsFailedSending logged.turn.written actions
-    → FailsLast (log ++ turn_by bytes logged.parts actions) (run_actions first (turns ++ logged ∷ []))
-failed_turn log first turns logged bytes actions order are failed =
-    let kept : List Action = Read bytes ∷ appends logged.parts in
-    let sending : List Action = Write logged.turn.written ∷ Flush ∷ [] in (
+failed_turn : (log : List Step) (first : List ℕ) (turns : List LoggedTurn) (logged : LoggedTurn) (bytes : List ℕ) (sends : List Step)
+    → log ≡ run_steps first turns → bytes ≡ read_in logged.turn → IsFailedSending logged.turn.written sends
+    → FailsLast (log ++ turn_by bytes logged.parts sends) (run_steps first (turns ++ logged ∷ []))
+failed_turn log first turns logged bytes sends order are failed =
+    let kept : List Step = Calls (Read bytes) ∷ part_steps logged.parts in
+    let whole : List Step = sending logged.turn.written in (
       log ++ kept,
       logged.turn.written,
-      actions,
-      sym (whole_turn log first turns logged bytes sending order are refl) ∙ sym (append_assoc log kept sending),
-      sym (append_assoc log kept actions),
+      sends,
+      sym (whole_turn log first turns logged bytes whole order are refl) ∙ sym (append_assoc log kept whole),
+      sym (append_assoc log kept sends),
       failed,
     )
 
--- what the actions of a turn read, hand to the journal and write
-record IsTurnAlone (bytes written : List ℕ) (parts : List (List ℕ)) (actions : List Action) : Type 0 where
-  reads : bytes_by read_by (turn_by bytes parts actions) ≡ bytes
-  keeps : bytes_by kept_by (turn_by bytes parts actions) ≡ concat parts
-  writes : bytes_by written_by (turn_by bytes parts actions) ≡ written
+-- what the steps of a turn read, hand to the journal, obey and write
+record IsTurnAlone (bytes written : List ℕ) (parts : List (List ByteAnswer)) (sends : List Step) : Type 0 where
+  reads : bytes_by read_by (turn_by bytes parts sends) ≡ bytes
+  keeps : bytes_by kept_by (turn_by bytes parts sends) ≡ bytes_of (in_parts parts)
+  obeys : obeyed_in (turn_by bytes parts sends) ≡ in_parts parts
+  writes : bytes_by written_by (turn_by bytes parts sends) ≡ written
 
-turn_alone : (bytes written : List ℕ) (parts : List (List ℕ)) (actions : List Action) → IsSentAlone written actions → IsTurnAlone bytes written parts actions
-turn_alone bytes written parts actions alone = record {
-  reads = ap (λ xs. bytes ++ xs) (bytes_more read_by (appends parts) actions ∙ ap (λ xs. xs ++ bytes_by read_by actions) (appends_read parts) ∙ alone.reads)
+turn_alone : (bytes written : List ℕ) (parts : List (List ByteAnswer)) (sends : List Step) → IsSentAlone written sends
+    → IsTurnAlone bytes written parts sends
+turn_alone bytes written parts sends alone = record {
+  reads = ap (λ xs. bytes ++ xs)
+      (bytes_more read_by (part_steps parts) sends ∙ ap (λ xs. xs ++ bytes_by read_by sends) (parts_read parts) ∙ alone.reads)
       ∙ append-nil bytes;
-  keeps = bytes_more kept_by (appends parts) actions
-      ∙ ap (λ xs. bytes_by kept_by (appends parts) ++ xs) alone.keeps
-      ∙ append-nil (bytes_by kept_by (appends parts))
-      ∙ appends_keep parts;
-  writes = bytes_more written_by (appends parts) actions ∙ ap (λ xs. xs ++ bytes_by written_by actions) (appends_write parts) ∙ alone.writes;
+  keeps = bytes_more kept_by (part_steps parts) sends
+      ∙ ap (λ xs. bytes_by kept_by (part_steps parts) ++ xs) alone.keeps
+      ∙ append-nil (bytes_by kept_by (part_steps parts))
+      ∙ parts_keep parts;
+  obeys = obeyed_more (part_steps parts) sends
+      ∙ ap (λ xs. obeyed_in (part_steps parts) ++ xs) alone.obeys
+      ∙ append-nil (obeyed_in (part_steps parts))
+      ∙ parts_obey parts;
+  writes = bytes_more written_by (part_steps parts) sends ∙ ap (λ xs. xs ++ bytes_by written_by sends) (parts_write parts) ∙ alone.writes;
 }
 
-module _ {D V : Type 0} (says : D → Data) (tables tables1 : D) (did : V → Action → V → Type 0) (limit : ℕ) (result : Result End RunFault)
-    (old s s2 s3 : Session) (store store1 store2 : StoreState) (device device1 mid device2 device3 : V) (answered : List ByteAnswer)
-    (dropped written bytes : List ℕ) (parts : List (List ℕ)) (actions : List Action)
-    (before : HasLogged did (says tables) limit (Ok Quit) old s store store1 device device1) where
-  -- the turn, where its sending went so and left a log of this answer
-  turn_more : tables1 ≡ tables → s.pending ≡ [] → s.editor.ended ≡ false → 1 ≤ length bytes → length bytes ≤ read_size
-      → did device1 (Read bytes) mid → DidAll did mid (appends parts) device2 → DidAll did device2 actions device3
-      → FedUntilEnd (says tables1) s store1 bytes s2 store2 answered dropped → (joined : concat parts ≡ bytes_of answered)
-      → Sent s2 s3 None None written → IsSentAlone written actions
-      → IsLog limit result before.run.in_turns.first (before.turns
-      ++ record { turn = record { fed = answered; dropped = dropped; written = written }; parts = parts; joined = joined } ∷ [])
-      (before.log ++ turn_by bytes parts actions)
-      → HasLogged did (says tables) limit result old s3 store store2 device device3
-  unfolding turned
-  turn_more stay empty running some most reads kept sends fed joined sent alone order =
-      let drops = run_drops (says tables) old s store store1 None None None None before.answered before.dropped before.written before.all before.run in
-      let on = read_on s s2 before.answered answered before.dropped dropped bytes drops running fed.all in
-      let turn : Turn = record { fed = answered; dropped = dropped; written = written } in
-      let logged : LoggedTurn = record { turn = turn; parts = parts; joined = joined } in
-      let own = turn_alone bytes written parts actions alone in record {
-        answered = before.answered ++ answered;
-        dropped = dropped;
-        written = before.written ++ written;
-        all = record s2 { pending = before.all.pending ++ s2.pending };
-        run = turned says tables tables1 old s s2 s3 store store1 store2 None None None None None None before.answered answered before.dropped dropped
-            before.written written bytes before.all before.run stay empty running some most tt fed sent;
-        log = before.log ++ turn_by bytes parts actions;
-        did_all = did_more did device device1 device3 before.log (turn_by bytes parts actions) before.did_all
-            (mid, reads, did_more did mid device2 device3 (appends parts) actions kept sends);
-        turns = before.turns ++ logged ∷ [];
-        in_turns = map-append (λ (l : LoggedTurn). l.turn) before.turns (logged ∷ []) ∙ ap (λ xs. xs ++ turn ∷ []) before.in_turns;
-        order = order;
-        reads = bytes_more read_by before.log (turn_by bytes parts actions)
-            ∙ ap (λ xs. bytes_by read_by before.log ++ xs) own.reads
-            ∙ ap (λ xs. xs ++ bytes) before.reads
-            ∙ on;
-        keeps = bytes_more kept_by before.log (turn_by bytes parts actions)
-            ∙ ap (λ xs. bytes_by kept_by before.log ++ xs) (own.keeps ∙ joined)
-            ∙ ap (λ xs. xs ++ bytes_of answered) before.keeps
-            ∙ sym (map-append (λ (a : ByteAnswer). a.0) before.answered answered);
-        writes = bytes_more written_by before.log (turn_by bytes parts actions)
-            ∙ ap (λ xs. bytes_by written_by before.log ++ xs) own.writes
-            ∙ ap (λ xs. xs ++ written) before.writes;
-      }
+module _ {V : Type 0} (did : V → Action → V → Type 0) (obeyed : V → Session → ByteAnswer → V → Session → Type 0) (stored : V → StoreState) where
+  pub as_write_fault : (d : Data) (limit : ℕ) (result : Result End RunFault) (old new : Session) (device device' : V) → result ≡ Err WriteFault
+      → HasLogged did obeyed stored d limit (Err WriteFault) old new device device' → HasLogged did obeyed stored d limit result old new device device'
+  as_write_fault d limit result old new device device' is logged =
+      subst (λ (r : Result End RunFault). HasLogged did obeyed stored d limit r old new device device') (sym is) logged
 
-module _ {D V : Type 0} (says : D → Data) (tables tables1 : D) (did : V → Action → V → Type 0) (limit : ℕ) (old s s2 s3 : Session)
-    (store store1 store2 : StoreState) (device device1 mid device2 device3 : V) (answered : List ByteAnswer) (dropped written bytes : List ℕ)
-    (parts : List (List ℕ)) (actions : List Action) (before : HasLogged did (says tables) limit (Ok Quit) old s store store1 device device1)
-    (stay : tables1 ≡ tables) (empty : s.pending ≡ []) (running : s.editor.ended ≡ false) (some : 1 ≤ length bytes) (most : length bytes ≤ read_size)
-    (reads : did device1 (Read bytes) mid) (kept : DidAll did mid (appends parts) device2) (sends : DidAll did device2 actions device3)
-    (fed : FedUntilEnd (says tables1) s store1 bytes s2 store2 answered dropped) (joined : concat parts ≡ bytes_of answered)
-    (sent : Sent s2 s3 None None written) where
-  abbrev this : LoggedTurn
-  this = record { turn = record { fed = answered; dropped = dropped; written = written }; parts = parts; joined = joined }
+  -- ---- the first sending
 
-  pub turn_sent : actions ≡ Write written ∷ Flush ∷ [] → (after : HasLogged did (says tables) limit (Ok Quit) old s3 store store2 device device3)
-      × (length after.turns ≡ length before.turns + 1)
-  unfolding turn_more
-  turn_sent is = (
-    turn_more says tables tables1 did limit (Ok Quit) old s s2 s3 store store1 store2 device device1 mid device2 device3 answered dropped written bytes
-        parts actions before stay empty running some most reads kept sends fed joined sent (whole_alone written actions is)
-        (whole_turn before.log before.run.in_turns.first before.turns this bytes actions before.order fed.all is),
-    length-append before.turns (this ∷ []),
-  )
+  module _ (d : Data) (limit : ℕ) (s s1 : Session) (device device1 : V) (written : List ℕ) (steps : List Step) (sent : Sent s s1 None None written)
+      (taken : AreTaken did obeyed stored d device s steps device1 s1) (same : stored device1 ≡ stored device) where
+    pub first_sent : steps ≡ sending written → HasLogged did obeyed stored d limit (Ok Quit) s s1 device device1
+    unfolding started
+    first_sent is = record {
+      answered = [];
+      dropped = [];
+      written = written;
+      all = s;
+      run = started d s s1 (stored device) (stored device1) None None None written same sent;
+      log = steps;
+      taken = taken;
+      turns = [];
+      in_turns = refl;
+      order = is;
+      reads = (whole_alone written steps is).reads;
+      keeps = (whole_alone written steps is).keeps;
+      obeys = (whole_alone written steps is).obeys;
+      writes = (whole_alone written steps is).writes;
+    }
 
-  pub turn_failed : IsFailedSending written actions → HasLogged did (says tables) limit (Err WriteFault) old s3 store store2 device device3
-  turn_failed failed =
-      turn_more says tables tables1 did limit (Err WriteFault) old s s2 s3 store store1 store2 device device1 mid device2 device3 answered dropped written
-      bytes parts actions before stay empty running some most reads kept sends fed joined sent (failed_alone written actions failed)
-      (failed_turn before.log before.run.in_turns.first before.turns this bytes actions before.order fed.all failed)
+    pub no_turns : (is : steps ≡ sending written) → length (first_sent is).turns ≡ 0
+    unfolding first_sent
+    no_turns is = refl
 
--- ---- the end
+    pub first_failed : IsFailedSending written steps → HasLogged did obeyed stored d limit (Err WriteFault) s s1 device device1
+    unfolding started
+    first_failed failed = record {
+      answered = [];
+      dropped = [];
+      written = written;
+      all = s;
+      run = started d s s1 (stored device) (stored device1) None None None written same sent;
+      log = steps;
+      taken = taken;
+      turns = [];
+      in_turns = refl;
+      order = ([], written, steps, refl, refl, failed);
+      reads = (failed_alone written steps failed).reads;
+      keeps = (failed_alone written steps failed).keeps;
+      obeys = (failed_alone written steps failed).obeys;
+      writes = (failed_alone written steps failed).writes;
+    }
 
-module _ {V : Type 0} (did : V → Action → V → Type 0) (d : Data) (limit : ℕ) (old s : Session) (store store1 : StoreState) (device device1 : V)
-    (before : HasLogged did d limit (Ok Quit) old s store store1 device device1) where
-  -- actions that read, append and write nothing
-  then_nothing : (result : Result End RunFault) (device2 : V) (actions : List Action) → DidAll did device1 actions device2
-      → IsLog limit result before.run.in_turns.first before.turns (before.log ++ actions)
-      → bytes_by read_by actions ≡ [] → bytes_by kept_by actions ≡ [] → bytes_by written_by actions ≡ []
-      → HasLogged did d limit result old s store store1 device device2
-  then_nothing result device2 actions dids order reads keeps writes = record {
-    answered = before.answered;
-    dropped = before.dropped;
-    written = before.written;
-    all = before.all;
-    run = before.run;
-    log = before.log ++ actions;
-    did_all = did_more did device device1 device2 before.log actions before.did_all dids;
-    turns = before.turns;
-    in_turns = before.in_turns;
-    order = order;
-    reads = bytes_more read_by before.log actions ∙ ap (λ xs. bytes_by read_by before.log ++ xs) reads ∙ append-nil (bytes_by read_by before.log) ∙ before.reads;
-    keeps = bytes_more kept_by before.log actions ∙ ap (λ xs. bytes_by kept_by before.log ++ xs) keeps ∙ append-nil (bytes_by kept_by before.log) ∙ before.keeps;
-    writes = bytes_more written_by before.log actions
-        ∙ ap (λ xs. bytes_by written_by before.log ++ xs) writes
-        ∙ append-nil (bytes_by written_by before.log)
-        ∙ before.writes;
-  }
+  -- ---- one turn more
 
-  pub input_ended : (changed : Bool) (mid device2 : V) (bytes : List ℕ) → bytes ≡ [] → did device1 (Read bytes) mid → did mid (Append bytes) device2
-      → HasLogged did d limit (Ok (InputEnded changed)) old s store store1 device device2
-  input_ended changed mid device2 bytes none reads appends =
-      then_nothing (Ok (InputEnded changed)) device2 (Read [] ∷ Append [] ∷ []) (
-        mid,
-        subst (λ xs. did device1 (Read xs) mid) none reads,
-        (device2, subst (λ xs. did mid (Append xs) device2) none appends, refl),
-      ) (ap (λ xs. xs ++ Read [] ∷ Append [] ∷ []) before.order) refl refl refl
+  -- what happened in a turn, between its read and its end; the tables stay the same
+  pub record InTurn {D : Type 0} (says : D → Data) (tables tables1 : D) (s s2 s3 : Session) (device1 device2 device3 : V) (answered : List ByteAnswer)
+      (dropped written bytes : List ℕ) (parts : List (List ByteAnswer)) (sends : List Step) : Type 0 where
+    pub stay : tables1 ≡ tables
+    pub empty : s.pending ≡ []
+    pub running : s.editor.ended ≡ false
+    pub some : 1 ≤ length bytes
+    pub most : length bytes ≤ read_size
+    pub mid : V
+    pub reads : did device1 (Read bytes) mid
+    pub reads_stored : stored mid ≡ stored device1
+    pub fed : FedUntilEnd (says tables1) s (stored mid) bytes s2 (stored device2) answered dropped
+    pub kept : AreTaken did obeyed stored (says tables1) mid s (part_steps parts) device2 s2
+    pub joined : in_parts parts ≡ answered
+    pub sent : Sent s2 s3 None None written
+    pub sends_taken : (d : Data) → AreTaken did obeyed stored d device2 s2 sends device3 s3
+    pub sends_stored : stored device3 ≡ stored device2
 
-  pub read_failed : (device2 : V) → did device1 ReadFailed device2 → HasLogged did d limit (Err ReadFault) old s store store1 device device2
-  read_failed device2 failed =
-      then_nothing (Err ReadFault) device2 (ReadFailed ∷ []) (device2, failed, refl) (ap (λ xs. xs ++ ReadFailed ∷ []) before.order) refl refl refl
+  module _ {D : Type 0} (says : D → Data) (tables tables1 : D) (limit : ℕ) (old s s2 s3 : Session) (device device1 device2 device3 : V)
+      (answered : List ByteAnswer) (dropped written bytes : List ℕ) (parts : List (List ByteAnswer)) (sends : List Step)
+      (before : HasLogged did obeyed stored (says tables) limit (Ok Quit) old s device device1)
+      (turn : InTurn says tables tables1 s s2 s3 device1 device2 device3 answered dropped written bytes parts sends) where
+    abbrev this : LoggedTurn
+    this = record { turn = record { fed = answered; dropped = dropped; written = written }; parts = parts; joined = turn.joined }
 
-  pub limit_reached : length before.turns ≡ limit → HasLogged did d limit (Err ReadLimit) old s store store1 device device1
-  limit_reached count = record {
-    answered = before.answered;
-    dropped = before.dropped;
-    written = before.written;
-    all = before.all;
-    run = before.run;
-    log = before.log;
-    did_all = before.did_all;
-    turns = before.turns;
-    in_turns = before.in_turns;
-    order = (before.order, count);
-    reads = before.reads;
-    keeps = before.keeps;
-    writes = before.writes;
-  }
+    -- the steps of the turn
+    turn_taken : AreTaken did obeyed stored (says tables) device1 s (turn_by bytes parts sends) device3 s3
+    turn_taken =
+        let d = says tables in
+        let kept : AreTaken did obeyed stored d turn.mid s (part_steps parts) device2 s2 =
+        subst (λ (t : D). AreTaken did obeyed stored (says t) turn.mid s (part_steps parts) device2 s2) turn.stay turn.kept in (
+          turn.mid,
+          s,
+          unwritten did obeyed stored d device1 turn.mid s (Read bytes) refl turn.reads turn.reads_stored,
+          taken_more did obeyed stored d turn.mid device2 device3 s s2 s3 (part_steps parts) sends kept (turn.sends_taken d),
+        )
+
+    turn_fed : FedUntilEnd (says tables1) s (stored device1) bytes s2 (stored device3) answered dropped
+    turn_fed =
+        subst (λ (x : StoreState). FedUntilEnd (says tables1) s x bytes s2 (stored device3) answered dropped) turn.reads_stored
+        (subst (λ (x : StoreState). FedUntilEnd (says tables1) s (stored turn.mid) bytes s2 x answered dropped) (sym turn.sends_stored) turn.fed)
+
+    -- the turn, where its sending went so and left a log of this answer
+    turn_more : (result : Result End RunFault) → IsSentAlone written sends
+        → IsLog limit result before.run.in_turns.first (before.turns ++ this ∷ []) (before.log ++ turn_by bytes parts sends)
+        → HasLogged did obeyed stored (says tables) limit result old s3 device device3
+    unfolding turned
+    turn_more result alone order =
+        let drops = run_drops (says tables) old s (stored device) (stored device1) None None None None before.answered before.dropped before.written before.all
+        before.run in
+        let on = read_on s s2 before.answered answered before.dropped dropped bytes drops turn.running turn_fed.all in
+        let own = turn_alone bytes written parts sends alone in record {
+          answered = before.answered ++ answered;
+          dropped = dropped;
+          written = before.written ++ written;
+          all = record s2 { pending = before.all.pending ++ s2.pending };
+          run = turned says tables tables1 old s s2 s3 (stored device) (stored device1) (stored device3) None None None None None None before.answered answered
+              before.dropped dropped before.written written bytes before.all before.run turn.stay turn.empty turn.running turn.some turn.most tt turn_fed
+              turn.sent;
+          log = before.log ++ turn_by bytes parts sends;
+          taken = taken_more did obeyed stored (says tables) device device1 device3 old s s3 before.log (turn_by bytes parts sends) before.taken turn_taken;
+          turns = before.turns ++ this ∷ [];
+          in_turns = map-append (λ (l : LoggedTurn). l.turn) before.turns (this ∷ []) ∙ ap (λ xs. xs ++ this.turn ∷ []) before.in_turns;
+          order = order;
+          reads = bytes_more read_by before.log (turn_by bytes parts sends)
+              ∙ ap (λ xs. bytes_by read_by before.log ++ xs) own.reads
+              ∙ ap (λ xs. xs ++ bytes) before.reads
+              ∙ on;
+          keeps = bytes_more kept_by before.log (turn_by bytes parts sends)
+              ∙ ap (λ xs. bytes_by kept_by before.log ++ xs) (own.keeps ∙ ap bytes_of turn.joined)
+              ∙ ap (λ xs. xs ++ bytes_of answered) before.keeps
+              ∙ sym (map-append (λ (a : ByteAnswer). a.0) before.answered answered);
+          obeys = obeyed_more before.log (turn_by bytes parts sends)
+              ∙ ap (λ xs. obeyed_in before.log ++ xs) (own.obeys ∙ turn.joined)
+              ∙ ap (λ xs. xs ++ answered) before.obeys;
+          writes = bytes_more written_by before.log (turn_by bytes parts sends)
+              ∙ ap (λ xs. bytes_by written_by before.log ++ xs) own.writes
+              ∙ ap (λ xs. xs ++ written) before.writes;
+        }
+
+    pub turn_sent : sends ≡ sending written → (after : HasLogged did obeyed stored (says tables) limit (Ok Quit) old s3 device device3)
+        × (length after.turns ≡ length before.turns + 1)
+    unfolding turn_more
+    turn_sent is = (
+      turn_more (Ok Quit) (whole_alone written sends is)
+          (whole_turn before.log before.run.in_turns.first before.turns this bytes sends before.order turn.fed.all is),
+      length-append before.turns (this ∷ []),
+    )
+
+    pub turn_failed : IsFailedSending written sends → HasLogged did obeyed stored (says tables) limit (Err WriteFault) old s3 device device3
+    turn_failed failed =
+        turn_more (Err WriteFault) (failed_alone written sends failed)
+        (failed_turn before.log before.run.in_turns.first before.turns this bytes sends before.order turn.fed.all failed)
+
+  -- ---- the end
+
+  module _ (d : Data) (limit : ℕ) (old s : Session) (device device1 : V) (before : HasLogged did obeyed stored d limit (Ok Quit) old s device device1) where
+    -- calls that read, append and write nothing
+    then_nothing : (result : Result End RunFault) (device2 : V) (steps : List Step) → AreTaken did obeyed stored d device1 s steps device2 s
+        → stored device2 ≡ stored device1 → IsLog limit result before.run.in_turns.first before.turns (before.log ++ steps)
+        → bytes_by read_by steps ≡ [] → bytes_by kept_by steps ≡ [] → obeyed_in steps ≡ [] → bytes_by written_by steps ≡ []
+        → HasLogged did obeyed stored d limit result old s device device2
+    unfolding stored_on
+    then_nothing result device2 steps taken same order reads keeps obeys writes = record {
+      answered = before.answered;
+      dropped = before.dropped;
+      written = before.written;
+      all = before.all;
+      run = stored_on d old s (stored device) (stored device1) (stored device2) None None None None before.answered before.dropped before.written before.all
+          same before.run;
+      log = before.log ++ steps;
+      taken = taken_more did obeyed stored d device device1 device2 old s s before.log steps before.taken taken;
+      turns = before.turns;
+      in_turns = before.in_turns;
+      order = order;
+      reads = bytes_more read_by before.log steps
+          ∙ ap (λ xs. bytes_by read_by before.log ++ xs) reads
+          ∙ append-nil (bytes_by read_by before.log)
+          ∙ before.reads;
+      keeps = bytes_more kept_by before.log steps
+          ∙ ap (λ xs. bytes_by kept_by before.log ++ xs) keeps
+          ∙ append-nil (bytes_by kept_by before.log)
+          ∙ before.keeps;
+      obeys = obeyed_more before.log steps ∙ ap (λ xs. obeyed_in before.log ++ xs) obeys ∙ append-nil (obeyed_in before.log) ∙ before.obeys;
+      writes = bytes_more written_by before.log steps
+          ∙ ap (λ xs. bytes_by written_by before.log ++ xs) writes
+          ∙ append-nil (bytes_by written_by before.log)
+          ∙ before.writes;
+    }
+
+    pub input_ended : (changed : Bool) (mid device2 : V) (bytes : List ℕ) → bytes ≡ [] → did device1 (Read bytes) mid → stored mid ≡ stored device1
+        → did mid (Append bytes) device2 → stored device2 ≡ stored mid → HasLogged did obeyed stored d limit (Ok (InputEnded changed)) old s device device2
+    input_ended changed mid device2 bytes none reads same appends same' =
+        then_nothing (Ok (InputEnded changed)) device2 (Calls (Read []) ∷ Calls (Append []) ∷ []) (
+          mid,
+          s,
+          unwritten did obeyed stored d device1 mid s (Read []) refl (subst (λ xs. did device1 (Read xs) mid) none reads) same,
+          (device2, s, unwritten did obeyed stored d mid device2 s (Append []) refl (subst (λ xs. did mid (Append xs) device2) none appends) same', (refl, refl)),
+        ) (same' ∙ same) (ap (λ xs. xs ++ Calls (Read []) ∷ Calls (Append []) ∷ []) before.order) refl refl refl refl
+
+    pub read_failed : (device2 : V) → did device1 ReadFailed device2 → stored device2 ≡ stored device1
+        → HasLogged did obeyed stored d limit (Err ReadFault) old s device device2
+    read_failed device2 failed same =
+        then_nothing (Err ReadFault) device2 (Calls ReadFailed ∷ [])
+        (device2, s, unwritten did obeyed stored d device1 device2 s ReadFailed refl failed same, (refl, refl)) same
+        (ap (λ xs. xs ++ Calls ReadFailed ∷ []) before.order) refl refl refl refl
+
+    pub limit_reached : length before.turns ≡ limit → HasLogged did obeyed stored d limit (Err ReadLimit) old s device device1
+    limit_reached count = record {
+      answered = before.answered;
+      dropped = before.dropped;
+      written = before.written;
+      all = before.all;
+      run = before.run;
+      log = before.log;
+      taken = before.taken;
+      turns = before.turns;
+      in_turns = before.in_turns;
+      order = (before.order, count);
+      reads = before.reads;
+      keeps = before.keeps;
+      obeys = before.obeys;
+      writes = before.writes;
+    }

@@ -1,8 +1,6 @@
 -- Only a Quit ends a session, so all bytes of a part are fed.
 use Rattle.std.proofs.Common.{◌≡◌, ◌≤◌, ◌<◌, ◌+◌, ℕ, suc, Bool, true, false, List, [], ◌∷◌, ◌++◌, Option, Some, None, Result, Ok, Err, refl, sym, ap, subst}
 use Rattle.std.proofs.Common.{◌∙◌, append_assoc, take, drop, length, take-append-drop, if◌then◌else◌, arith}
-use Rattle.std.specs.List.{concat}
-use Rattle.std.proofs.lemmas.List.Folds.{concat-append}
 use Rattle.std.proofs.lemmas.List.{append-nil, length-append, length-map, length-take-le, map-append}
 use Rattle.bx_keys.specs.declared.key.Key.{Key}
 use Rattle.bx_keys.specs.Keys.{key_after, rest_after}
@@ -13,14 +11,10 @@ use Rattle.bx_editor.specs.Editor.{Editor}
 use Rattle.bx_session.specs.declared.error.Refused.{Refused}
 use Rattle.bx_session.specs.declared.error.Refused.TheVariants as refused
 use Rattle.bx_session.specs.declared.status.Status.{Status}
-use Rattle.bx_session.specs.declared.action.Action.{Action}
-use Rattle.bx_session.specs.declared.action.Action.TheVariants.{Append}
-use Rattle.bx_session.specs.Log.{DidAll, appends}
 use Rattle.bx_session.specs.Parts.{is_quit, part_length}
 use Rattle.bx_session.specs.Running.{ByteAnswer, FeedsAll, FedUntilEnd, bytes_of}
 use Rattle.bx_session.specs.Saving.{StoreState, Feeds}
 use Rattle.bx_session.specs.Session.{Session}
-use Rattle.bx_session.proofs.Logged.{appends_more, did_more}
 use Rattle.bx_session.proofs.Turns.{FeedsAll-append}
 use Rattle.bx_session.proofs.KeySizes.{key_goes_on}
 use Rattle.bx_session.proofs.Leaving.{Leaves, byte_leaves, editor_after}
@@ -140,21 +134,4 @@ part_more {D} says tables tables1 old now new store store1 store2 bytes rest par
           ∙ sym (append_assoc (bytes_of answered) (bytes_of answered') behind)
           ∙ ap (λ xs. xs ++ behind) (sym both),
       fed_all,
-    )
-
--- ---- the journal's parts
-
--- parts handed over, and one more
-pub parts_more : {V : Type 0} (did : V → Action → V → Type 0) (device device1 device2 : V) (parts : List (List ℕ)) (part : List ℕ)
-    (answered answered' : List ByteAnswer) → DidAll did device (appends parts) device1 → concat parts ≡ bytes_of answered
-    → did device1 (Append part) device2 → part ≡ bytes_of answered'
-    → DidAll did device (appends (parts ++ part ∷ [])) device2 × (concat (parts ++ part ∷ []) ≡ bytes_of (answered ++ answered'))
-parts_more {V} did device device1 device2 parts part answered answered' before joined appended fed =
-    let one : concat (part ∷ []) ≡ part = append-nil part in (
-      subst (λ actions. DidAll did device actions device2) (sym (appends_more parts (part ∷ [])))
-          (did_more did device device1 device2 (appends parts) (Append part ∷ []) before (device2, appended, refl)),
-      concat-append parts (part ∷ [])
-          ∙ ap (λ xs. concat parts ++ xs) (one ∙ fed)
-          ∙ ap (λ xs. xs ++ bytes_of answered') joined
-          ∙ sym (map-append (λ (a : ByteAnswer). a.0) answered answered'),
     )

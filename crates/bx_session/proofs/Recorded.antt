@@ -8,7 +8,7 @@ use Rattle.std.proofs.lemmas.List.{append-nil, append_cancel_right, length-appen
 use Rattle.bx_store.specs.Stores.{one_more}
 use Rattle.bx_session.specs.declared.journal.Backlog.{Backlog}
 use Rattle.bx_session.specs.declared.journal.Backlog.TheVariants.{Empty, Waiting, Lost}
-use Rattle.bx_session.specs.Journal.{RecorderState, AppendsNew, HasKept, HasTried, Holds, is_lost, room, waiting, after_faults}
+use Rattle.bx_session.specs.Journal.{RecorderState, AppendsNew, HasKept, HasTried, Holds, LacksRoom, is_lost, room, waiting, after_faults}
 
 -- ---- one call
 
@@ -18,10 +18,11 @@ unlike b off on = let both : false ≡ true = sym off ∙ on in cc both
 empty_is_whole : (k : Backlog) → k ≡ Empty → is_lost k ≡ true → ⊥
 empty_is_whole k is lost = unlike (is_lost k) (ap is_lost is) lost
 
-lost_full : (held : Backlog) (space : ℕ) (waited fresh : List ℕ) → Holds space waited fresh held → is_lost held ≡ true → space < length (waited ++ fresh)
+lost_full : (held : Backlog) (space : ℕ) (waited fresh : List ℕ) → Holds space waited fresh held → is_lost held ≡ true
+    → (waiting held ≡ waited) × (space < length (waited ++ fresh))
 lost_full Empty space waited fresh holds is = absurd holds
 lost_full (Waiting held) space waited fresh holds is = absurd (cc is)
-lost_full (Lost held) space waited fresh holds is = holds.1
+lost_full (Lost held) space waited fresh holds is = holds
 
 module _ {J : Type 0} (contents : J → Option (List ℕ)) (failures : J → ℕ) (old new : RecorderState J) (bytes : List ℕ) where
   -- all is appended
@@ -41,7 +42,7 @@ module _ {J : Type 0} (contents : J → Option (List ℕ)) (failures : J → ℕ
     first = λ h k. absurd (empty_is_whole new.backlog is k);
   }
 
-  pub tried_all : new.backlog ≡ Empty → is_lost old.backlog ≡ false → HasTried failures old new bytes
+  pub tried_all : new.backlog ≡ Empty → is_lost old.backlog ≡ false → HasTried contents failures old new bytes
   tried_all is there = record {
     fails = λ h k. absurd (k is);
     waits_on = λ h k. absurd (unlike (is_lost old.backlog) there h);
@@ -89,13 +90,20 @@ module _ {J : Type 0} (contents : J → Option (List ℕ)) (failures : J → ℕ
           first = λ h k. omega arith;
         }
 
-  pub tried_part : (space : ℕ) (waited fresh : List ℕ) → room old.backlog ≤ space → length (waited ++ fresh) ≤ length (waiting old.backlog ++ bytes)
-      → Holds space waited fresh new.backlog → failures new.journal ≡ one_more (failures old.journal) → is_lost old.backlog ≡ false
-      → HasTried failures old new bytes
-  tried_part space waited fresh more few holds fault there = record {
+  pub tried_part : (space : ℕ) (appended waited fresh : List ℕ) → waiting old.backlog ++ bytes ≡ appended ++ (waited ++ fresh)
+      → room old.backlog ≤ space → Holds space waited fresh new.backlog → Appends (contents old.journal) (contents new.journal) appended
+      → failures new.journal ≡ one_more (failures old.journal) → is_lost old.backlog ≡ false → HasTried contents failures old new bytes
+  tried_part space appended waited fresh order more holds grows fault there = record {
     fails = λ h k. fault;
     waits_on = λ h k. fault;
-    full = λ h k. let full = lost_full new.backlog space waited fresh holds k in omega (arith, more, few, full);
+    full = λ h k.
+        let full = lost_full new.backlog space waited fresh holds k in (
+          appended,
+          fresh,
+          order ∙ ap (λ xs. appended ++ (xs ++ fresh)) (sym full.0),
+          grows,
+          subst (λ xs. room old.backlog < length (xs ++ fresh)) (sym full.0) (omega (arith, more, full.1)),
+        );
   }
 
   -- after a loss only bytes that wait are appended
@@ -117,7 +125,7 @@ module _ {J : Type 0} (contents : J → Option (List ℕ)) (failures : J → ℕ
   }
 
   pub tried_last : is_lost old.backlog ≡ true → (waiting new.backlog ≢ [] → failures new.journal ≡ one_more (failures old.journal))
-      → HasTried failures old new bytes
+      → HasTried contents failures old new bytes
   tried_last was fails = record {
     fails = λ h k. absurd (unlike (is_lost old.backlog) h was);
     waits_on = λ h k. fails k;
@@ -145,25 +153,24 @@ module _ {J : Type 0} (contents : J → Option (List ℕ)) (failures : J → ℕ
       (Appends-trans (contents old.journal) (contents mid) (contents new.journal) (waiting old.backlog) (take n bytes) before more.1)
       (more.3 ∙ ap one_more same) there
 
-  pub tried_new : (space : ℕ) (mid : J) (k : Backlog) → new.backlog ≡ k → room old.backlog ≤ space → failures mid ≡ failures old.journal
-      → AppendsNew contents failures mid new.journal space k bytes → is_lost old.backlog ≡ false → HasTried failures old new bytes
-  tried_new space mid Empty e more same appends there = tried_all e there
-  tried_new space mid (Waiting held) e more same appends there =
+  pub tried_new : (space : ℕ) (mid : J) (k : Backlog) → new.backlog ≡ k → room old.backlog ≤ space
+      → Appends (contents old.journal) (contents mid) (waiting old.backlog) → failures mid ≡ failures old.journal
+      → AppendsNew contents failures mid new.journal space k bytes → is_lost old.backlog ≡ false → HasTried contents failures old new bytes
+  tried_new space mid Empty e more before same appends there = tried_all e there
+  tried_new space mid (Waiting held) e more before same appends there =
       let n = appends.0 in
-      tried_part space [] (drop n bytes) more (omega (arith, length-drop n bytes, length-append (waiting old.backlog) bytes))
-      (subst (Holds space [] (drop n bytes)) (sym e) appends.2) (appends.3 ∙ ap one_more same) there
-  tried_new space mid (Lost held) e more same appends there =
+      tried_part space (waiting old.backlog ++ take n bytes) [] (drop n bytes)
+      (ap (λ xs. waiting old.backlog ++ xs) (sym (take-append-drop n bytes)) ∙ sym (append_assoc (waiting old.backlog) (take n bytes) (drop n bytes)))
+      more (subst (Holds space [] (drop n bytes)) (sym e) appends.2)
+      (Appends-trans (contents old.journal) (contents mid) (contents new.journal) (waiting old.backlog) (take n bytes) before appends.1)
+      (appends.3 ∙ ap one_more same) there
+  tried_new space mid (Lost held) e more before same appends there =
       let n = appends.0 in
-      tried_part space [] (drop n bytes) more (omega (arith, length-drop n bytes, length-append (waiting old.backlog) bytes))
-      (subst (Holds space [] (drop n bytes)) (sym e) appends.2) (appends.3 ∙ ap one_more same) there
-
--- the journal failed behind the first `count` bytes
-pub refused_new : {J : Type 0} (contents : J → Option (List ℕ)) (failures : J → ℕ) (old new : J) (space count : ℕ) (k : Backlog) (bytes : List ℕ)
-    → Appends (contents old) (contents new) (take count bytes) → Holds space [] (drop count bytes) k → failures new ≡ one_more (failures old)
-    → AppendsNew contents failures old new space k bytes
-refused_new contents failures old new space count Empty bytes grows holds fault = absurd holds
-refused_new contents failures old new space count (Waiting held) bytes grows holds fault = (count, grows, holds, fault)
-refused_new contents failures old new space count (Lost held) bytes grows holds fault = (count, grows, holds, fault)
+      tried_part space (waiting old.backlog ++ take n bytes) [] (drop n bytes)
+      (ap (λ xs. waiting old.backlog ++ xs) (sym (take-append-drop n bytes)) ∙ sym (append_assoc (waiting old.backlog) (take n bytes) (drop n bytes)))
+      more (subst (Holds space [] (drop n bytes)) (sym e) appends.2)
+      (Appends-trans (contents old.journal) (contents mid) (contents new.journal) (waiting old.backlog) (take n bytes) before appends.1)
+      (appends.3 ∙ ap one_more same) there
 
 -- ---- calls in sequence
 
@@ -256,9 +263,3 @@ kept_more {J} contents failures old mid new bytes more begun next = by_mid (is_l
         fault = faulty;
         first = λ h k. let some = next.first there k in omega (arith, some);
       }
-
--- one more call, with no byte
-pub kept_again : {J : Type 0} (contents : J → Option (List ℕ)) (failures : J → ℕ) (old mid new : RecorderState J) (bytes : List ℕ)
-    → HasKept contents failures old mid bytes → HasKept contents failures mid new [] → HasKept contents failures old new bytes
-kept_again contents failures old mid new bytes begun last =
-    subst (HasKept contents failures old new) (append-nil bytes) (kept_more contents failures old mid new bytes [] begun last)

@@ -17,7 +17,7 @@ use Rattle.bx_session.specs.Session.{Session, clip_after, painted_after, paintin
 use Rattle.bx_session.specs.Session.{session_after_any, unpainted_after_byte, is_painted}
 use Rattle.bx_session.specs.Painting.{FeedPaints, QueuesPicture}
 use Rattle.bx_session.specs.Saving.{StoreState, AfterByte, Feeds}
-use Rattle.bx_session.specs.Running.{ByteAnswer, bytes_of, FeedsAll, FedUntilEnd, HasRead, Sent, HasRun}
+use Rattle.bx_session.specs.Running.{ByteAnswer, bytes_of, FeedsAll, FedUntilEnd, Sent, HasRun}
 use Rattle.bx_session.proofs.Pictures.{then_clip_after}
 use Rattle.bx_session.specs.Running.{Turn, IsRead, TakesTurn, TakesTurns, read_in, read_size, fed_in, dropped_in, written_in}
 
@@ -204,10 +204,10 @@ wrote_more_turns [] turn = append-nil turn.written
 wrote_more_turns (first ∷ turns) turn =
     ap (λ xs. first.written ++ xs) (wrote_more_turns turns turn) ∙ sym (append_assoc first.written (written_in turns) turn.written)
 
-unfoldable pub started : (d : Data) (s s1 : Session) (store : StoreState) (r w w1 : Option (List ℕ)) (written : List ℕ) → Sent s s1 w w1 written
-    → HasRun d s s1 store store r r w w1 [] [] written s
-started d s s1 store r w w1 written a = record {
-  feeds = (refl, refl);
+unfoldable pub started : (d : Data) (s s1 : Session) (store store1 : StoreState) (r w w1 : Option (List ℕ)) (written : List ℕ) → store1 ≡ store
+    → Sent s s1 w w1 written → HasRun d s s1 store store1 r r w w1 [] [] written s
+started d s s1 store store1 r w w1 written same a = record {
+  feeds = (refl, same);
   reads = Consumes-nil r;
   drops = λ some. absurd (some refl);
   few = omega arith;
@@ -220,10 +220,35 @@ started d s s1 store r w w1 written a = record {
     first_order = a.order;
     begins = a.session;
     turns = [];
-    takes = (refl, refl);
+    takes = (refl, same);
     fed = refl;
     drops = refl;
     wrote = append-nil written;
+  };
+}
+
+-- a run after which nothing was stored
+unfoldable pub stored_on : (d : Data) (old s : Session) (store store1 store2 : StoreState) (r r1 w w1 : Option (List ℕ)) (answered : List ByteAnswer)
+    (dropped written : List ℕ) (all : Session) → store2 ≡ store1 → HasRun d old s store store1 r r1 w w1 answered dropped written all
+    → HasRun d old s store store2 r r1 w w1 answered dropped written all
+stored_on d old s store store1 store2 r r1 w w1 answered dropped written all same run = record {
+  feeds = subst (λ (x : StoreState). FeedsAll d old store answered all x) (sym same) run.feeds;
+  reads = run.reads;
+  drops = run.drops;
+  few = run.few;
+  writes = run.writes;
+  order = run.order;
+  session = run.session;
+  in_turns = record {
+    first = run.in_turns.first;
+    begun = run.in_turns.begun;
+    first_order = run.in_turns.first_order;
+    begins = run.in_turns.begins;
+    turns = run.in_turns.turns;
+    takes = subst (λ (x : StoreState). TakesTurns d run.in_turns.begun store run.in_turns.turns s x) (sym same) run.in_turns.takes;
+    fed = run.in_turns.fed;
+    drops = run.in_turns.drops;
+    wrote = run.in_turns.wrote;
   };
 }
 
@@ -309,26 +334,3 @@ turned {D} says tables tables1 old s s2 s3 store store1 store2 r r1 r2 w w1 w2 a
             ∙ ap (λ xs. xs ++ written') before.wrote;
       };
     }
-
--- one more read that gave a byte
-pub read_more : (n : ℕ) (r r1 r2 : Option (List ℕ)) (bytes : List ℕ) → HasRead n r r1 → Consumes r1 r2 bytes → 1 ≤ length bytes → HasRead (n + 1) r r2
-read_more n r r1 r2 bytes h more some =
-    (h.0 ++ bytes, omega (arith, h.1, some, length-append h.0 bytes), Consumes-trans r r1 r2 h.0 bytes h.2 more)
-
--- a read that gave no byte
-pub read_nothing : (d : Data) (old s : Session) (store store1 : StoreState) (r r1 r2 w w1 : Option (List ℕ)) (answered : List ByteAnswer)
-    (dropped written : List ℕ) (all : Session) → HasRun d old s store store1 r r1 w w1 answered dropped written all → Consumes r1 r2 []
-    → HasRun d old s store store1 r r2 w w1 answered dropped written all
-read_nothing d old s store store1 r r1 r2 w w1 answered dropped written all run nothing = record {
-  feeds = run.feeds;
-  reads = subst (Consumes r r2) (append-nil (bytes_of answered ++ dropped)) (Consumes-trans r r1 r2 (bytes_of answered ++ dropped) [] run.reads nothing);
-  drops = run.drops;
-  few = run.few;
-  writes = run.writes;
-  order = run.order;
-  session = run.session;
-  in_turns = run.in_turns;
-}
-
-pub none_taken : (r r1 : Option (List ℕ)) (buffer : List ℕ) (count : ℕ) → count ≡ 0 → Consumes r r1 (take count buffer) → Consumes r r1 []
-none_taken r r1 buffer count none h = subst (λ n. Consumes r r1 (take n buffer)) none h

@@ -69,12 +69,19 @@ pub record HasKept {J : Type 0} (contents : J → Option (List ℕ)) (failures :
   pub fault : old.backlog ≡ Empty → new.backlog ≢ Empty → 1 ≤ faults
   pub first : is_lost old.backlog ≡ false → is_lost new.backlog ≡ true → 1 ≤ faults
 
--- One call of a recorder. Bytes wait after it, or are lost first in it, only if the journal failed in it, so the recorder tried
--- to append all waiting bytes. They are lost first only if memory for the waiting bytes had no room for these and the new ones.
-pub record HasTried {J : Type 0} (failures : J → ℕ) (old new : RecorderState J) (bytes : List ℕ) : Type 0 where
+-- Memory had no room for what one call asked of it: the bytes that the journal did not take in this call, whether they waited before
+-- or are new. They wait now, or are lost.
+abbrev pub LacksRoom : {J : Type 0} → (J → Option (List ℕ)) → RecorderState J → RecorderState J → List ℕ → Type 0
+LacksRoom contents old new bytes =
+    (appended : List ℕ) × (lost : List ℕ) × (waiting old.backlog ++ bytes ≡ appended ++ (waiting new.backlog ++ lost))
+    × Appends (contents old.journal) (contents new.journal) appended × (room old.backlog < length (waiting new.backlog ++ lost))
+
+-- One call of a recorder, which tries to append whatever waits. Bytes wait after it, or are lost first in it, only if the journal
+-- failed in this call, so the next call tries again. They are lost first only if memory lacked room for what this call asked.
+pub record HasTried {J : Type 0} (contents : J → Option (List ℕ)) (failures : J → ℕ) (old new : RecorderState J) (bytes : List ℕ) : Type 0 where
   pub fails : is_lost old.backlog ≡ false → new.backlog ≢ Empty → failures new.journal ≡ one_more (failures old.journal)
   pub waits_on : is_lost old.backlog ≡ true → waiting new.backlog ≢ [] → failures new.journal ≡ one_more (failures old.journal)
-  pub full : is_lost old.backlog ≡ false → is_lost new.backlog ≡ true → room old.backlog < length (waiting old.backlog ++ bytes)
+  pub full : is_lost old.backlog ≡ false → is_lost new.backlog ≡ true → LacksRoom contents old new bytes
 
 -- a run whose input up to the session's end is handed to a recorder; what follows the end is dropped
 abbrev pub RunsRecorded : {J : Type 0} → (J → Option (List ℕ)) → (J → ℕ) → Data → Session → Session → StoreState → StoreState

@@ -1,7 +1,7 @@
--- What a run does to its device, in order: each part of the input is in the journal's hands before it is obeyed, and a read comes
--- only after all output has gone out. `d` is Unicode's data.
-use Rattle.std.specs.Prelude.{◌≡◌, ◌⊎◌, ℕ, List, [], ◌∷◌, ◌++◌, length, map, None, Result, Ok, Err}
-use Rattle.std.specs.List.{concat}
+-- What a run does to its device and its session, in order: each part of the input is in the journal's hands before it is obeyed, and
+-- a read comes only after all output has gone out. `d` is Unicode's data. Of a device, `did` says what a call does to it, `obeyed`
+-- what the obeying of a byte does, and `stored` what its store has.
+use Rattle.std.specs.Prelude.{◌≡◌, ◌⊎◌, ℕ, true, false, List, [], ◌∷◌, ◌++◌, length, map, None, Result, Ok, Err, OnOk}
 use Rattle.bx_ucd.specs.Data.{Data}
 use Rattle.bx_session.specs.declared.action.Action.{Action}
 use Rattle.bx_session.specs.declared.action.Action.TheVariants.{Read, ReadFailed, Append, Write, WriteFailed, Flush, FlushFailed}
@@ -9,109 +9,151 @@ use Rattle.bx_session.specs.declared.end.End.{End}
 use Rattle.bx_session.specs.declared.end.End.TheVariants.{Quit, InputEnded}
 use Rattle.bx_session.specs.declared.end.RunFault.{RunFault}
 use Rattle.bx_session.specs.declared.end.RunFault.TheVariants.{ReadFault, WriteFault, ReadLimit}
-use Rattle.bx_session.specs.Session.{Session}
-use Rattle.bx_session.specs.Saving.{StoreState}
+use Rattle.bx_session.specs.Session.{Session, is_painted}
+use Rattle.bx_session.specs.Saving.{StoreState, Feeds}
+use Rattle.bx_session.specs.Painting.{FeedPaints}
 use Rattle.bx_session.specs.Running.{ByteAnswer, Turn, HasRun, bytes_of, read_in}
 
--- ---- actions
+-- ---- steps
 
--- these actions, in this order, lead from one state of a device to another
-abbrev pub DidAll : {V : Type 0} → (V → Action → V → Type 0) → V → List Action → V → Type 0
-DidAll did old [] new = new ≡ old
-DidAll {V} did old (action ∷ more) new = (mid : V) × did old action mid × DidAll did mid more new
+-- a step of a run: a call of the device, or the obeying of a byte, with its answer
+pub data Step : Type 0 where
+  Calls : Action → Step
+  Obeys : ByteAnswer → Step
 
--- the last thing done was to hand these bytes to the journal
-abbrev pub WasAppended : {V : Type 0} → (V → Action → V → Type 0) → V → List ℕ → Type 0
-WasAppended {V} did now bytes = (before : V) × did before (Append bytes) now
-
--- the bytes that an action read
+-- the bytes that a call read
 abbrev pub read_by : Action → List ℕ
 read_by (Read bytes) = bytes
 read_by _ = []
 
--- the bytes that an action handed to the journal
+-- the bytes that a call handed to the journal
 abbrev pub kept_by : Action → List ℕ
 kept_by (Append bytes) = bytes
 kept_by _ = []
 
--- the bytes that an action wrote
+-- the bytes that a call wrote
 abbrev pub written_by : Action → List ℕ
 written_by (Write bytes) = bytes
 written_by (WriteFailed bytes) = bytes
 written_by _ = []
 
--- the bytes of all these actions, one after another
-abbrev pub bytes_by : (Action → List ℕ) → List Action → List ℕ
+-- the bytes of all calls among these steps, one after another
+abbrev pub bytes_by : (Action → List ℕ) → List Step → List ℕ
 bytes_by bytes [] = []
-bytes_by bytes (action ∷ more) = bytes action ++ bytes_by bytes more
+bytes_by bytes (Calls action ∷ more) = bytes action ++ bytes_by bytes more
+bytes_by bytes (Obeys a ∷ more) = bytes_by bytes more
+
+-- the bytes that were obeyed, with their answers
+abbrev pub obeyed_in : List Step → List ByteAnswer
+obeyed_in [] = []
+obeyed_in (Calls action ∷ more) = obeyed_in more
+obeyed_in (Obeys a ∷ more) = a ∷ obeyed_in more
+
+-- ---- steps of a device and a session
+
+module _ {V : Type 0} (did : V → Action → V → Type 0) (obeyed : V → Session → ByteAnswer → V → Session → Type 0) (stored : V → StoreState) (d : Data) where
+  -- A call of the device stores nothing. It changes the session only in that what it wrote is no longer pending.
+  pub record IsCalled (device : V) (old : Session) (action : Action) (device' : V) (new : Session) : Type 0 where
+    pub does : did device action device'
+    pub stores : stored device' ≡ stored device
+    pub order : old.pending ≡ written_by action ++ new.pending
+    pub session : new ≡ record old { pending = new.pending }
+
+  -- A byte is obeyed before the session's end, with the store that the device has then.
+  pub record IsObeyed (device : V) (old : Session) (a : ByteAnswer) (device' : V) (new : Session) : Type 0 where
+    pub does : obeyed device old a device' new
+    pub goes_on : old.editor.ended ≡ false
+    pub feeds : Feeds d old (stored device) a.0 a.1 new (stored device')
+    pub paints : is_painted old a.0 ≡ true → OnOk a.1 (FeedPaints d old a.0 new)
+
+  -- the step leads from one state of device and session to another
+  abbrev pub IsTaken : V → Session → Step → V → Session → Type 0
+  IsTaken device old (Calls action) device' new = IsCalled device old action device' new
+  IsTaken device old (Obeys a) device' new = IsObeyed device old a device' new
+
+  -- these steps, in this order, lead from one state of device and session to another
+  abbrev pub AreTaken : V → Session → List Step → V → Session → Type 0
+  AreTaken device old [] device' new = (device' ≡ device) × (new ≡ old)
+  AreTaken device old (step ∷ more) device' new =
+      (mid_device : V) × (mid : Session) × IsTaken device old step mid_device mid × AreTaken mid_device mid more device' new
 
 -- ---- the log of a run
+
+-- the bytes of these parts, one after another
+abbrev pub in_parts : List (List ByteAnswer) → List ByteAnswer
+in_parts [] = []
+in_parts (part ∷ parts) = part ++ in_parts parts
 
 -- a turn, with the parts in which its bytes were handed to the journal
 pub record LoggedTurn : Type 0 where
   pub turn : Turn
-  pub parts : List (List ℕ)
+  pub parts : List (List ByteAnswer)
   -- the parts are the bytes fed; those dropped after the session's end are not among them
-  pub joined : concat parts ≡ bytes_of turn.fed
+  pub joined : in_parts parts ≡ turn.fed
 
--- the appends of parts to the journal, one after another
-abbrev pub appends : List (List ℕ) → List Action
-appends [] = []
-appends (part ∷ parts) = Append part ∷ appends parts
+-- each part is handed to the journal and then obeyed, byte by byte, before the next one
+abbrev pub part_steps : List (List ByteAnswer) → List Step
+part_steps [] = []
+part_steps (part ∷ parts) = Calls (Append (bytes_of part)) ∷ (map Obeys part ++ part_steps parts)
 
--- A turn: one read, the appends of its parts to the journal, and the writing and flushing of the output. Each part is obeyed
--- right after its append.
-abbrev pub turn_actions : LoggedTurn → List Action
-turn_actions logged = Read (read_in logged.turn) ∷ (appends logged.parts ++ Write logged.turn.written ∷ Flush ∷ [])
+-- output is written and flushed
+abbrev pub sending : List ℕ → List Step
+sending written = Calls (Write written) ∷ Calls Flush ∷ []
 
--- the actions of turns in sequence
-abbrev pub turns_actions : List LoggedTurn → List Action
-turns_actions [] = []
-turns_actions (logged ∷ more) = turn_actions logged ++ turns_actions more
+-- a turn: one read, its parts, and the writing and flushing of the output
+abbrev pub turn_steps : LoggedTurn → List Step
+turn_steps logged = Calls (Read (read_in logged.turn)) ∷ (part_steps logged.parts ++ sending logged.turn.written)
+
+-- the steps of turns in sequence
+abbrev pub turns_steps : List LoggedTurn → List Step
+turns_steps [] = []
+turns_steps (logged ∷ more) = turn_steps logged ++ turns_steps more
 
 -- what was pending is written and flushed, and then the turns follow
-abbrev pub run_actions : List ℕ → List LoggedTurn → List Action
-run_actions first turns = Write first ∷ Flush ∷ turns_actions turns
+abbrev pub run_steps : List ℕ → List LoggedTurn → List Step
+run_steps first turns = sending first ++ turns_steps turns
 
 -- the write failed after these bytes, or all were written and the flush failed
-abbrev pub IsFailedSending : List ℕ → List Action → Type 0
-IsFailedSending written actions = (actions ≡ WriteFailed written ∷ []) ⊎ (actions ≡ Write written ∷ FlushFailed ∷ [])
+abbrev pub IsFailedSending : List ℕ → List Step → Type 0
+IsFailedSending written steps =
+    (steps ≡ Calls (WriteFailed written) ∷ []) ⊎ (steps ≡ Calls (Write written) ∷ Calls FlushFailed ∷ [])
 
 -- the writing and flushing of these bytes, by its result
-abbrev pub IsSending : {A E : Type 0} → Result A E → List ℕ → List Action → Type 0
-IsSending (Ok _) written actions = actions ≡ Write written ∷ Flush ∷ []
-IsSending (Err _) written actions = IsFailedSending written actions
+abbrev pub IsSending : {A E : Type 0} → Result A E → List ℕ → List Step → Type 0
+IsSending (Ok _) written steps = steps ≡ sending written
+IsSending (Err _) written steps = IsFailedSending written steps
 
 -- a log like that of a whole run, except that its last write or flush failed
-abbrev pub FailsLast : List Action → List Action → Type 0
+abbrev pub FailsLast : List Step → List Step → Type 0
 FailsLast log whole =
-    (before : List Action) × (written : List ℕ) × (failed : List Action) × (whole ≡ before ++ Write written ∷ Flush ∷ [])
+    (before : List Step) × (written : List ℕ) × (failed : List Step) × (whole ≡ before ++ sending written)
     × (log ≡ before ++ failed) × IsFailedSending written failed
 
 -- The log of a run that ended with this result. After the turns, at the end of the input, a read gave nothing, and an append of
 -- no bytes let the journal try those that waited; or a read failed. At the limit of reads there were as many turns.
-abbrev pub IsLog : ℕ → Result End RunFault → List ℕ → List LoggedTurn → List Action → Type 0
-IsLog limit (Ok Quit) first turns log = log ≡ run_actions first turns
-IsLog limit (Ok (InputEnded changed)) first turns log = log ≡ run_actions first turns ++ Read [] ∷ Append [] ∷ []
-IsLog limit (Err ReadFault) first turns log = log ≡ run_actions first turns ++ ReadFailed ∷ []
-IsLog limit (Err ReadLimit) first turns log = (log ≡ run_actions first turns) × (length turns ≡ limit)
-IsLog limit (Err WriteFault) first turns log = FailsLast log (run_actions first turns)
+abbrev pub IsLog : ℕ → Result End RunFault → List ℕ → List LoggedTurn → List Step → Type 0
+IsLog limit (Ok Quit) first turns log = log ≡ run_steps first turns
+IsLog limit (Ok (InputEnded changed)) first turns log = log ≡ run_steps first turns ++ Calls (Read []) ∷ Calls (Append []) ∷ []
+IsLog limit (Err ReadFault) first turns log = log ≡ run_steps first turns ++ Calls ReadFailed ∷ []
+IsLog limit (Err ReadLimit) first turns log = (log ≡ run_steps first turns) × (length turns ≡ limit)
+IsLog limit (Err WriteFault) first turns log = FailsLast log (run_steps first turns)
 
--- A run over a device, by its result. The log has all that was done to the device, in order: it reads the bytes that were
--- answered and dropped, hands those answered to the journal, and writes the output. Names without a prime are of before the run,
--- those with one of after it.
-pub record HasLogged {V : Type 0} (did : V → Action → V → Type 0) (d : Data) (limit : ℕ) (result : Result End RunFault) (old new : Session)
-    (store store' : StoreState) (device device' : V) : Type 0 where
+-- A run over a device, by its result. The log has all that was done to the device and the session, in order: it reads the bytes
+-- that were answered and dropped, hands those answered to the journal, obeys them, and writes the output. Names without a prime are
+-- of before the run, those with one of after it.
+pub record HasLogged {V : Type 0} (did : V → Action → V → Type 0) (obeyed : V → Session → ByteAnswer → V → Session → Type 0) (stored : V → StoreState)
+    (d : Data) (limit : ℕ) (result : Result End RunFault) (old new : Session) (device device' : V) : Type 0 where
   pub answered : List ByteAnswer
   pub dropped : List ℕ
   pub written : List ℕ
   pub all : Session
-  pub run : HasRun d old new store store' None None None None answered dropped written all
-  pub log : List Action
-  pub did_all : DidAll did device log device'
+  pub run : HasRun d old new (stored device) (stored device') None None None None answered dropped written all
+  pub log : List Step
+  pub taken : AreTaken did obeyed stored d device old log device' new
   pub turns : List LoggedTurn
   pub in_turns : map (λ logged. logged.turn) turns ≡ run.in_turns.turns
   pub order : IsLog limit result run.in_turns.first turns log
   pub reads : bytes_by read_by log ≡ bytes_of answered ++ dropped
   pub keeps : bytes_by kept_by log ≡ bytes_of answered
+  pub obeys : obeyed_in log ≡ answered
   pub writes : bytes_by written_by log ≡ written

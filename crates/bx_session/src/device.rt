@@ -1,6 +1,11 @@
-//! What a run reads, journals and writes through: a reader, a journal and a writer as one, so that the order among them is told.
+//! What a run reads, journals, writes and saves through: a reader, a journal, a writer and a store as one, so that the order among
+//! them is told.
 
+use crate::error::Refused;
+use crate::session::Session;
+use crate::status::Status;
 use bx_bytes::WriteFault;
+use bx_ucd::BidiData;
 use thiserror::Error;
 
 /// A call of a device failed.
@@ -8,13 +13,23 @@ use thiserror::Error;
 #[error("the device failed")]
 pub struct DeviceFault;
 
-/// A source of input, a journal and an output. `run_device` tells in which order a run calls them.
+/// A source of input, a journal, an output and a store. `run_device` tells in which order a run calls them.
 pub trait Device {
-    ghost use Rattle.std.specs.Prelude.{◌≤◌, IfErr, IfOk, OnErr, OnOk, length, take};
+    ghost use Rattle.std.specs.Prelude.{◌≡◌, ◌≤◌, true, IfErr, IfOk, OnErr, OnOk, length, take};
     ghost use Rattle.bx_session.specs.declared.action.Action.{Action};
+    ghost use Rattle.bx_session.specs.Session.{Session as SessionValue, is_painted};
+    ghost use Rattle.bx_session.specs.Saving.{StoreState, Feeds};
+    ghost use Rattle.bx_session.specs.Painting.{FeedPaints};
+    ghost use Rattle.bx_session.specs.Running.{ByteAnswer};
 
-    /// Whether an action leads from one state of the device to another.
+    /// Whether a call leads from one state of the device to another.
     ghost did: { Self → Action → Self → Type 0 };
+
+    /// Whether the obeying of a byte, with its answer, leads from one state of the device and a session to another.
+    ghost obeyed: { Self → SessionValue → ByteAnswer → Self → SessionValue → Type 0 };
+
+    /// What the device's store has.
+    ghost stored: { Self → StoreState };
 
     /// Reads at most 256 bytes (`read_size` of specs/Running.antt) to the front of the buffer, and returns their number, which is 0
     /// at the end of the input.
@@ -22,11 +37,23 @@ pub trait Device {
         ensures bound { IfOk result (λ count. count ≤ length buffer.new) }
         ensures most { IfOk result (λ count. count ≤ 256) }
         ensures did { IfOk result (λ count. did self.old (Action.Read (take count buffer.new)) self.new) }
-        ensures failed { OnErr result (did self.old Action.ReadFailed self.new) };
+        ensures failed { OnErr result (did self.old Action.ReadFailed self.new) }
+        ensures stored { stored self.new ≡ stored self.old };
 
     /// Hands bytes to the journal, which may hold them back until a later call.
     fn append(&mut self, bytes: &[u8])
-        ensures did { did self.old (Action.Append bytes.now) self.new };
+        ensures did { did self.old (Action.Append bytes.now) self.new }
+        ensures stored { stored self.new ≡ stored self.old };
+
+    /// Has a session obey a byte, as [`Session::feed`] does with the device's store.
+    ///
+    /// Errors: `Edit` and `Paint` if memory runs out, as there.
+    fn obey<D: BidiData + Drop>(&mut self, session: &mut Session<D>, byte: u8) -> Result<Status, Refused>
+        ensures obeyed { obeyed self.old session.old.session (byte, result) self.new session.new.session }
+        ensures after_byte { Feeds (D.data session.old.tables) session.old.session (stored self.old) byte result session.new.session (stored self.new) }
+        ensures paints { is_painted session.old.session byte ≡ true →
+            OnOk result (FeedPaints (D.data session.old.tables) session.old.session byte session.new.session) }
+        ensures tables { session.new.tables ≡ session.old.tables };
 
     /// Writes all bytes.
     ///
@@ -34,10 +61,12 @@ pub trait Device {
     fn write(&mut self, bytes: &[u8]) -> Result<(), WriteFault>
         ensures did { OnOk result (did self.old (Action.Write bytes.now) self.new) }
         ensures count { IfErr result (λ fault. fault.written ≤ length bytes.now) }
-        ensures failed { IfErr result (λ fault. did self.old (Action.WriteFailed (take fault.written bytes.now)) self.new) };
+        ensures failed { IfErr result (λ fault. did self.old (Action.WriteFailed (take fault.written bytes.now)) self.new) }
+        ensures stored { stored self.new ≡ stored self.old };
 
     /// Flushes the output.
     fn flush(&mut self) -> Result<(), DeviceFault>
         ensures did { OnOk result (did self.old Action.Flush self.new) }
-        ensures failed { OnErr result (did self.old Action.FlushFailed self.new) };
+        ensures failed { OnErr result (did self.old Action.FlushFailed self.new) }
+        ensures stored { stored self.new ≡ stored self.old };
 }

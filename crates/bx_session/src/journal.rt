@@ -170,7 +170,7 @@ impl<J: Journal + Drop> Recorder<J> {
     /// Appends the waiting bytes, then `bytes`, to the journal. What the journal refuses waits, and what finds no memory is lost.
     pub(crate) fn keep(&mut self, bytes: &[u8])
         ensures keeps { HasKept J.contents J.failure_count self.old self.new bytes.now }
-        ensures tries { HasTried J.failure_count self.old self.new bytes.now }
+        ensures tries { HasTried J.contents J.failure_count self.old self.new bytes.now }
     {
         let backlog = mem::replace(&mut self.backlog, Backlog::Empty);
         self.backlog = append_to(&mut self.journal, self.alloc, backlog, bytes);
@@ -185,7 +185,7 @@ fn append_to<J: Journal + Drop>(
     bytes: &[u8],
 ) -> Backlog
     ensures keeps { HasKept J.contents J.failure_count (record { journal = journal.old; backlog = backlog }) (record { journal = journal.new; backlog = result }) bytes.now }
-    ensures tries { HasTried J.failure_count (record { journal = journal.old; backlog = backlog }) (record { journal = journal.new; backlog = result }) bytes.now }
+    ensures tries { HasTried J.contents J.failure_count (record { journal = journal.old; backlog = backlog }) (record { journal = journal.new; backlog = result }) bytes.now }
 {
     match backlog {
         Backlog::Empty => append_new(journal, Vec::new(alloc), bytes),
@@ -209,7 +209,7 @@ fn append_new<J: Journal + Drop>(journal: &mut J, room: Vec<u8>, bytes: &[u8]) -
 /// wait.
 fn append_waiting<J: Journal + Drop>(journal: &mut J, mut waiting: Vec<u8>, bytes: &[u8]) -> Backlog
     ensures keeps { HasKept J.contents J.failure_count (record { journal = journal.old; backlog = Backlog.Waiting waiting }) (record { journal = journal.new; backlog = result }) bytes.now }
-    ensures tries { HasTried J.failure_count (record { journal = journal.old; backlog = Backlog.Waiting waiting }) (record { journal = journal.new; backlog = result }) bytes.now }
+    ensures tries { HasTried J.contents J.failure_count (record { journal = journal.old; backlog = Backlog.Waiting waiting }) (record { journal = journal.new; backlog = result }) bytes.now }
 {
     match journal.append(waiting.as_slice()) {
         Ok(()) => {
@@ -226,7 +226,7 @@ fn append_waiting<J: Journal + Drop>(journal: &mut J, mut waiting: Vec<u8>, byte
 /// Appends the waiting bytes, the last that the journal gets after a loss. `bytes` are lost too.
 fn append_last<J: Journal + Drop>(journal: &mut J, mut waiting: Vec<u8>, bytes: &[u8]) -> Backlog
     ensures keeps { HasKept J.contents J.failure_count (record { journal = journal.old; backlog = Backlog.Lost waiting }) (record { journal = journal.new; backlog = result }) bytes.now }
-    ensures tries { HasTried J.failure_count (record { journal = journal.old; backlog = Backlog.Lost waiting }) (record { journal = journal.new; backlog = result }) bytes.now }
+    ensures tries { HasTried J.contents J.failure_count (record { journal = journal.old; backlog = Backlog.Lost waiting }) (record { journal = journal.new; backlog = result }) bytes.now }
 {
     let _ = bytes;
     if waiting.is_empty() {

@@ -1,17 +1,13 @@
-//! What a run does with the bytes of a read: it hands them to the journal and feeds them, up to the session's end.
+//! What a run does with the bytes of a read: it hands them to the journal and obeys them, up to the session's end.
 
-ghost use Rattle.std.specs.Prelude.{◌≡◌, ◌≤◌, ℕ, List, length};
-ghost use Rattle.std.specs.List.{concat};
-ghost use Rattle.bx_session.specs.declared.action.Action.{Action};
-ghost use Rattle.bx_session.specs.Log.{DidAll, WasAppended, appends};
+ghost use Rattle.std.specs.Prelude.{◌≡◌, ◌≤◌, ℕ, List, length, map};
+ghost use Rattle.bx_session.specs.Log.{AreTaken, Obeys, in_parts, part_steps};
 ghost use Rattle.bx_session.specs.Parts.{part_length};
-ghost use Rattle.bx_session.specs.Running.{ByteAnswer, FedUntilEnd, bytes_of};
-ghost use Rattle.bx_session.specs.Saving.{store_state};
+ghost use Rattle.bx_session.specs.Running.{ByteAnswer, FedUntilEnd};
 
 use crate::device::Device;
 use crate::session::Session;
 use bx_keys::Key;
-use bx_store::Store;
 use bx_ucd::BidiData;
 
 impl<D: BidiData + Drop> Session<D> {
@@ -32,41 +28,36 @@ impl<D: BidiData + Drop> Session<D> {
     }
 }
 
-/// Feeds bytes until the session ends. A refused byte does not stop it. The journal was handed the same bytes just before:
-/// `device` is taken only so that the contract can say so.
-fn feed_all<D: BidiData + Drop, V: Device, S: Store>(
-    session: &mut Session<D>,
-    bytes: &[u8],
-    device: &V,
-    store: &mut S,
-)
-    requires appended { WasAppended V.did device.now bytes.now }
+/// Has the session obey bytes until it ends. A refused byte does not stop it.
+fn obey_all<D: BidiData + Drop, V: Device>(session: &mut Session<D>, bytes: &[u8], device: &mut V)
     ensures bytes { (answered : List ByteAnswer) × (dropped : List ℕ)
-        × FedUntilEnd (D.data session.old.tables) session.old.session (store_state S.contents S.faults store.old) bytes.now
-        session.new.session (store_state S.contents S.faults store.new) answered dropped }
+        × FedUntilEnd (D.data session.old.tables) session.old.session (V.stored device.old) bytes.now
+        session.new.session (V.stored device.new) answered dropped
+        × AreTaken V.did V.obeyed V.stored (D.data session.old.tables) device.old session.old.session (map Obeys answered)
+        device.new session.new.session }
     ensures tables { session.new.tables ≡ session.old.tables }
 {
-    let _ = device;
     for byte in bytes {
         if session.ended() {
             return;
         }
-        let _ = session.feed(*byte, store);
+        let _ = device.obey(session, *byte);
     }
 }
 
-/// Hands bytes to the journal and feeds them, up to the session's end, in parts that each end with a Quit or with the bytes: so
-/// each byte is handed over before it is fed, and no byte after the session's end is handed over.
-pub(crate) fn keep_and_feed<D: BidiData + Drop, V: Device, S: Store>(
+/// Hands bytes to the journal and has the session obey them, up to its end, in parts that each end with a Quit or with the bytes: so
+/// each byte is handed over before it is obeyed, and no byte after the session's end is handed over.
+pub(crate) fn keep_and_obey<D: BidiData + Drop, V: Device>(
     session: &mut Session<D>,
     bytes: &[u8],
     device: &mut V,
-    store: &mut S,
 )
-    ensures bytes { (answered : List ByteAnswer) × (dropped : List ℕ) × (parts : List (List ℕ))
-        × FedUntilEnd (D.data session.old.tables) session.old.session (store_state S.contents S.faults store.old) bytes.now
-        session.new.session (store_state S.contents S.faults store.new) answered dropped
-        × DidAll V.did device.old (appends parts) device.new × (concat parts ≡ bytes_of answered) }
+    ensures bytes { (answered : List ByteAnswer) × (dropped : List ℕ) × (parts : List (List ByteAnswer))
+        × FedUntilEnd (D.data session.old.tables) session.old.session (V.stored device.old) bytes.now
+        session.new.session (V.stored device.new) answered dropped
+        × AreTaken V.did V.obeyed V.stored (D.data session.old.tables) device.old session.old.session (part_steps parts)
+        device.new session.new.session
+        × (in_parts parts ≡ answered) }
     ensures tables { session.new.tables ≡ session.old.tables }
 {
     let mut rest = bytes;
@@ -76,7 +67,7 @@ pub(crate) fn keep_and_feed<D: BidiData + Drop, V: Device, S: Store>(
         }
         let (part, behind) = rest.split_at(session.part_length(rest));
         device.append(part);
-        feed_all(session, part, device, store);
+        obey_all(session, part, device);
         rest = behind;
     }
 }

@@ -32,3 +32,4 @@ pub use over_reader::{run, run_recorded};
 pub use running::run_device;
 pub use session::Session;
 pub use status::Status;
+pub use wired::Wired;

@@ -1,16 +1,23 @@
-//! A device in memory, which logs what is done to it: for runs without a terminal, as in tests.
+//! A device in memory, which logs its calls: for runs without a terminal, as in tests.
 
 ghost use Rattle.std.specs.Prelude.{◌≡◌, [], Some, IfSome, option_map, vec_items};
-ghost use Rattle.bx_session.specs.InMemory.{DidLog};
+ghost use Rattle.bx_store.specs.Stores.{no_faults};
+ghost use Rattle.bx_session.specs.InMemory.{DidLog, stored_in};
 
 use crate::action::{Action, ActionBytes};
 use crate::device::{Device, DeviceFault};
+use crate::error::Refused;
+use crate::session::Session;
+use crate::status::Status;
 use bx_bytes::WriteFault;
+use bx_store::MemoryStore;
+use bx_ucd::BidiData;
 use std::alloc::{AllocError, Global};
 use std::marker::Model;
 use std::mem;
 
-/// A device whose input is in memory. It logs each call; once memory runs out for the log, there is none. Its calls never fail.
+/// A device whose input and store are in memory. It logs each call but `obey`; once memory runs out for the log, there is none. Its
+/// calls never fail.
 #[derive(Drop)]
 pub struct MemoryDevice {
     // the allocator of the logged bytes
@@ -19,6 +26,8 @@ pub struct MemoryDevice {
     input: Vec<u8>,
     // the calls so far, in order; None once memory ran out for them
     log: Option<Vec<Action>>,
+    // where a session saves
+    store: MemoryStore,
 }
 
 impl Model for MemoryDevice {
@@ -27,18 +36,21 @@ impl Model for MemoryDevice {
 
     ghost Value = { DeviceState };
 
-    ghost view = { λ s. record { input = s.input.items; log = option_map vec_items s.log } };
+    ghost view = { λ s. record { input = s.input.items; log = option_map vec_items s.log; store = s.store } };
 }
 
 impl MemoryDevice {
-    /// A device with this input and an empty log.
+    /// A device with this input, an empty log and an empty store.
     pub fn new(alloc: Global, input: Vec<u8>) -> Self
-        ensures { result ≡ record { input = input.items; log = Some [] } }
+        ensures input { result.input ≡ input.items }
+        ensures log { result.log ≡ Some [] }
+        ensures stored { stored_in result ≡ record { contents = Some []; faults = no_faults } }
     {
         MemoryDevice {
             alloc,
             input,
             log: Some(Vec::new(alloc)),
+            store: MemoryStore::new(alloc, None),
         }
     }
 
@@ -55,6 +67,7 @@ impl MemoryDevice {
     /// Logs an action; an error says that memory ran out for its bytes, and there is no log from then on.
     fn note(&mut self, action: Result<Action, AllocError>)
         ensures input { self.new.input ≡ self.old.input }
+        ensures store { self.new.store ≡ self.old.store }
         ensures log { DidLog self.old.log action self.new.log }
     {
         let log = mem::replace(&mut self.log, None);
@@ -76,9 +89,13 @@ fn with_action(log: Option<Vec<Action>>, action: Result<Action, AllocError>) -> 
 }
 
 impl Device for MemoryDevice {
-    ghost use Rattle.bx_session.specs.InMemory.{DidInMemory};
+    ghost use Rattle.bx_session.specs.InMemory.{DidInMemory, ObeyedInMemory, stored_in};
 
     ghost did = { DidInMemory };
+
+    ghost obeyed = { λ old before answer new after. ObeyedInMemory old new };
+
+    ghost stored = { stored_in };
 
     fn read(&mut self, buffer: &mut [u8; 256]) -> Result<usize, DeviceFault> {
         let count = self.input.len().min(256);
@@ -93,6 +110,14 @@ impl Device for MemoryDevice {
     fn append(&mut self, bytes: &[u8]) {
         let action = ActionBytes::copy(self.alloc, bytes).map(Action::Append);
         self.note(action);
+    }
+
+    fn obey<D: BidiData + Drop>(
+        &mut self,
+        session: &mut Session<D>,
+        byte: u8,
+    ) -> Result<Status, Refused> {
+        session.feed(byte, &mut self.store)
     }
 
     fn write(&mut self, bytes: &[u8]) -> Result<(), WriteFault> {

@@ -34,7 +34,7 @@ pub fn run<D: BidiData + Drop, R: Read, W: Write, S: Store>(
 }
 
 /// Runs a session: writes the pending bytes and flushes; then, until the end, reads at most 256 bytes, hands those up to the
-/// session's end to the journal and feeds them, part by part, writes the pending bytes and flushes. Bytes after the end are
+/// session's end to the journal and obeys them, part by part, writes the pending bytes and flushes. Bytes after the end are
 /// dropped, and a refused byte does not end the run.
 ///
 /// Errors: `ReadFault`; `WriteFault`: a prefix of the output was written, and the rest is still pending; `ReadLimit` after
@@ -58,19 +58,19 @@ pub fn run_recorded<D: BidiData + Drop, R: Read, J: Journal + Drop, W: Write, S:
         reader,
         recorder,
         writer,
+        store,
     };
-    run_wired(limit, &mut device, store, session)
+    run_wired(limit, &mut device, session)
 }
 
-/// Runs a session over the reader, the recorder and the writer of a device, which has the same three afterwards.
+/// Runs a session over the reader, the recorder, the writer and the store of a device, which has the same four afterwards.
 fn run_wired<D: BidiData + Drop, R: Read, J: Journal + Drop, W: Write, S: Store>(
     limit: u64,
-    device: &mut Wired<'_, '_, '_, R, J, W>,
-    store: &mut S,
+    device: &mut Wired<'_, '_, '_, '_, R, J, W, S>,
     session: &mut Session<D>,
 ) -> Result<End, RunFault>
     ensures runs { RunsRecorded J.contents J.failure_count (D.data session.old.tables) session.old.session session.new.session
-        (store_state S.contents S.faults store.old) (store_state S.contents S.faults store.new)
+        (store_state S.contents S.faults device.old.store.now) (store_state S.contents S.faults device.new.store.now)
         (R.remaining device.old.reader.now) (R.remaining device.new.reader.now)
         (W.contents device.old.writer.now) (W.contents device.new.writer.now) device.old.recorder.now device.new.recorder.now }
     ensures tables { session.new.tables ≡ session.old.tables }
@@ -79,6 +79,7 @@ fn run_wired<D: BidiData + Drop, R: Read, J: Journal + Drop, W: Write, S: Store>
     ensures same_reader { device.new.reader.ghost_name ≡ device.old.reader.ghost_name }
     ensures same_recorder { device.new.recorder.ghost_name ≡ device.old.recorder.ghost_name }
     ensures same_writer { device.new.writer.ghost_name ≡ device.old.writer.ghost_name }
+    ensures same_store { device.new.store.ghost_name ≡ device.old.store.ghost_name }
 {
-    run_device(limit, device, store, session)
+    run_device(limit, device, session)
 }

@@ -1,22 +1,65 @@
-//! A reader, a recorder and a writer as a device: the device of `run_recorded`.
+//! A reader, a recorder, a writer and a store as a device: the device of the programs.
+
+ghost use Rattle.std.specs.Prelude.{◌≡◌};
 
 use crate::device::{Device, DeviceFault};
+use crate::error::Refused;
 use crate::journal::{Journal, Recorder};
+use crate::session::Session;
+use crate::status::Status;
 use bx_bytes::{WriteFault, write_all};
+use bx_store::Store;
+use bx_ucd::BidiData;
 use std::io::{Read, Write};
 
-/// A device of a reader, a recorder and a writer.
+/// A device of a reader, a recorder, a writer and a store.
 #[derive(Drop)]
-pub(crate) struct Wired<'r, 'j, 'w, R: Read, J: Journal + Drop, W: Write> {
+pub struct Wired<'r, 'j, 'w, 's, R: Read, J: Journal + Drop, W: Write, S: Store> {
     pub(crate) reader: &'r mut R,
     pub(crate) recorder: &'j mut Recorder<J>,
     pub(crate) writer: &'w mut W,
+    pub(crate) store: &'s mut S,
 }
 
-impl<'r, 'j, 'w, R: Read, J: Journal + Drop, W: Write> Device for Wired<'r, 'j, 'w, R, J, W> {
-    ghost use Rattle.bx_session.specs.Wire.{DidWired};
+impl<'r, 'j, 'w, 's, R: Read, J: Journal + Drop, W: Write, S: Store>
+    Wired<'r, 'j, 'w, 's, R, J, W, S>
+{
+    /// A device of these four.
+    pub fn new(
+        reader: &'r mut R,
+        recorder: &'j mut Recorder<J>,
+        writer: &'w mut W,
+        store: &'s mut S,
+    ) -> Self
+        ensures reader { result.reader.ghost_name ≡ reader.entry.ghost_name }
+        ensures recorder { result.recorder.ghost_name ≡ recorder.entry.ghost_name }
+        ensures writer { result.writer.ghost_name ≡ writer.entry.ghost_name }
+        ensures store { result.store.ghost_name ≡ store.entry.ghost_name }
+        ensures reader_now { result.reader.now ≡ reader.old }
+        ensures recorder_now { result.recorder.now ≡ recorder.old }
+        ensures writer_now { result.writer.now ≡ writer.old }
+        ensures store_now { result.store.now ≡ store.old }
+    {
+        Wired {
+            reader,
+            recorder,
+            writer,
+            store,
+        }
+    }
+}
+
+impl<'r, 'j, 'w, 's, R: Read, J: Journal + Drop, W: Write, S: Store> Device
+    for Wired<'r, 'j, 'w, 's, R, J, W, S>
+{
+    ghost use Rattle.bx_session.specs.Saving.{store_state};
+    ghost use Rattle.bx_session.specs.Wire.{DidWired, ObeyedWired};
 
     ghost did = { λ old action new. DidWired R.remaining J.contents J.failure_count W.contents old action new };
+
+    ghost obeyed = { λ old before answer new after. ObeyedWired old new };
+
+    ghost stored = { λ device. store_state S.contents S.faults device.store.now };
 
     fn read(&mut self, buffer: &mut [u8; 256]) -> Result<usize, DeviceFault> {
         match self.reader.read(buffer) {
@@ -27,6 +70,14 @@ impl<'r, 'j, 'w, R: Read, J: Journal + Drop, W: Write> Device for Wired<'r, 'j, 
 
     fn append(&mut self, bytes: &[u8]) {
         self.recorder.keep(bytes);
+    }
+
+    fn obey<D: BidiData + Drop>(
+        &mut self,
+        session: &mut Session<D>,
+        byte: u8,
+    ) -> Result<Status, Refused> {
+        session.feed(byte, self.store)
     }
 
     fn write(&mut self, bytes: &[u8]) -> Result<(), WriteFault> {

@@ -89,9 +89,9 @@ no_failure_is_no_fault contents failures old new kept works none still = elim (h
 ]
 
 -- bytes that wait are appended in a call in which the journal does not fail
-pub no_failure_ends_waiting : {J : Type 0} (failures : J → ℕ) (old new : RecorderState J) (held : Vec ℕ) → HasTried failures old new (codes "x")
-    → old.backlog ≡ Waiting held → failures old.journal ≡ 0 → failures new.journal ≡ 0 → new.backlog ≡ Empty
-no_failure_ends_waiting failures old new held tried was none still = elim (has_none new.backlog) [
+pub no_failure_ends_waiting : {J : Type 0} (contents : J → Option (List ℕ)) (failures : J → ℕ) (old new : RecorderState J) (held : Vec ℕ)
+    → HasTried contents failures old new (codes "x") → old.backlog ≡ Waiting held → failures old.journal ≡ 0 → failures new.journal ≡ 0 → new.backlog ≡ Empty
+no_failure_ends_waiting contents failures old new held tried was none still = elim (has_none new.backlog) [
   | inl none_left ↦ none_left
   | inr some_left ↦ absurd (some_faults 1 (failures old.journal) (omega arith) (sym (tried.fails (ap is_lost was) some_left) ∙ still))
 ]
@@ -100,20 +100,38 @@ if_lost : (lost : Bool) → (lost ≡ true → ⊥) → lost ≡ false
 if_lost true h = absurd (h refl)
 if_lost false h = refl
 
--- no byte is lost first in such a call, nor while the waiting bytes' memory has room for the new ones
-pub no_failure_loses_nothing : {J : Type 0} (failures : J → ℕ) (old new : RecorderState J) → HasTried failures old new (codes "x")
-    → is_lost old.backlog ≡ false → failures old.journal ≡ 0 → failures new.journal ≡ 0 → is_lost new.backlog ≡ false
-no_failure_loses_nothing failures old new tried there none still = if_lost (is_lost new.backlog) (λ h.
+-- no byte is lost first in such a call, nor while memory has room for what the journal does not take in the call
+pub no_failure_loses_nothing : {J : Type 0} (contents : J → Option (List ℕ)) (failures : J → ℕ) (old new : RecorderState J)
+    → HasTried contents failures old new (codes "x") → is_lost old.backlog ≡ false → failures old.journal ≡ 0 → failures new.journal ≡ 0 → is_lost new.backlog ≡ false
+no_failure_loses_nothing contents failures old new tried there none still = if_lost (is_lost new.backlog) (λ h.
     some_faults 1 (failures old.journal) (omega arith)
     (sym (tried.fails there (λ e. let g : false ≡ true = sym (ap is_lost e) ∙ h in cc g)) ∙ still))
 
-pub room_loses_nothing : {J : Type 0} (failures : J → ℕ) (old new : RecorderState J) (held : Vec ℕ) → HasTried failures old new (codes "x")
-    → old.backlog ≡ Waiting held → length (vec_items held) ≡ 3 → vec_capacity held ≡ 4 → is_lost new.backlog ≡ false
-room_loses_nothing failures old new held tried was count space = if_lost (is_lost new.backlog) (λ h.
-    let full : room old.backlog < length (waiting old.backlog ++ codes "x") = tried.full (ap is_lost was) h in
-    let all : length (waiting old.backlog ++ codes "x") ≡ length (waiting old.backlog) + 1 = length-append (waiting old.backlog) (codes "x") in
+pub room_loses_nothing : {J : Type 0} (contents : J → Option (List ℕ)) (failures : J → ℕ) (old new : RecorderState J) (held : Vec ℕ)
+    → HasTried contents failures old new (codes "x") → old.backlog ≡ Waiting held → length (vec_items held) ≡ 3 → vec_capacity held ≡ 4
+    → is_lost new.backlog ≡ false
+room_loses_nothing contents failures old new held tried was count space = if_lost (is_lost new.backlog) (λ h.
+    let full = tried.full (ap is_lost was) h in
+    let rest = waiting new.backlog ++ full.1 in
+    let all : length (waiting old.backlog ++ codes "x") ≡ length full.0 + length rest =
+    ap (λ (xs : List ℕ). length xs) full.2 ∙ length-append full.0 rest in
+    let parts : length (waiting old.backlog ++ codes "x") ≡ length (waiting old.backlog) + 1 = length-append (waiting old.backlog) (codes "x") in
     let waits : length (waiting old.backlog) ≡ 3 = ap (λ k. length (waiting k)) was ∙ count in
-    let is : room old.backlog ≡ 4 = ap room was ∙ space in omega (arith, full, all, waits, is))
+    let is : room old.backlog ≡ 4 = ap room was ∙ space in omega (arith, full.4, all, parts, waits, is))
+
+-- the journal takes one of three bytes that wait, so memory for four has room for the other two and two new ones
+pub only_what_is_asked_for_counts : {J : Type 0} (contents : J → Option (List ℕ)) (failures : J → ℕ) (old new : RecorderState J) (held : Vec ℕ)
+    → HasTried contents failures old new (codes "12") → old.backlog ≡ Waiting held → vec_items held ≡ codes "xyz" → vec_capacity held ≡ 4
+    → contents old.journal ≡ Some (codes "ab") → contents new.journal ≡ Some (codes "abx") → is_lost new.backlog ≡ false
+only_what_is_asked_for_counts contents failures old new held tried was has space before after = if_lost (is_lost new.backlog) (λ h.
+    let full = tried.full (ap is_lost was) h in
+    let rest = waiting new.backlog ++ full.1 in
+    let took : codes "abx" ≡ codes "ab" ++ full.0 = grown refl before after full.3 in
+    let one : 3 ≡ 2 + length full.0 = ap (λ (xs : List ℕ). length xs) took ∙ length-append (codes "ab") full.0 in
+    let all : length (waiting old.backlog ++ codes "12") ≡ length full.0 + length rest =
+    ap (λ (xs : List ℕ). length xs) full.2 ∙ length-append full.0 rest in
+    let five : length (waiting old.backlog ++ codes "12") ≡ 5 = ap (λ xs. length (xs ++ codes "12")) (ap waiting was ∙ has) in
+    let is : room old.backlog ≡ 4 = ap room was ∙ space in omega (arith, full.4, one, all, five, is))
 
 first_is : (xs lost : List ℕ) → codes "xy" ≡ xs ++ lost → length lost ≤ 1 → take 1 xs ≡ codes "x"
 first_is [] lost is few = absurd (omega (arith, few, ap (λ (ys : List ℕ). length ys) is))

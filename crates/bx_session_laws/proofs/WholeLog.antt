@@ -3,7 +3,8 @@ use Rattle.std.proofs.Common.{List, [], ◌∷◌, ◌++◌, Option, Some, None,
 use Rattle.std.proofs.lemmas.List.{append-nil}
 use Rattle.bx_session.specs.declared.action.Action.{Action}
 use Rattle.bx_session.specs.InMemory.{DeviceState, Logs}
-use Rattle.bx_session_laws.specs.Devices.{HasWholeLog}
+use Rattle.bx_session.specs.Log.{Calls, Obeys}
+use Rattle.bx_session_laws.specs.Devices.{HasWholeLog, calls_in}
 
 logs_nothing : (log : Option (List Action)) → Logs log [] log
 logs_nothing None = tt
@@ -16,6 +17,9 @@ logs_more a b (Some after) first others h k =
     (one.0, one.1, k.2 ∙ ap (λ xs. xs ++ others) one.2 ∙ append_assoc one.0 first others)
 
 pub has_whole_log : HasWholeLog
-has_whole_log old new [] is = subst (λ (x : DeviceState). Logs old.log [] x.log) (sym is) (logs_nothing old.log)
-has_whole_log old new (action ∷ more) dids =
-    logs_more old.log dids.0.log new.log (action ∷ []) more dids.1.log (has_whole_log dids.0 new more dids.2)
+has_whole_log d old new before after [] is = subst (λ (x : DeviceState). Logs old.log [] x.log) (sym is.0) (logs_nothing old.log)
+has_whole_log d old new before after (Calls action ∷ more) taken =
+    logs_more old.log taken.0.log new.log (action ∷ []) (calls_in more) taken.2.does.log
+    (has_whole_log d taken.0 new taken.1 after more taken.3)
+has_whole_log d old new before after (Obeys a ∷ more) taken =
+    subst (λ (x : Option (List Action)). Logs x (calls_in more) new.log) taken.2.does.log (has_whole_log d taken.0 new taken.1 after more taken.3)

@@ -1,13 +1,15 @@
 //! Laws of sessions, for any input. The functions are empty: their contracts are the laws.
 
 ghost use Rattle.bx_session_laws.specs.Anew.{AlwaysStaysPainted};
-ghost use Rattle.bx_session_laws.specs.Devices.{HasWholeLog};
+ghost use Rattle.bx_session_laws.specs.Devices.{HasWholeLog, LogsTellParts};
 ghost use Rattle.bx_session.specs.Laws.{AlwaysShowsState, HasKeysOfInput, ReplaysKeys};
 ghost use Rattle.bx_session_laws.specs.Memory.{MemoryStoresWholeSaves};
 ghost use Rattle.bx_session_laws.specs.Parts.{PartsEndAtQuits};
 ghost use Rattle.bx_session_laws.specs.Recovery.{JournalsGiveBack, RecoveryGivesBack};
 
 use bx_session::Journal;
+use bx_store::Store;
+use std::io::{Read, Write};
 
 /// If no painting is owed, the picture last painted is the picture of the session's state.
 pub fn paintings_keep_up()
@@ -44,7 +46,7 @@ pub fn journals_give_back<J: Journal + Drop>()
     ensures { JournalsGiveBack J.contents J.failure_count }
 {}
 
-/// The log of a device in memory has all that was done to the device, in order, unless memory ran out for it.
+/// The log of a device in memory has all calls of the device, in order, unless memory ran out for it.
 pub fn devices_log_all()
     ensures { HasWholeLog }
 {}
@@ -57,4 +59,10 @@ pub fn parts_end_at_quits()
 /// A store in memory has what was put between the begin and the commit of the latest save that succeeded; a failed call stores nothing.
 pub fn memory_stores_whole_saves()
     ensures { MemoryStoresWholeSaves }
+{}
+
+/// A run over a reader, a recorder, a writer and a store has, by its log, read, handed to the recorder, written and stored what
+/// [`run_recorded`](bx_session::run_recorded) says: so the journal has all that was obeyed, if the recorder says so.
+pub fn logs_tell_of_parts<R: Read, J: Journal + Drop, W: Write, S: Store>()
+    ensures { LogsTellParts R.remaining J.contents J.failure_count W.contents S.contents S.faults }
 {}

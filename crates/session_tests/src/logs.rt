@@ -1,7 +1,6 @@
 //! The log of a run over a device in memory.
 
 use bx_session::{Action, MemoryDevice, Session, run_device};
-use bx_store::MemoryStore;
 use bx_terms::Base;
 use bx_ucd::sample_tables;
 use std::alloc::{AllocError, Global};
@@ -33,10 +32,9 @@ fn actions_of(alloc: Global, input: &[u8]) -> Result<String, AllocError> {
     let Ok(mut session) = Session::open(bytes, tables, 1, 5, Base::Auto) else {
         return Ok(text);
     };
-    let mut store = MemoryStore::new(alloc, None);
     let mut device = MemoryDevice::new(alloc, Vec::from_slice(alloc, input)?);
     // 10 reads are more than this run makes
-    let _ = run_device(10, &mut device, &mut store, &mut session);
+    let _ = run_device(10, &mut device, &mut session);
     if let Some(actions) = device.log() {
         write_actions(actions, &mut text);
     }

@@ -5,11 +5,10 @@ use Rattle.bidi_edit.proofs.Edited.{edits_of, stays_on}
 use Rattle.bidi_edit.proofs.edit.edit.Goals as goal
 
 pub returns-in_err-session : goal.returns-in_err-session
-returns-in_err-session g c =
-    stays_on _ _ c.from_residual.result c.in_err-session.field-0.0 c.from_residual.ensures.1 (refl, refl, refl, refl)
+returns-in_err-session g c = stays_on _ _ c.from_residual.result c.in_err-session.field-0.0 c.from_residual.ensures.1 refl
 
 pub returns : goal.returns
 returns g c =
     let b = c.args.beginning in
-    edits_of _ g.J.Journal.contents g.J.Journal.failure_count (beginning_of b) b.unicode (says c.in_ok-session.session.tables)
+    edits_of g.V.Device.did g.V.Device.obeyed g.V.Device.stored _ (beginning_of b) b.unicode (says c.in_ok-session.session.tables)
     c.in_ok-session.session.session _ _ c.resume-changes.result c.in_ok-session.ensures.tables c.in_ok-session.ensures.opens c.resume-changes.ensures

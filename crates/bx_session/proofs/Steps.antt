@@ -1,0 +1,145 @@
+-- Steps of a run, one after another.
+use Rattle.std.proofs.Common.{◌≡◌, ℕ, true, false, List, [], ◌∷◌, ◌++◌, map, None, Result, OnOk}
+use Rattle.std.proofs.Common.{refl, sym, ap, subst, ◌∙◌, append_assoc}
+use Rattle.std.proofs.lemmas.List.{append-nil, map-append}
+use Rattle.bx_ucd.specs.Data.{Data}
+use Rattle.bx_session.specs.declared.action.Action.{Action}
+use Rattle.bx_session.specs.declared.action.Action.TheVariants.{Read, Append, Write, WriteFailed, Flush}
+use Rattle.bx_session.specs.declared.error.Refused.{Refused}
+use Rattle.bx_session.specs.declared.status.Status.{Status}
+use Rattle.bx_session.specs.Session.{Session, is_painted}
+use Rattle.bx_session.specs.Saving.{StoreState, Feeds}
+use Rattle.bx_session.specs.Painting.{FeedPaints}
+use Rattle.bx_session.specs.Running.{ByteAnswer, Sent, bytes_of}
+use Rattle.bx_session.specs.Log.{Step, Calls, Obeys, IsCalled, AreTaken, LoggedTurn}
+use Rattle.bx_session.specs.Log.{bytes_by, in_parts, obeyed_in, read_by, kept_by, written_by, part_steps, sending, turn_steps, turns_steps, run_steps}
+
+-- ---- what steps read, hand to the journal, obey and write
+
+pub bytes_more : (bytes : Action → List ℕ) (first others : List Step) → bytes_by bytes (first ++ others) ≡ bytes_by bytes first ++ bytes_by bytes others
+bytes_more bytes [] others = refl
+bytes_more bytes (Calls action ∷ first) others =
+    ap (λ xs. bytes action ++ xs) (bytes_more bytes first others) ∙ sym (append_assoc (bytes action) (bytes_by bytes first) (bytes_by bytes others))
+bytes_more bytes (Obeys a ∷ first) others = bytes_more bytes first others
+
+pub obeyed_more : (first others : List Step) → obeyed_in (first ++ others) ≡ obeyed_in first ++ obeyed_in others
+obeyed_more [] others = refl
+obeyed_more (Calls action ∷ first) others = obeyed_more first others
+obeyed_more (Obeys a ∷ first) others = ap (λ xs. a ∷ xs) (obeyed_more first others)
+
+none_called : (bytes : Action → List ℕ) (part : List ByteAnswer) (more : List Step) → bytes_by bytes (map Obeys part ++ more) ≡ bytes_by bytes more
+none_called bytes [] more = refl
+none_called bytes (a ∷ part) more = none_called bytes part more
+
+all_obeyed : (part : List ByteAnswer) (more : List Step) → obeyed_in (map Obeys part ++ more) ≡ part ++ obeyed_in more
+all_obeyed [] more = refl
+all_obeyed (a ∷ part) more = ap (λ xs. a ∷ xs) (all_obeyed part more)
+
+pub parts_read : (parts : List (List ByteAnswer)) → bytes_by read_by (part_steps parts) ≡ []
+parts_read [] = refl
+parts_read (part ∷ parts) = none_called read_by part (part_steps parts) ∙ parts_read parts
+
+pub parts_keep : (parts : List (List ByteAnswer)) → bytes_by kept_by (part_steps parts) ≡ bytes_of (in_parts parts)
+parts_keep [] = refl
+parts_keep (part ∷ parts) =
+    ap (λ xs. bytes_of part ++ xs) (none_called kept_by part (part_steps parts) ∙ parts_keep parts)
+    ∙ sym (map-append (λ (a : ByteAnswer). a.0) part (in_parts parts))
+
+pub parts_write : (parts : List (List ByteAnswer)) → bytes_by written_by (part_steps parts) ≡ []
+parts_write [] = refl
+parts_write (part ∷ parts) = none_called written_by part (part_steps parts) ∙ parts_write parts
+
+pub parts_obey : (parts : List (List ByteAnswer)) → obeyed_in (part_steps parts) ≡ in_parts parts
+parts_obey [] = refl
+parts_obey (part ∷ parts) = all_obeyed part (part_steps parts) ∙ ap (λ xs. part ++ xs) (parts_obey parts)
+
+-- ---- one more part, one more turn
+
+parts_more : (parts : List (List ByteAnswer)) (part : List ByteAnswer)
+    → part_steps (parts ++ part ∷ []) ≡ part_steps parts ++ Calls (Append (bytes_of part)) ∷ map Obeys part
+parts_more [] part = ap (λ xs. Calls (Append (bytes_of part)) ∷ xs) (append-nil (map Obeys part))
+parts_more (first ∷ parts) part =
+    ap (λ xs. Calls (Append (bytes_of first)) ∷ (map Obeys first ++ xs)) (parts_more parts part)
+    ∙ ap (λ xs. Calls (Append (bytes_of first)) ∷ xs)
+    (sym (append_assoc (map Obeys first) (part_steps parts) (Calls (Append (bytes_of part)) ∷ map Obeys part)))
+
+in_parts-append : (parts others : List (List ByteAnswer)) → in_parts (parts ++ others) ≡ in_parts parts ++ in_parts others
+in_parts-append [] others = refl
+in_parts-append (part ∷ parts) others =
+    ap (λ xs. part ++ xs) (in_parts-append parts others) ∙ sym (append_assoc part (in_parts parts) (in_parts others))
+
+pub joined_more : (parts : List (List ByteAnswer)) (answered part : List ByteAnswer) → in_parts parts ≡ answered
+    → in_parts (parts ++ part ∷ []) ≡ answered ++ part
+joined_more parts answered part joined =
+    in_parts-append parts (part ∷ []) ∙ ap (λ xs. in_parts parts ++ xs) (append-nil part) ∙ ap (λ xs. xs ++ part) joined
+
+turns_more : (turns : List LoggedTurn) (turn : LoggedTurn) → turns_steps (turns ++ turn ∷ []) ≡ turns_steps turns ++ turn_steps turn
+turns_more [] turn = append-nil (turn_steps turn)
+turns_more (first ∷ turns) turn =
+    ap (λ xs. turn_steps first ++ xs) (turns_more turns turn) ∙ sym (append_assoc (turn_steps first) (turns_steps turns) (turn_steps turn))
+
+pub run_more : (first : List ℕ) (turns : List LoggedTurn) (turn : LoggedTurn) → run_steps first (turns ++ turn ∷ []) ≡ run_steps first turns ++ turn_steps turn
+run_more first turns turn = ap (λ xs. sending first ++ xs) (turns_more turns turn)
+
+-- ---- steps of a device and a session
+
+module _ {V : Type 0} (did : V → Action → V → Type 0) (obeyed : V → Session → ByteAnswer → V → Session → Type 0) (stored : V → StoreState) where
+  module _ (d : Data) where
+    pub taken_more : (a b c : V) (old mid new : Session) (first others : List Step) → AreTaken did obeyed stored d a old first b mid
+        → AreTaken did obeyed stored d b mid others c new → AreTaken did obeyed stored d a old (first ++ others) c new
+    taken_more a b c old mid new [] others h k =
+        subst (λ (x : V). AreTaken did obeyed stored d x old others c new) h.0 (subst (λ (x : Session). AreTaken did obeyed stored d b x others c new) h.1 k)
+    taken_more a b c old mid new (step ∷ first) others h k = (h.0, h.1, h.2, taken_more h.0 b c h.1 mid new first others h.3 k)
+
+    -- a call that writes nothing leaves the session as it is
+    pub unwritten : (device device' : V) (s : Session) (action : Action) → written_by action ≡ [] → did device action device' → stored device' ≡ stored device
+        → IsCalled did obeyed stored d device s action device' s
+    unwritten device device' s action none does same = record {
+      does = does;
+      stores = same;
+      order = ap (λ xs. xs ++ s.pending) (sym none);
+      session = refl;
+    }
+
+    -- output was written, and a call came that writes nothing
+    pub sent_then : (a b c : V) (old new : Session) (written : List ℕ) (last : Action) → Sent old new None None written → did a (Write written) b
+        → stored b ≡ stored a → written_by last ≡ [] → did b last c → stored c ≡ stored b
+        → AreTaken did obeyed stored d a old (Calls (Write written) ∷ Calls last ∷ []) c new
+    sent_then a b c old new written last sent writes same none lasts same' = (
+      b,
+      new,
+      record { does = writes; stores = same; order = sent.order; session = sent.session },
+      (c, new, unwritten b c new last none lasts same', (refl, refl)),
+    )
+
+    -- a part of the output was written
+    pub sent_part : (a b : V) (old new : Session) (written : List ℕ) → Sent old new None None written → did a (WriteFailed written) b → stored b ≡ stored a
+        → AreTaken did obeyed stored d a old (Calls (WriteFailed written) ∷ []) b new
+    sent_part a b old new written sent writes same =
+        (b, new, record { does = writes; stores = same; order = sent.order; session = sent.session }, (refl, refl))
+
+    -- a part more was handed over and obeyed
+    pub part_taken : (a b b1 c : V) (old mid new : Session) (parts : List (List ByteAnswer)) (bytes : List ℕ) (part : List ByteAnswer)
+        → AreTaken did obeyed stored d a old (part_steps parts) b mid → did b (Append bytes) b1 → stored b1 ≡ stored b → bytes ≡ bytes_of part
+        → AreTaken did obeyed stored d b1 mid (map Obeys part) c new
+        → AreTaken did obeyed stored d a old (part_steps (parts ++ part ∷ [])) c new
+    part_taken a b b1 c old mid new parts bytes part before appends same are obeys =
+        let appended : did b (Append (bytes_of part)) b1 = subst (λ xs. did b (Append xs) b1) are appends in
+        subst (λ steps. AreTaken did obeyed stored d a old steps c new) (sym (parts_more parts part))
+        (taken_more a b c old mid new (part_steps parts) (Calls (Append (bytes_of part)) ∷ map Obeys part) before
+        (b1, mid, unwritten b b1 mid (Append (bytes_of part)) refl appended same, obeys))
+
+  -- a byte more was obeyed; the tables stay the same
+  pub obeyed_more_bytes : {D : Type 0} (says : D → Data) (tables tables1 : D) (a b c : V) (old now new : Session) (answered : List ByteAnswer)
+      (byte : ℕ) (answer : Result Status Refused) → AreTaken did obeyed stored (says tables) a old (map Obeys answered) b now → tables1 ≡ tables
+      → now.editor.ended ≡ false → obeyed b now (byte, answer) c new → Feeds (says tables1) now (stored b) byte answer new (stored c)
+      → (is_painted now byte ≡ true → OnOk answer (FeedPaints (says tables1) now byte new))
+      → AreTaken did obeyed stored (says tables) a old (map Obeys (answered ++ (byte, answer) ∷ [])) c new
+  obeyed_more_bytes {D} says tables tables1 a b c old now new answered byte answer before stay running does feeds paints =
+      let d = says tables in
+      let feeds' : Feeds d now (stored b) byte answer new (stored c) = subst (λ (t : D). Feeds (says t) now (stored b) byte answer new (stored c)) stay feeds in
+      let paints' : is_painted now byte ≡ true → OnOk answer (FeedPaints d now byte new) =
+      subst (λ (t : D). is_painted now byte ≡ true → OnOk answer (FeedPaints (says t) now byte new)) stay paints in
+      subst (λ steps. AreTaken did obeyed stored d a old steps c new) (sym (map-append Obeys answered ((byte, answer) ∷ [])))
+      (taken_more d a b c old now new (map Obeys answered) (Obeys (byte, answer) ∷ []) before
+      (c, new, record { does = does; goes_on = running; feeds = feeds'; paints = paints' }, (refl, refl)))
