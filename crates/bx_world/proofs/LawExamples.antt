@@ -136,7 +136,7 @@ pub a_run_is_on_the_line : RunsArePlays → (store : StoreState) → (new : Worl
 a_run_is_on_the_line law store =
     let before = (pending (codes "abc")).session in
     let after = (pending []).session in
-    let run = started tables before after store None None None (codes "abc") (record { writes = tt; order = refl; session = refl }) in
+    let run = started tables before after store store None None None (codes "abc") refl (record { writes = tt; order = refl; session = refl }) in
     let found = law tables (pending (codes "abc")) after store store None None None None [] [] (codes "abc") before run in
     (found.0, found.2.line, ap (λ (s : Session). s.pending) found.2.session)
 
