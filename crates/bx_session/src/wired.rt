@@ -56,8 +56,7 @@ impl<'r, 'j, 'w, 's, R: Read, J: Journal + Drop, W: Write, S: Store> Wired<
     }
 }
 
-impl<'r, 'j, 'w, 's, R: Read, J: Journal + Drop, W: Write, S: Store> Device
-    for Wired<'r, 'j, 'w, 's, R, J, W, S> {
+impl<R: Read, J: Journal + Drop, W: Write, S: Store> Device for Wired<'_, '_, '_, '_, R, J, W, S> {
     ghost use Rattle.bx_session.specs.Saving.{store_state};
     ghost use Rattle.bx_session.specs.Wire.{DidWired, ObeyedWired};
 
