@@ -1,6 +1,7 @@
 -- A journal of the input, for replay after a crash, and the recorder that appends to it. `contents` gives a journal's bytes, None
 -- if they are not known, and `failures` the number of its calls that failed.
-use Rattle.std.specs.Prelude.{◌≡◌, ◌≢◌, ◌≤◌, ◌<◌, ℕ, zero, suc, Bool, true, false, List, [], ◌++◌, length, take, drop, Option, vec_items, vec_capacity}
+use Rattle.std.specs.Prelude.{◌≡◌, ◌≢◌, ◌≤◌, ◌<◌, ℕ, zero, suc, Bool, true, false, List, [], ◌++◌, length, take, drop, Option}
+use Rattle.std.specs.Prelude.{vec_items, vec_capacity}
 use Rattle.std.specs.Io.KnownBytes.{Appends}
 use Rattle.bx_ucd.specs.Data.{Data}
 use Rattle.bx_store.specs.Stores.{one_more}
@@ -56,7 +57,8 @@ after_faults (suc n) count = one_more (after_faults n count)
 -- journal, the second waits, the third is lost. Only new bytes are lost, and after a loss all of them. So the journal always
 -- has a prefix of the input, and all of it if the backlog is empty. An empty backlog grows, and bytes are first lost, only if a
 -- call of the journal fails.
-pub record HasKept {J : Type 0} (contents : J → Option (List ℕ)) (failures : J → ℕ) (old new : RecorderState J) (bytes : List ℕ) : Type 0 where
+pub record HasKept {J : Type 0} (contents : J → Option (List ℕ)) (failures : J → ℕ) (old new : RecorderState J) (bytes : List ℕ)
+    : Type 0 where
   pub appended : List ℕ
   pub lost : List ℕ
   pub faults : ℕ
@@ -78,7 +80,8 @@ LacksRoom contents old new bytes =
 
 -- One call of a recorder, which tries to append whatever waits. Bytes wait after it, or are lost first in it, only if the journal
 -- failed in this call, so the next call tries again. They are lost first only if memory lacked room for what this call asked.
-pub record HasTried {J : Type 0} (contents : J → Option (List ℕ)) (failures : J → ℕ) (old new : RecorderState J) (bytes : List ℕ) : Type 0 where
+pub record HasTried {J : Type 0} (contents : J → Option (List ℕ)) (failures : J → ℕ) (old new : RecorderState J) (bytes : List ℕ)
+    : Type 0 where
   pub fails : is_lost old.backlog ≡ false → new.backlog ≢ Empty → failures new.journal ≡ one_more (failures old.journal)
   pub waits_on : is_lost old.backlog ≡ true → waiting new.backlog ≢ [] → failures new.journal ≡ one_more (failures old.journal)
   pub full : is_lost old.backlog ≡ false → is_lost new.backlog ≡ true → LacksRoom contents old new bytes

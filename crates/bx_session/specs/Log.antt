@@ -51,7 +51,8 @@ obeyed_in (Obeys a ∷ more) = a ∷ obeyed_in more
 
 -- ---- steps of a device and a session
 
-module _ {V : Type 0} (did : V → Action → V → Type 0) (obeyed : V → Session → ByteAnswer → V → Session → Type 0) (stored : V → StoreState) (d : Data) where
+module _ {V : Type 0} (did : V → Action → V → Type 0) (obeyed : V → Session → ByteAnswer → V → Session → Type 0)
+    (stored : V → StoreState) (d : Data) where
   -- A call of the device stores nothing. It changes the session only in that what it wrote is no longer pending.
   pub record IsCalled (device : V) (old : Session) (action : Action) (device' : V) (new : Session) : Type 0 where
     pub does : did device action device'
@@ -141,8 +142,8 @@ IsLog limit (Err WriteFault) first turns log = FailsLast log (run_steps first tu
 -- A run over a device, by its result. The log has all that was done to the device and the session, in order: it reads the bytes
 -- that were answered and dropped, hands those answered to the journal, obeys them, and writes the output. Names without a prime are
 -- of before the run, those with one of after it.
-pub record HasLogged {V : Type 0} (did : V → Action → V → Type 0) (obeyed : V → Session → ByteAnswer → V → Session → Type 0) (stored : V → StoreState)
-    (d : Data) (limit : ℕ) (result : Result End RunFault) (old new : Session) (device device' : V) : Type 0 where
+pub record HasLogged {V : Type 0} (did : V → Action → V → Type 0) (obeyed : V → Session → ByteAnswer → V → Session → Type 0)
+    (stored : V → StoreState) (d : Data) (limit : ℕ) (result : Result End RunFault) (old new : Session) (device device' : V) : Type 0 where
   pub answered : List ByteAnswer
   pub dropped : List ℕ
   pub written : List ℕ

@@ -48,9 +48,14 @@ pub trait Device {
     /// Has a session obey a byte, as [`Session::feed`] does with the device's store.
     ///
     /// Errors: `Edit` and `Paint` if memory runs out, as there.
-    fn obey<D: BidiData + Drop>(&mut self, session: &mut Session<D>, byte: u8) -> Result<Status, Refused>
+    fn obey<D: BidiData + Drop>(
+        &mut self,
+        session: &mut Session<D>,
+        byte: u8,
+    ) -> Result<Status, Refused>
         ensures obeyed { obeyed self.old session.old.session (byte, result) self.new session.new.session }
-        ensures after_byte { Feeds (D.data session.old.tables) session.old.session (stored self.old) byte result session.new.session (stored self.new) }
+        ensures after_byte { Feeds (D.data session.old.tables) session.old.session (stored self.old) byte result
+            session.new.session (stored self.new) }
         ensures paints { is_painted session.old.session byte ≡ true →
             OnOk result (FeedPaints (D.data session.old.tables) session.old.session byte session.new.session) }
         ensures tables { session.new.tables ≡ session.old.tables };

@@ -184,8 +184,12 @@ fn append_to<J: Journal + Drop>(
     backlog: Backlog,
     bytes: &[u8],
 ) -> Backlog
-    ensures keeps { HasKept J.contents J.failure_count (record { journal = journal.old; backlog = backlog }) (record { journal = journal.new; backlog = result }) bytes.now }
-    ensures tries { HasTried J.contents J.failure_count (record { journal = journal.old; backlog = backlog }) (record { journal = journal.new; backlog = result }) bytes.now }
+    ensures keeps { HasKept J.contents J.failure_count
+        (record { journal = journal.old; backlog = backlog })
+        (record { journal = journal.new; backlog = result }) bytes.now }
+    ensures tries { HasTried J.contents J.failure_count
+        (record { journal = journal.old; backlog = backlog })
+        (record { journal = journal.new; backlog = result }) bytes.now }
 {
     match backlog {
         Backlog::Empty => append_new(journal, Vec::new(alloc), bytes),
@@ -208,8 +212,12 @@ fn append_new<J: Journal + Drop>(journal: &mut J, room: Vec<u8>, bytes: &[u8]) -
 /// Appends the waiting bytes, then `bytes`. Those that the journal refuses wait. If it refuses a waiting byte, all of `bytes`
 /// wait.
 fn append_waiting<J: Journal + Drop>(journal: &mut J, mut waiting: Vec<u8>, bytes: &[u8]) -> Backlog
-    ensures keeps { HasKept J.contents J.failure_count (record { journal = journal.old; backlog = Backlog.Waiting waiting }) (record { journal = journal.new; backlog = result }) bytes.now }
-    ensures tries { HasTried J.contents J.failure_count (record { journal = journal.old; backlog = Backlog.Waiting waiting }) (record { journal = journal.new; backlog = result }) bytes.now }
+    ensures keeps { HasKept J.contents J.failure_count
+        (record { journal = journal.old; backlog = Backlog.Waiting waiting })
+        (record { journal = journal.new; backlog = result }) bytes.now }
+    ensures tries { HasTried J.contents J.failure_count
+        (record { journal = journal.old; backlog = Backlog.Waiting waiting })
+        (record { journal = journal.new; backlog = result }) bytes.now }
 {
     match journal.append(waiting.as_slice()) {
         Ok(()) => {
@@ -225,8 +233,12 @@ fn append_waiting<J: Journal + Drop>(journal: &mut J, mut waiting: Vec<u8>, byte
 
 /// Appends the waiting bytes, the last that the journal gets after a loss. `bytes` are lost too.
 fn append_last<J: Journal + Drop>(journal: &mut J, mut waiting: Vec<u8>, bytes: &[u8]) -> Backlog
-    ensures keeps { HasKept J.contents J.failure_count (record { journal = journal.old; backlog = Backlog.Lost waiting }) (record { journal = journal.new; backlog = result }) bytes.now }
-    ensures tries { HasTried J.contents J.failure_count (record { journal = journal.old; backlog = Backlog.Lost waiting }) (record { journal = journal.new; backlog = result }) bytes.now }
+    ensures keeps { HasKept J.contents J.failure_count
+        (record { journal = journal.old; backlog = Backlog.Lost waiting })
+        (record { journal = journal.new; backlog = result }) bytes.now }
+    ensures tries { HasTried J.contents J.failure_count
+        (record { journal = journal.old; backlog = Backlog.Lost waiting })
+        (record { journal = journal.new; backlog = result }) bytes.now }
 {
     let _ = bytes;
     if waiting.is_empty() {

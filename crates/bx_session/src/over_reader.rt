@@ -75,7 +75,8 @@ fn run_wired<D: BidiData + Drop, R: Read, J: Journal + Drop, W: Write, S: Store>
         (W.contents device.old.writer.now) (W.contents device.new.writer.now) device.old.recorder.now device.new.recorder.now }
     ensures tables { session.new.tables ≡ session.old.tables }
     ensures ends { EndsWith result session.new.session (R.remaining device.new.reader.now) }
-    ensures limit { IsErrOf result RunFault.ReadLimit → HasRead limit (R.remaining device.old.reader.now) (R.remaining device.new.reader.now) }
+    ensures limit { IsErrOf result RunFault.ReadLimit
+        → HasRead limit (R.remaining device.old.reader.now) (R.remaining device.new.reader.now) }
     ensures same_reader { device.new.reader.ghost_name ≡ device.old.reader.ghost_name }
     ensures same_recorder { device.new.recorder.ghost_name ≡ device.old.recorder.ghost_name }
     ensures same_writer { device.new.writer.ghost_name ≡ device.old.writer.ghost_name }

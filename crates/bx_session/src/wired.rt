@@ -21,9 +21,16 @@ pub struct Wired<'r, 'j, 'w, 's, R: Read, J: Journal + Drop, W: Write, S: Store>
     pub(crate) store: &'s mut S,
 }
 
-impl<'r, 'j, 'w, 's, R: Read, J: Journal + Drop, W: Write, S: Store>
-    Wired<'r, 'j, 'w, 's, R, J, W, S>
-{
+impl<'r, 'j, 'w, 's, R: Read, J: Journal + Drop, W: Write, S: Store> Wired<
+    'r,
+    'j,
+    'w,
+    's,
+    R,
+    J,
+    W,
+    S,
+> {
     /// A device of these four.
     pub fn new(
         reader: &'r mut R,
@@ -49,9 +56,7 @@ impl<'r, 'j, 'w, 's, R: Read, J: Journal + Drop, W: Write, S: Store>
     }
 }
 
-impl<'r, 'j, 'w, 's, R: Read, J: Journal + Drop, W: Write, S: Store> Device
-    for Wired<'r, 'j, 'w, 's, R, J, W, S>
-{
+impl<R: Read, J: Journal + Drop, W: Write, S: Store> Device for Wired<'_, '_, '_, '_, R, J, W, S> {
     ghost use Rattle.bx_session.specs.Saving.{store_state};
     ghost use Rattle.bx_session.specs.Wire.{DidWired, ObeyedWired};
 

@@ -1,6 +1,6 @@
 -- Worked examples, each from a clause of a run alone.
 use Rattle.std.proofs.Common.{◌≡◌, ◌≢◌, ◌≤◌, ◌<◌, ◌+◌, ℕ, zero, suc, Bool, true, false, List, [], ◌∷◌, ◌++◌, length, take, Option, Some, None, Ok, inl, inr}
-use Rattle.std.proofs.Common.{refl, sym, ap, ◌∙◌, append_assoc, arith}
+use Rattle.std.proofs.Common.{refl, sym, ap, subst, ◌∙◌, append_assoc, arith}
 use Rattle.std.specs.Global.{Vec}
 use Rattle.std.specs.Prelude.{codes, option_map, vec_items, vec_capacity}
 use Rattle.std.specs.Fmt.{digits}
@@ -14,13 +14,18 @@ use Rattle.bx_store.specs.Stores.{no_faults}
 use Rattle.bx_store.specs.declared.cause.SaveCause.TheVariants.{NoSpace}
 use Rattle.bx_store.specs.declared.faults.Faults.{Faults}
 use Rattle.bx_store.specs.declared.store.StoreFault.{StoreFault}
+use Rattle.bx_ucd.specs.Data.{Data}
 use Rattle.bx_editor.specs.declared.message.Message.TheVariants.{SaveFailed}
+use Rattle.bx_session.specs.declared.action.Action.TheVariants.{Append}
 use Rattle.bx_session.specs.declared.status.Status.{Status}
 use Rattle.bx_session.specs.declared.journal.Backlog.TheVariants.{Empty, Waiting}
+use Rattle.bx_session.specs.declared.wired.Wired.{Wired}
 use Rattle.bx_session.specs.Journal.{RecorderState, HasKept, HasTried, is_lost, room, waiting, after_faults}
+use Rattle.bx_session.specs.Log.{AreTaken, Calls}
 use Rattle.bx_session.specs.Running.{ByteAnswer, HasRun, bytes_of}
 use Rattle.bx_session.specs.Saving.{Feeds, SaveEnds, StoreState}
 use Rattle.bx_session.specs.Session.{Session, after_byte}
+use Rattle.bx_session.specs.Wire.{DidWired, ObeyedWired}
 use Rattle.bx_session.proofs.Computed.{start}
 use Rattle.bx_session.proofs.Recorded.{has_none}
 use Rattle.bx_session.proofs.Turns.{none_dropped}
@@ -95,6 +100,19 @@ no_failure_ends_waiting contents failures old new held tried was none still = el
   | inl none_left ↦ none_left
   | inr some_left ↦ absurd (some_faults 1 (failures old.journal) (omega arith) (sym (tried.fails (ap is_lost was) some_left) ∙ still))
 ]
+
+-- so it is with each append of a run over a reader, a recorder, a writer and a store
+pub an_append_tries_what_waits : {R J W S : Type 0} (remaining : R → Option (List ℕ)) (contents : J → Option (List ℕ)) (failures : J → ℕ)
+    (out : W → Option (List ℕ)) (stored : Wired R J W S → StoreState) (d : Data) (old new : Session) (device device' : Wired R J W S) (held : Vec ℕ)
+    → AreTaken (DidWired remaining contents failures out) (λ from s a to t. ObeyedWired from to) stored d device old
+    (Calls (Append (codes "x")) ∷ []) device' new
+    → device.recorder.now.backlog ≡ Waiting held → failures device.recorder.now.journal ≡ 0 → failures device'.recorder.now.journal ≡ 0
+    → device'.recorder.now.backlog ≡ Empty
+an_append_tries_what_waits {R} {J} {W} {S} remaining contents failures out stored d old new device device' held taken was none still =
+    let tried : HasTried contents failures device.recorder.now device'.recorder.now (codes "x") =
+    subst (λ (x : Wired R J W S). HasTried contents failures device.recorder.now x.recorder.now (codes "x")) (sym taken.3.0)
+    (taken.2.does.tries (codes "x") refl) in
+    no_failure_ends_waiting contents failures device.recorder.now device'.recorder.now held tried was none still
 
 if_lost : (lost : Bool) → (lost ≡ true → ⊥) → lost ≡ false
 if_lost true h = absurd (h refl)

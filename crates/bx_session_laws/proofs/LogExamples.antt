@@ -80,9 +80,9 @@ pub no_byte_is_obeyed_before_the_journal : (limit : ℕ) (first bytes : List ℕ
 no_byte_is_obeyed_before_the_journal limit first bytes a [] more is = cc is
 no_byte_is_obeyed_before_the_journal limit first bytes a (turn ∷ turns) more is =
     obeys_first turn.parts turn.turn.written turns (sym (ap behind_three is)) where
-  obeys_first : (parts : List (List ByteAnswer)) (written : List ℕ) (others : List LoggedTurn) → rest_of parts written others ≡ Obeys a ∷ more → ⊥
-  obeys_first [] written others h = cc h
-  obeys_first (part ∷ parts) written others h = cc h
+      obeys_first : (parts : List (List ByteAnswer)) (written : List ℕ) (others : List LoggedTurn) → rest_of parts written others ≡ Obeys a ∷ more → ⊥
+      obeys_first [] written others h = cc h
+      obeys_first (part ∷ parts) written others h = cc h
 
 -- no run sends the output of a read before the journal has its bytes
 written_then_kept : (parts : List (List ByteAnswer)) (written output bytes : List ℕ) (turns : List LoggedTurn)

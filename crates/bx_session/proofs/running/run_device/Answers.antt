@@ -39,8 +39,8 @@ returns-in_err-send-2-clause-logged g c =
     let bytes : List ℕ = take c.in-Ok.count c.read.new.buffer in
     let count = length-take-le c.in-Ok.count c.read.new.buffer c.in-Ok.ensures.bound in
     let turn : InTurn device.did device.obeyed device.stored says c.args.session.now.tables c.reads.session.tables c.reads.session.session
-        c.keep_and_obey.new.session.session c.send-in-reads.new.session.session c.reads.device c.keep_and_obey.new.device c.send-in-reads.new.device fed.0 fed.1
-        sent.0 bytes fed.2 sent.1 = record {
+    c.keep_and_obey.new.session.session c.send-in-reads.new.session.session c.reads.device c.keep_and_obey.new.device c.send-in-reads.new.device fed.0 fed.1
+    sent.0 bytes fed.2 sent.1 = record {
       stay = c.reads.invariant.3;
       empty = c.reads.invariant.2;
       running = sym c.ended.ensures ∙ c.if-ended.false;
@@ -70,8 +70,8 @@ reads-preserved g c =
     let bytes : List ℕ = take c.in-Ok.count c.read.new.buffer in
     let count = length-take-le c.in-Ok.count c.read.new.buffer c.in-Ok.ensures.bound in
     let turn : InTurn device.did device.obeyed device.stored says c.args.session.now.tables c.reads.session.tables c.reads.session.session
-        c.keep_and_obey.new.session.session c.send-in-reads.new.session.session c.reads.device c.keep_and_obey.new.device c.send-in-reads.new.device fed.0 fed.1
-        sent.0 bytes fed.2 sent.1 = record {
+    c.keep_and_obey.new.session.session c.send-in-reads.new.session.session c.reads.device c.keep_and_obey.new.device c.send-in-reads.new.device fed.0 fed.1
+    sent.0 bytes fed.2 sent.1 = record {
       stay = c.reads.invariant.3;
       empty = c.reads.invariant.2;
       running = sym c.ended.ensures ∙ c.if-ended.false;
