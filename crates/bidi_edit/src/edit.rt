@@ -76,10 +76,10 @@ fn resume<D: BidiData + Drop, V: Device>(
 ///
 /// Errors, in this order: `Tables`; `Open`; `OutOfMemory` in replaying or painting: nothing was read, written, kept or stored;
 /// `Run`; `Unsaved` if the input ended with unsaved changes: what was read was obeyed, and only Saves stored.
-pub fn edit<V: Device>(
+pub fn edit<'a, V: Device>(
     device: &mut V,
     beginning: Beginning<'_>,
-) -> Result<Changes, ProgramFault<'static>>
+) -> Result<Changes, ProgramFault<'a>>
     ensures { RunsUnless result
         (Edits V.did V.obeyed V.stored (beginning_of beginning.entry) beginning.entry.unicode device.old device.new result)
         (device.new ≡ device.old) }
