@@ -13,7 +13,7 @@ use Rattle.bx_editor.specs.declared.seek.Seek.TheVariants.{Off}
 use Rattle.bx_editor.specs.Editor.{Editor, rows}
 use Rattle.bx_editor.specs.Keys.{after_key, after_keys}
 use Rattle.bx_editor_laws.specs.WorkLaws.{ColumnIsKept, keeps_column}
-use Rattle.bx_editor_laws.proofs.ThereAndBack.{Marks, key-moves, kept-at, keys-from, left, move_key, size}
+use Rattle.bx_editor_laws.proofs.RowMoves.{Marks, key-moves, kept-at, keys-from, left, move_key, size}
 
 -- a key that keeps the column is one by rows or by pages
 is-move : (key : Key) → keeps_column key ≡ true → (paged : Bool) × (way : Vertical) × (key ≡ move_key paged way)
@@ -42,6 +42,6 @@ column-is-kept d e first keys off settled none is all =
     let move = is-move first is in
     let column-of = λ (x : Editor) (key : Key). (after_keys d None x (key ∷ keys)).goal in
     ap (column-of e) move.2
-    ∙ ap (λ (x : Editor). x.goal) (keys-from d e off settled move.0 column move.1 keys none refl)
+    ∙ ap (λ (x : Editor). x.goal) (keys-from d e off settled move.0 column none refl move.1 keys)
     ∙ ap (column-of (kept-at d e off settled false column own e.place)) (sym move.2)
     ∙ keeps d e off settled column (first ∷ keys) own e.place (All-cons (λ key. keeps_column key ≡ true) first keys is all)

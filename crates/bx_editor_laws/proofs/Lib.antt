@@ -16,6 +16,7 @@ pub mod LawExamples
 pub mod RegionLawExamples
 pub mod UnitColumns
 pub mod EnteredAgain
+pub mod RowMoves
 pub mod ThereAndBack
 pub mod PointErased
 pub mod NextMatch

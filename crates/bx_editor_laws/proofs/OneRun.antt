@@ -1,5 +1,6 @@
 -- Characters that go on with each other are one run, which one UndoRun takes back.
-use Rattle.std.proofs.Common.{◌≡◌, ℕ, zero, suc, ◌+◌, ◌-◌, ◌≤◌, ◌<◌, Bool, true, false, List, [], ◌∷◌, ◌++◌, length, map, take, drop, refl, sym, ap}
+use Rattle.std.proofs.Common.{◌≡◌, ℕ, zero, suc, ◌+◌, ◌-◌, ◌≤◌, ◌<◌, Bool, true, false, List, [], ◌∷◌, ◌++◌, length, map, take, drop}
+use Rattle.std.proofs.Common.{refl, sym, ap}
 use Rattle.std.proofs.Common.{ap₂, subst, ◌∙◌, arith, inl, inr, if◌then◌else◌, length-append}
 use Rattle.std.specs.Prelude.{◌≢◌, ◌⊎◌, ◌==◌, ◌&&◌, not, nat_le, encode_utf8, encode_utf8_all, Option, Some, None}
 use Rattle.std.specs.Fn.{iterate}
@@ -26,7 +27,8 @@ use Rattle.bx_editor.specs.Editor.{Editor, cleared, with_insertion, with_removal
 use Rattle.bx_editor.specs.Effects.{before}
 use Rattle.bx_editor.specs.Keys.{after_any, after_key, after_keys, after_press, as_left}
 use Rattle.bx_editor.specs.PasteLaws.{after_paste}
-use Rattle.bx_editor.specs.Pasting.{after_paste_start, ended_with, longer, paste_begun, pasted_with, pastes_crlf, with_pasted, without_paste}
+use Rattle.bx_editor.specs.Pasting.{after_paste_start, ended_with, longer, paste_begun, pasted_with, pastes_crlf, with_pasted}
+use Rattle.bx_editor.specs.Pasting.{without_paste}
 use Rattle.bx_editor.specs.Putting.{after_character, has_room, only_paste, put_in, typed, with_selection_replaced, yielding}
 use Rattle.bx_editor.specs.Region.{is_empty, region}
 use Rattle.bx_editor_laws.specs.RunLaws.{AreOfKind, IsBackBefore, WordIsARun}
@@ -187,7 +189,8 @@ list-in d first e list h =
     (inr (record { more = begun.more; over = begun.over; start = begun.start })))
     (inl h))
 
-paste-ends : (d : Data) (first e : Editor) (cs : List ℕ) → Waits first e → InRun first (after_keys d None e (map Insert cs ++ PasteEnd ∷ []))
+paste-ends : (d : Data) (first e : Editor) (cs : List ℕ) → Waits first e
+    → InRun first (after_keys d None e (map Insert cs ++ PasteEnd ∷ []))
 paste-ends d first e [] h =
     subst (λ pasted. InRun first (with_typing (ended_with d e pasted) typings.Off)) (sym h.pasted) (list-in d first e h.list h.nothing)
 paste-ends d first e (c ∷ cs) h = paste-ends d first (after_key d None e (Insert c)) cs (letter-waits d first e c h)
@@ -242,7 +245,8 @@ typed-is d typing e new kind room none on =
     ap (λ r. shaped d typing e new kind r (is_selection e) (goes_on typing kind)) room
     ∙ ap (λ s. shaped d typing e new kind true s (goes_on typing kind)) none ∙ ap (shaped d typing e new kind true false) on
 
-type-on : (d : Data) (first e : Editor) (c : ℕ) (typing : Typing) (kind : Kind) (left : ℕ) → goes_on typing kind ≡ true → kind_of (d.class c) ≡ kind
+type-on : (d : Data) (first e : Editor) (c : ℕ) (typing : Typing) (kind : Kind) (left : ℕ) → goes_on typing kind ≡ true
+    → kind_of (d.class c) ≡ kind
     → Types first e typing (length (encode_utf8 c) + left) → Types first (after_key d None e (Insert c)) (after_insertion kind) left
 type-on d first e c typing kind left on is h =
     let was = cleared e in
@@ -326,7 +330,8 @@ blanks-on d first e (c ∷ cs) all h =
     blanks-on d first (after_key d None e (Insert c)) cs (All-tail Is c cs all)
     (type-on d first e c typings.Blanks Blank (length (encode_utf8_all cs)) refl (All-head Is c cs all) (with-size first e typings.Blanks c cs h))
 
-blanks-behind : (d : Data) (first e : Editor) (cs : List ℕ) → AreOfKind d Blank cs → Types first e typings.Word (length (encode_utf8_all cs))
+blanks-behind : (d : Data) (first e : Editor) (cs : List ℕ) → AreOfKind d Blank cs
+    → Types first e typings.Word (length (encode_utf8_all cs))
     → Ran first (after_keys d None e (map Insert cs))
 blanks-behind d first e [] all h = (h.goes, h.settled)
 blanks-behind d first e (c ∷ cs) all h =

@@ -38,7 +38,8 @@ abbrev typed : List Key → List (Key × Option StoreFault)
 typed keys = map (λ key. (key, None)) keys
 
 -- the paste goes into the text from its line end on
-pub its_line_end_ends_the_search : PastesAreAlone → (after (start (codes "ab ab") 2 40) (Find ∷ PasteStart ∷ letters (codes "b\n"))).seek ≡ Off
+pub its_line_end_ends_the_search : PastesAreAlone
+    → (after (start (codes "ab ab") 2 40) (Find ∷ PasteStart ∷ letters (codes "b\n"))).seek ≡ Off
 unfolding unicode_segmentation unicode_width digits unicode_normalization ucd_case
 its_line_end_ends_the_search law =
     (law tables (codes "ab ab") 2 40 Auto (typed (Find ∷ PasteStart ∷ letters (codes "b\n"))) (λ none. cc none)).unsought
@@ -49,7 +50,8 @@ its_line_end_ends_the_search law =
 abbrev two_selected : Editor
 two_selected = after (start (codes "abcd") 2 40) (Select ∷ Forward ∷ Select ∷ Forward ∷ [])
 
-pub a_selection_comes_back : PasteComesBack → Has (codes "abcd") 2 (after two_selected (PasteStart ∷ letters (codes "xy") ++ PasteEnd ∷ UndoRun ∷ []))
+pub a_selection_comes_back : PasteComesBack
+    → Has (codes "abcd") 2 (after two_selected (PasteStart ∷ letters (codes "xy") ++ PasteEnd ∷ UndoRun ∷ []))
 unfolding unicode_segmentation unicode_width digits
 a_selection_comes_back law =
     let back = (law tables two_selected (codes "xy") (record { unasked = refl; unsought = refl })).with_room refl (λ none. cc none) refl in

@@ -1,5 +1,6 @@
 -- A paste comes back at once, and leaves what the same characters leave when they are typed.
-use Rattle.std.proofs.Common.{◌≡◌, ℕ, suc, ◌+◌, ◌-◌, ◌≤◌, ◌<◌, nat_le, nat_lt, Bool, true, false, List, [], ◌∷◌, ◌++◌, length, map, take, drop, refl, sym}
+use Rattle.std.proofs.Common.{◌≡◌, ℕ, suc, ◌+◌, ◌-◌, ◌≤◌, ◌<◌, nat_le, nat_lt, Bool, true, false, List, [], ◌∷◌, ◌++◌, length, map, take}
+use Rattle.std.proofs.Common.{drop, refl, sym}
 use Rattle.std.proofs.Common.{ap, ap₂, subst, ◌∙◌, arith, inl, inr, ⊎_elim, if◌then◌else◌, append-nil, append_assoc, length-append}
 use Rattle.std.specs.Prelude.{◌≢◌, ◌⊎◌, ◌==◌, ◌&&◌, not, encode_utf8, encode_utf8_all, All, Option, Some, None}
 use Rattle.std.proofs.lemmas.Bool.{cases_lt, ne_eqb}
@@ -33,7 +34,8 @@ use Rattle.bx_editor_laws.proofs.OneRun.{insert-is, no-selection, paste-is-a-run
 
 -- ---- one UndoRun takes it back
 
-grown : (d : Data) (e : Editor) (cs : List ℕ) (selected : Bool) → is_selection e ≡ selected → IsFree e → e.pasted ≡ None → brought d e.content.text [] cs ≢ []
+grown : (d : Data) (e : Editor) (cs : List ℕ) (selected : Bool) → is_selection e ≡ selected → IsFree e → e.pasted ≡ None
+    → brought d e.content.text [] cs ≢ []
     → has_room e (brought d e.content.text [] cs) ≡ true → length e.content.past < length (after_paste d e cs).content.past
 grown d e cs true is free settled some room =
     let content = ((paste-is-one-edit d e cs free.unasked free.unsought settled).put some room).instead is in
@@ -92,7 +94,8 @@ size-with : (text new : List ℕ) (at : ℕ) → length (splice text at at new) 
 size-with text new at =
     omega (arith, length-append (take at text ++ new) (drop at text), length-append (take at text) new, length-take at text, length-drop at text)
 
-size-without : (text : List ℕ) (start stop : ℕ) → start ≤ stop → stop ≤ length text → length (splice text start stop []) ≡ length text - (stop - start)
+size-without : (text : List ℕ) (start stop : ℕ) → start ≤ stop → stop ≤ length text
+    → length (splice text start stop []) ≡ length text - (stop - start)
 size-without text start stop order inside =
     omega (
       arith,
@@ -180,7 +183,8 @@ module _ (d : Data) (e : Editor) (c : ℕ) where
 -- ---- characters typed one by one
 
 -- bytes put in behind others
-put-on : (d : Data) (e x y : Editor) (selected : Bool) (one other : List ℕ) → IsPut d e selected one x → x.place ≡ from d e selected + length one → x.base ≡ e.base
+put-on : (d : Data) (e x y : Editor) (selected : Bool) (one other : List ℕ) → IsPut d e selected one x
+    → x.place ≡ from d e selected + length one → x.base ≡ e.base
     → x.width ≡ e.width → IsPut d x false other y → IsPut d e selected (one ++ other) y
 put-on d e x y selected one other first ends base width next =
     let at = from d e selected in
@@ -199,12 +203,14 @@ size-bare : (e : Editor) (selected : Bool) → (selected ≡ true → (region e)
 size-bare e true inside = size-without e.content.text (region e).0 (region e).1 (omega arith) (inside refl)
 size-bare e false inside = omega arith
 
-more-fit : (size start stop one other now place limit : ℕ) → now ≡ size - (stop - start) + one → nat_le (size - (stop - start) + (one + other)) limit ≡ true
+more-fit : (size start stop one other now place limit : ℕ) → now ≡ size - (stop - start) + one
+    → nat_le (size - (stop - start) + (one + other)) limit ≡ true
     → nat_le (now - (place - place) + other) limit ≡ true
 more-fit size start stop one other now place limit is fit = grind (arith, nat_tests, is, fit)
 
 room-on : (d : Data) (e x : Editor) (selected : Bool) (one other : List ℕ) → (selected ≡ true → (region e).1 ≤ length e.content.text)
-    → fits e.content.text (gap e selected).0 (gap e selected).1 (one ++ other) ≡ true → IsPut d e selected one x → is_selection x ≡ false → has_room x other ≡ true
+    → fits e.content.text (gap e selected).0 (gap e selected).1 (one ++ other) ≡ true → IsPut d e selected one x → is_selection x ≡ false
+    → has_room x other ≡ true
 room-on d e x selected one other inside room put none =
     let size = ap length put.text_is ∙ size-with (bare e selected) one (from d e selected) in
     ap (λ (b : Bool). (let part = if b then region x else (x.place, x.place) in fits x.content.text part.0 part.1 other)) none
@@ -212,7 +218,8 @@ room-on d e x selected one other inside room put none =
     (omega (arith, size, size-bare e selected inside))
     (subst (λ n. nat_le (length e.content.text - ((gap e selected).1 - (gap e selected).0) + n) largest_text ≡ true) (length-append one other) room)
 
-all-typed : (d : Data) (cs : List ℕ) (c : ℕ) (e : Editor) → IsFree e → e.pasted ≡ None → (is_selection e ≡ true → (region e).1 ≤ length e.content.text)
+all-typed : (d : Data) (cs : List ℕ) (c : ℕ) (e : Editor) → IsFree e → e.pasted ≡ None
+    → (is_selection e ≡ true → (region e).1 ≤ length e.content.text)
     → has_room e (encode_utf8_all (c ∷ cs)) ≡ true → EndAtTheirPlaces d e (c ∷ cs)
     → IsPut d e (is_selection e) (encode_utf8_all (c ∷ cs)) (after_keys d None e (map Insert (c ∷ cs)))
 all-typed d [] c e free settled inside room ends =
@@ -270,7 +277,8 @@ module _ (d : Data) (e : Editor) where
   put-by list again goal soft true = record { text_is = refl; place_is = refl }
   put-by list again goal soft false = record { text_is = refl; place_is = refl }
 
-  ended : (list : List ℕ) (again : Bool) (goal : Option ℕ) (soft : Soft) → is_soft soft ≡ is_soft e.soft → list ≢ [] → has_room e list ≡ true
+  ended : (list : List ℕ) (again : Bool) (goal : Option ℕ) (soft : Soft) → is_soft soft ≡ is_soft e.soft → list ≢ []
+      → has_room e list ≡ true
       → IsPut d e (is_selection e) list (after_paste_end d (in_paste e list again goal soft))
   ended list again goal soft same some room =
       let was = over e again goal soft in
@@ -289,7 +297,8 @@ module _ (d : Data) (e : Editor) where
 no-more : (n more limit : ℕ) → n + more ≤ limit → nat_lt limit n ≡ false
 no-more n more limit few = grind (arith, nat_tests, few)
 
-brought-all : (d : Data) (text cs list : List ℕ) → All (λ c. pastes_crlf d text c ≡ false) cs → length list + length (encode_utf8_all cs) ≤ largest_text
+brought-all : (d : Data) (text cs list : List ℕ) → All (λ c. pastes_crlf d text c ≡ false) cs
+    → length list + length (encode_utf8_all cs) ≤ largest_text
     → brought d text list cs ≡ list ++ encode_utf8_all cs
 brought-all d text [] list plain few = sym (append-nil list)
 brought-all d text (c ∷ cs) list plain few =

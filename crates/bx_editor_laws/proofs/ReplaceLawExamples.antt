@@ -240,7 +240,8 @@ second (s ∷ ss) apart are lies =
     let stop : 2 ≤ s.1 = omega (arith, ap (λ (t : ℕ × ℕ). t.1) here) in
     let none = none_behind s.1 ss stop apart.1.1 (All-tail (IsMatch tables at_both) s ss are) in ap₂ (λ (t : ℕ × ℕ) (ts : List (ℕ × ℕ)). t ∷ ts) here none
 
-lies_behind : (s t : ℕ × ℕ) (ss : List (ℕ × ℕ)) (i : ℕ) → s.1 ≤ 1 → i < length (s ∷ ss) → get_or (s ∷ ss) i t ≡ t → t.0 ≤ 1 → 1 < t.1 → LiesIn 1 ss
+lies_behind : (s t : ℕ × ℕ) (ss : List (ℕ × ℕ)) (i : ℕ) → s.1 ≤ 1 → i < length (s ∷ ss) → get_or (s ∷ ss) i t ≡ t → t.0 ≤ 1 → 1 < t.1
+    → LiesIn 1 ss
 lies_behind s t ss zero stop inside is before after = absurd (omega (arith, stop, after, ap (λ (u : ℕ × ℕ). u.1) is))
 lies_behind s t ss (suc i) stop inside is before after = (t, (i, omega (arith, inside), is), before, after)
 

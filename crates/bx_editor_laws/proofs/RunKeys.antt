@@ -1,5 +1,6 @@
 -- UndoRun and RedoRun: how many steps they make, and where they lead.
-use Rattle.std.proofs.Common.{◌≡◌, ℕ, zero, suc, ◌+◌, ◌-◌, ◌≤◌, Bool, true, List, [], ◌∷◌, length, take, map, replicate, refl, sym, ap, ap₂, ◌∙◌, arith}
+use Rattle.std.proofs.Common.{◌≡◌, ℕ, zero, suc, ◌+◌, ◌-◌, ◌≤◌, Bool, true, List, [], ◌∷◌, length, take, map, replicate, refl, sym, ap}
+use Rattle.std.proofs.Common.{ap₂, ◌∙◌, arith}
 use Rattle.std.specs.Prelude.{Some, None}
 use Rattle.std.specs.Fn.{iterate}
 use Rattle.std.specs.List.{fold}
@@ -39,7 +40,8 @@ run_to e content place changed = record (stepped_to e content place) { changed =
 
 -- ---- Undo and Redo, one by one; each ends a search and a question
 
-undo-first : (d : Data) (was : Before) (ask : Ask) (seek : Seek) (e : Editor) (text : List ℕ) (edit : Edit) (past future : List Edit) → e.ask ≡ ask
+undo-first : (d : Data) (was : Before) (ask : Ask) (seek : Seek) (e : Editor) (text : List ℕ) (edit : Edit) (past future : List Edit)
+    → e.ask ≡ ask
     → as_left Undo (after_any d None was ask seek (record (cleared e) { content = version text (edit ∷ past) future }) Undo)
     ≡ stepped_to e (version edit.before.text past (edit ∷ future)) edit.before.place
 undo-first d was asks.Off seeks.Off e text edit past future is = ap (λ a. record (stepped_to e (version edit.before.text past (edit ∷ future)) edit.before.place) { ask = a }) is
@@ -52,7 +54,8 @@ undo-first d was asks.Line seek e text edit past future is = refl
 undo-first d was asks.Name seek e text edit past future is = refl
 undo-first d was asks.Code seek e text edit past future is = refl
 
-redo-first : (d : Data) (was : Before) (ask : Ask) (seek : Seek) (e : Editor) (text : List ℕ) (edit : Edit) (past future : List Edit) → e.ask ≡ ask
+redo-first : (d : Data) (was : Before) (ask : Ask) (seek : Seek) (e : Editor) (text : List ℕ) (edit : Edit) (past future : List Edit)
+    → e.ask ≡ ask
     → as_left Redo (after_any d None was ask seek (record (cleared e) { content = version text past (edit ∷ future) }) Redo)
     ≡ stepped_to e (version edit.after.text (edit ∷ past) future) edit.after.place
 redo-first d was asks.Off seeks.Off e text edit past future is = ap (λ a. record (stepped_to e (version edit.after.text (edit ∷ past) future) edit.after.place) { ask = a }) is
@@ -239,7 +242,8 @@ as-counted new many to goal is same at =
 no-steps : (d : Data) (e : Editor) (key one : Key) (n : ℕ) → after_key d None e key ≡ after_key d None e one → IsManySteps d e key one n []
 no-steps d e key one n same = record { many = λ some. absurd (some refl); some = λ some. absurd (some refl); none = λ is. same }
 
-undo-steps : (d : Data) (e : Editor) (text : List ℕ) (past future : List Edit) → e.pasted ≡ None → let now : Editor = record e { content = version text past future } in
+undo-steps : (d : Data) (e : Editor) (text : List ℕ) (past future : List Edit) → e.pasted ≡ None
+    → let now : Editor = record e { content = version text past future } in
     IsManySteps d now UndoRun Undo (undos now) past
 undo-steps d e text [] future settled =
     let now : Editor = record e { content = version text [] future } in
@@ -268,7 +272,8 @@ undo-steps d e text (edit ∷ past) future settled =
       none = λ is. absurd (cc is);
     }
 
-redo-steps : (d : Data) (e : Editor) (text : List ℕ) (past future : List Edit) → e.pasted ≡ None → let now : Editor = record e { content = version text past future } in
+redo-steps : (d : Data) (e : Editor) (text : List ℕ) (past future : List Edit) → e.pasted ≡ None
+    → let now : Editor = record e { content = version text past future } in
     IsManySteps d now RedoRun Redo (redos now) future
 redo-steps d e text past [] settled =
     let now : Editor = record e { content = version text past [] } in

@@ -10,7 +10,8 @@ use Rattle.unicode_width.proofs.Computing.{unicode_width}
 use Rattle.bx_terms.specs.Sizes.{largest_text}
 use Rattle.bx_terms.specs.declared.base.Base.TheVariants.{Auto}
 use Rattle.bx_keys.specs.declared.key.Key.{Key}
-use Rattle.bx_keys.specs.declared.key.Key.TheVariants.{Insert, Erase, Delete, Back, Forward, Save, Undo, Mark, Cut, Put, Find, TextEnd, TextStart}
+use Rattle.bx_keys.specs.declared.key.Key.TheVariants.{Insert, Erase, Delete, Back, Forward, Save, Undo, Mark, Cut, Put, Find, TextEnd}
+use Rattle.bx_keys.specs.declared.key.Key.TheVariants.{TextStart}
 use Rattle.bx_keys.specs.declared.key.Key.TheVariants.{Repaint, UndoRun, RedoRun, PasteStart, PasteEnd}
 use Rattle.bx_store.specs.declared.store.StoreFault.{StoreFault}
 use Rattle.bx_text.specs.Edits.{Edited}
@@ -188,7 +189,8 @@ once_it_is_lost_nothing_leads_to_it = refl
 abbrev with_a_failed_save : StoreFault → List (Key × Option StoreFault)
 with_a_failed_save fault = (Insert 0x78, None) ∷ (Save, Some fault) ∷ (UndoRun, None) ∷ []
 
-pub a_failed_save_stores_nothing : (fault : StoreFault) → (after_typing tables (start (codes "ab") 5 40) (with_a_failed_save fault)).changed ≡ false
+pub a_failed_save_stores_nothing : (fault : StoreFault)
+    → (after_typing tables (start (codes "ab") 5 40) (with_a_failed_save fault)).changed ≡ false
 unfolding unicode_segmentation unicode_width digits
 a_failed_save_stores_nothing fault = refl
 
@@ -208,21 +210,24 @@ unfolding unicode_segmentation unicode_width digits
 back_at_the_opened_text_it_does_not law =
     ap (λ (e : Editor). e.changed) ((law tables behind_a_word refl).undo.many (λ none. let three : 3 ≡ 0 = ap length none in cc three))
 
-pub without_an_edit_the_message_is_that_of_undo : RunKeysAreSteps → (after (start (codes "a") 5 40) (UndoRun ∷ [])).message ≡ Some NothingToUndo
+pub without_an_edit_the_message_is_that_of_undo : RunKeysAreSteps
+    → (after (start (codes "a") 5 40) (UndoRun ∷ [])).message ≡ Some NothingToUndo
 unfolding unicode_segmentation unicode_width digits
 without_an_edit_the_message_is_that_of_undo law = ap (λ (e : Editor). e.message) ((law tables (start (codes "a") 5 40) refl).undo.none refl)
 
 abbrev typed : List Key → List (Key × Option StoreFault)
 typed keys = map (λ key. (key, None)) keys
 
-pub undone_and_made_again : RedoRunMirrorsUndoRun → (after (start [] 5 40) (two_words ++ UndoRun ∷ RedoRun ∷ [])).content.text ≡ codes "ab cd"
+pub undone_and_made_again : RedoRunMirrorsUndoRun
+    → (after (start [] 5 40) (two_words ++ UndoRun ∷ RedoRun ∷ [])).content.text ≡ codes "ab cd"
 unfolding unicode_segmentation unicode_width digits
 undone_and_made_again law =
     let some : 0 < 5 = omega arith in
     let all : 5 ≤ 5 = omega arith in
     ap (λ (t : Edited). t.text) ((law tables [] 5 40 Auto (typed two_words) refl).redo (some, all, inr refl))
 
-pub a_word_and_its_blank_are_taken_back : WordIsARun → (after (start (codes "x") 5 40) (letters (codes "ab ") ++ UndoRun ∷ [])).content.text ≡ codes "x"
+pub a_word_and_its_blank_are_taken_back : WordIsARun
+    → (after (start (codes "x") 5 40) (letters (codes "ab ") ++ UndoRun ∷ [])).content.text ≡ codes "x"
 unfolding unicode_segmentation unicode_width digits
 a_word_and_its_blank_are_taken_back law =
     let fit : 4 ≤ largest_text = omega arith in
@@ -235,7 +240,8 @@ a_word_and_its_blank_are_taken_back law =
     } in
     (law tables (start (codes "x") 5 40) (codes "ab") (codes " ") refl refl refl refl word fit).text_is
 
-pub unchanged_at_the_saved_text : UnchangedIsStored → (after (start [] 5 40) (saved_in_the_middle ++ UndoRun ∷ UndoRun ∷ [])).content.text ≡ codes "ab"
+pub unchanged_at_the_saved_text : UnchangedIsStored
+    → (after (start [] 5 40) (saved_in_the_middle ++ UndoRun ∷ UndoRun ∷ [])).content.text ≡ codes "ab"
 unfolding unicode_segmentation unicode_width digits
 unchanged_at_the_saved_text law = law tables [] 5 40 Auto (typed (saved_in_the_middle ++ UndoRun ∷ UndoRun ∷ [])) refl
 

@@ -15,7 +15,7 @@ use Rattle.bx_paragraph.specs.Slots.{covers, row_slots}
 use Rattle.bx_editor.specs.declared.message.Message.TheVariants.{FromStart}
 use Rattle.bx_editor.specs.Editor.{Editor, HasRows}
 use Rattle.bx_editor_laws.specs.WorkLaws.{ColumnIsKept, ErasePointLeavesBeginning, FindNextIsFindTwice, LineMovesGoBack, PageMovesGoBack}
-use Rattle.bx_editor_laws.specs.WorkLaws.{keeps_column, own_row}
+use Rattle.bx_editor_laws.specs.WorkLaws.{IsEntered, KeptMovesGoBack, keeps_column, own_row}
 use Rattle.bx_editor.proofs.Computed.{tables, start, after}
 
 -- ---- a point erased
@@ -24,7 +24,8 @@ use Rattle.bx_editor.proofs.Computed.{tables, start, after}
 abbrev behind_a_point : Editor
 behind_a_point = after (start (0x5d0 ∷ 0x301 ∷ 0x5d1 ∷ []) 2 20) (Forward ∷ [])
 
-pub the_letter_and_the_rest_stay : ErasePointLeavesBeginning → (after behind_a_point (ErasePoint ∷ [])).content.text ≡ 0xd7 ∷ 0x90 ∷ 0xd7 ∷ 0x91 ∷ []
+pub the_letter_and_the_rest_stay : ErasePointLeavesBeginning
+    → (after behind_a_point (ErasePoint ∷ [])).content.text ≡ 0xd7 ∷ 0x90 ∷ 0xd7 ∷ 0x91 ∷ []
 unfolding unicode_segmentation unicode_width digits
 the_letter_and_the_rest_stay law =
     (law tables behind_a_point (record { text = (0x5d0 ∷ 0x301 ∷ 0x5d1 ∷ [], (refl, refl)); columns = refl }) refl refl refl refl (1, omega arith, refl)).text_is
@@ -100,6 +101,21 @@ two_pages_on_and_back law =
     let more : 4 < 5 = omega arith in
     let has : HasRows before_pages = record { text = (text, (refl, refl)); columns = refl } in
     ((law tables before_pages 2 has refl refl refl (4, omega arith, refl)).below more).to_place (λ end. cc end.full)
+
+-- one row below, on the empty line, where the fifth column is kept
+abbrev on_an_empty_line : Editor
+on_an_empty_line = after before_pages (LineDown ∷ [])
+
+entered_there : IsEntered tables on_an_empty_line 5
+unfolding unicode_segmentation unicode_width digits
+entered_there = record { kept = refl; entered = refl }
+
+pub a_page_on_and_back_to_the_empty_line : KeptMovesGoBack → (after on_an_empty_line (PageOn ∷ PageBack ∷ [])).place ≡ 5
+unfolding unicode_segmentation unicode_width digits
+a_page_on_and_back_to_the_empty_line law =
+    let more : 3 < 5 = omega arith in
+    let has : HasRows on_an_empty_line = record { text = (codes "abcd\n\nabcd\n\nabcd", (refl, refl)); columns = refl } in
+    (law tables on_an_empty_line 1 5 has refl refl (5, omega arith, refl) entered_there).pages_below more
 
 pub the_fifth_column_is_kept_over_empty_lines : ColumnIsKept
     → (after before_pages (LineDown ∷ PageOn ∷ PageOn ∷ PageOn ∷ PageBack ∷ [])).goal ≡ Some 5

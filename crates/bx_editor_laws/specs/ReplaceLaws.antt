@@ -1,6 +1,7 @@
 -- Laws of replacing: the match that is shown, and what Enter, Find and Replace make of it and of those after it. `d`, `e` and `new`
 -- are as in Laws.antt.
-use Rattle.std.specs.Prelude.{◌≡◌, ◌⊎◌, ℕ, ◌+◌, ◌<◌, ◌≤◌, true, false, List, [], ◌∷◌, ◌++◌, length, take, drop, slice_range, chars, All, Contains, IsUtf8, Option, Some, None}
+use Rattle.std.specs.Prelude.{◌≡◌, ◌⊎◌, ℕ, ◌+◌, ◌<◌, ◌≤◌, true, false, List, [], ◌∷◌, ◌++◌, length, take, drop, slice_range, chars, All}
+use Rattle.std.specs.Prelude.{Contains, IsUtf8, Option, Some, None}
 use Rattle.bx_terms.specs.Sizes.{largest_text}
 use Rattle.bx_terms.specs.declared.base.Base.{Base}
 use Rattle.bx_ucd.specs.Data.{Data}
@@ -95,7 +96,9 @@ pub record ReplacesMatch (d : Data) (e new : Editor) : Type 0 where
 
 -- the end of a line that is typed, not pasted, replaces the match, and shows the next one after the other text
 abbrev pub EnterReplaces : Type 0
-EnterReplaces = (d : Data) (e : Editor) (enter : Key) → IsShowing d e → is_paste e.typing ≡ false → is_enter enter ≡ true → ReplacesMatch d e (after_key d None e enter)
+EnterReplaces =
+    (d : Data) (e : Editor) (enter : Key) → IsShowing d e → is_paste e.typing ≡ false → is_enter enter ≡ true
+    → ReplacesMatch d e (after_key d None e enter)
 
 -- Find passes over the match: nothing is replaced, and the next match after its first character is shown. Where replacing has
 -- ended, the cursor stays.

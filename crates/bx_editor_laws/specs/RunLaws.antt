@@ -1,5 +1,6 @@
 -- Laws of runs of edits, and of the text that was stored. `d`, `e` and `new` are as in Laws.antt.
-use Rattle.std.specs.Prelude.{◌≡◌, ◌≢◌, ℕ, ◌+◌, ◌-◌, ◌&&◌, ◌<◌, ◌≤◌, false, List, [], ◌∷◌, ◌++◌, length, map, replicate, encode_utf8_all, All, Option, None, is_none, if◌then◌else◌}
+use Rattle.std.specs.Prelude.{◌≡◌, ◌≢◌, ℕ, ◌+◌, ◌-◌, ◌&&◌, ◌<◌, ◌≤◌, false, List, [], ◌∷◌, ◌++◌, length, map, replicate, encode_utf8_all}
+use Rattle.std.specs.Prelude.{All, Option, None, is_none, if◌then◌else◌}
 use Rattle.bx_terms.specs.Sizes.{largest_text}
 use Rattle.bx_terms.specs.declared.base.Base.{Base}
 use Rattle.bx_keys.specs.declared.key.Key.{Key}
@@ -61,7 +62,8 @@ pub record RunsAreMirrored (d : Data) (e : Editor) : Type 0 where
   pub redo_place : EndsAt e.runs (all_edits e) (length e.content.past) → (edit : Edit) (past : List Edit) → e.content.past ≡ edit ∷ past
       → IsUnmarkedAt edit.after.place (after_keys d None e (UndoRun ∷ RedoRun ∷ []))
   pub undo : BeginsAt e.runs (all_edits e) (length e.content.past) → (after_keys d None e (RedoRun ∷ UndoRun ∷ [])).content ≡ e.content
-  pub undo_place : BeginsAt e.runs (all_edits e) (length e.content.past) → (edit : Edit) (future : List Edit) → e.content.future ≡ edit ∷ future
+  pub undo_place : BeginsAt e.runs (all_edits e) (length e.content.past) → (edit : Edit) (future : List Edit)
+      → e.content.future ≡ edit ∷ future
       → IsUnmarkedAt edit.before.place (after_keys d None e (RedoRun ∷ UndoRun ∷ []))
 
 -- UndoRun and RedoRun mirror each other so after anything that was typed over an opened text, unless a paste is under way
@@ -92,7 +94,8 @@ pub record IsWord (d : Data) (letters blanks : List ℕ) : Type 0 where
 -- and the blanks after it, if there was room for them
 abbrev pub WordIsARun : Type 0
 WordIsARun =
-    (d : Data) (e : Editor) (letters blanks : List ℕ) → e.ask ≡ asks.Off → e.seek ≡ Off → e.pasted ≡ None → e.typing ≡ typings.Off → IsWord d letters blanks
+    (d : Data) (e : Editor) (letters blanks : List ℕ) → e.ask ≡ asks.Off → e.seek ≡ Off → e.pasted ≡ None → e.typing ≡ typings.Off
+    → IsWord d letters blanks
     → length e.content.text + length (encode_utf8_all (letters ++ blanks)) ≤ largest_text
     → IsBackBefore e (after_key d None (after_keys d None e (map Insert (letters ++ blanks))) UndoRun)
 

@@ -10,7 +10,7 @@ use Rattle.bx_rows.specs.RowPicture.{columns_used}
 use Rattle.bx_paragraph.specs.declared.slot.Slot.{Slot}
 use Rattle.bx_paragraph.specs.Slots.{covers, row_slots}
 use Rattle.bx_view.specs.declared.moves.Logical.TheVariants.{Back}
-use Rattle.bx_view.specs.Moves.{step_logical}
+use Rattle.bx_view.specs.Moves.{entry_in, step_logical}
 use Rattle.bx_view.specs.Places.{IsTextPlace}
 use Rattle.bx_view.specs.TextRows.{TextRow, cell_of, row_at, row_of}
 use Rattle.bx_editor.specs.declared.seek.Seek.TheVariants.{Off}
@@ -32,7 +32,8 @@ pub record ErasesEnd (d : Data) (e new : Editor) : Type 0 where
 -- place
 abbrev pub ErasePointLeavesBeginning : Type 0
 ErasePointLeavesBeginning =
-    (d : Data) (e : Editor) → HasRows e → e.ask ≡ asks.Off → e.seek ≡ Off → e.pasted ≡ None → is_selection e ≡ false → IsTextPlace d e.content.text e.place
+    (d : Data) (e : Editor) → HasRows e → e.ask ≡ asks.Off → e.seek ≡ Off → e.pasted ≡ None → is_selection e ≡ false
+    → IsTextPlace d e.content.text e.place
     → ErasesEnd d e (after_key d None e ErasePoint)
 
 -- ---- the next match
@@ -97,6 +98,27 @@ abbrev pub PageMovesGoBack : Type 0
 PageMovesGoBack =
     (d : Data) (e : Editor) (n : ℕ) → HasRows e → e.seek ≡ Off → e.pasted ≡ None → e.goal ≡ None → IsTextPlace d e.content.text e.place
     → PageMovesLeadBack d e n
+
+-- a column is kept, and the cursor is where its row is entered in that column, as after a move that keeps it
+pub record IsEntered (d : Data) (e : Editor) (column : ℕ) : Type 0 where
+  pub kept : e.goal ≡ Some column
+  pub entered : entry_in e.width (own_row d e) column ≡ Some e.place
+
+-- from there all these moves lead back to the place itself
+pub record MovesReturn (d : Data) (e : Editor) (n : ℕ) : Type 0 where
+  pub lines_below : row_of (rows d e) e.place + n < length (rows d e)
+      → (after_keys d None e (replicate n LineDown ++ replicate n LineUp)).place ≡ e.place
+  pub lines_above : n ≤ row_of (rows d e) e.place
+      → (after_keys d None e (replicate n LineUp ++ replicate n LineDown)).place ≡ e.place
+  pub pages_below : row_of (rows d e) e.place + n * text_height e.height < length (rows d e)
+      → (after_keys d None e (replicate n PageOn ++ replicate n PageBack)).place ≡ e.place
+  pub pages_above : n * text_height e.height ≤ row_of (rows d e) e.place
+      → (after_keys d None e (replicate n PageBack ++ replicate n PageOn)).place ≡ e.place
+
+abbrev pub KeptMovesGoBack : Type 0
+KeptMovesGoBack =
+    (d : Data) (e : Editor) (n column : ℕ) → HasRows e → e.seek ≡ Off → e.pasted ≡ None → IsTextPlace d e.content.text e.place
+    → IsEntered d e column → MovesReturn d e n
 
 -- the keys that keep a column
 abbrev pub keeps_column : Key → Bool

@@ -1,7 +1,7 @@
 //! Laws of ErasePoint, FindNext, and the moves that keep their column. The functions are empty: their contracts are the laws.
 
-ghost use Rattle.bx_editor_laws.specs.WorkLaws.{ColumnIsKept, ErasePointLeavesBeginning, FindNextIsFindTwice, LineMovesGoBack};
-ghost use Rattle.bx_editor_laws.specs.WorkLaws.{PageMovesGoBack};
+ghost use Rattle.bx_editor_laws.specs.WorkLaws.{ColumnIsKept, ErasePointLeavesBeginning, FindNextIsFindTwice, KeptMovesGoBack};
+ghost use Rattle.bx_editor_laws.specs.WorkLaws.{LineMovesGoBack, PageMovesGoBack};
 
 /// Outside a search, a question and a paste, without a selection, ErasePoint removes the end of the unit before the place, from the start
 /// of its last point on, and leaves all text before and after that.
@@ -26,6 +26,12 @@ pub fn line_moves_go_back()
 /// then PageOn likewise, if there are `n` pages above.
 pub fn page_moves_go_back()
     ensures { PageMovesGoBack }
+{}
+
+/// Outside a search and a paste, where a column is kept and the cursor is where its row is entered in it, as after a move that keeps
+/// it: LineDown and LineUp, or PageOn and PageBack, `n` times each, lead back to the place, if there are as many rows.
+pub fn kept_moves_go_back()
+    ensures { KeptMovesGoBack }
 {}
 
 /// Outside a search and a paste, with no column kept: LineUp, LineDown, PageBack and PageOn keep the column that the cursor has before
