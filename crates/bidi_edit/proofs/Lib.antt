@@ -1,2 +1,3 @@
 pub mod Edited
 pub mod Examples
+pub mod CheckExamples

@@ -1,3 +1,4 @@
+pub mod Check
 pub mod Ending
 pub mod Faults
 pub mod Run

@@ -58,12 +58,20 @@ impl From<RecoveryFault> for ProgramFault<'_> {
 }
 
 impl<'a> From<FileFault<'a>> for ProgramFault<'a> {
+    ghost use Rattle.bidi_edit.specs.declared.fault.ProgramFault.TheVariants.{File};
+
+    ghost from_gives = { λ fault new. new ≡ File fault };
+
     fn from(fault: FileFault<'a>) -> Self {
         ProgramFault::File(fault)
     }
 }
 
 impl From<TextFault> for ProgramFault<'_> {
+    ghost use Rattle.bidi_edit.specs.declared.fault.ProgramFault.TheVariants.{Text};
+
+    ghost from_gives = { λ fault new. new ≡ Text fault };
+
     fn from(fault: TextFault) -> Self {
         ProgramFault::Text(fault)
     }

@@ -1,5 +1,11 @@
 //! The files of a run: the text, what is compared with it, a recovered text, and the host's pipes for saves.
 
+ghost use Rattle.std.specs.Prelude.{◌⊎◌, IfErr, IfOk, IsSome, IsTrue, OnOk};
+ghost use Rattle.bx_command.specs.Check.{Refuses};
+ghost use Rattle.bx_recovery.specs.Beginnings.{bytes_of};
+ghost use Rattle.bx_recovery.specs.Refusals.{IsText};
+ghost use Rattle.bidi_edit.specs.Check.{Checks, IsChecked};
+
 use crate::fault::ProgramFault;
 use bx_cli::{FileFault, text_of};
 use bx_command::{Files, Options, TextFault, check_text};
@@ -13,29 +19,42 @@ const REQUESTS: usize = 65_538;
 /// The store that the host keeps.
 pub type HostFile = HostStore<File, BufWriter<File>>;
 
-/// Checks that FILE can be opened. A file that does not exist can: it is an empty text.
-pub fn check_file<'a>(rt: &HostRuntime, path: &'a str) -> Result<(), ProgramFault<'a>> {
-    if let Some(bytes) = text_of(rt, path)? {
-        check_text(bytes.as_slice())?;
-    }
-    Ok(())
-}
-
-/// Reads the input files. Where something is written before the first painting, also checks the text.
-pub fn read_files<'a>(rt: &HostRuntime, options: &Options<'a>) -> Result<Files, ProgramFault<'a>> {
-    let files = Files::read(rt, options)?;
-    if options.frames || options.before.is_some() {
-        check_opened(&files)?;
-    }
-    Ok(files)
-}
-
-/// Checks that the text can be opened.
-fn check_opened(files: &Files) -> Result<(), TextFault> {
-    match &files.text {
+/// Checks that a text can be opened. A file that does not exist is an empty text.
+fn check_opened(text: &Option<Vec<u8>>) -> Result<(), TextFault>
+    ensures checked { OnOk result (IsText (bytes_of text.now)) }
+    ensures refused { IfErr result (Refuses (bytes_of text.now)) }
+{
+    match text {
         Some(bytes) => check_text(bytes.as_slice()),
         None => Ok(()),
     }
+}
+
+/// Checks that what was read of FILE can be opened.
+fn check_read<'a>(read: Result<Option<Vec<u8>>, FileFault<'a>>) -> Result<(), ProgramFault<'a>>
+    ensures { Checks read.entry result }
+{
+    let text = read?;
+    check_opened(&text)?;
+    Ok(())
+}
+
+/// Checks that FILE can be opened. A file that does not exist can: it is an empty text.
+pub fn check_file<'a>(rt: &HostRuntime, path: &'a str) -> Result<(), ProgramFault<'a>>
+    ensures { IsChecked path.entry.now result }
+{
+    check_read(text_of(rt, path))
+}
+
+/// Reads the input files. Where something is written before the first painting, also checks the text.
+pub fn read_files<'a>(rt: &HostRuntime, options: &Options<'a>) -> Result<Files, ProgramFault<'a>>
+    ensures { IfOk result (λ files. (IsTrue options.now.frames ⊎ IsSome options.now.before) → IsText (bytes_of files.text)) }
+{
+    let files = Files::read(rt, options)?;
+    if options.frames || options.before.is_some() {
+        check_opened(&files.text)?;
+    }
+    Ok(files)
 }
 
 /// What FILE holds, for a comparison with a journal: empty if it does not exist. The host names the file by --against.

@@ -11,6 +11,9 @@
 //! `kept`; END with a word of `ending.rt`; FAULT with a kind and a value, for a fault before the run; and REPLAYED.
 #![tactic(auto)]
 
+ghost use Rattle.std.specs.Prelude.{◌≡◌, IsTrue};
+ghost use Rattle.bidi_edit.specs.Check.{IsChecked};
+
 mod edit;
 mod ending;
 mod fault;
@@ -175,7 +178,10 @@ fn program<'a, R: Read + Drop, W: Write>(
     options: &Options<'a>,
     reader: R,
     writer: &mut W,
-) -> Result<(), ProgramFault<'a>> {
+) -> Result<(), ProgramFault<'a>>
+    ensures checks { IsTrue options.now.check → IsChecked options.now.file.now result }
+    ensures writes { IsTrue options.now.check → writer.new ≡ writer.old }
+{
     if options.check {
         return check_file(rt, options.file);
     }

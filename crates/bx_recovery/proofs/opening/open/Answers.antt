@@ -28,7 +28,8 @@ returns-clause-opens c =
     let b = c.args.beginning in
     let text_is = bytes_or_none b.text c.new.result c.unwrap_or-text.result c.new.ensures.items c.unwrap_or-text.ensures in
     opened_is says c.in_ok-tables.tables c.in_ok-session.session c.prepare.new.session _ (beginning_of b) c.offset_of-start.result
-    c.in_ok-session.ensures.ok c.in_ok-session.ensures.paints text_is (c.offset_of-start.ensures ∙ ap (λ text. offset_of text b.line) (c.as_slice.ensures.value ∙ text_is))
+    c.in_ok-session.ensures.ok c.in_ok-session.ensures.paints text_is
+    (c.offset_of-start.ensures ∙ ap (λ text. offset_of text b.line) (c.as_slice.ensures.value ∙ text_is))
     c.in_ok-prepare.ensures.ok
 
 pub returns-clause-openable : goal.returns-clause-openable

@@ -12,4 +12,5 @@ returns-clause-recovers g c =
 
 pub returns-clause-refused : goal.returns-clause-refused
 returns-clause-refused g c =
-    once_opened c.args.beginning _ _ c.store_replayed-replayed.result c.in_ok-session.ensures.openable c.store_replayed-replayed.ensures.refused
+    once_opened c.args.beginning _ _ c.store_replayed-replayed.result c.in_ok-session.ensures.openable
+    c.store_replayed-replayed.ensures.refused

@@ -1,0 +1,23 @@
+-- What `--check` answers.
+use Rattle.std.specs.Global.{Vec}
+use Rattle.std.specs.Prelude.{◌≡◌, ℕ, List, Option, Result, Ok, Err, IfErr}
+use Rattle.bx_cli.specs.Files.{IsFaultOf}
+use Rattle.bx_cli.specs.declared.files.FileFault.{FileFault}
+use Rattle.bx_command.specs.Check.{Refuses}
+use Rattle.bx_recovery.specs.Beginnings.{bytes_of}
+use Rattle.bx_recovery.specs.Refusals.{IsText}
+use Rattle.bidi_edit.specs.declared.fault.ProgramFault.{ProgramFault}
+use Rattle.bidi_edit.specs.declared.fault.ProgramFault.TheVariants.{File, Text}
+
+-- the answer to what was read of FILE: the fault of reading it; or that it is a text, or the first cause why it is none
+abbrev pub Checks : Result (Option (Vec ℕ)) FileFault → Result (Unit {0}) ProgramFault → Type 0
+Checks (Err fault) answer = answer ≡ Err (File fault)
+Checks (Ok read) (Ok done) = IsText (bytes_of read)
+Checks (Ok read) (Err (Text fault)) = Refuses (bytes_of read) fault
+Checks (Ok read) (Err other) = ⊥
+
+-- the file at this path was read, and the answer is about what was read
+pub record IsChecked (path : List ℕ) (answer : Result (Unit {0}) ProgramFault) : Type 0 where
+  pub read : Result (Option (Vec ℕ)) FileFault
+  pub names : IfErr read (IsFaultOf path)
+  pub answers : Checks read answer
