@@ -272,6 +272,13 @@ static int fill(const struct save *save, int file) {
     return error == 0 ? sync_file(file) : error;
 }
 
+/* Whether another program has written FILE since it was filled: its size is not that of its new text. Its time does not tell this, since
+ * some network disks set that as they sync. */
+static bool is_written_over(const struct save *save) {
+    struct stat draft;
+    return fstat(save->draft.file, &draft) != 0 || draft.st_size != save->state.seen.found.st_size;
+}
+
 int save_in_place(struct save *save) {
     struct state *state = &save->state;
     int cause = 0, error = keep_mark(save);
@@ -283,6 +290,7 @@ int save_in_place(struct save *save) {
         note_torn(save);
         error = fill(save, file);
         state->seen.is_there = fstat(file, &state->seen.found) == 0;
+        if (error == 0) state->is_distrusted = !state->seen.is_there || is_written_over(save);
         state->old = state->seen;
         state->has_id = find_id(file, &state->id);
         /* the mark stays as long as FILE may need it */

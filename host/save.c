@@ -240,7 +240,11 @@ static int save_commit(struct save *save) {
     if (cause != 0) return cause;
     /* FILE was created or removed meanwhile: how to save it is decided when the next save begins */
     if (save->is_there != was_there && (save->is_there || save->is_in_place)) return SAVE_CHANGED;
-    return save->is_in_place ? save_in_place(save) : replace(save);
+    if (!save->is_in_place) return replace(save);
+    cause = save_in_place(save);
+    /* FILE was changed after the look at it: it is told once */
+    if (cause == SAVE_CHANGED) look_and_note(save, save->folder);
+    return cause;
 }
 
 /* ---- the child */

@@ -55,10 +55,12 @@ make_host() { # FOLDER
     return 2
 }
 
-# Copies the tables, each by a rename, since an editor may read the old ones.
+# Copies the tables, each by a rename, since an editor may read the old ones. One that is there stays: an unfinished session knows its
+# tables by their times, and would be recovered without its undo history.
 copy_tables() { # FOLDER
     for table in "$top"/data/*.txt; do
         copy=$1/share/bidi_edit/${table##*/}
+        ! cmp -s -- "$table" "$copy" 2>/dev/null || continue
         cp -- "$table" "$copy.new" && mv -f -- "$copy.new" "$copy" || return
     done
 }

@@ -27,6 +27,11 @@ check_making() { # NAME
     same "$1, dist/ is as it was" "$(diff -r "$tree/dist" "$folder/first/dist")" ''
 }
 
+# Prints the times of the tables that were unpacked, by which a session knows them.
+table_times() {
+    stat -c '%n %y' "$tree"/out/start/share/bidi_edit/*.txt
+}
+
 # The first start unpacks, and a later one neither reads the sources nor compiles.
 check_start() { # NAME
     start
@@ -49,10 +54,12 @@ share/bidi_edit/DerivedBidiClass.txt share/bidi_edit/UnicodeData.txt"
     start PATH="$folder/noting:$PATH"
     runs "$1, the second"
     same "$1, the second: neither sums nor compiler" "$(cat "$TOLD/tools" 2>/dev/null)" ''
+    times=$(table_times)
     make_host_source "$tree/host/new.c" other
     mv "$tree/host/new.c" "$tree/host/main.c"
     start
     same "$1, another host" "$status $(head -n 1 "$folder/said")" '0 other note'
+    same "$1, another host: the tables have their times" "$(table_times)" "$times"
     echo '# more' >>"$tree/data/BidiBrackets.txt"
     touch -d '1 hour' "$tree/data/BidiBrackets.txt"
     start

@@ -203,9 +203,9 @@ class Check:
             passed.append(self.name)
 
 
-def slow(call, seconds, *more):
-    """Words that run a command whose CALL takes so long."""
-    return ["strace", "-f", "-qq", "-o", "/dev/null", "-e", f"trace={call}", "-e", f"inject={call}:delay_enter={int(seconds * 1e6)}", *more]
+def slow(call, seconds, *more, which=""):
+    """Words that run a command whose CALL takes so long; WHICH is `:when=N` for the one of this number, from 1, alone."""
+    return ["strace", "-f", "-qq", "-o", "/dev/null", "-e", f"trace={call}", "-e", f"inject={call}:delay_enter={int(seconds * 1e6)}{which}", *more]
 
 
 # ---- FILE is exchanged
@@ -296,6 +296,59 @@ def made_meanwhile(check):
     check.same("the save", editor.end_save(), "changed by another program")
     check.same("FILE", read(check.note), "theirs\n")
     check.same("the second save", editor.save("new\n"), "saved")
+    editor.end()
+
+
+def written_after_the_exchange(check):
+    """Another program writes the new FILE right after the exchange: the next save tells of it."""
+    write(check.note, "old\n")
+    editor = open_file(check.note, under=slow("unlinkat", 3))
+    editor.start_save("new\n")
+    wait_until_late(editor.process)
+    write(check.note, "theirs\n")
+    check.same("the save", editor.end_save(), "saved")
+    check.same("the second save", editor.save("newer\n"), "changed by another program")
+    check.same("FILE", read(check.note), "theirs\n")
+    check.same("the third save", editor.save("newer\n"), "saved")
+    editor.end()
+
+
+# ---- FILE is written in place
+
+def in_place(check, **others):
+    """An editor whose saves overwrite FILE, with the mark in a folder of its own."""
+    own = f"{check.folder}/own"
+    os.mkdir(own)
+    write(check.note, "old\n")
+    return open_file(check.note, "--mark", own, **others)
+
+
+def written_before_it_is_opened(check):
+    """Another program writes FILE after the last look at it, before the save opens it for writing."""
+    # the mark gets its name between the two
+    editor = in_place(check, under=slow("/^renameat2?$", 3))
+    editor.start_save("new\n")
+    wait_until_late(editor.process)
+    write(check.note, "theirs\n")
+    check.same("the save", editor.end_save(), "changed by another program")
+    check.same("FILE", read(check.note), "theirs\n")
+    check.same("the second save", editor.save("new\n"), "saved")
+    check.same("FILE after the second save", read(check.note), "new\n")
+    editor.end()
+
+
+def written_while_it_is_synced(check):
+    """Another program writes FILE once the save has filled it, while the disk takes it: the next save tells of it."""
+    # the first two are of the mark and its folder
+    editor = in_place(check, under=slow("fsync", 3, which=":when=3"))
+    editor.start_save("new\n")
+    wait_until_late(editor.process)
+    write(check.note, "theirs\n")
+    check.same("the save", editor.end_save(), "saved")
+    check.same("the second save", editor.save("newer\n"), "changed by another program")
+    check.same("FILE", read(check.note), "theirs\n")
+    check.same("the third save", editor.save("newer\n"), "saved")
+    check.same("FILE after the third save", read(check.note), "newer\n")
     editor.end()
 
 
@@ -731,8 +784,9 @@ CHECKS = [
     (disk_unmounted, ("root", "mount")), (ten_names, ()),
     (pipe_at_opening, ("strace",)), (pipe_at_save, ()), (stalled_disk, ("root", "mount")), (stalled_at_save, ("root", "mount")),
 ]
-# of the opening, which the old program leaves to others
+# of saves into FILE itself, and of the opening, which the old program leaves to others
 NEW_CHECKS = [
+    (written_after_the_exchange, ("strace",)), (written_before_it_is_opened, ("strace",)), (written_while_it_is_synced, ("strace",)),
     (refusals, ()), (many_links, ()), (lost_folder, ()), (leftovers, ()), (lists_of_folder, ("setfacl",)), (paths_once, ("strace",)),
 ]
 
