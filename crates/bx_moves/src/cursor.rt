@@ -10,8 +10,9 @@ use crate::row_ends::{row_end, row_home};
 use crate::vertical::{rows_away, rows_straight};
 use crate::visual::step_visual;
 use crate::word_moves::{step_word, word_towards};
+use bx_terms::OutOfMemory;
 use bx_ucd::BidiData;
-use bx_view::{Move, Source, View, ViewError};
+use bx_view::{Move, Source, View};
 
 /// The place that the move `m` leads to from `place`.
 fn led_by<D: BidiData>(
@@ -19,7 +20,7 @@ fn led_by<D: BidiData>(
     source: &Source<'_, D>,
     m: Move,
     place: usize,
-) -> Result<usize, ViewError>
+) -> Result<usize, OutOfMemory>
     requires data { IsViewBy source.now view.old }
     ensures keeps { Keeps source.now view.old view.new }
     ensures place { IfOk result (λ o. o ≡ moved (D.data source.now.tables.now) (bytes source.now) view.old.w (rows source.now view.old) m place) }
@@ -68,7 +69,7 @@ pub fn moved<D: BidiData>(
     source: &Source<'_, D>,
     m: Move,
     place: usize,
-) -> Result<usize, ViewError>
+) -> Result<usize, OutOfMemory>
     requires data { IsViewBy source.now view.old }
     ensures keeps { Keeps source.now view.old view.new }
     ensures place { IfOk result (λ o. o ≡ moved (D.data source.now.tables.now) (bytes source.now) view.old.w (rows source.now view.old) m place) }

@@ -5,10 +5,9 @@ ghost use Rattle.bx_terms.specs.Sizes.{is_side};
 ghost use Rattle.bx_text.specs.Edits.{IsRange};
 ghost use Rattle.bx_view.specs.Caching.{AreCached, FitsLimit, HasBody, Caches, IsCached, cached_bytes, most_cached};
 
-use crate::error::ViewError;
 use crate::text_span::TextSpan;
 use bx_paragraph::ParagraphLayout;
-use bx_terms::Base;
+use bx_terms::{Base, OutOfMemory};
 use bx_text::Text;
 use bx_ucd::BidiData;
 use std::alloc::{AllocError, Global};
@@ -152,7 +151,7 @@ pub(crate) fn lay_out_in<D: BidiData>(
     tables: &D,
     base: Base,
     w: u16,
-) -> Result<(), ViewError>
+) -> Result<(), OutOfMemory>
     requires cache { AreCached (D.data tables.now) base cache.old.items }
     requires within { i < length cache.old.items }
     requires side { is_side w ≡ true }
@@ -178,7 +177,7 @@ pub(crate) fn edit_in<D: BidiData>(
     new: &str,
     tables: &D,
     base: Base,
-) -> Result<bool, ViewError>
+) -> Result<bool, OutOfMemory>
     requires cache { AreCached (D.data tables.now) base cache.old.items }
     requires within { i < length cache.old.items }
     requires order { range.start ≤ range.end }

@@ -9,7 +9,6 @@ ghost use Rattle.bx_view.specs.Source.{IsAlong, IsBefore, IsNext, IsOfText, IsSp
 ghost use Rattle.bx_view.specs.TextRows.{row_of};
 
 use crate::cache::{add, cache_limit, find_in, lay_out_in};
-use crate::error::ViewError;
 use crate::row_at::RowAt;
 use crate::source::Source;
 use crate::span::{current_span, paragraph_under};
@@ -115,7 +114,7 @@ impl View {
         &mut self,
         source: &Source<'_, D>,
         span: TextSpan,
-    ) -> Result<usize, ViewError>
+    ) -> Result<usize, OutOfMemory>
         requires data { IsViewBy source.now self.old }
         requires span { IsSpan source.now span }
         ensures keeps { Keeps source.now self.old self.new }
@@ -184,7 +183,7 @@ impl View {
         &mut self,
         source: &Source<'_, D>,
         offset: usize,
-    ) -> Result<RowAt, ViewError>
+    ) -> Result<RowAt, OutOfMemory>
         requires data { IsViewBy source.now self.old }
         ensures keeps { Keeps source.now self.old self.new }
         ensures row { IfOk result (λ at. StandsOn source.now self.new at (row_of (rows source.now self.new) offset)) }
@@ -211,7 +210,7 @@ impl View {
         &mut self,
         source: &Source<'_, D>,
         at: RowAt,
-    ) -> Result<Option<RowAt>, ViewError>
+    ) -> Result<Option<RowAt>, OutOfMemory>
         requires row { Stands source.now self.old at }
         ensures keeps { Keeps source.now self.old self.new }
         ensures next { (n : ℕ) → StandsOn source.now self.old at n → IfOk result (IsNext source.now self.new n) }
@@ -232,7 +231,7 @@ impl View {
         source: &Source<'_, D>,
         walk: &mut ParagraphWalk<'_>,
         at: RowAt,
-    ) -> Result<Option<RowAt>, ViewError>
+    ) -> Result<Option<RowAt>, OutOfMemory>
         requires row { Stands source.now self.old at }
         requires along { IsAlong source.now walk.old at }
         ensures keeps { Keeps source.now self.old self.new }
@@ -262,7 +261,7 @@ impl View {
         &mut self,
         source: &Source<'_, D>,
         at: RowAt,
-    ) -> Result<Option<RowAt>, ViewError>
+    ) -> Result<Option<RowAt>, OutOfMemory>
         requires row { Stands source.now self.old at }
         ensures keeps { Keeps source.now self.old self.new }
         ensures before { (n : ℕ) → StandsOn source.now self.old at n → IfOk result (IsBefore source.now self.new n) }
@@ -282,7 +281,7 @@ impl View {
         source: &Source<'_, D>,
         walk: &mut ParagraphWalk<'_>,
         at: RowAt,
-    ) -> Result<Option<RowAt>, ViewError>
+    ) -> Result<Option<RowAt>, OutOfMemory>
         requires row { Stands source.now self.old at }
         requires along { IsAlong source.now walk.old at }
         ensures keeps { Keeps source.now self.old self.new }
@@ -313,7 +312,7 @@ impl View {
         source: &Source<'_, D>,
         at: RowAt,
         offset: usize,
-    ) -> Result<RowAt, ViewError>
+    ) -> Result<RowAt, OutOfMemory>
         requires row { Stands source.now self.old at }
         ensures keeps { Keeps source.now self.old self.new }
         ensures row { IfOk result (λ at. StandsOn source.now self.new at (row_of (rows source.now self.new) offset)) }
