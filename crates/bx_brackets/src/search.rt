@@ -19,6 +19,7 @@ use std::marker::Model;
 
 /// Fills the list with `count` entries 0, which mean no closer, since an opener comes before its closer. Capacity grows to the
 /// need, and by a quarter at least.
+// Not inlined: it runs once a search, and the loop over the characters stays short.
 #[inline(never)]
 fn make_entries(closers: &mut Vec<u32>, count: usize) -> Result<(), AllocError>
     requires none { length closers.old.items ≡ 0 }
