@@ -85,7 +85,7 @@ fn text_and_query<'a, D: BidiData>(
     ensures glyphs { IfOk result (λ p. All (λ g. is_one_glyph (cow_str_bytes g.text) ≡ true) p.glyphs.items) }
     ensures widths { IfOk result (λ p. All (λ g. run_width (cow_str_bytes g.text) ≡ g.columns) p.glyphs.items) }
 {
-    // proof only: a body has a row
+    // `row_count` promises that a body has a row.
     let _rows = query.row_count();
     let row = LentRow {
         paragraph: query,
