@@ -62,7 +62,7 @@ impl<D: BidiData + Drop> Editor<D> {
         ensures region { result ≡ region self.now.editor }
         ensures range { IsRange self.now.editor.content.text result.0 result.1 }
     {
-        // proof only: the text is UTF-8
+        // `len` promises that the text is UTF-8.
         let _utf8 = self.document.len();
         let mark = self.cursor.mark.unwrap_or(self.cursor.place);
         (mark.min(self.cursor.place), mark.max(self.cursor.place))
