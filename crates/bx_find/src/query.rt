@@ -107,7 +107,7 @@ impl Query {
         ensures empty { result ≡ [] }
         ensures shorter { length result < length self.now }
     {
-        // proof only: the query has letters
+        // `len` promises that a query has letters.
         let _some = self.len();
         Ring::new()
     }
