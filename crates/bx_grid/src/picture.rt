@@ -47,7 +47,7 @@ impl Picture {
         ensures grid { result.now ≡ record { height = self.now.height; width = self.now.width; columns = self.now.columns } }
         ensures picture { IsPicture self.now }
     {
-        // its contract has the invariant of grids
+        // `columns` promises what always holds of a grid.
         let _columns = self.grid.columns();
         &self.grid
     }
