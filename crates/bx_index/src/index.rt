@@ -67,7 +67,7 @@ fn touched<D: BidiData>(
         × IsTouched (D.data tables.now) old change.now text.now.edited.text (flat front.now.blocks)
         (record { body = last; separator = 0 }) result.0 result.1 }
 {
-    // used by the contract alone
+    // `len` promises that the text is UTF-8. Only the contract names the tables.
     let _utf8 = text.len();
     let _ = tables;
     let first = front.find(change.start.saturating_sub(1));
@@ -116,7 +116,7 @@ fn range_after<D: BidiData>(
     requires short { total (closed front.now.blocks last) ≤ largest_text }
     ensures { IsScanRange (D.data tables.now) text.now.edited.text reached.0.start result }
 {
-    // used by the contract alone
+    // Only the contract names the old paragraphs and the tables.
     let _ = front;
     let _ = tables;
     let _last = last;
