@@ -79,7 +79,7 @@ pub fn moved<D: BidiData>(
     ensures boundary { IsCharBoundary (bytes source.now) place → IfOk result (λ o. IsCharBoundary (bytes source.now) o) }
     ensures row_boundary { is_to_row_end m ≡ true → IfOk result (λ o. IsCharBoundary (bytes source.now) o) }
 {
-    // proof only: the width is within its limits
+    // `width` promises that the width is from 1 to 500.
     let _side = view.width();
     let place = led_by(view, source, m, place)?;
     Ok(place)

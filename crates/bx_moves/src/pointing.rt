@@ -27,7 +27,7 @@ pub fn pointed_at<D: BidiData>(
     ensures text_place { IfOk result (IsTextPlace (D.data source.now.tables.now) (bytes source.now)) }
     ensures boundary { IfOk result (λ o. IsCharBoundary (bytes source.now) o) }
 {
-    // proof only: the width is within its limits
+    // `width` promises that the width is from 1 to 500.
     let _side = view.width();
     let first = view.row_at(source, top)?;
     let below = usize::from(row.saturating_sub(1));
