@@ -146,6 +146,7 @@ fn level_before(found: &[u8], paragraph: u8) -> u8
 
 /// Appends a unit without a kept character. It waits if the unit before it does. Returns the new index of the first waiting
 /// unit.
+// Not inlined: few units have no kept character, and the loop over all stays short.
 #[inline(never)]
 #[tactic(auto, using(crate::proofs::LevelSteps::before_waits, crate::proofs::LevelSteps::before_settled))]
 fn push_before(found: &mut Vec<u8>, waiting: usize, paragraph: u8) -> Result<usize, AllocError>
