@@ -92,7 +92,7 @@ fn drop_oldest<D: BidiData>(cache: &mut Vec<ParagraphLayout>, tables: &D, base: 
     ensures room { length cache.new.items < most_cached }
     ensures bytes { cached_bytes cache.new.items ≤ cached_bytes cache.old.items }
 {
-    // used by the contract alone
+    // Only the contract names the tables and the base direction.
     let _ = tables;
     let _ = base;
     if cache.len() >= MOST_CACHED {
@@ -158,7 +158,7 @@ pub(crate) fn lay_out_in<D: BidiData>(
     ensures cache { AreCached (D.data tables.now) base cache.new.items }
     ensures body { OnOk result ((body : List ℕ) → HasBody body cache.old.items i → Caches body w cache.new.items i) }
 {
-    // used by the contract alone
+    // Only the contract names the base direction.
     let _ = base;
     if cache[i].width() != w {
         cache[i].set_width(tables, w)?;
@@ -186,7 +186,7 @@ pub(crate) fn edit_in<D: BidiData>(
     ensures body { IfOk result (λ did. did ≡ true → (body : List ℕ) → (w : ℕ) → Caches body w cache.old.items i
         → Caches (splice body range.start range.end new.now) w cache.new.items i) }
 {
-    // used by the contract alone
+    // Only the contract names the base direction.
     let _ = base;
     let body = cache[i].body();
     if !body.is_char_boundary(range.start) || !body.is_char_boundary(range.end) {

@@ -36,7 +36,7 @@ impl View {
         requires order { at.start ≤ place }
         ensures { IfOk result (IsPosition (D.data source.now.tables.now) self.now.w (bytes source.now) (rows source.now self.now) place) }
     {
-        // proof only: the number of paragraphs is within its limit
+        // `count` promises that the number of paragraphs is a `usize`.
         let _count = source.index.count();
         let row = self.row(source, at);
         let standing = row.standing(place - at.start)?;

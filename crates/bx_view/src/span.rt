@@ -16,7 +16,7 @@ pub fn current_span<D: BidiData>(source: &Source<'_, D>, walk: &ParagraphWalk<'_
     ensures number { result.number ≡ walk.now.number }
     ensures is { IsSpan source.now result }
 {
-    // used by the contract alone
+    // Only the contract names the text.
     let _ = source;
     let (start, stop) = walk.span();
     TextSpan {

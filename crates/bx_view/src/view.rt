@@ -146,7 +146,7 @@ impl View {
         requires cached { Caches (body_at source.now number) self.now.w self.now.cache cached }
         ensures { IsOfText source.now self.now number result.now }
     {
-        // used by the contract alone
+        // Only the contract names the text and the paragraph's number.
         let _ = source;
         let _ = number;
         &self.cache[cached]
@@ -200,7 +200,7 @@ impl View {
         requires row { Stands source.now self.now at }
         ensures { IsAlong source.now result at }
     {
-        // used by the contract alone
+        // Only the contract names the view.
         let _ = self;
         source.index.walk_at(at.paragraph, at.start)
     }
