@@ -8,7 +8,7 @@ use Rattle.bx_keys.specs.declared.key.Key.TheVariants.{Insert, PasteEnd}
 use Rattle.bx_terms.specs.Sizes.{largest_text}
 use Rattle.bx_text.specs.Edits.{fits}
 use Rattle.bx_ucd.specs.Data.{Data}
-use Rattle.bx_asking.specs.declared.question.Ask.TheVariants as asks
+use Rattle.bx_asking.specs.declared.answers.Ask.TheVariants as asks
 use Rattle.bx_runs.specs.declared.typing.Typing.TheVariants as typings
 use Rattle.bx_editor.specs.declared.message.Message.TheVariants.{Pasting, TextFull}
 use Rattle.bx_editor.specs.declared.seek.Seek.TheVariants as seeks

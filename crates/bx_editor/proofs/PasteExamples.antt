@@ -7,8 +7,8 @@ use Rattle.unicode_width.proofs.Computing.{unicode_width}
 use Rattle.bx_keys.specs.declared.key.Key.{Key}
 use Rattle.bx_keys.specs.declared.key.Key.TheVariants.{Back, Copy, Cut, Down, Erase, Find, Forward, GoTo, LineDown, Mark, Name, NewLine, Point, Quit}
 use Rattle.bx_keys.specs.declared.key.Key.TheVariants.{PasteStart, PasteEnd, Redo, Repaint, Right, RowEnd, Save, Select, Size, TextEnd, Undo, UndoRun}
-use Rattle.bx_asking.specs.declared.question.Ask.{Ask}
-use Rattle.bx_asking.specs.declared.question.Ask.TheVariants as asks
+use Rattle.bx_asking.specs.declared.answers.Ask.{Ask}
+use Rattle.bx_asking.specs.declared.answers.Ask.TheVariants as asks
 use Rattle.bx_runs.specs.declared.typing.Typing.{Typing}
 use Rattle.bx_runs.specs.declared.typing.Typing.TheVariants as typings
 use Rattle.bx_editor.specs.declared.message.Message.{Message}

@@ -9,8 +9,8 @@ use Rattle.bx_store.specs.declared.store.StoreFault.{StoreFault}
 use Rattle.bx_text.specs.Edits.{fits}
 use Rattle.bx_runs.specs.declared.typing.Typing.{Typing}
 use Rattle.bx_ucd.specs.Data.{Data}
-use Rattle.bx_asking.specs.declared.question.Ask.{Ask}
-use Rattle.bx_asking.specs.declared.question.Ask.TheVariants as asks
+use Rattle.bx_asking.specs.declared.answers.Ask.{Ask}
+use Rattle.bx_asking.specs.declared.answers.Ask.TheVariants as asks
 use Rattle.bx_find.specs.Nearest.{IsFirst, MatchesAt}
 use Rattle.bx_find.specs.Matches.{first_from}
 use Rattle.bx_find.specs.declared.reading.Reading.TheVariants.{Close}

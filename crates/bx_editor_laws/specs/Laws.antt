@@ -8,7 +8,7 @@ use Rattle.bx_keys.specs.declared.key.Key.TheVariants.{Quit, Undo, Redo, Mark, C
 use Rattle.bx_store.specs.declared.store.StoreFault.{StoreFault}
 use Rattle.bx_text.specs.Edits.{Edit}
 use Rattle.bx_ucd.specs.Data.{Data}
-use Rattle.bx_asking.specs.declared.question.Ask.TheVariants as asks
+use Rattle.bx_asking.specs.declared.answers.Ask.TheVariants as asks
 use Rattle.bx_find.specs.Nearest.{IsFirst, IsLast, MatchesAt}
 use Rattle.bx_view.specs.Moves.{place_at}
 use Rattle.bx_editor.specs.declared.message.Message.{Message}

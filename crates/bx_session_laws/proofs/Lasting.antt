@@ -6,7 +6,7 @@ use Rattle.bx_keys.specs.declared.key.Key.TheVariants.{Point}
 use Rattle.bx_terms.specs.declared.base.Base.{Base}
 use Rattle.bx_text.specs.Edits.{Edited}
 use Rattle.bx_ucd.specs.Data.{Data}
-use Rattle.bx_asking.specs.declared.question.Ask.{Ask}
+use Rattle.bx_asking.specs.declared.answers.Ask.{Ask}
 use Rattle.bx_runs.specs.declared.typing.Typing.{Typing}
 use Rattle.bx_editor.specs.declared.aim.Aim.{Aim}
 use Rattle.bx_editor.specs.declared.seek.Seek.{Seek}
