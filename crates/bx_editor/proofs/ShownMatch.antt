@@ -9,7 +9,7 @@ use Rattle.bx_find.specs.Nearest.{MatchesAt, IsFirst}
 use Rattle.bx_find.specs.Letters.{letters_of, letters}
 use Rattle.bx_find.specs.Matches.{is_match, is_some, first_from}
 use Rattle.bx_find.specs.Spans.{match_end, spans_from}
-use Rattle.bx_find.specs.declared.reading.Reading.{Reading}
+use Rattle.bx_find.specs.declared.letters.Reading.{Reading}
 use Rattle.bx_find.proofs.Nearest.{first_is}
 use Rattle.bx_find.proofs.SpansOf.{span_found}
 use Rattle.bx_text.specs.Edits.{IsRange, splice}

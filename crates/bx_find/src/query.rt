@@ -4,8 +4,7 @@ ghost use Rattle.bx_find.specs.Borders.{IsBorder, AreBorders};
 ghost use Rattle.bx_find.specs.Letters.{letters};
 
 use crate::borders::border;
-use crate::letters::letters_of;
-use crate::reading::Reading;
+use crate::letters::{Reading, letters_of};
 use crate::ring::Ring;
 use arrayvec::ArrayVec;
 use bx_terms::first_char;

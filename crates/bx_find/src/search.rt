@@ -6,7 +6,7 @@ use crate::backward::{Latest, last_in};
 use crate::forward::first_in;
 use crate::haystack::{Haystack, upto};
 use crate::query::Query;
-use crate::reading::Reading;
+use crate::letters::Reading;
 use crate::sought::Sought;
 use bx_ucd::BidiData;
 

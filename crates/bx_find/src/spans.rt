@@ -4,7 +4,7 @@ ghost use Rattle.bx_find.specs.Spans.{is_attached, behind_letters, match_end, sp
 
 use crate::haystack::Haystack;
 use crate::query::Query;
-use crate::reading::Reading;
+use crate::letters::Reading;
 use crate::search::first_match;
 use crate::sought::Sought;
 use bx_terms::first_char;
