@@ -14,7 +14,7 @@ use Rattle.bx_asking.specs.declared.answers.Ask.{Ask}
 use Rattle.bx_asking.specs.declared.answers.Ask.TheVariants as asks
 use Rattle.bx_terms.specs.declared.base.Base.{Base}
 use Rattle.bx_paragraph.proofs.Starts.{side-some}
-use Rattle.bx_paragraph.specs.declared.slot.Slot.{Slot}
+use Rattle.bx_paragraph.specs.declared.slots.Slot.{Slot}
 use Rattle.bx_paragraph.specs.Slots.{column_of, entry, slot_offsets}
 use Rattle.bx_view.specs.declared.moves.Vertical.{Vertical}
 use Rattle.bx_view.specs.declared.moves.Vertical.TheVariants.{Up, Down}

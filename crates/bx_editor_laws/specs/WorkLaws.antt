@@ -5,7 +5,7 @@ use Rattle.bx_keys.specs.declared.key.Key.TheVariants.{ErasePoint, Find, FindNex
 use Rattle.bx_ucd.specs.Data.{Data}
 use Rattle.bx_asking.specs.declared.answers.Ask.TheVariants as asks
 use Rattle.bx_rows.specs.RowPicture.{columns_used}
-use Rattle.bx_paragraph.specs.declared.slot.Slot.{Slot}
+use Rattle.bx_paragraph.specs.declared.slots.Slot.{Slot}
 use Rattle.bx_paragraph.specs.Slots.{covers, row_slots}
 use Rattle.bx_view.specs.declared.moves.Logical.TheVariants.{Back}
 use Rattle.bx_view.specs.Moves.{step_logical}

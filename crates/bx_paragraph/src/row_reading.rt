@@ -11,8 +11,7 @@ ghost use Rattle.bx_paragraph.specs.OwnGlyphs.{row_own_glyphs};
 ghost use Rattle.bx_paragraph.specs.Slots.{row_slots};
 
 use crate::lent_row::LentRow;
-use crate::slot::Slot;
-use crate::slots::row_slots;
+use crate::slots::{Slot, row_slots};
 use bx_rows::{LaidRow, RowPicture};
 use bx_terms::OutOfMemory;
 use bx_ucd::BidiData;
