@@ -19,7 +19,7 @@ use Rattle.bx_cells.specs.declared.unit.Unit.{Unit}
 use Rattle.bx_cells.specs.Units.{HasFace, StandsIn, unit_chars, unit_text, units}
 use Rattle.bx_cells.proofs.Rest.{chars_encoded}
 use Rattle.bx_joining.specs.JoinedText.{AreFormless}
-use Rattle.bx_rows.specs.declared.row.Row.{Row}
+use Rattle.bx_rows.specs.declared.wrapping.Row.{Row}
 use Rattle.bx_rows.specs.declared.start_search.RowStart.{RowStart}
 use Rattle.bx_rows_laws.specs.JoiningLaws.{FormlessRowsStay, FormsChangeTextsAlone, IsSameOrForm, LettersShowTheirForms, ShownLetter, columns_shown, text_shown}
 use Rattle.bx_rows_laws.specs.Laws.{EndsWell, IsFull, RowsAreOfRest, RowsCutUnits, RowsEndWell, RowsMeetAgain, StandInTurn, UnitsFitWindow, UnitsMakeBody}

@@ -15,7 +15,7 @@ use Rattle.bx_cells.specs.declared.unit.Face.TheVariants.{Tab, Mark, Own}
 use Rattle.bx_cells.specs.declared.unit.Unit.{Unit}
 use Rattle.bx_cells.specs.Units.{HasFace, unit_text, units}
 use Rattle.bx_cells.proofs.Standing.{faces-units}
-use Rattle.bx_rows.specs.declared.row.Row.{Row}
+use Rattle.bx_rows.specs.declared.wrapping.Row.{Row}
 use Rattle.bx_rows.specs.RowPicture.{columns_used, unit_columns}
 use Rattle.bx_rows.specs.Shown.{IsRowOf}
 use Rattle.bx_rows.specs.VisualOrder.{visual}

@@ -15,7 +15,7 @@ use Rattle.bx_cells.proofs.Standing.{stand_if_units}
 use Rattle.bx_rows.specs.RowPicture.{unit_columns}
 use Rattle.bx_rows.specs.VisualOrder.{visual}
 use Rattle.bx_rows.specs.Wrapping.{row_units, wrap}
-use Rattle.bx_rows.specs.declared.row.Row.{Row}
+use Rattle.bx_rows.specs.declared.wrapping.Row.{Row}
 use Rattle.bx_rows.proofs.PictureLaws.{faces-row}
 use Rattle.bx_paragraph.specs.declared.moves.Visual.{Visual}
 use Rattle.bx_paragraph.specs.declared.moves.Visual.TheVariants.{Left, Right}
