@@ -5,7 +5,7 @@ ghost use Rattle.bx_terms.specs.Sizes.{is_side};
 ghost use Rattle.bx_text.specs.Edits.{IsRange};
 ghost use Rattle.bx_view.specs.Caching.{AreCached, FitsLimit, HasBody, Caches, IsCached, cached_bytes, most_cached};
 
-use crate::text_span::TextSpan;
+use crate::span::TextSpan;
 use bx_paragraph::ParagraphLayout;
 use bx_terms::{Base, OutOfMemory};
 use bx_text::Text;
