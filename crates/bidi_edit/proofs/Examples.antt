@@ -9,7 +9,7 @@ use Rattle.bx_session.specs.declared.end.End.{End}
 use Rattle.bx_session.specs.declared.end.End.TheVariants.{Quit, InputEnded}
 use Rattle.bx_session.specs.declared.end.RunFault.{RunFault}
 use Rattle.bx_session.specs.declared.end.RunFault.TheVariants.{WriteFault}
-use Rattle.bx_session.specs.declared.error.Refused.{Refused}
+use Rattle.bx_session.specs.declared.status.Refused.{Refused}
 use Rattle.bx_session.specs.declared.status.Status.{Status}
 use Rattle.bx_session.specs.Session.{Session, after_journal, with_painting}
 use Rattle.bx_session.specs.Saving.{StoreAfter, StoreState, is_applied, is_save_byte, is_save_key, text_to_save}

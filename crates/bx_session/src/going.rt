@@ -4,7 +4,7 @@
 ghost use Rattle.std.specs.Prelude.{◌≡◌, OnErr, OnOk};
 ghost use Rattle.bx_session.specs.Session.{after_going, as_changed, with_clipboard};
 
-use crate::error::Refused;
+use crate::status::Refused;
 use crate::session::Session;
 use bx_ucd::BidiData;
 

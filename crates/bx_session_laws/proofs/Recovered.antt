@@ -27,8 +27,8 @@ use Rattle.bx_editor.specs.Search.{without_search}
 use Rattle.bx_editor.specs.Selecting.{aged}
 use Rattle.bx_editor.proofs.InSearch.{behind, save-ends}
 use Rattle.bx_editor.proofs.OnePrompt.{keeps-one-prompt}
-use Rattle.bx_session.specs.declared.error.Refused.{Refused}
-use Rattle.bx_session.specs.declared.error.Refused.TheVariants as refused
+use Rattle.bx_session.specs.declared.status.Refused.{Refused}
+use Rattle.bx_session.specs.declared.status.Refused.TheVariants as refused
 use Rattle.bx_session.specs.declared.status.Status.{Status}
 use Rattle.bx_session.specs.Laws.{after_replaying}
 use Rattle.bx_session_laws.specs.Recovery.{RefusesNoKey, is_point}

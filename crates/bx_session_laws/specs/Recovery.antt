@@ -12,7 +12,7 @@ use Rattle.bx_editor.specs.Editor.{Editor, HasRows, at_start}
 use Rattle.bx_editor.specs.Pasting.{paste_ended}
 use Rattle.bx_editor.specs.Prompts.{HasOnePrompt}
 use Rattle.bx_editor.specs.declared.seek.Seek.TheVariants.{Off}
-use Rattle.bx_session.specs.declared.error.Refused.TheVariants as refused
+use Rattle.bx_session.specs.declared.status.Refused.TheVariants as refused
 use Rattle.bx_session.specs.declared.journal.Backlog.TheVariants.{Empty}
 use Rattle.bx_session.specs.Beginning.{Beginning, at_offset, begun, unpainted_at}
 use Rattle.bx_session.specs.Journal.{RecorderState, RunsRecorded}
