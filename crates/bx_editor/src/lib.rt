@@ -7,7 +7,6 @@ mod clipboard;
 mod cursor;
 mod editor;
 mod erasing;
-mod error;
 mod keys;
 mod laws;
 mod matches;
@@ -36,8 +35,8 @@ mod wrapping;
 
 pub use aim::Aim;
 pub use editor::Editor;
-pub use error::OpenError;
 pub use laws::{copies_go_out, paste_is_one_edit, paste_is_unseen};
 pub use message::Message;
+pub use opening::OpenError;
 pub use seek::Seek;
 pub use soft::Soft;
