@@ -4,7 +4,7 @@ use Rattle.std.specs.Prelude.{◌==◌, Option, Some, None}
 use Rattle.bx_asking.specs.declared.answers.Ask.{Ask}
 use Rattle.bx_store.specs.declared.store.StoreFault.{StoreFault}
 use Rattle.bx_ucd.specs.Data.{Data}
-use Rattle.bx_editor.specs.declared.aim.Aim.TheVariants as aims
+use Rattle.bx_editor.specs.declared.seek.Aim.TheVariants as aims
 use Rattle.bx_editor.specs.declared.seek.Seek.TheVariants as seeks
 use Rattle.bx_editor.specs.Editor.{Editor, after_save}
 use Rattle.bx_editor.specs.Effects.{Effect, Seeks, SeeksNext, AsksLine, AsksName, Before, by}

@@ -12,7 +12,7 @@ use Rattle.bx_editor.specs.declared.message.Message.{Message}
 use Rattle.bx_editor.specs.declared.message.Message.TheVariants.{Copied, LineCopied, NothingToCopy, TextFull, TooLongForClipboard}
 use Rattle.bx_editor.specs.declared.seek.Seek.{Seek}
 use Rattle.bx_editor.specs.declared.seek.Seek.TheVariants as seeks
-use Rattle.bx_editor.specs.declared.soft.Soft.TheVariants.{Off}
+use Rattle.bx_editor.specs.declared.cursor.Soft.TheVariants.{Off}
 use Rattle.bx_editor.specs.Clipboard.{clip_of, is_clip}
 use Rattle.bx_editor.specs.Editor.{Editor, cleared, with_insertion, with_removal}
 use Rattle.bx_editor.specs.Effects.{before}

@@ -11,8 +11,8 @@ use Rattle.bx_find.specs.Letters.{letters}
 use Rattle.bx_find.specs.Matches.{first_from, last_before}
 use Rattle.bx_view.specs.Moves.{place_at}
 use Rattle.bx_view.specs.TextRows.{TextRow, places}
-use Rattle.bx_editor.specs.declared.aim.Aim.{Aim}
-use Rattle.bx_editor.specs.declared.aim.Aim.TheVariants as aims
+use Rattle.bx_editor.specs.declared.seek.Aim.{Aim}
+use Rattle.bx_editor.specs.declared.seek.Aim.TheVariants as aims
 use Rattle.bx_editor.specs.declared.matches.Landing.{Landing}
 use Rattle.bx_editor.specs.declared.message.Message.{Message}
 use Rattle.bx_editor.specs.declared.message.Message.TheVariants.{FromStart, FromEnd, NotFound}

@@ -5,12 +5,10 @@ ghost use Rattle.bx_grid.specs.Picture.{is_size};
 ghost use Rattle.bx_editor.specs.Editor.{at_start};
 ghost use Rattle.bx_editor.specs.Opening.{Causes, IsLongestUtf8};
 
-use crate::aim::Aim;
-use crate::cursor::Cursor;
+use crate::seek::{Aim, Seek};
+use crate::cursor::{Cursor, Soft};
 use crate::editor::Editor;
 use crate::past::Past;
-use crate::seek::Seek;
-use crate::soft::Soft;
 use bx_asking::Ask;
 use bx_document::Document;
 use bx_runs::{Runs, Typing};

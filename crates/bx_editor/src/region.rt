@@ -6,7 +6,7 @@ ghost use Rattle.bx_editor.specs.Region.{after_copy, after_cut, after_mark, held
 
 use crate::editor::Editor;
 use crate::message::Message;
-use crate::soft::Soft;
+use crate::cursor::Soft;
 use bx_terms::OutOfMemory;
 use bx_ucd::BidiData;
 

@@ -21,7 +21,7 @@ use Rattle.bx_find.specs.declared.letters.Reading.TheVariants.{Close}
 use Rattle.bx_find.proofs.Nearest.{first_is}
 use Rattle.bx_find_laws.proofs.Following.{spans_are}
 use Rattle.bx_document.specs.Swapped.{behind_character, last_stop, swapped}
-use Rattle.bx_editor.specs.declared.aim.Aim.TheVariants as aims
+use Rattle.bx_editor.specs.declared.seek.Aim.TheVariants as aims
 use Rattle.bx_editor.specs.declared.message.Message.TheVariants.{TextFull}
 use Rattle.bx_editor.specs.declared.seek.Seek.TheVariants.{Off, Replacing}
 use Rattle.bx_editor_laws.specs.AskingLaws.{is_enter}

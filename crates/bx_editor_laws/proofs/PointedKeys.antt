@@ -22,8 +22,8 @@ use Rattle.bx_view_laws.proofs.PointedTop as tops
 use Rattle.bx_view_laws.proofs.PointedUnits.{own-cells-stay, units-are-taken}
 use Rattle.bx_editor.specs.declared.seek.Seek.{Seek}
 use Rattle.bx_editor.specs.declared.seek.Seek.TheVariants.{Off, Begun, Typed, WithBegun, WithTyped, Replacing}
-use Rattle.bx_editor.specs.declared.soft.Soft.{Soft}
-use Rattle.bx_editor.specs.declared.soft.Soft.TheVariants as softness
+use Rattle.bx_editor.specs.declared.cursor.Soft.{Soft}
+use Rattle.bx_editor.specs.declared.cursor.Soft.TheVariants as softness
 use Rattle.bx_editor.specs.Editor.{Editor, HasRows, cleared, rows, text_height, with_place}
 use Rattle.bx_editor.specs.Effects.{Before, before}
 use Rattle.bx_editor.specs.Keys.{after_any, after_key}

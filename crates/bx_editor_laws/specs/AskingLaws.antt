@@ -30,7 +30,7 @@ use Rattle.bx_document.specs.Document.{wrapped_end}
 use Rattle.bx_document.specs.PlaceLevel.{IsFirstLevel}
 use Rattle.bx_editor.specs.declared.message.Message.{Message}
 use Rattle.bx_editor.specs.declared.message.Message.TheVariants.{MoreThanOneLine, TextFull}
-use Rattle.bx_editor.specs.declared.soft.Soft.TheVariants as softness
+use Rattle.bx_editor.specs.declared.cursor.Soft.TheVariants as softness
 use Rattle.bx_editor.specs.Answers.{IsAnswer}
 use Rattle.bx_editor.specs.Asking.{after_going, longest_code, with_answer, without_ask}
 use Rattle.bx_editor.specs.Editor.{Editor, at_start, place_after, HasRows}
