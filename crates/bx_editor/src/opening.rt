@@ -5,10 +5,10 @@ ghost use Rattle.bx_grid.specs.Picture.{is_size};
 ghost use Rattle.bx_editor.specs.Editor.{at_start};
 ghost use Rattle.bx_editor.specs.Opening.{Causes, IsLongestUtf8};
 
-use crate::seek::{Aim, Seek};
 use crate::cursor::{Cursor, Soft};
 use crate::editor::Editor;
 use crate::past::Past;
+use crate::seek::{Aim, Seek};
 use bx_asking::Ask;
 use bx_document::Document;
 use bx_runs::{Runs, Typing};

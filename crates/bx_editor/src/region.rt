@@ -4,9 +4,9 @@ ghost use Rattle.bx_text.specs.Edits.{IsRange};
 ghost use Rattle.bx_editor.specs.Editor.{cleared};
 ghost use Rattle.bx_editor.specs.Region.{after_copy, after_cut, after_mark, held_message, is_at_mark, region, taken, with_held, without_mark};
 
+use crate::cursor::Soft;
 use crate::editor::Editor;
 use crate::message::Message;
-use crate::cursor::Soft;
 use bx_terms::OutOfMemory;
 use bx_ucd::BidiData;
 

@@ -4,8 +4,8 @@ ghost use Rattle.bx_terms.specs.Characters.{are_ascii_printable};
 ghost use Rattle.bx_document.specs.QueryRow.{IsNarrow};
 ghost use Rattle.bx_editor.specs.Status.{glyph_row, letter_glyphs, prompt_glyphs, prompt_text, query_prompt, search_glyphs, search_prompt, status_line, typed_glyphs};
 
-use crate::seek::{Aim, Seek};
 use crate::editor::Editor;
+use crate::seek::{Aim, Seek};
 use bx_asking::Ask;
 use bx_document::Document;
 use bx_grid::Grid;

@@ -8,8 +8,8 @@ ghost use Rattle.bx_grid.specs.Terminal.{Terminal, reads};
 ghost use Rattle.bx_session.specs.Painting.{AppendsPainting, QueuesPicture, Updates, text_in};
 ghost use Rattle.bx_session.specs.Session.{clip_after, known_if, painted_after, painting, then_clip, with_painting, with_painting_owed};
 
-use crate::status::Refused;
 use crate::session::Session;
+use crate::status::Refused;
 use bx_editor::Editor;
 use bx_grid::{Grid, Picture};
 use bx_keys::Key;
