@@ -10,8 +10,7 @@ mod texts;
 
 pub use base::{Base, UnknownBase};
 pub use characters::{
-    are_ascii_printable, are_printable, ascii_glyph, is_ascii_printable, is_control,
-    is_direction_mark,
+    are_ascii_printable, are_printable, is_ascii_printable, is_control, is_direction_mark,
 };
 pub use glyphs::{is_glyph, run_width};
 pub use memory::OutOfMemory;
