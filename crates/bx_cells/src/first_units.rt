@@ -44,7 +44,7 @@ fn listed_from<D: BidiData>(
 {
     let mut units = Vec::with_capacity(alloc, range.count.min(FIRST_ROOM))?;
     let mut next = range.start;
-    'units: while units.len() < range.count && next < body.len() {
+    while units.len() < range.count && next < body.len() {
         let unit = unit_at(body, next, tables, w);
         units.push(unit)?;
         next = unit.stop;
