@@ -84,7 +84,7 @@ pub(crate) fn narrow_run<D: BidiData>(body: &str, at: usize, most: u16, tables: 
     // The unit that begins here joins the run once the next one begins: `is_break` changes if a mark follows.
     let mut is_break = is_blank(tables.class(c));
     let mut rest = behind;
-    'chars: while let Some((c, behind)) = first_char(rest) {
+    while let Some((c, behind)) = first_char(rest) {
         match simple_kind(c) {
             Simple::Begins(columns) => {
                 let stop = body.len() - rest.len();
