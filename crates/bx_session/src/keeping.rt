@@ -70,7 +70,7 @@ pub(crate) fn keep_and_feed<D: BidiData + Drop, V: Device, S: Store>(
     ensures tables { session.new.tables ≡ session.old.tables }
 {
     let mut rest = bytes;
-    'parts: while !rest.is_empty() {
+    while !rest.is_empty() {
         if session.ended() {
             return;
         }

@@ -55,7 +55,7 @@ pub fn run_device<D: BidiData + Drop, V: Device, S: Store>(
 {
     send(device, session)?;
     let mut buffer = [0; 256];
-    'reads: for read in 0..limit {
+    for read in 0..limit {
         if session.ended() {
             return Ok(End::Quit);
         }

@@ -5,8 +5,8 @@ use Rattle.bx_session.specs.Running.{ByteAnswer, FeedsAll, bytes_of}
 use Rattle.bx_session.specs.Saving.{store_state}
 use Rattle.bx_session.proofs.keeping.keep_and_feed.Given as goal
 
-abbrev pub invariant-parts : goal.invariant-parts
-invariant-parts g l =
+abbrev pub invariant-loop-rest : goal.invariant-loop-rest
+invariant-loop-rest g l =
     let store = store_state g.S.Store.contents g.S.Store.faults in
     ((answered : List ByteAnswer) × (parts : List (List ℕ))
     × FeedsAll (g.D.BidiData.data l.fn.session.tables) l.fn.session.session (store l.fn.store) answered l.session.session (store l.store)
@@ -15,5 +15,5 @@ invariant-parts g l =
     × (concat parts ≡ bytes_of answered))
     × (l.session.tables ≡ l.fn.session.tables)
 
-abbrev pub decreases-parts : goal.decreases-parts
-decreases-parts g l = length l.rest
+abbrev pub decreases-loop-rest : goal.decreases-loop-rest
+decreases-loop-rest g l = length l.rest

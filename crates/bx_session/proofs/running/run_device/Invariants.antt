@@ -4,8 +4,8 @@ use Rattle.bx_session.specs.Log.{HasLogged}
 use Rattle.bx_session.specs.Saving.{store_state}
 use Rattle.bx_session.proofs.running.run_device.Given as goal
 
-abbrev pub invariant-reads : goal.invariant-reads
-invariant-reads g l =
+abbrev pub invariant-loop-read : goal.invariant-loop-read
+invariant-loop-read g l =
     let store = store_state g.S.Store.contents g.S.Store.faults in
     (logged : HasLogged g.V.Device.did (g.D.BidiData.data l.fn.session.tables) l.fn.limit (Ok Quit) l.fn.session.session l.session.session
     (store l.fn.store) (store l.store) l.fn.device l.device)
