@@ -34,7 +34,7 @@ fn unit_start(body: &str, number: usize) -> usize
 {
     let mut at = 0;
     let mut left = number;
-    'units: while left > 0 && at < body.len() {
+    while left > 0 && at < body.len() {
         at = unit_end(body, at);
         left -= 1;
     }
