@@ -21,7 +21,8 @@ use bx_paragraph::{LentRow, ParagraphLayout};
 use bx_terms::OutOfMemory;
 use bx_ucd::BidiData;
 
-/// A range of bytes in the body of a cached paragraph, from the offset `start` up to `stop`.
+/// A range of bytes in the body of a cached paragraph, from the offset `start` up to `stop`. It is no plain range, since its offsets
+/// mean nothing without the paragraph.
 #[derive(Clone, Copy)]
 pub struct CachedRange {
     // the paragraph's index among the cached ones

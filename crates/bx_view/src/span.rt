@@ -8,7 +8,7 @@ use crate::source::Source;
 use bx_index::ParagraphWalk;
 use bx_ucd::BidiData;
 
-/// The body of a paragraph, by its offsets in bytes of the text.
+/// The body of a paragraph, by its offsets in bytes of the text. It is no plain range, since rows are told by the paragraph's number.
 #[derive(Clone, Copy)]
 pub struct TextSpan {
     /// The number of the paragraph, from 0.
