@@ -68,6 +68,5 @@ pub fn units_from<D: BidiData>(
     ensures stand { IfOk result (λ v. All (StandsIn body.now) v.items) }
     ensures faces { IfOk result (λ v. All (HasFace (D.data tables.now) w body.now) v.items) }
 {
-    let units = listed_from(alloc, body, range, tables, w)?;
-    Ok(units)
+    Ok(listed_from(alloc, body, range, tables, w)?)
 }

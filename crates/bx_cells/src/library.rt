@@ -26,6 +26,5 @@ pub fn units<D: BidiData>(
         start: 0,
         count: body.len(),
     };
-    let units = units_from(alloc, body, all, tables, w)?;
-    Ok(units)
+    units_from(alloc, body, all, tables, w)
 }
