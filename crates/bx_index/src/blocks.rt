@@ -187,8 +187,7 @@ impl Blocks {
         ensures spares { self.new.spares ≡ self.old.spares }
     {
         self.spares.reserve(spares)?;
-        self.blocks.reserve(spares)?;
-        Ok(())
+        self.blocks.reserve(spares)
     }
 
     /// Allocates a spare block.
