@@ -26,38 +26,14 @@ fn led_by<D: BidiData>(
     ensures place { IfOk result (λ o. o ≡ moved (D.data source.now.tables.now) (bytes source.now) view.old.w (rows source.now view.old) m place) }
 {
     match m {
-        Move::Logical(way) => {
-            let place = step_logical(view, source, way, place)?;
-            Ok(place)
-        }
-        Move::Visual(side) => {
-            let place = step_visual(view, source, side, place)?;
-            Ok(place)
-        }
-        Move::Rows(way, count) => {
-            let place = rows_straight(view, source, way, count, place)?;
-            Ok(place)
-        }
-        Move::RowsIn(way, count, column) => {
-            let place = rows_away(view, source, way, count, column, place)?;
-            Ok(place)
-        }
-        Move::RowHome => {
-            let place = row_home(view, source, place)?;
-            Ok(place)
-        }
-        Move::RowEnd => {
-            let place = row_end(view, source, place)?;
-            Ok(place)
-        }
-        Move::Word(way) => {
-            let place = step_word(view, source, way, place)?;
-            Ok(place)
-        }
-        Move::WordTowards(side) => {
-            let place = word_towards(view, source, side, place)?;
-            Ok(place)
-        }
+        Move::Logical(way) => step_logical(view, source, way, place),
+        Move::Visual(side) => step_visual(view, source, side, place),
+        Move::Rows(way, count) => rows_straight(view, source, way, count, place),
+        Move::RowsIn(way, count, column) => rows_away(view, source, way, count, column, place),
+        Move::RowHome => row_home(view, source, place),
+        Move::RowEnd => row_end(view, source, place),
+        Move::Word(way) => step_word(view, source, way, place),
+        Move::WordTowards(side) => word_towards(view, source, side, place),
         Move::TextStart => Ok(0),
         Move::TextEnd => Ok(source.text.len()),
     }

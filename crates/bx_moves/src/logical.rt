@@ -63,13 +63,7 @@ pub(crate) fn step_logical<D: BidiData>(
     ensures step { IfOk result (λ o. o ≡ step_logical (rows source.now view.old) way place) }
 {
     match way {
-        Logical::Forward => {
-            let place = step_forward(view, source, place)?;
-            Ok(place)
-        }
-        Logical::Back => {
-            let place = step_back(view, source, place)?;
-            Ok(place)
-        }
+        Logical::Forward => step_forward(view, source, place),
+        Logical::Back => step_back(view, source, place),
     }
 }

@@ -72,14 +72,8 @@ fn row_away<D: BidiData>(
         → IfOk result (λ b. StandsOn source.now view.new b (row_away (length (rows source.now view.old)) way count n)) }
 {
     match way {
-        Vertical::Up => {
-            let there = rows_up(view, source, at, count)?;
-            Ok(there)
-        }
-        Vertical::Down => {
-            let there = rows_down(view, source, at, count)?;
-            Ok(there)
-        }
+        Vertical::Up => rows_up(view, source, at, count),
+        Vertical::Down => rows_down(view, source, at, count),
     }
 }
 

@@ -62,8 +62,7 @@ fn past<D: BidiData>(
         let place = start_after(view, source, at)?;
         return Ok(place);
     }
-    let place = end_before(view, source, at)?;
-    Ok(place)
+    end_before(view, source, at)
 }
 
 /// The place after a step to a side: that of the row's next slot on the side, else the one `past` the row's last slot, else

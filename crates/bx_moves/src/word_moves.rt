@@ -129,14 +129,8 @@ pub(crate) fn step_word<D: BidiData>(
     ensures place { IfOk result (λ o. o ≡ step_word (D.data source.now.tables.now) (bytes source.now) way place) }
 {
     match way {
-        Logical::Forward => {
-            let place = word_forward(view, source, place)?;
-            Ok(place)
-        }
-        Logical::Back => {
-            let place = word_back(view, source, place)?;
-            Ok(place)
-        }
+        Logical::Forward => word_forward(view, source, place),
+        Logical::Back => word_back(view, source, place),
     }
 }
 
