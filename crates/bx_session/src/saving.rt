@@ -33,8 +33,7 @@ pub fn save_pieces<S: Store>(pieces: Slices<'_>, store: &mut S) -> Result<(), St
 {
     store.begin()?;
     put_pieces(pieces, store)?;
-    store.commit()?;
-    Ok(())
+    store.commit()
 }
 
 /// The bytes after `beginning`; None if they do not begin with it.
