@@ -111,8 +111,7 @@ fn make_room(
 {
     added.reserve(bytes)?;
     past.reserve(2)?;
-    spares.fill(6)?;
-    Ok(())
+    spares.fill(6)
 }
 
 impl Text {

@@ -66,8 +66,7 @@ pub fn make_room_to_turn(
     ensures enough { OnOk result (2 * n ≤ spares.new) }
 {
     spares.fill(2 * n)?;
-    to.reserve(n)?;
-    Ok(())
+    to.reserve(n)
 }
 
 /// Applies the last `n` steps of `from`, one after another, and pushes the steps that reverse them to `to`, in room made
