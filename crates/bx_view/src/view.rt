@@ -220,8 +220,7 @@ impl View {
             return Ok(Some(below(at)));
         }
         let mut walk = self.walk_from(source, at);
-        let next = self.next_row_along(source, &mut walk, at)?;
-        Ok(next)
+        self.next_row_along(source, &mut walk, at)
     }
 
     /// Like `next_row`, but advances `walk`, which is at the paragraph of `at`.
@@ -270,8 +269,7 @@ impl View {
             return Ok(Some(above(at)));
         }
         let mut walk = self.walk_from(source, at);
-        let before = self.row_before_along(source, &mut walk, at)?;
-        Ok(before)
+        self.row_before_along(source, &mut walk, at)
     }
 
     /// Like `row_before`, for many steps in turn: `walk`, which is at the paragraph of `at`, goes along.
