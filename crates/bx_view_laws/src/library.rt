@@ -36,8 +36,7 @@ fn starts_in<D: BidiData>(
     let Ok(body) = source.text.copy_range(span.start, span.stop) else {
         return Err(OutOfMemory);
     };
-    let starts = row_starts(alloc, body.as_str(), source.tables, w)?;
-    Ok(starts)
+    row_starts(alloc, body.as_str(), source.tables, w)
 }
 
 /// The number of rows of the paragraphs before paragraph `number`, from 0, in a window of `w` columns.
@@ -84,8 +83,7 @@ pub fn row_count<D: BidiData>(
     ensures { IfOk result (λ n. n ≡ length (rows source.now view.now)) }
 {
     let count = source.index.count();
-    let rows = rows_before(alloc, source, view.width(), count)?;
-    Ok(rows)
+    rows_before(alloc, source, view.width(), count)
 }
 
 /// The number, from 0, of the row that an offset of the text falls in. Wraps the paragraphs before it.
@@ -146,8 +144,7 @@ pub fn slots<D: BidiData>(
     let at = view.row_at(source, place)?;
     let row = view.row(source, at);
     let slots = row.slots()?;
-    let offsets = in_text(*slots.allocator(), row.start, &slots)?;
-    Ok(offsets)
+    Ok(in_text(*slots.allocator(), row.start, &slots)?)
 }
 
 /// The offset of the top row after scrolling `t` visible rows, from the row of the offset `top`, by the fewest rows that
