@@ -12,7 +12,7 @@ use Rattle.bx_ucd.specs.declared.joining.Form.{Form}
 use Rattle.bx_ucd.specs.declared.joining.Joining.{Joining}
 use Rattle.unicode_segmentation.proofs.Computing.{unicode_segmentation}
 use Rattle.unicode_width.proofs.Computing.{unicode_width}
-use Rattle.bx_resolve.specs.TestTables.{small}
+use Rattle.bx_ucd.specs.SmallTables.{small}
 use Rattle.bx_cells.specs.declared.unit.Face.{Face}
 use Rattle.bx_cells.specs.declared.unit.Face.TheVariants.{Tab, Mark, Own}
 use Rattle.bx_cells.specs.declared.unit.Unit.{Unit}
