@@ -57,6 +57,5 @@ pub fn moved<D: BidiData>(
 {
     // `width` promises that the width is from 1 to 500.
     let _side = view.width();
-    let place = led_by(view, source, m, place)?;
-    Ok(place)
+    led_by(view, source, m, place)
 }

@@ -47,8 +47,7 @@ fn step_back<D: BidiData>(
     let Some(above) = view.row_before(source, at)? else {
         return Ok(place);
     };
-    let last = last_place(&view.row(source, above))?;
-    Ok(last)
+    last_place(&view.row(source, above))
 }
 
 /// The next or the previous place in text order; at either end of the text the place itself.

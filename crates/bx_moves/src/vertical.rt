@@ -116,6 +116,5 @@ pub(crate) fn rows_straight<D: BidiData>(
     ensures place { IfOk result (λ o. o ≡ rows_away view.old.w (rows source.now view.old) way count (cell_of view.old.w (rows source.now view.old) place) place) }
 {
     let column = view.cell_of(source, place)?;
-    let place = rows_away(view, source, way, count, column, place)?;
-    Ok(place)
+    rows_away(view, source, way, count, column, place)
 }

@@ -23,8 +23,7 @@ fn start_after<D: BidiData>(
     let Some(there) = view.next_row(source, at)? else {
         return Ok(None);
     };
-    let place = reading_start(&view.row(source, there))?;
-    Ok(place)
+    reading_start(&view.row(source, there))
 }
 
 /// The place at the reading end of the previous row, if there is one.
@@ -41,8 +40,7 @@ fn end_before<D: BidiData>(
     let Some(there) = view.row_before(source, at)? else {
         return Ok(None);
     };
-    let place = reading_end(&view.row(source, there))?;
-    Ok(place)
+    reading_end(&view.row(source, there))
 }
 
 /// The place after a move past a row's last slot on a side: the reading start of the next row if the paragraph is read toward

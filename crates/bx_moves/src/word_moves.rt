@@ -147,6 +147,5 @@ pub(crate) fn word_towards<D: BidiData>(
 {
     let at = view.row_at(source, place)?;
     let way = word_way(reads_on(&view.row(source, at), side));
-    let place = step_word(view, source, way, place)?;
-    Ok(place)
+    step_word(view, source, way, place)
 }
