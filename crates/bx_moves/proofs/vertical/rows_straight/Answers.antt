@@ -10,6 +10,8 @@ returns-clause-place g c =
     IfOk-weaker c.rows_away.result _ _ (λ o is.
     is
     ∙ kept (g.D.BidiData.data c.args.source.now.tables.now) c.args.view.now c.cell_of.new.self
-    c.args.source.now.text.now.edited.text c.cell_of.ensures.keeps (λ w rs. rows_away w rs c.args.way c.args.count c.in_ok-column.column c.args.place)
+    c.args.source.now.text.now.edited.text c.cell_of.ensures.keeps (λ w rs. rows_away w rs c.args.way c.args.count
+    c.in_ok-column.column c.args.place)
     ∙ ap (λ column. rows_away c.args.view.now.w (rows_by (g.D.BidiData.data c.args.source.now.tables.now) c.args.view.now
-    c.args.source.now.text.now.edited.text) c.args.way c.args.count column c.args.place) c.in_ok-column.ensures.cell) c.rows_away.ensures.place
+    c.args.source.now.text.now.edited.text) c.args.way c.args.count column c.args.place) c.in_ok-column.ensures.cell)
+    c.rows_away.ensures.place

@@ -16,4 +16,5 @@ returns-clause-place g c =
     is
     ∙ ap (λ way. step_word says text way place) (c.word_way-way.ensures
     ∙ ap word_way (c.reads_on.ensures ∙ ap (λ r. reads_on c.args.side r.row) (c.row.ensures.row _ c.in_ok-at.ensures.row)
-    ∙ ap (λ rs. reads_on c.args.side (row_at rs (row_of rs place)).row) (rows-kept says c.args.view.now c.row_at.new.self text c.row_at.ensures.keeps)))) c.step_word.ensures.place
+    ∙ ap (λ rs. reads_on c.args.side (row_at rs (row_of rs place)).row) (rows-kept says c.args.view.now c.row_at.new.self text
+    c.row_at.ensures.keeps)))) c.step_word.ensures.place
