@@ -31,6 +31,5 @@ pub(crate) fn changed_from(
     ensures { IfOk result (λ s. string_bytes s ≡ drop from (changed edit.now)) }
 {
     let before = &edit.body[from..edit.start];
-    let text = joined(alloc, before, edit.inserted, &edit.body[edit.stop..])?;
-    Ok(text)
+    joined(alloc, before, edit.inserted, &edit.body[edit.stop..])
 }
