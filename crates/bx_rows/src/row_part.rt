@@ -48,7 +48,6 @@ impl<'a, 't, D: BidiData> Lines<'a, 't, D> {
             start: start.offset,
             count,
         };
-        let units = units_from(alloc, self.body, range, self.tables, self.w)?;
-        Ok(units)
+        units_from(alloc, self.body, range, self.tables, self.w)
     }
 }

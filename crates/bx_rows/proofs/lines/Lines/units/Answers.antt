@@ -1,3 +1,4 @@
+use Rattle.std.proofs.lemmas.Result.{IfOk-weaker}
 use Rattle.bx_rows.proofs.EachRow.{part-at, units-are, row-alone}
 use Rattle.bx_rows.proofs.lines.Lines.units.Goals as goal
 
@@ -15,17 +16,19 @@ pub returns-clause-units : goal.returns-clause-units
 returns-clause-units g c =
     let says = g.D.BidiData.data c.args.self.now.tables.now in
     let body = c.args.self.now.body.now in
-    let part = part-at says c.args.self.now.w body c.args.self.now.starts.now c.args.number _ c.start_of.result c.args.self.now.utf8 c.args.self.now.rows c.requires
-    c.start_of.ensures in
-    units-are says c.args.self.now.w body _ _ c.in_ok-units.units.items _ c.start_of.result c.most_units-count.result part c.most_units-count.ensures
-    c.in_ok-units.ensures.units
+    let part = part-at says c.args.self.now.w body c.args.self.now.starts.now c.args.number _ c.start_of.result c.args.self.now.utf8
+    c.args.self.now.rows c.requires c.start_of.ensures in
+    IfOk-weaker c.units_from.result _ _ (λ v is.
+    units-are says c.args.self.now.w body _ _ v.items _ c.start_of.result c.most_units-count.result part c.most_units-count.ensures is)
+    c.units_from.ensures.units
 
 pub returns-clause-row : goal.returns-clause-row
 returns-clause-row g c =
     let says = g.D.BidiData.data c.args.self.now.tables.now in
     let body = c.args.self.now.body.now in
-    let part = part-at says c.args.self.now.w body c.args.self.now.starts.now c.args.number _ c.start_of.result c.args.self.now.utf8 c.args.self.now.rows c.requires
-    c.start_of.ensures in
-    row-alone says c.args.self.now.w body c.args.number c.in_ok-units.units.items
-    (units-are says c.args.self.now.w body _ _ c.in_ok-units.units.items _ c.start_of.result c.most_units-count.result part c.most_units-count.ensures
-    c.in_ok-units.ensures.units)
+    let part = part-at says c.args.self.now.w body c.args.self.now.starts.now c.args.number _ c.start_of.result c.args.self.now.utf8
+    c.args.self.now.rows c.requires c.start_of.ensures in
+    IfOk-weaker c.units_from.result _ _ (λ v is.
+    row-alone says c.args.self.now.w body c.args.number v.items
+    (units-are says c.args.self.now.w body _ _ v.items _ c.start_of.result c.most_units-count.result part c.most_units-count.ensures is))
+    c.units_from.ensures.units
