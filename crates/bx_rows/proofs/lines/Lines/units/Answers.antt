@@ -4,13 +4,13 @@ use Rattle.bx_rows.proofs.lines.Lines.units.Goals as goal
 
 pub most_units-count-requires : goal.most_units-count-requires
 most_units-count-requires g c =
-    (part-at (g.D.BidiData.data c.args.self.now.tables.now) c.args.self.now.w c.args.self.now.body.now c.args.self.now.starts.now c.args.number _ c.start_of.result c.args.self.now.utf8
-    c.args.self.now.rows c.requires c.start_of.ensures).order
+    (part-at (g.D.BidiData.data c.args.self.now.tables.now) c.args.self.now.w c.args.self.now.body.now c.args.self.now.starts.now c.args.number _
+    c.start_of.result c.args.self.now.utf8 c.args.self.now.rows c.requires c.start_of.ensures).order
 
 pub units_from-requires : goal.units_from-requires
 units_from-requires g c =
-    (part-at (g.D.BidiData.data c.args.self.now.tables.now) c.args.self.now.w c.args.self.now.body.now c.args.self.now.starts.now c.args.number _ c.start_of.result c.args.self.now.utf8
-    c.args.self.now.rows c.requires c.start_of.ensures).boundary
+    (part-at (g.D.BidiData.data c.args.self.now.tables.now) c.args.self.now.w c.args.self.now.body.now c.args.self.now.starts.now c.args.number _
+    c.start_of.result c.args.self.now.utf8 c.args.self.now.rows c.requires c.start_of.ensures).boundary
 
 pub returns-clause-units : goal.returns-clause-units
 returns-clause-units g c =
