@@ -6,7 +6,7 @@ ghost use Rattle.bx_view.specs.Position.{IsPosition};
 ghost use Rattle.bx_view.specs.Source.{IsViewBy, Keeps, StandsOn, bytes, rows};
 ghost use Rattle.bx_view.specs.TextRows.{cell_of, row_of};
 
-use crate::row_at::RowAt;
+use crate::in_row::RowAt;
 use crate::source::Source;
 use crate::view::View;
 use bx_terms::OutOfMemory;

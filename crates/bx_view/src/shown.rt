@@ -7,7 +7,7 @@ ghost use Rattle.bx_rows.specs.Shown.{glyph_of};
 ghost use Rattle.bx_view.specs.Source.{OfRow, Stands, rows_of_body};
 ghost use Rattle.bx_view.specs.TextRows.{text_row_glyphs};
 
-use crate::row_at::RowAt;
+use crate::in_row::RowAt;
 use crate::source::Source;
 use crate::view::View;
 use bx_rows::RowPicture;

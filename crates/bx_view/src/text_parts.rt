@@ -3,7 +3,7 @@ ghost use Rattle.std.specs.Prelude.{◌≡◌, ◌&&◌, nat_lt, filter, IfOk};
 ghost use Rattle.bx_view.specs.Source.{OfRow, Stands};
 ghost use Rattle.bx_view.specs.TextParts.{is_in, slots_in};
 
-use crate::row_at::RowAt;
+use crate::in_row::RowAt;
 use crate::source::Source;
 use crate::view::View;
 use bx_paragraph::Slot;

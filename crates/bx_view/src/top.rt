@@ -5,8 +5,8 @@ ghost use Rattle.bx_view.specs.Source.{BeginsAt, IsViewBy, Keeps, Stands, Stands
 ghost use Rattle.bx_view.specs.TextRows.{row_of};
 ghost use Rattle.bx_view.specs.Top.{nearest_top};
 
+use crate::in_row::RowAt;
 use crate::position::Position;
-use crate::row_at::RowAt;
 use crate::source::Source;
 use crate::view::View;
 use bx_terms::OutOfMemory;

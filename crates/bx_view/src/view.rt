@@ -9,7 +9,7 @@ ghost use Rattle.bx_view.specs.Source.{IsAlong, IsBefore, IsNext, IsOfText, IsSp
 ghost use Rattle.bx_view.specs.TextRows.{row_of};
 
 use crate::cache::{add, cache_limit, find_in, lay_out_in};
-use crate::row_at::RowAt;
+use crate::in_row::RowAt;
 use crate::source::Source;
 use crate::span::{TextSpan, current_span, paragraph_under};
 use bx_index::ParagraphWalk;
