@@ -3,8 +3,7 @@
 ghost use Rattle.std.specs.Prelude.{◌≡◌, ◌+◌, ◌-◌, ◌*◌, ◌≤◌, ◌<◌, length};
 ghost use Rattle.bx_grid.specs.Picture.{GridState, PictureState, IsPicture, IsWithin};
 
-use crate::cell::Cell;
-use crate::grid::Grid;
+use crate::grid::{Cell, Grid};
 use std::marker::Model;
 
 /// A grid and the cell of the cursor.
