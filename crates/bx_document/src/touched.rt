@@ -165,6 +165,7 @@ pub(crate) fn place_after<D: BidiData>(
         return Ok(place);
     }
     let offset = range.start + new.len();
+    // The proof compares the place, so it has a name.
     let place = place_inside(alloc, source, view, range, new, offset)?;
     Ok(place)
 }
