@@ -45,6 +45,7 @@ pub(crate) fn status_line(
     ensures line { IfOk result (λ t. string_bytes t ≡ status_line changed paragraph unit) }
     ensures printable { IfOk result (λ t. are_ascii_printable (string_bytes t) ≡ true) }
 {
+    // The proof compares the text, so it has a name.
     let line = write_line(alloc, changed, paragraph, unit)?;
     Ok(line)
 }
@@ -129,6 +130,7 @@ fn draw_question<D: BidiData + Drop>(
 {
     let mut line = line;
     line.push_str(prompt_text(ask))?;
+    // The proof compares the row, so it has a name.
     let row = document.draw_typed(line.as_str(), answer)?;
     Ok(row)
 }
