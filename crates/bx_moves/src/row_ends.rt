@@ -33,6 +33,7 @@ pub(crate) fn row_end<D: BidiData>(
     ensures end { IfOk result (λ o. o ≡ row_end (rows source.now view.old) place) }
 {
     let at = view.row_at(source, place)?;
+    // The proof compares the place, so it has a name.
     let end = last_place(&view.row(source, at))?;
     Ok(end)
 }
