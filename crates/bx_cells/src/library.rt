@@ -26,5 +26,7 @@ pub fn units<D: BidiData>(
         start: 0,
         count: body.len(),
     };
-    units_from(alloc, body, all, tables, w)
+    // The proof compares the units, so they have a name.
+    let units = units_from(alloc, body, all, tables, w)?;
+    Ok(units)
 }
