@@ -187,7 +187,8 @@ impl Blocks {
         ensures spares { self.new.spares ≡ self.old.spares }
     {
         self.spares.reserve(spares)?;
-        self.blocks.reserve(spares)
+        self.blocks.reserve(spares)?;
+        Ok(())
     }
 
     /// Allocates a spare block.
