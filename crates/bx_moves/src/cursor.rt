@@ -25,15 +25,40 @@ fn led_by<D: BidiData>(
     ensures keeps { Keeps source.now view.old view.new }
     ensures place { IfOk result (λ o. o ≡ moved (D.data source.now.tables.now) (bytes source.now) view.old.w (rows source.now view.old) m place) }
 {
+    // The proof compares the place, so each arm names it.
     match m {
-        Move::Logical(way) => step_logical(view, source, way, place),
-        Move::Visual(side) => step_visual(view, source, side, place),
-        Move::Rows(way, count) => rows_straight(view, source, way, count, place),
-        Move::RowsIn(way, count, column) => rows_away(view, source, way, count, column, place),
-        Move::RowHome => row_home(view, source, place),
-        Move::RowEnd => row_end(view, source, place),
-        Move::Word(way) => step_word(view, source, way, place),
-        Move::WordTowards(side) => word_towards(view, source, side, place),
+        Move::Logical(way) => {
+            let place = step_logical(view, source, way, place)?;
+            Ok(place)
+        }
+        Move::Visual(side) => {
+            let place = step_visual(view, source, side, place)?;
+            Ok(place)
+        }
+        Move::Rows(way, count) => {
+            let place = rows_straight(view, source, way, count, place)?;
+            Ok(place)
+        }
+        Move::RowsIn(way, count, column) => {
+            let place = rows_away(view, source, way, count, column, place)?;
+            Ok(place)
+        }
+        Move::RowHome => {
+            let place = row_home(view, source, place)?;
+            Ok(place)
+        }
+        Move::RowEnd => {
+            let place = row_end(view, source, place)?;
+            Ok(place)
+        }
+        Move::Word(way) => {
+            let place = step_word(view, source, way, place)?;
+            Ok(place)
+        }
+        Move::WordTowards(side) => {
+            let place = word_towards(view, source, side, place)?;
+            Ok(place)
+        }
         Move::TextStart => Ok(0),
         Move::TextEnd => Ok(source.text.len()),
     }
@@ -57,5 +82,7 @@ pub fn moved<D: BidiData>(
 {
     // `width` promises that the width is from 1 to 500.
     let _side = view.width();
-    led_by(view, source, m, place)
+    // The proof compares the place, so it has a name.
+    let place = led_by(view, source, m, place)?;
+    Ok(place)
 }

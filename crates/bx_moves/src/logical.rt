@@ -47,7 +47,9 @@ fn step_back<D: BidiData>(
     let Some(above) = view.row_before(source, at)? else {
         return Ok(place);
     };
-    last_place(&view.row(source, above))
+    // The proof compares the place, so it has a name.
+    let last = last_place(&view.row(source, above))?;
+    Ok(last)
 }
 
 /// The next or the previous place in text order; at either end of the text the place itself.
@@ -61,8 +63,15 @@ pub(crate) fn step_logical<D: BidiData>(
     ensures keeps { Keeps source.now view.old view.new }
     ensures step { IfOk result (λ o. o ≡ step_logical (rows source.now view.old) way place) }
 {
+    // The proof compares the place, so each arm names it.
     match way {
-        Logical::Forward => step_forward(view, source, place),
-        Logical::Back => step_back(view, source, place),
+        Logical::Forward => {
+            let place = step_forward(view, source, place)?;
+            Ok(place)
+        }
+        Logical::Back => {
+            let place = step_back(view, source, place)?;
+            Ok(place)
+        }
     }
 }

@@ -71,9 +71,16 @@ fn row_away<D: BidiData>(
     ensures row { (n : ℕ) → StandsOn source.now view.old at n
         → IfOk result (λ b. StandsOn source.now view.new b (row_away (length (rows source.now view.old)) way count n)) }
 {
+    // The proof compares the row, so each arm names it.
     match way {
-        Vertical::Up => rows_up(view, source, at, count),
-        Vertical::Down => rows_down(view, source, at, count),
+        Vertical::Up => {
+            let there = rows_up(view, source, at, count)?;
+            Ok(there)
+        }
+        Vertical::Down => {
+            let there = rows_down(view, source, at, count)?;
+            Ok(there)
+        }
     }
 }
 
@@ -116,5 +123,7 @@ pub(crate) fn rows_straight<D: BidiData>(
     ensures place { IfOk result (λ o. o ≡ rows_away view.old.w (rows source.now view.old) way count (cell_of view.old.w (rows source.now view.old) place) place) }
 {
     let column = view.cell_of(source, place)?;
-    rows_away(view, source, way, count, column, place)
+    // The proof compares the place, so it has a name.
+    let place = rows_away(view, source, way, count, column, place)?;
+    Ok(place)
 }

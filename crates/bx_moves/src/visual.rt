@@ -23,7 +23,9 @@ fn start_after<D: BidiData>(
     let Some(there) = view.next_row(source, at)? else {
         return Ok(None);
     };
-    reading_start(&view.row(source, there))
+    // The proof compares the place, so it has a name.
+    let place = reading_start(&view.row(source, there))?;
+    Ok(place)
 }
 
 /// The place at the reading end of the previous row, if there is one.
@@ -40,7 +42,9 @@ fn end_before<D: BidiData>(
     let Some(there) = view.row_before(source, at)? else {
         return Ok(None);
     };
-    reading_end(&view.row(source, there))
+    // The proof compares the place, so it has a name.
+    let place = reading_end(&view.row(source, there))?;
+    Ok(place)
 }
 
 /// The place after a move past a row's last slot on a side: the reading start of the next row if the paragraph is read toward
@@ -56,11 +60,13 @@ fn past<D: BidiData>(
     ensures place { (n : ℕ) → StandsOn source.now view.old at n
         → IfOk result (λ o. o ≡ past view.old.w (rows source.now view.old) side n) }
 {
+    // The proof compares the place, so it has a name on both ways.
     if reads_on(&view.row(source, at), side) {
         let place = start_after(view, source, at)?;
         return Ok(place);
     }
-    end_before(view, source, at)
+    let place = end_before(view, source, at)?;
+    Ok(place)
 }
 
 /// The place after a step to a side: that of the row's next slot on the side, else the one `past` the row's last slot, else

@@ -128,9 +128,16 @@ pub(crate) fn step_word<D: BidiData>(
     ensures keeps { Keeps source.now view.old view.new }
     ensures place { IfOk result (λ o. o ≡ step_word (D.data source.now.tables.now) (bytes source.now) way place) }
 {
+    // The proof compares the place, so each arm names it.
     match way {
-        Logical::Forward => word_forward(view, source, place),
-        Logical::Back => word_back(view, source, place),
+        Logical::Forward => {
+            let place = word_forward(view, source, place)?;
+            Ok(place)
+        }
+        Logical::Back => {
+            let place = word_back(view, source, place)?;
+            Ok(place)
+        }
     }
 }
 
@@ -147,5 +154,7 @@ pub(crate) fn word_towards<D: BidiData>(
 {
     let at = view.row_at(source, place)?;
     let way = word_way(reads_on(&view.row(source, at), side));
-    step_word(view, source, way, place)
+    // The proof compares the place, so it has a name.
+    let place = step_word(view, source, way, place)?;
+    Ok(place)
 }

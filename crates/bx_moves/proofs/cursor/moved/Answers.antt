@@ -1,4 +1,3 @@
-use Rattle.std.proofs.lemmas.Result.{IfOk-weaker}
 use Rattle.bx_paragraph.proofs.Starts.{side-some}
 use Rattle.bx_view.specs.Places.{IsTextPlace}
 use Rattle.std.proofs.Common.{IsCharBoundary}
@@ -9,41 +8,37 @@ use Rattle.bx_view.proofs.KeptPlaces.{text-places-kept}
 use Rattle.bx_moves.proofs.cursor.moved.Goals as goal
 
 pub returns-clause-text_place : goal.returns-clause-text_place
-returns-clause-text_place g c = λ at.
+returns-clause-text_place g c =
     let says = g.D.BidiData.data c.args.source.now.tables.now in
     let text = c.args.source.now.text.now.edited.text in
     let v = c.args.view.now in
-    IfOk-weaker c.led_by.result _ _ (λ o is.
     moved-keeps says text v.w (rows_by says v text) (IsTextPlace says text)
     (text-places-kept says v.base v.w (side-some v.w c.width-side.ensures.side) text c.args.source.now.utf8)
-    c.args.place o c.args.m is at) c.led_by.ensures.place
+    c.args.place c.in_ok-place.place c.args.m c.in_ok-place.ensures.place
 
 pub returns-clause-row_place : goal.returns-clause-row_place
-returns-clause-row_place g c = λ at.
+returns-clause-row_place g c =
     let says = g.D.BidiData.data c.args.source.now.tables.now in
     let text = c.args.source.now.text.now.edited.text in
     let v = c.args.view.now in
-    IfOk-weaker c.led_by.result _ _ (λ o is.
     row-end-keeps says text v.w (rows_by says v text) (IsTextPlace says text)
     (text-places-kept says v.base v.w (side-some v.w c.width-side.ensures.side) text c.args.source.now.utf8)
-    c.args.place o c.args.m is at) c.led_by.ensures.place
+    c.args.place c.in_ok-place.place c.args.m c.in_ok-place.ensures.place
 
 pub returns-clause-boundary : goal.returns-clause-boundary
-returns-clause-boundary g c = λ at.
+returns-clause-boundary g c =
     let says = g.D.BidiData.data c.args.source.now.tables.now in
     let text = c.args.source.now.text.now.edited.text in
     let v = c.args.view.now in
-    IfOk-weaker c.led_by.result _ _ (λ o is.
     moved-keeps says text v.w (rows_by says v text) (IsCharBoundary text)
     (bounds-kept says v.base v.w (side-some v.w c.width-side.ensures.side) text c.args.source.now.utf8)
-    c.args.place o c.args.m is at) c.led_by.ensures.place
+    c.args.place c.in_ok-place.place c.args.m c.in_ok-place.ensures.place
 
 pub returns-clause-row_boundary : goal.returns-clause-row_boundary
-returns-clause-row_boundary g c = λ at.
+returns-clause-row_boundary g c =
     let says = g.D.BidiData.data c.args.source.now.tables.now in
     let text = c.args.source.now.text.now.edited.text in
     let v = c.args.view.now in
-    IfOk-weaker c.led_by.result _ _ (λ o is.
     row-end-keeps says text v.w (rows_by says v text) (IsCharBoundary text)
     (bounds-kept says v.base v.w (side-some v.w c.width-side.ensures.side) text c.args.source.now.utf8)
-    c.args.place o c.args.m is at) c.led_by.ensures.place
+    c.args.place c.in_ok-place.place c.args.m c.in_ok-place.ensures.place

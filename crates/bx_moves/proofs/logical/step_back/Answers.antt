@@ -1,5 +1,4 @@
 use Rattle.std.proofs.Common.{ℕ, ◌+◌, ◌-◌, ◌<◌, ◌≡◌, ◌∙◌, ap, find, nat_lt, reverse, subst}
-use Rattle.std.proofs.lemmas.Result.{IfOk-weaker}
 use Rattle.bx_paragraph.specs.BodyRows.{last_of}
 use Rattle.bx_view.specs.FoundRow.{IsBefore, StandsOn, rows_by}
 use Rattle.bx_view.specs.TextRows.{places_of, row_of}
@@ -13,10 +12,8 @@ returns-in-Some-clause-place g c =
     let v = c.row_at.new.self in
     let on = c.in_ok-at.ensures.row in
     let n : ℕ = row_of (rows_by says v text) c.args.place in
-    before-here says c.args.view.now v text c.args.place c.in_ok-at.at c.args.source.now.utf8 c.row_at.ensures.keeps on
-    c.in_ok-before.field-0
-    c.in-Some.before c.in-Some.is (c.in_ok-before.ensures ∙ ap (λ r. find (λ p. nat_lt p c.args.place) (reverse (places_of r)))
-    (c.row.ensures.row n on))
+    before-here says c.args.view.now v text c.args.place c.in_ok-at.at c.args.source.now.utf8 c.row_at.ensures.keeps on c.in_ok-before.field-0
+    c.in-Some.before c.in-Some.is (c.in_ok-before.ensures ∙ ap (λ r. find (λ p. nat_lt p c.args.place) (reverse (places_of r))) (c.row.ensures.row n on))
 
 pub returns-in_default-2-clause-place : goal.returns-in_default-2-clause-place
 returns-in_default-2-clause-place g c =
@@ -26,10 +23,8 @@ returns-in_default-2-clause-place g c =
     let on = c.in_ok-at.ensures.row in
     let n : ℕ = row_of (rows_by says v text) c.args.place in
     let first : n ≡ 0 = subst (IsBefore says c.row_before.new.self text n) c.in_default-2.is (c.in_ok-above.ensures.before n on) in
-    before-first says c.args.view.now v text c.args.place c.in_ok-at.at c.args.source.now.utf8 c.row_at.ensures.keeps on
-    c.in_ok-before.field-0
-    first c.in_default.is (c.in_ok-before.ensures ∙ ap (λ r. find (λ p. nat_lt p c.args.place) (reverse (places_of r)))
-    (c.row.ensures.row n on))
+    before-first says c.args.view.now v text c.args.place c.in_ok-at.at c.args.source.now.utf8 c.row_at.ensures.keeps on c.in_ok-before.field-0
+    first c.in_default.is (c.in_ok-before.ensures ∙ ap (λ r. find (λ p. nat_lt p c.args.place) (reverse (places_of r))) (c.row.ensures.row n on))
 
 pub row-requires-2 : goal.row-requires-2
 row-requires-2 g c =
@@ -53,10 +48,7 @@ returns-clause-place g c =
     let later = c.row_before.new.self in
     let there : (0 < n) × StandsOn says later text c.in-Some-2.above (n - 1) =
     subst (IsBefore says later text n) c.in-Some-2.is (c.in_ok-above.ensures.before n on) in
-    IfOk-weaker c.last_place.result _ _ (λ last is.
-    before-there says c.args.view.now v text c.args.place c.in_ok-at.at c.args.source.now.utf8 c.row_at.ensures.keeps on
-    c.in_ok-before.field-0
-    c.in_default.is later c.row_before.ensures.keeps there.0 last
-    (is ∙ ap (λ r. r.start + last_of r.row) (c.row-2.ensures.row (n - 1) there.1))
-    (c.in_ok-before.ensures ∙ ap (λ r. find (λ p. nat_lt p c.args.place) (reverse (places_of r))) (c.row.ensures.row n on)))
-    c.last_place.ensures
+    before-there says c.args.view.now v text c.args.place c.in_ok-at.at c.args.source.now.utf8 c.row_at.ensures.keeps on c.in_ok-before.field-0
+    c.in_default.is later c.row_before.ensures.keeps there.0 c.in_ok-last.last
+    (c.in_ok-last.ensures ∙ ap (λ r. r.start + last_of r.row) (c.row-2.ensures.row (n - 1) there.1))
+    (c.in_ok-before.ensures ∙ ap (λ r. find (λ p. nat_lt p c.args.place) (reverse (places_of r))) (c.row.ensures.row n on))

@@ -1,5 +1,4 @@
 use Rattle.std.proofs.Common.{◌∙◌, ap}
-use Rattle.std.proofs.lemmas.Result.{IfOk-weaker}
 use Rattle.bx_view.specs.FoundRow.{rows_by}
 use Rattle.bx_view.specs.Moves.{rows_away}
 use Rattle.bx_view.proofs.Beyond.{kept}
@@ -7,11 +6,8 @@ use Rattle.bx_moves.proofs.vertical.rows_straight.Goals as goal
 
 pub returns-clause-place : goal.returns-clause-place
 returns-clause-place g c =
-    IfOk-weaker c.rows_away.result _ _ (λ o is.
-    is
+    c.in_ok-place.ensures.place
     ∙ kept (g.D.BidiData.data c.args.source.now.tables.now) c.args.view.now c.cell_of.new.self
-    c.args.source.now.text.now.edited.text c.cell_of.ensures.keeps (λ w rs. rows_away w rs c.args.way c.args.count
-    c.in_ok-column.column c.args.place)
+    c.args.source.now.text.now.edited.text c.cell_of.ensures.keeps (λ w rs. rows_away w rs c.args.way c.args.count c.in_ok-column.column c.args.place)
     ∙ ap (λ column. rows_away c.args.view.now.w (rows_by (g.D.BidiData.data c.args.source.now.tables.now) c.args.view.now
-    c.args.source.now.text.now.edited.text) c.args.way c.args.count column c.args.place) c.in_ok-column.ensures.cell)
-    c.rows_away.ensures.place
+    c.args.source.now.text.now.edited.text) c.args.way c.args.count column c.args.place) c.in_ok-column.ensures.cell

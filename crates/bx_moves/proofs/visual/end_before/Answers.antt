@@ -1,5 +1,4 @@
 use Rattle.std.proofs.Common.{◌-◌, ◌<◌, ◌∙◌, ap₂, subst}
-use Rattle.std.proofs.lemmas.Result.{IfOk-weaker}
 use Rattle.bx_paragraph.specs.Slots.{reading_end}
 use Rattle.bx_view.specs.FoundRow.{IsBefore, StandsOn}
 use Rattle.bx_view.specs.Moves.{place_in}
@@ -28,7 +27,6 @@ returns-clause-place g c = λ n on.
     let text = c.args.source.now.text.now.edited.text in
     let there : (0 < n) × StandsOn says c.row_before.new.self text c.in-Some.there (n - 1) =
     subst (IsBefore says c.row_before.new.self text n) c.in-Some.is (c.in_ok-there.ensures.before n on) in
-    IfOk-weaker c.reading_end.result _ _ (λ place is.
-    some-end says c.args.view.now c.row_before.new.self text c.row_before.ensures.keeps n c.in-Some.there place
+    some-end says c.args.view.now c.row_before.new.self text c.row_before.ensures.keeps n c.in-Some.there c.in_ok-place.place
     c.args.source.now.utf8 there
-    (is ∙ ap₂ (λ w r. place_in r (reading_end w r.row)) c.row.ensures.columns (c.row.ensures.row (n - 1) there.1))) c.reading_end.ensures
+    (c.in_ok-place.ensures ∙ ap₂ (λ w r. place_in r (reading_end w r.row)) c.row.ensures.columns (c.row.ensures.row (n - 1) there.1))

@@ -1,5 +1,4 @@
 use Rattle.std.proofs.Common.{◌+◌, ◌∙◌, ap₂, subst}
-use Rattle.std.proofs.lemmas.Result.{IfOk-weaker}
 use Rattle.bx_paragraph.specs.Slots.{reading_start}
 use Rattle.bx_view.specs.FoundRow.{IsNext, StandsOn}
 use Rattle.bx_view.specs.Moves.{place_in}
@@ -28,7 +27,6 @@ returns-clause-place g c = λ n on.
     let text = c.args.source.now.text.now.edited.text in
     let there : StandsOn says c.next_row.new.self text c.in-Some.there (n + 1) =
     subst (IsNext says c.next_row.new.self text n) c.in-Some.is (c.in_ok-there.ensures.next n on) in
-    IfOk-weaker c.reading_start.result _ _ (λ place is.
-    some-start says c.args.view.now c.next_row.new.self text c.next_row.ensures.keeps n c.in-Some.there place
+    some-start says c.args.view.now c.next_row.new.self text c.next_row.ensures.keeps n c.in-Some.there c.in_ok-place.place
     c.args.source.now.utf8 there
-    (is ∙ ap₂ (λ w r. place_in r (reading_start w r.row)) c.row.ensures.columns (c.row.ensures.row (n + 1) there))) c.reading_start.ensures
+    (c.in_ok-place.ensures ∙ ap₂ (λ w r. place_in r (reading_start w r.row)) c.row.ensures.columns (c.row.ensures.row (n + 1) there))

@@ -1,5 +1,4 @@
 use Rattle.std.proofs.Common.{◌∙◌, ap}
-use Rattle.std.proofs.lemmas.Result.{IfOk-weaker}
 use Rattle.bx_paragraph.specs.Slots.{reads_on}
 use Rattle.bx_view.specs.Moves.{word_way}
 use Rattle.bx_view.specs.TextRows.{row_at, row_of}
@@ -12,9 +11,7 @@ returns-clause-place g c =
     let says = g.D.BidiData.data c.args.source.now.tables.now in
     let text = c.args.source.now.text.now.edited.text in
     let place = c.args.place in
-    IfOk-weaker c.step_word.result _ _ (λ o is.
-    is
+    c.in_ok-place.ensures.place
     ∙ ap (λ way. step_word says text way place) (c.word_way-way.ensures
     ∙ ap word_way (c.reads_on.ensures ∙ ap (λ r. reads_on c.args.side r.row) (c.row.ensures.row _ c.in_ok-at.ensures.row)
-    ∙ ap (λ rs. reads_on c.args.side (row_at rs (row_of rs place)).row) (rows-kept says c.args.view.now c.row_at.new.self text
-    c.row_at.ensures.keeps)))) c.step_word.ensures.place
+    ∙ ap (λ rs. reads_on c.args.side (row_at rs (row_of rs place)).row) (rows-kept says c.args.view.now c.row_at.new.self text c.row_at.ensures.keeps)))
