@@ -144,5 +144,7 @@ pub fn levels<D: BidiData>(
     ensures kept { IfOk result (λ v. map is_some v.each.items ≡ map is_kept (map (D.data tables.now).class (chars body.now))) }
     ensures low { IfOk result (λ v. All (λ l. IfSome l (λ n. n ≤ max_level)) v.each.items) }
 {
-    resolved_levels(alloc, body, tables, base)
+    // The proof compares the levels, so they have a name.
+    let levels = resolved_levels(alloc, body, tables, base)?;
+    Ok(levels)
 }
