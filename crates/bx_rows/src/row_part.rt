@@ -48,6 +48,8 @@ impl<'a, 't, D: BidiData> Lines<'a, 't, D> {
             start: start.offset,
             count,
         };
-        units_from(alloc, self.body, range, self.tables, self.w)
+        // The proof compares the units, so they have a name.
+        let units = units_from(alloc, self.body, range, self.tables, self.w)?;
+        Ok(units)
     }
 }
