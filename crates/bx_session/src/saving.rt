@@ -33,7 +33,8 @@ pub fn save_pieces<S: Store>(pieces: Slices<'_>, store: &mut S) -> Result<(), St
 {
     store.begin()?;
     put_pieces(pieces, store)?;
-    store.commit()
+    store.commit()?;
+    Ok(())
 }
 
 /// The bytes after `beginning`; None if they do not begin with it.
