@@ -111,7 +111,8 @@ fn make_room(
 {
     added.reserve(bytes)?;
     past.reserve(2)?;
-    spares.fill(6)
+    spares.fill(6)?;
+    Ok(())
 }
 
 impl Text {

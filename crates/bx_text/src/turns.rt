@@ -66,7 +66,8 @@ pub fn make_room_to_turn(
     ensures enough { OnOk result (2 * n ≤ spares.new) }
 {
     spares.fill(2 * n)?;
-    to.reserve(n)
+    to.reserve(n)?;
+    Ok(())
 }
 
 /// Applies the last `n` steps of `from`, one after another, and pushes the steps that reverse them to `to`, in room made
