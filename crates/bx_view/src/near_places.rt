@@ -31,6 +31,7 @@ impl View {
             return Ok(place);
         }
         let Some(next) = self.next_row(source, at)? else {
+            // The proof compares the place, so it has a name.
             let last = last_place(&self.row(source, at))?;
             return Ok(last);
         };
