@@ -36,7 +36,9 @@ fn starts_in<D: BidiData>(
     let Ok(body) = source.text.copy_range(span.start, span.stop) else {
         return Err(OutOfMemory);
     };
-    row_starts(alloc, body.as_str(), source.tables, w)
+    // The proof compares the row starts, so they have a name.
+    let starts = row_starts(alloc, body.as_str(), source.tables, w)?;
+    Ok(starts)
 }
 
 /// The number of rows of the paragraphs before paragraph `number`, from 0, in a window of `w` columns.
@@ -83,7 +85,9 @@ pub fn row_count<D: BidiData>(
     ensures { IfOk result (λ n. n ≡ length (rows source.now view.now)) }
 {
     let count = source.index.count();
-    rows_before(alloc, source, view.width(), count)
+    // The proof compares the number, so it has a name.
+    let rows = rows_before(alloc, source, view.width(), count)?;
+    Ok(rows)
 }
 
 /// The number, from 0, of the row that an offset of the text falls in. Wraps the paragraphs before it.
