@@ -1,8 +1,21 @@
-//! An answer while it is typed: a text with a greatest number of characters, `limit`.
+//! The questions of the status row, and an answer while it is typed: a text with a greatest number of characters, `limit`.
 ghost use Rattle.std.specs.Prelude.{◌≡◌, ◌≤◌, IfOk, chars, length, string_bytes};
 ghost use Rattle.bx_asking.specs.Answers.{lengthened, shortened};
 
 use std::alloc::{AllocError, Global};
+
+/// What the user is asked.
+#[derive(Clone, Copy)]
+pub enum Ask {
+    /// Nothing.
+    Off,
+    /// To which paragraph and unit to go.
+    Line,
+    /// Which character is put in, by a letter that names it.
+    Name,
+    /// Which character is put in, by its code.
+    Code,
+}
 
 /// The number of a text's characters.
 pub(crate) fn char_count(text: &str) -> usize

@@ -8,13 +8,11 @@ mod codes;
 mod laws;
 mod line;
 mod names;
-mod question;
 mod told;
 
-pub use answers::{lengthened, shortened};
+pub use answers::{Ask, lengthened, shortened};
 pub use codes::{coded, is_code_letter};
 pub use laws::told_is_printable;
 pub use line::{Target, asked, is_line_letter};
 pub use names::{asks_code, closing, named};
-pub use question::Ask;
 pub use told::{class_name, write_told};

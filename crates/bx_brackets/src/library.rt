@@ -6,9 +6,9 @@ ghost use Rattle.bx_brackets.specs.Pairs.{insert_pair, pairs};
 ghost use Rattle.bx_brackets.specs.Resolve.{IsPairWithin, resolve_pairs};
 ghost use Rattle.bx_brackets.specs.Search.{is_for, progress, turn, left_by, found_by, AreSorted, AreFound};
 
-use crate::error::BracketError;
 use crate::open_stack::{OpenStack, bracket_at, canonical};
 use crate::resolve::{known_first, resolve_next};
+use bx_terms::OutOfMemory;
 use bx_ucd::class::direction;
 use bx_ucd::{BidiData, Class, Side};
 use std::alloc::{AllocError, Global};
@@ -98,7 +98,7 @@ pub fn pairs<D: BidiData>(
     chars: &[char],
     types: &[Class],
     tables: &D,
-) -> Result<Vec<(usize, usize)>, BracketError>
+) -> Result<Vec<(usize, usize)>, OutOfMemory>
     requires { length chars.now ≡ length types.now }
     ensures pairs { IfOk result (λ v. v.items ≡ pairs (D.data tables.now) chars.now types.now) }
     ensures within { IfOk result (λ v. All (IsPairWithin (length types.now)) v.items) }

@@ -10,15 +10,16 @@ ghost use Rattle.bx_brackets.specs.Resolve.{resolve_pairs};
 ghost use Rattle.bx_brackets.specs.Search.{Searching, IsSearched};
 ghost use Rattle.bx_brackets.specs.Search.{progress, turn, after, pairs_after, pairs_in, with_closer, index_of, is_for, left_by, found_by};
 
-use crate::error::BracketError;
 use crate::open_stack::{OpenStack, bracket_at, canonical};
 use crate::resolve::resolve_closers;
+use bx_terms::OutOfMemory;
 use bx_ucd::{BidiData, Class, Side};
 use std::alloc::{AllocError, Global};
 use std::marker::Model;
 
 /// Fills the list with `count` entries 0, which mean no closer, since an opener comes before its closer. Capacity grows to the
 /// need, and by a quarter at least.
+// Not inlined: it runs once a search, and the loop over the characters stays short.
 #[inline(never)]
 fn make_entries(closers: &mut Vec<u32>, count: usize) -> Result<(), AllocError>
     requires none { length closers.old.items ≡ 0 }
@@ -193,7 +194,7 @@ impl PairSearch {
         c: char,
         t: Class,
         tables: &D,
-    ) -> Result<(), BracketError>
+    ) -> Result<(), OutOfMemory>
         requires next { self.old.next ≤ index }
         requires within { index < self.old.count }
         ensures progress { OnOk result (self.new.progress ≡ after index c (bracket_at (D.data tables.now) c t) self.old.progress) }

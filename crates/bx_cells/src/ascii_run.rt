@@ -19,7 +19,7 @@ fn blocks_stop(bytes: &[u8], at: usize) -> usize
     ensures printable { (i : ℕ) → at ≤ i → i < result → is_ascii_printable (get_or bytes.now i 0) ≡ true }
 {
     let mut stop = at;
-    'steps: while bytes.len() - stop >= BLOCK {
+    while bytes.len() - stop >= BLOCK {
         let block = &bytes[stop..stop + BLOCK];
         if !are_ascii_printable(block) {
             return stop;

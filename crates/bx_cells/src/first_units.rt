@@ -4,10 +4,10 @@ ghost use Rattle.std.specs.Str.{IsCharBoundary};
 ghost use Rattle.bx_cells.specs.Units.{HasFace, StandsIn, units_from};
 
 use crate::by_rules::ruled_unit;
-use crate::error::CellError;
 use crate::faces::simple_face;
 use crate::simple_clusters::simple_cluster;
 use crate::unit::{Unit, UnitRange};
+use bx_terms::OutOfMemory;
 use bx_ucd::BidiData;
 use std::alloc::{AllocError, Global};
 
@@ -44,7 +44,7 @@ fn listed_from<D: BidiData>(
 {
     let mut units = Vec::with_capacity(alloc, range.count.min(FIRST_ROOM))?;
     let mut next = range.start;
-    'units: while units.len() < range.count && next < body.len() {
+    while units.len() < range.count && next < body.len() {
         let unit = unit_at(body, next, tables, w);
         units.push(unit)?;
         next = unit.stop;
@@ -62,12 +62,11 @@ pub fn units_from<D: BidiData>(
     range: UnitRange,
     tables: &D,
     w: u16,
-) -> Result<Vec<Unit>, CellError>
+) -> Result<Vec<Unit>, OutOfMemory>
     requires { IsCharBoundary body.now range.start }
     ensures units { IfOk result (λ v. v.items ≡ take range.count (units_from (D.data tables.now) w body.now range.start)) }
     ensures stand { IfOk result (λ v. All (StandsIn body.now) v.items) }
     ensures faces { IfOk result (λ v. All (HasFace (D.data tables.now) w body.now) v.items) }
 {
-    let units = listed_from(alloc, body, range, tables, w)?;
-    Ok(units)
+    Ok(listed_from(alloc, body, range, tables, w)?)
 }

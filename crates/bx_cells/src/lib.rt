@@ -5,7 +5,6 @@
 
 mod ascii_run;
 mod by_rules;
-mod error;
 mod faces;
 mod first_units;
 mod fitting;
@@ -16,7 +15,6 @@ mod unit;
 
 pub use ascii_run::printable_stop;
 pub use by_rules::ruled_unit;
-pub use error::CellError;
 pub use faces::{face, only_char, simple_face};
 pub use first_units::units_from;
 pub use fitting::{is_printable, is_simple_within};

@@ -3,9 +3,9 @@
 ghost use Rattle.std.specs.Prelude.{◌≡◌, IfOk, All};
 ghost use Rattle.bx_cells.specs.Units.{units, HasFace, StandsIn};
 
-use crate::error::CellError;
 use crate::first_units::units_from;
 use crate::unit::{Unit, UnitRange};
+use bx_terms::OutOfMemory;
 use bx_ucd::BidiData;
 use std::alloc::Global;
 
@@ -17,7 +17,7 @@ pub fn units<D: BidiData>(
     body: &str,
     tables: &D,
     w: u16,
-) -> Result<Vec<Unit>, CellError>
+) -> Result<Vec<Unit>, OutOfMemory>
     ensures units { IfOk result (λ v. v.items ≡ units (D.data tables.now) w body.now) }
     ensures stand { IfOk result (λ v. All (StandsIn body.now) v.items) }
     ensures faces { IfOk result (λ v. All (HasFace (D.data tables.now) w body.now) v.items) }
@@ -26,6 +26,7 @@ pub fn units<D: BidiData>(
         start: 0,
         count: body.len(),
     };
+    // The proof compares the units, so they have a name.
     let units = units_from(alloc, body, all, tables, w)?;
     Ok(units)
 }

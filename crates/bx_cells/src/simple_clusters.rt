@@ -28,7 +28,7 @@ pub fn simple_cluster(body: &str, at: usize) -> Option<SimpleCluster>
     };
     let mut is_marked = false;
     let mut rest = behind;
-    'chars: while let Some((c, behind)) = first_char(rest) {
+    while let Some((c, behind)) = first_char(rest) {
         match simple_kind(c) {
             Simple::Begins(_) => {
                 return Some(SimpleCluster {

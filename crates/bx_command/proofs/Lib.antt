@@ -1,4 +1,3 @@
 pub mod Starts
 pub mod Examples
 pub mod CommandExamples
-pub mod ByWords

@@ -16,7 +16,7 @@ use Rattle.bx_grid.proofs.TurnedWhole.{border-turned, length-turned}
 use Rattle.bx_rows.specs.RowPicture.{Glyph, unit_columns}
 use Rattle.bx_rows.specs.VisualOrder.{visual}
 use Rattle.bx_rows.proofs.PictureLaws.{columns_of_glyphs}
-use Rattle.bx_paragraph.specs.declared.slot.Slot.{Slot}
+use Rattle.bx_paragraph.specs.declared.slots.Slot.{Slot}
 use Rattle.bx_paragraph.specs.Slots.{covering_in, covers, end_slot, extent_of, left_column, side_by_side as slots_beside, slot, unit_slots}
 use Rattle.bx_ucd.specs.Data.{Data}
 use Rattle.bx_view.specs.TextParts.{is_covered, is_in, is_some_in, slots_in}

@@ -9,7 +9,7 @@ use Rattle.bx_grid.specs.Columns.{Col, Unknown, Glyph}
 use Rattle.bx_grid.specs.Turned.{turned, turned_in}
 use Rattle.bx_grid.proofs.Pasted.{three_parts}
 use Rattle.bx_grid.proofs.TurnedWhole.{length-inside}
-use Rattle.bx_paragraph.specs.declared.slot.Slot.{Slot}
+use Rattle.bx_paragraph.specs.declared.slots.Slot.{Slot}
 use Rattle.bx_paragraph.specs.Slots.{covers}
 use Rattle.bx_document.specs.Region.{turned_where}
 

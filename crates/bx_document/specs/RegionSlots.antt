@@ -3,7 +3,7 @@ use Rattle.std.specs.Prelude.{ℕ, ◌+◌, ◌-◌, ◌*◌, ◌≤◌, List, [
 use Rattle.bx_grid.specs.Columns.{Col}
 use Rattle.bx_grid.specs.Picture.{GridState}
 use Rattle.bx_grid.specs.Turned.{IsBorder, turned_in}
-use Rattle.bx_paragraph.specs.declared.slot.Slot.{Slot}
+use Rattle.bx_paragraph.specs.declared.slots.Slot.{Slot}
 
 -- the columns of row `row`, from 0, of a grid
 abbrev pub row_in : GridState → ℕ → List Col

@@ -21,6 +21,7 @@ impl<D: BidiData + Drop> Document<D> {
         ensures text { IfOk result (λ b. b.text.edited ≡ self.now.document.content) }
         ensures is { IfOk result (IsBackup (D.data self.now.tables)) }
     {
+        // The proof compares the copy, so it has a name.
         let backup = self.own.backup(self.alloc)?;
         Ok(backup)
     }

@@ -50,6 +50,7 @@ pub(crate) fn draw_rows<D: BidiData>(
     let mut walk = view.walk_from(source, at);
     let mut here = at;
     let mut row = 0;
+    // The label names the loop in its proof.
     'rows: loop {
         cache.put_row(view, source, here, grid, row)?;
         turn_row(view, source, here, grid, row, page.region)?;

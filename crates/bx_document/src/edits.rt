@@ -67,6 +67,7 @@ impl<D: BidiData + Drop> Document<D> {
         ensures order { IfOk result (λ o. start + length new.now ≤ o) }
     {
         let source = self.own.source();
+        // The proof compares the place, so it has a name.
         let place = place_after(self.alloc, &source, &mut self.view, start..stop, new)?;
         Ok(place)
     }
@@ -80,6 +81,7 @@ impl<D: BidiData + Drop> Document<D> {
         ensures order { IfOk result (λ o. start ≤ o) }
     {
         let source = self.own.source();
+        // The proof compares the place, so it has a name.
         let place = place_after(self.alloc, &source, &mut self.view, start..stop, "")?;
         Ok(place)
     }
@@ -148,6 +150,7 @@ impl<D: BidiData + Drop> Document<D> {
         // The bytes after the removed ones, up to the place between, stay in front of the new text.
         let behind = stop + (between - start);
         let whole = wrapped(self.alloc, source.text, stop, behind, "", new)?;
+        // The proof compares the place, so it has a name.
         let place = self.place_after(start, behind, whole.as_str())?;
         Ok(place)
     }
@@ -268,6 +271,7 @@ impl<D: BidiData + Drop> Document<D> {
             let place = self.view.place_at(&source, offset)?;
             return Ok(place - stop + start + new.len());
         }
+        // The proof compares the place, so it has a name.
         let place = place_at_inside(
             self.alloc,
             &source,
@@ -298,6 +302,7 @@ impl<D: BidiData + Drop> Document<D> {
         let source = self.own.source();
         let whole = wrapped(self.alloc, source.text, start, stop, front, back)?;
         let offset = wrapped_end(end, start, stop, front);
+        // The proof compares the place, so it has a name.
         let place = place_inside(
             self.alloc,
             &source,

@@ -57,7 +57,7 @@ fn after_part<D: BidiData>(before: Seen, part: &str, tables: &D) -> Seen
 {
     let mut seen = before;
     let mut left = part;
-    'chars: while let Some((c, behind)) = first_char(left) {
+    while let Some((c, behind)) = first_char(left) {
         if let Seen::Known(answer) = seen {
             return Seen::Known(answer);
         }
@@ -81,7 +81,7 @@ fn after_range<D: BidiData>(
 {
     let mut seen = before;
     let mut at = start;
-    'parts: while at < stop {
+    while at < stop {
         if let Seen::Known(answer) = seen {
             return Seen::Known(answer);
         }

@@ -63,7 +63,7 @@ fn follow<D: BidiData>(index: &mut Index, text: &Text, tables: &D, change: &Chan
     ensures paragraphs { index.new.paragraphs ≡ lengths (D.data tables.now) text.now.edited.text }
     ensures utf8 { IsUtf8 text.now.edited.text }
 {
-    // proof only: the text is UTF-8
+    // `len` promises that the text is UTF-8.
     let _utf8 = text.len();
     index.edited(text, tables, change);
 }
@@ -95,7 +95,7 @@ impl<D: BidiData + Drop> OwnText<D> {
         ensures paragraphs { IfOk result (λ b. b.index.paragraphs ≡ lengths (D.data self.now.tables) self.now.content.text) }
         ensures utf8 { IsUtf8 self.now.content.text }
     {
-        // proof only: the text is UTF-8
+        // `len` promises that the text is UTF-8.
         let _utf8 = self.text.len();
         let text = self.text.copy()?;
         let index = Index::build(alloc, &text, &self.tables)?;
@@ -207,7 +207,7 @@ impl<D: BidiData + Drop> OwnText<D> {
         let Ok(change) = self.text.insert(at, new, before, after) else {
             return Err(OutOfMemory);
         };
-        // proof only: the text is UTF-8
+        // `len` promises that the text is UTF-8.
         let _utf8 = self.text.len();
         self.index.edited(&self.text, &self.tables, &change);
         Ok(())

@@ -49,6 +49,7 @@ fn glyph_row(alloc: Global, picture: &RowPicture<'_>, width: u16) -> Result<Grid
     ensures wide { IfOk result (λ row. row.width ≡ width) }
 {
     let count = fit_count(&picture.glyphs, width);
+    // The proof compares the row, so it has a name.
     let row = draw_glyphs(alloc, &picture.glyphs[..count], width)?;
     Ok(row)
 }
@@ -65,6 +66,7 @@ fn lay_out<D: BidiData>(
     ensures rows { IfOk result (λ l. IsLayoutBy (D.data tables.now) l) }
 {
     let body = String::from_str(alloc, query)?;
+    // The proof compares the layout, so it has a name.
     let layout = ParagraphLayout::of(alloc, body, tables, QUERY_WIDTH, Base::Auto)?;
     Ok(layout)
 }
@@ -85,7 +87,7 @@ fn text_and_query<'a, D: BidiData>(
     ensures glyphs { IfOk result (λ p. All (λ g. is_one_glyph (cow_str_bytes g.text) ≡ true) p.glyphs.items) }
     ensures widths { IfOk result (λ p. All (λ g. run_width (cow_str_bytes g.text) ≡ g.columns) p.glyphs.items) }
 {
-    // proof only: a body has a row
+    // `row_count` promises that a body has a row.
     let _rows = query.row_count();
     let row = LentRow {
         paragraph: query,
@@ -137,6 +139,7 @@ impl<D: BidiData + Drop> Document<D> {
         ensures wide { IfOk result (λ row. row.width ≡ self.now.document.w) }
     {
         let picture = RowPicture::of_letters(self.alloc, text)?;
+        // The proof compares the row, so it has a name.
         let row = glyph_row(self.alloc, &picture, self.width())?;
         Ok(row)
     }
@@ -153,6 +156,7 @@ impl<D: BidiData + Drop> Document<D> {
     {
         let layout = lay_out(self.alloc, query, self.own.tables())?;
         let picture = text_and_query(self.alloc, text, &layout, self.own.tables())?;
+        // The proof compares the row, so it has a name.
         let row = glyph_row(self.alloc, &picture, self.width())?;
         Ok(row)
     }
@@ -169,6 +173,7 @@ impl<D: BidiData + Drop> Document<D> {
     {
         let mut picture = RowPicture::of_letters(self.alloc, text)?;
         push_typed(self.alloc, &mut picture.glyphs, typed)?;
+        // The proof compares the row, so it has a name.
         let row = glyph_row(self.alloc, &picture, self.width())?;
         Ok(row)
     }

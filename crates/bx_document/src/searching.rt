@@ -122,6 +122,7 @@ impl<D: BidiData + Drop> Document<D> {
         ensures boundary { IfOk result (λ o. IsCharBoundary self.old.document.content.text o) }
     {
         let source = self.own.source();
+        // The proof compares the place, so it has a name.
         let place = self.view.place_at(&source, offset)?;
         Ok(place)
     }

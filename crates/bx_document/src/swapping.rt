@@ -47,7 +47,7 @@ impl<D: BidiData + Drop> Document<D> {
             count: 0,
             len: 0,
         };
-        'matches: while let Some((at, end)) = self.first_span(reading, query, measure.stop) {
+        while let Some((at, end)) = self.first_span(reading, query, measure.stop) {
             let between = at - measure.stop;
             measure.len = measure
                 .len
@@ -65,7 +65,7 @@ impl<D: BidiData + Drop> Document<D> {
         ensures { IfOk result (λ _. string_bytes copy.new ≡ string_bytes copy.old ++ slice_range self.now.document.content.text start stop) }
     {
         let mut at = start;
-        'parts: while at < stop {
+        while at < stop {
             let part = self.own.part_at(at, stop);
             copy.push_str(part)?;
             at += part.len();
@@ -88,7 +88,7 @@ impl<D: BidiData + Drop> Document<D> {
     {
         let mut copy = String::with_capacity(self.alloc, len)?;
         let mut from = start;
-        'matches: while let Some((at, end)) = self.first_span(reading, query, from) {
+        while let Some((at, end)) = self.first_span(reading, query, from) {
             self.push_range(&mut copy, from, at)?;
             copy.push_str(other)?;
             from = end;

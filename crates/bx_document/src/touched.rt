@@ -1,6 +1,7 @@
 //! The place after an edit, found in the cached paragraph or in a copy of the paragraphs that the edit touches.
 ghost use Rattle.std.specs.Prelude.{◌≡◌, ◌≤◌, ◌<◌, ◌+◌, true, IfOk, IsCharBoundary, OnOk, length, string_bytes};
 ghost use Rattle.bx_terms.specs.Sizes.{is_side};
+ghost use Rattle.bx_index.specs.Paragraphs.{lengths};
 ghost use Rattle.bx_text.specs.Edits.{IsRange, fits, splice};
 ghost use Rattle.bx_view.specs.FoundRow.{rows_by};
 ghost use Rattle.bx_view.specs.Caching.{IsViewBy, Keeps};
@@ -64,27 +65,20 @@ fn touched<D: BidiData>(
     Ok((first, characters))
 }
 
-/// The first place at or after an offset of the text `characters`, which is laid out by itself with `view`'s width and base
-/// direction. The offset counts the bytes of this text.
-fn place_in<D: BidiData>(
+/// A text by itself, and the index of it.
+fn opened<D: BidiData>(
     alloc: Global,
     characters: String,
     tables: &D,
-    view: &mut View,
-    offset: usize,
-) -> Result<usize, OutOfMemory>
-    requires data { IsViewBy (D.data tables.now) view.old }
-    ensures keeps { Keeps (D.data tables.now) view.old view.new }
-    ensures place { IfOk result (λ o. o ≡ place_from
-        (rows_by (D.data tables.now) view.old (string_bytes characters)) offset) }
-    ensures side { OnOk result (is_side view.old.w ≡ true) }
+) -> Result<(Text, Index), OutOfMemory>
+    ensures text { IfOk result (λ o. o.0.edited.text ≡ string_bytes characters) }
+    ensures paragraphs { IfOk result (λ o. o.1.paragraphs ≡ lengths (D.data tables.now) o.0.edited.text) }
 {
     let Ok(text) = Text::open(alloc, characters) else {
         return Err(OutOfMemory);
     };
     let index = Index::build(alloc, &text, tables)?;
-    let place = view.place_from(&Source::of(&text, &index, tables), offset)?;
-    Ok(place)
+    Ok((text, index))
 }
 
 /// The first place at or after an offset of the text in which `new` has replaced a range of bytes. The offset is in `new`, or at
@@ -111,31 +105,10 @@ pub(crate) fn place_inside<D: BidiData>(
 {
     let (first, characters) = touched(source, range.start, range.end, new)?;
     // The copy is no longer than the text after the edit, so it is not too long.
-    let place = place_in(alloc, characters, source.tables, view, offset - first)?;
+    let (text, index) = opened(alloc, characters, source.tables)?;
+    let copy = Source::of(&text, &index, source.tables);
+    let place = view.place_from(&copy, offset - first)?;
     Ok(first + place)
-}
-
-/// The last place at or before an offset of the text `characters`, which is laid out by itself with `view`'s width and base
-/// direction. The offset counts the bytes of this text.
-fn last_place_in<D: BidiData>(
-    alloc: Global,
-    characters: String,
-    tables: &D,
-    view: &mut View,
-    offset: usize,
-) -> Result<usize, OutOfMemory>
-    requires data { IsViewBy (D.data tables.now) view.old }
-    ensures keeps { Keeps (D.data tables.now) view.old view.new }
-    ensures place { IfOk result (λ o. o ≡ place_at
-        (rows_by (D.data tables.now) view.old (string_bytes characters)) offset) }
-    ensures side { OnOk result (is_side view.old.w ≡ true) }
-{
-    let Ok(text) = Text::open(alloc, characters) else {
-        return Err(OutOfMemory);
-    };
-    let index = Index::build(alloc, &text, tables)?;
-    let place = view.place_at(&Source::of(&text, &index, tables), offset)?;
-    Ok(place)
 }
 
 /// The last place at or before an offset of the text in which `new` has replaced a range of bytes. The offset is at or after
@@ -162,7 +135,9 @@ pub(crate) fn place_at_inside<D: BidiData>(
 {
     let (first, characters) = touched(source, range.start, range.end, new)?;
     // The copy is no longer than the text after the edit, so it is not too long.
-    let place = last_place_in(alloc, characters, source.tables, view, offset - first)?;
+    let (text, index) = opened(alloc, characters, source.tables)?;
+    let copy = Source::of(&text, &index, source.tables);
+    let place = view.place_at(&copy, offset - first)?;
     Ok(first + place)
 }
 
@@ -190,6 +165,7 @@ pub(crate) fn place_after<D: BidiData>(
         return Ok(place);
     }
     let offset = range.start + new.len();
+    // The proof compares the place, so it has a name.
     let place = place_inside(alloc, source, view, range, new, offset)?;
     Ok(place)
 }

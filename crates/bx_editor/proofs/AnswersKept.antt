@@ -1,8 +1,8 @@
 -- What keeps an answer short and narrow.
 use Rattle.std.proofs.Common.{◌≡◌, ◌∙◌, ℕ, ◌≤◌, List, [], ◌∷◌, All, IsUtf8, chars, length, encode_utf8, ap, arith, refl, subst, sym}
 use Rattle.std.proofs.lemmas.Str.{chars-nil}
-use Rattle.bx_asking.specs.declared.question.Ask.{Ask}
-use Rattle.bx_asking.specs.declared.question.Ask.TheVariants.{Off, Line, Name, Code}
+use Rattle.bx_asking.specs.declared.answers.Ask.{Ask}
+use Rattle.bx_asking.specs.declared.answers.Ask.TheVariants.{Off, Line, Name, Code}
 use Rattle.bx_asking.specs.Answers.{lengthened, shortened}
 use Rattle.bx_document.specs.QueryRow.{IsNarrow}
 use Rattle.bx_editor.specs.Answers.{IsAnswer, limit_of}

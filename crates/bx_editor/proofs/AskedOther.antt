@@ -2,7 +2,7 @@
 use Rattle.std.proofs.Common.{◌≡◌, ◌∙◌, Bool, true, false, length, refl, ap, sym}
 use Rattle.std.specs.Prelude.{◌==◌, not, None, if◌then◌else◌}
 use Rattle.bx_ucd.specs.Data.{Data}
-use Rattle.bx_editor.specs.declared.aim.Aim.TheVariants.{Replace}
+use Rattle.bx_editor.specs.declared.seek.Aim.TheVariants.{Replace}
 use Rattle.bx_editor.specs.declared.matches.Landing.{Landing}
 use Rattle.bx_editor.specs.declared.seek.Seek.TheVariants.{Typed}
 use Rattle.bx_editor.specs.Editor.{Editor}

@@ -1,7 +1,7 @@
 -- An editor computed with the small tables.
 use Rattle.std.proofs.Common.{ℕ, false, List, [], ◌∷◌, map}
 use Rattle.std.specs.Prelude.{None, encode_utf8_all}
-use Rattle.bx_resolve.specs.TestTables.{small}
+use Rattle.bx_ucd.specs.SmallTables.{small}
 use Rattle.bx_terms.specs.declared.base.Base.TheVariants.{Auto}
 use Rattle.bx_keys.specs.declared.key.Key.{Key}
 use Rattle.bx_keys.specs.declared.key.Key.TheVariants.{Insert}

@@ -15,14 +15,14 @@ use Rattle.bx_runs.specs.declared.typing.Removal.{Removal}
 use Rattle.bx_runs.specs.declared.typing.Typing.{Typing}
 use Rattle.bx_runs.specs.declared.typing.Typing.TheVariants.{Off, Paste}
 use Rattle.bx_ucd.specs.Data.{Data}
-use Rattle.bx_asking.specs.declared.question.Ask.{Ask}
-use Rattle.bx_asking.specs.declared.question.Ask.TheVariants as asks
+use Rattle.bx_asking.specs.declared.answers.Ask.{Ask}
+use Rattle.bx_asking.specs.declared.answers.Ask.TheVariants as asks
 use Rattle.bx_editor.specs.declared.message.Message.{Message}
 use Rattle.bx_editor.specs.declared.message.Message.TheVariants as messages
 use Rattle.bx_editor.specs.declared.seek.Seek.{Seek}
 use Rattle.bx_editor.specs.declared.seek.Seek.TheVariants as seeks
-use Rattle.bx_editor.specs.declared.soft.Soft.{Soft}
-use Rattle.bx_editor.specs.declared.soft.Soft.TheVariants as softness
+use Rattle.bx_editor.specs.declared.cursor.Soft.{Soft}
+use Rattle.bx_editor.specs.declared.cursor.Soft.TheVariants as softness
 use Rattle.bx_editor.specs.Editor.{Editor, after_help, after_quit, after_redo, after_save, after_step, after_undo, next_base}
 use Rattle.bx_editor.specs.Editor.{nothing_left, with_base, with_insertion, with_removal, with_step}
 use Rattle.bx_editor.specs.Effects.{Effect, Types, BeginsLine, Puts, Removes, RemovesWord, Steps, StepsRun, Goes, GoesByRows, Marks}

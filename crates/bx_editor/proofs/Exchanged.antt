@@ -5,7 +5,7 @@ use Rattle.std.proofs.lemmas.List.{length-take-le, take_at, drop_at}
 use Rattle.bx_ucd.specs.Data.{Data}
 use Rattle.bx_text.specs.Edits.{inserted, removed, splice}
 use Rattle.bx_document.specs.Document.{Document, after_exchange}
-use Rattle.bx_editor.specs.declared.aim.Aim.{Aim}
+use Rattle.bx_editor.specs.declared.seek.Aim.{Aim}
 use Rattle.bx_editor.specs.Editor.{Editor, cleared, place_after, with_edit, with_exchange}
 use Rattle.bx_editor.specs.Replacing.{with_matches_replaced}
 use Rattle.bx_editor.proofs.TwoEdits.{runs-of-two, stored-of-two}

@@ -11,7 +11,6 @@ pub mod StatusRow
 pub mod TopOnce
 pub mod OnItsCell
 pub mod Begin
-pub mod Queries
 pub mod Sought
 pub mod InSearch
 pub mod Questions
@@ -32,7 +31,6 @@ pub mod QuestionKept
 pub mod Pasted
 pub mod Refused
 pub mod Copied
-pub mod Pointed
 pub mod Unseen
 pub mod OnePaste
 pub mod SentOut

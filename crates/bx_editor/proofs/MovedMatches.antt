@@ -4,7 +4,7 @@ use Rattle.std.proofs.Common.{refl, ap, sym, subst, arith, IsCharBoundary}
 use Rattle.std.specs.Prelude.{Option, Some, None, slice_get, option_map, encode_utf8, IsUtf8}
 use Rattle.bx_ucd.specs.Data.{Data}
 use Rattle.bx_find.specs.Matches.{is_match, matches, first_from}
-use Rattle.bx_find.specs.declared.reading.Reading.{Reading}
+use Rattle.bx_find.specs.declared.letters.Reading.{Reading}
 use Rattle.bx_find.proofs.Offsets.{from_offset, matches-here, matches-not, matches-placed}
 use Rattle.bx_text.specs.Edits.{IsRange, splice}
 use Rattle.bx_text.proofs.Characters.{IsRange-splice}

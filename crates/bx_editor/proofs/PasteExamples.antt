@@ -7,16 +7,16 @@ use Rattle.unicode_width.proofs.Computing.{unicode_width}
 use Rattle.bx_keys.specs.declared.key.Key.{Key}
 use Rattle.bx_keys.specs.declared.key.Key.TheVariants.{Back, Copy, Cut, Down, Erase, Find, Forward, GoTo, LineDown, Mark, Name, NewLine, Point, Quit}
 use Rattle.bx_keys.specs.declared.key.Key.TheVariants.{PasteStart, PasteEnd, Redo, Repaint, Right, RowEnd, Save, Select, Size, TextEnd, Undo, UndoRun}
-use Rattle.bx_asking.specs.declared.question.Ask.{Ask}
-use Rattle.bx_asking.specs.declared.question.Ask.TheVariants as asks
+use Rattle.bx_asking.specs.declared.answers.Ask.{Ask}
+use Rattle.bx_asking.specs.declared.answers.Ask.TheVariants as asks
 use Rattle.bx_runs.specs.declared.typing.Typing.{Typing}
 use Rattle.bx_runs.specs.declared.typing.Typing.TheVariants as typings
 use Rattle.bx_editor.specs.declared.message.Message.{Message}
 use Rattle.bx_editor.specs.declared.message.Message.TheVariants.{Pasting, Saved, Unsaved}
 use Rattle.bx_editor.specs.declared.seek.Seek.{Seek}
 use Rattle.bx_editor.specs.declared.seek.Seek.TheVariants.{Begun}
-use Rattle.bx_editor.specs.declared.soft.Soft.{Soft}
-use Rattle.bx_editor.specs.declared.soft.Soft.TheVariants.{Off, Fresh, Old}
+use Rattle.bx_editor.specs.declared.cursor.Soft.{Soft}
+use Rattle.bx_editor.specs.declared.cursor.Soft.TheVariants.{Off, Fresh, Old}
 use Rattle.bx_editor.specs.Clipboard.{clip_of}
 use Rattle.bx_editor.specs.Editor.{Editor, with_clipboard}
 use Rattle.bx_editor.specs.Pasting.{has_changes}

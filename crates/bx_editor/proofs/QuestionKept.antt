@@ -1,10 +1,10 @@
 -- Outside a question only the keys that ask change what is asked.
 use Rattle.std.proofs.Common.{◌≡◌, ℕ, Bool, true, false, List, length, refl, if◌then◌else◌}
 use Rattle.std.specs.Prelude.{◌==◌, Option, Some, None}
-use Rattle.bx_asking.specs.declared.question.Ask.{Ask}
+use Rattle.bx_asking.specs.declared.answers.Ask.{Ask}
 use Rattle.bx_store.specs.declared.store.StoreFault.{StoreFault}
 use Rattle.bx_ucd.specs.Data.{Data}
-use Rattle.bx_editor.specs.declared.aim.Aim.TheVariants as aims
+use Rattle.bx_editor.specs.declared.seek.Aim.TheVariants as aims
 use Rattle.bx_editor.specs.declared.seek.Seek.TheVariants as seeks
 use Rattle.bx_editor.specs.Editor.{Editor, after_save}
 use Rattle.bx_editor.specs.Effects.{Effect, Seeks, SeeksNext, AsksLine, AsksName, Before, by}

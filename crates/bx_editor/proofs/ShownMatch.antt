@@ -9,14 +9,14 @@ use Rattle.bx_find.specs.Nearest.{MatchesAt, IsFirst}
 use Rattle.bx_find.specs.Letters.{letters_of, letters}
 use Rattle.bx_find.specs.Matches.{is_match, is_some, first_from}
 use Rattle.bx_find.specs.Spans.{match_end, spans_from}
-use Rattle.bx_find.specs.declared.reading.Reading.{Reading}
+use Rattle.bx_find.specs.declared.letters.Reading.{Reading}
 use Rattle.bx_find.proofs.Nearest.{first_is}
 use Rattle.bx_find.proofs.SpansOf.{span_found}
 use Rattle.bx_text.specs.Edits.{IsRange, splice}
 use Rattle.bx_view.specs.Places.{IsTextPlace}
 use Rattle.bx_document.specs.Swapped.{last_stop}
 use Rattle.bx_document.proofs.PlaceAfter.{splice_bytes}
-use Rattle.bx_editor.specs.declared.aim.Aim.{Aim}
+use Rattle.bx_editor.specs.declared.seek.Aim.{Aim}
 use Rattle.bx_editor.specs.declared.seek.Seek.{Seek}
 use Rattle.bx_editor.specs.declared.seek.Seek.TheVariants.{Off, Begun, Typed, WithBegun, WithTyped, Replacing}
 use Rattle.bx_editor.specs.Editor.{EditorState}

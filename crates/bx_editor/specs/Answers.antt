@@ -1,7 +1,7 @@
 -- An answer while it is typed: short, and of characters that a terminal shows in one column.
 use Rattle.std.specs.Prelude.{ℕ, ◌≤◌, List, All, length, chars}
-use Rattle.bx_asking.specs.declared.question.Ask.{Ask}
-use Rattle.bx_asking.specs.declared.question.Ask.TheVariants.{Name, Code}
+use Rattle.bx_asking.specs.declared.answers.Ask.{Ask}
+use Rattle.bx_asking.specs.declared.answers.Ask.TheVariants.{Name, Code}
 use Rattle.bx_document.specs.QueryRow.{IsNarrow}
 use Rattle.bx_editor.specs.Asking.{longest_code, longest_line}
 

@@ -3,8 +3,8 @@
 use Rattle.std.specs.Prelude.{ℕ, ◌+◌, ◌==◌, false, List, [], length, chars, encode_utf8, unwrap_or, Option, Some, None, if◌then◌else◌}
 use Rattle.bx_ucd.specs.Data.{Data}
 use Rattle.bx_asking.specs.declared.line.Target.{Target}
-use Rattle.bx_asking.specs.declared.question.Ask.{Ask}
-use Rattle.bx_asking.specs.declared.question.Ask.TheVariants.{Off, Line, Name, Code}
+use Rattle.bx_asking.specs.declared.answers.Ask.{Ask}
+use Rattle.bx_asking.specs.declared.answers.Ask.TheVariants.{Off, Line, Name, Code}
 use Rattle.bx_asking.specs.Answers.{lengthened, shortened}
 use Rattle.bx_asking.specs.Codes.{coded, is_code_letter}
 use Rattle.bx_asking.specs.Line.{asked, is_line_letter}

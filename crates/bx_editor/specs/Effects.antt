@@ -6,8 +6,8 @@ use Rattle.bx_document.specs.declared.history.HistoryStep.{HistoryStep}
 use Rattle.bx_runs.specs.declared.typing.Removal.{Removal}
 use Rattle.bx_runs.specs.declared.typing.Typing.{Typing}
 use Rattle.bx_view.specs.declared.moves.Vertical.{Vertical}
-use Rattle.bx_asking.specs.declared.question.Ask.TheVariants.{Line, Name}
-use Rattle.bx_editor.specs.declared.aim.Aim.{Aim}
+use Rattle.bx_asking.specs.declared.answers.Ask.TheVariants.{Line, Name}
+use Rattle.bx_editor.specs.declared.seek.Aim.{Aim}
 use Rattle.bx_editor.specs.declared.message.Message.{Message}
 use Rattle.bx_editor.specs.declared.message.Message.TheVariants.{Told}
 use Rattle.bx_editor.specs.Asking.{asking}

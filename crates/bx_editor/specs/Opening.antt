@@ -2,8 +2,8 @@
 use Rattle.std.specs.Prelude.{◌≡◌, ℕ, ◌<◌, ◌≤◌, true, false, List, length, take, IsUtf8}
 use Rattle.bx_terms.specs.Sizes.{largest_text}
 use Rattle.bx_grid.specs.Picture.{is_size}
-use Rattle.bx_editor.specs.declared.error.OpenError.{OpenError}
-use Rattle.bx_editor.specs.declared.error.OpenError.TheVariants.{NotUtf8, OutOfMemory, SizeOutOfRange, TooLong}
+use Rattle.bx_editor.specs.declared.opening.OpenError.{OpenError}
+use Rattle.bx_editor.specs.declared.opening.OpenError.TheVariants.{NotUtf8, OutOfMemory, SizeOutOfRange, TooLong}
 
 -- the longest UTF-8 prefix has `n` bytes
 pub record IsLongestUtf8 (bytes : List ℕ) (n : ℕ) : Type 0 where

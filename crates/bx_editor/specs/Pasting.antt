@@ -4,8 +4,8 @@ use Rattle.std.specs.Prelude.{ℕ, ◌==◌, ◌&&◌, ◌||◌, nat_lt, Bool, f
 use Rattle.bx_terms.specs.Sizes.{largest_text}
 use Rattle.bx_ucd.specs.Data.{Data}
 use Rattle.bx_document.specs.FirstSeparator.{has_crlf_first}
-use Rattle.bx_asking.specs.declared.question.Ask.{Ask}
-use Rattle.bx_asking.specs.declared.question.Ask.TheVariants as asks
+use Rattle.bx_asking.specs.declared.answers.Ask.{Ask}
+use Rattle.bx_asking.specs.declared.answers.Ask.TheVariants as asks
 use Rattle.bx_runs.specs.declared.typing.Typing.TheVariants.{Off, Paste}
 use Rattle.bx_editor.specs.declared.message.Message.TheVariants.{Pasting}
 use Rattle.bx_editor.specs.declared.seek.Seek.{Seek}

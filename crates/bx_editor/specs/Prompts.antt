@@ -1,6 +1,6 @@
 -- The prompts of the status row.
 use Rattle.std.specs.Prelude.{◌≡◌, ◌≢◌}
-use Rattle.bx_asking.specs.declared.question.Ask.TheVariants as asks
+use Rattle.bx_asking.specs.declared.answers.Ask.TheVariants as asks
 use Rattle.bx_editor.specs.declared.seek.Seek.TheVariants as seeks
 use Rattle.bx_editor.specs.Editor.{Editor}
 

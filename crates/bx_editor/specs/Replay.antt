@@ -2,7 +2,7 @@
 use Rattle.std.specs.Prelude.{length, Some, None, if◌then◌else◌}
 use Rattle.bx_runs.specs.declared.typing.Typing.TheVariants.{Off}
 use Rattle.bx_editor.specs.declared.seek.Seek.TheVariants as seeks
-use Rattle.bx_asking.specs.declared.question.Ask.TheVariants as asks
+use Rattle.bx_asking.specs.declared.answers.Ask.TheVariants as asks
 use Rattle.bx_editor.specs.Editor.{Editor}
 use Rattle.bx_editor.specs.Selecting.{aged}
 

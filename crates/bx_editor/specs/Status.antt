@@ -10,8 +10,8 @@ pub use Rattle.bx_view.specs.Numbers.{paragraph_number, unit_number}
 use Rattle.bx_grid.specs.Columns.{Col}
 use Rattle.bx_rows.specs.RowPicture.{Glyph}
 pub use Rattle.bx_document.specs.QueryRow.{glyph_row, letter_glyphs, query_glyphs, typed_glyphs}
-use Rattle.bx_editor.specs.declared.aim.Aim.{Aim}
-use Rattle.bx_editor.specs.declared.aim.Aim.TheVariants.{Find, Replace}
+use Rattle.bx_editor.specs.declared.seek.Aim.{Aim}
+use Rattle.bx_editor.specs.declared.seek.Aim.TheVariants.{Find, Replace}
 use Rattle.bx_editor.specs.declared.message.Message.{Message}
 use Rattle.bx_editor.specs.declared.message.Message.TheVariants.{Saved, SaveFailed, TextFull, NothingToUndo, NothingToRedo, Unsaved, Direction, MarkSet, MarkOff}
 use Rattle.bx_editor.specs.declared.message.Message.TheVariants.{Copied, LineCopied, NothingToCopy, NothingToPut, FromStart, FromEnd, NotFound, Help}
@@ -19,8 +19,8 @@ use Rattle.bx_editor.specs.declared.message.Message.TheVariants.{MoreHelp, MoreT
 use Rattle.bx_editor.specs.declared.seek.Seek.{Seek}
 use Rattle.bx_editor.specs.declared.seek.Seek.TheVariants.{Off, Begun, Typed, WithBegun, WithTyped, Replacing}
 use Rattle.bx_ucd.specs.Data.{Data}
-use Rattle.bx_asking.specs.declared.question.Ask.{Ask}
-use Rattle.bx_asking.specs.declared.question.Ask.TheVariants as asks
+use Rattle.bx_asking.specs.declared.answers.Ask.{Ask}
+use Rattle.bx_asking.specs.declared.answers.Ask.TheVariants as asks
 use Rattle.bx_editor.specs.Editor.{Editor}
 use Rattle.bx_editor.specs.Telling.{told_at_place}
 

@@ -1,8 +1,18 @@
-//! The cursor, with all that an edit settles.
+//! The cursor, with all that an edit settles, and how fresh a selection is.
 ghost use Rattle.std.specs.Prelude.{◌≡◌, None};
 
 use crate::seek::Seek;
-use crate::soft::Soft;
+
+/// How fresh a selection is. It gives way to what is typed.
+#[derive(Clone, Copy)]
+pub enum Soft {
+    /// No selection: there is no mark, or Mark set it.
+    Off,
+    /// Select was pressed last, but for Repaint: the next move goes on selecting.
+    Fresh,
+    /// Another key was pressed since: the next move without Select takes the mark off.
+    Old,
+}
 
 /// The cursor's place and the mark's, in bytes of the text, how fresh a selection is and how far a search is.
 #[derive(Clone, Copy)]

@@ -8,12 +8,10 @@ ghost use Rattle.bx_grid.specs.Picture.{is_size};
 ghost use Rattle.bx_editor.specs.Editor.{with_size, with_top};
 ghost use Rattle.bx_editor.specs.Search.{without_search};
 
-use crate::aim::Aim;
-use crate::cursor::Cursor;
+use crate::cursor::{Cursor, Soft};
 use crate::message::Message;
 use crate::past::Past;
-use crate::seek::Seek;
-use crate::soft::Soft;
+use crate::seek::{Aim, Seek};
 use bx_asking::Ask;
 use bx_document::Document;
 use bx_runs::Typing;

@@ -90,6 +90,7 @@ impl<D: BidiData + Drop> Editor<D> {
             (rows (D.data self.old.tables) self.old.editor) back self.old.editor.place) }
         ensures range { IfOk result (λ p. IsRange self.old.editor.content.text p self.old.editor.place) }
     {
+        // The proof compares the place, so it has a name.
         let place = self.document.moved(back, self.cursor.place)?;
         Ok(place)
     }
@@ -102,6 +103,7 @@ impl<D: BidiData + Drop> Editor<D> {
             (rows (D.data self.old.tables) self.old.editor) on self.old.editor.place) }
         ensures range { IfOk result (λ p. IsRange self.old.editor.content.text self.old.editor.place p) }
     {
+        // The proof compares the place, so it has a name.
         let place = self.document.moved(on, self.cursor.place)?;
         Ok(place)
     }

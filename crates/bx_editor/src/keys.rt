@@ -6,11 +6,10 @@ ghost use Rattle.bx_editor.specs.Effects.{before};
 ghost use Rattle.bx_editor.specs.Keys.{after_any, after_asking, after_in_paste, after_key, after_pressing, after_user, is_edit_or_move, is_save};
 ghost use Rattle.bx_editor.specs.Keys.{is_size_key, is_told_key, may_refuse};
 
-use crate::aim::Aim;
 use crate::editor::Editor;
 use crate::message::Message;
 use crate::moving::goal_behind;
-use crate::seek::Seek;
+use crate::seek::{Aim, Seek};
 use crate::selecting::{aged, soft_behind};
 use bx_asking::Ask;
 use bx_document::HistoryStep;

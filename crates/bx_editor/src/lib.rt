@@ -1,13 +1,11 @@
 //! The editor: a text, the cursor's place, the effect of keys on them, and the picture of the window.
 #![tactic(auto)]
 
-pub mod aim;
 mod asking;
 mod clipboard;
 mod cursor;
 mod editor;
 mod erasing;
-mod error;
 mod keys;
 mod laws;
 mod matches;
@@ -28,16 +26,14 @@ mod search_keys;
 mod searching;
 pub mod seek;
 mod selecting;
-pub mod soft;
 mod status;
 mod telling;
 mod undoing;
 mod wrapping;
 
-pub use aim::Aim;
+pub use cursor::Soft;
 pub use editor::Editor;
-pub use error::OpenError;
 pub use laws::{copies_go_out, paste_is_one_edit, paste_is_unseen};
 pub use message::Message;
-pub use seek::Seek;
-pub use soft::Soft;
+pub use opening::OpenError;
+pub use seek::{Aim, Seek};

@@ -1,23 +1,38 @@
-//! Opening a file.
+//! Opening a file, and why it is refused.
 ghost use Rattle.std.specs.Prelude.{◌≡◌, ◌<◌, ◌≤◌, true, IfErr, IfOk, IsUtf8, OnOk, length, string_bytes};
 ghost use Rattle.bx_terms.specs.Sizes.{largest_text};
 ghost use Rattle.bx_grid.specs.Picture.{is_size};
 ghost use Rattle.bx_editor.specs.Editor.{at_start};
 ghost use Rattle.bx_editor.specs.Opening.{Causes, IsLongestUtf8};
 
-use crate::aim::Aim;
-use crate::cursor::Cursor;
+use crate::cursor::{Cursor, Soft};
 use crate::editor::Editor;
-use crate::error::OpenError;
 use crate::past::Past;
-use crate::seek::Seek;
-use crate::soft::Soft;
+use crate::seek::{Aim, Seek};
 use bx_asking::Ask;
 use bx_document::Document;
 use bx_runs::{Runs, Typing};
 use bx_terms::{Base, LARGEST_TEXT, is_side};
 use bx_ucd::BidiData;
 use simdutf8::compat::from_utf8;
+use thiserror::Error;
+
+/// Why a file was not opened.
+#[derive(Clone, Copy, Debug, Error)]
+pub enum OpenError {
+    /// The file has more than 16,777,216 bytes.
+    #[error("file too long")]
+    TooLong,
+    /// The file is not UTF-8: its longest UTF-8 prefix has this many bytes.
+    #[error("not UTF-8 at byte {0}")]
+    NotUtf8(usize),
+    /// A side of the window is not from 1 to 500.
+    #[error("a side is not from 1 to 500")]
+    SizeOutOfRange,
+    /// Memory ran out.
+    #[error("out of memory")]
+    OutOfMemory,
+}
 
 /// Converts bytes to a text without copying them. The error is the length of their longest UTF-8 prefix.
 fn text_of(bytes: Vec<u8>) -> Result<String, usize>

@@ -6,11 +6,10 @@ ghost use Rattle.bx_editor.specs.Origin.{asks_other, is_queried};
 ghost use Rattle.bx_editor.specs.Replacing.{after_asking_other, after_shorter_other, after_showing, other_typed};
 ghost use Rattle.bx_editor.specs.Search.{sought};
 
-use crate::aim::Aim;
 use crate::editor::Editor;
 use crate::matches::{forward, has_letters};
 use crate::query::{LONGEST_QUERY, kept, reading_of};
-use crate::seek::Seek;
+use crate::seek::{Aim, Seek};
 use bx_asking::{lengthened, shortened};
 use bx_find::{Query, Reading};
 use bx_terms::OutOfMemory;

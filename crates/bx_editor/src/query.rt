@@ -2,8 +2,7 @@
 ghost use Rattle.std.specs.Prelude.{◌≡◌, ◌≤◌, chars, length};
 ghost use Rattle.bx_editor.specs.Search.{kept, reading};
 
-use crate::aim::Aim;
-use crate::seek::Seek;
+use crate::seek::{Aim, Seek};
 use bx_find::Reading;
 
 /// The most characters of the query, and of the other text: `longest_query` and `longest_other` of the specs. A choice, which

@@ -4,9 +4,9 @@ ghost use Rattle.bx_text.specs.Edits.{IsRange};
 ghost use Rattle.bx_editor.specs.Editor.{cleared};
 ghost use Rattle.bx_editor.specs.Region.{after_copy, after_cut, after_mark, held_message, is_at_mark, region, taken, with_held, without_mark};
 
+use crate::cursor::Soft;
 use crate::editor::Editor;
 use crate::message::Message;
-use crate::soft::Soft;
 use bx_terms::OutOfMemory;
 use bx_ucd::BidiData;
 
@@ -62,7 +62,7 @@ impl<D: BidiData + Drop> Editor<D> {
         ensures region { result ≡ region self.now.editor }
         ensures range { IsRange self.now.editor.content.text result.0 result.1 }
     {
-        // proof only: the text is UTF-8
+        // `len` promises that the text is UTF-8.
         let _utf8 = self.document.len();
         let mark = self.cursor.mark.unwrap_or(self.cursor.place);
         (mark.min(self.cursor.place), mark.max(self.cursor.place))

@@ -9,10 +9,9 @@ ghost use Rattle.bx_editor.specs.Putting.{only_paste};
 ghost use Rattle.bx_editor.specs.Replacing.{after_match_letter, after_other_letter, after_sought_end, after_sought_letter};
 ghost use Rattle.bx_editor.specs.Search.{without_search};
 
-use crate::aim::Aim;
 use crate::editor::Editor;
 use crate::putting::{is_paste, only_paste};
-use crate::seek::Seek;
+use crate::seek::{Aim, Seek};
 use bx_keys::Key;
 use bx_runs::Typing;
 use bx_terms::OutOfMemory;

@@ -7,11 +7,10 @@ ghost use Rattle.bx_editor.specs.Search.{after_beginning, after_find, after_find
 ghost use Rattle.bx_editor.specs.Search.{landed, next_or_start, sought, without_search};
 ghost use Rattle.bx_editor.specs.Selecting.{unselected};
 
-use crate::aim::Aim;
 use crate::editor::Editor;
 use crate::matches::{Landing, backward, forward, has_letters};
 use crate::query::{LONGEST_QUERY, kept, reading_of};
-use crate::seek::Seek;
+use crate::seek::{Aim, Seek};
 use bx_asking::{lengthened, shortened};
 use bx_find::Reading;
 use bx_runs::Typing;

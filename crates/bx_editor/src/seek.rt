@@ -1,4 +1,4 @@
-//! How far a search is.
+//! How far a search is, and what it is for.
 
 /// How far a search is: what is asked for, and whether it was typed already.
 #[derive(Clone, Copy)]
@@ -15,4 +15,13 @@ pub enum Seek {
     WithTyped,
     /// A match is shown: it is replaced next, or passed over.
     Replacing,
+}
+
+/// What a search is for.
+#[derive(Clone, Copy)]
+pub enum Aim {
+    /// Matches are found: letters are read widely.
+    Find,
+    /// Matches are replaced: letters are read closely.
+    Replace,
 }

@@ -3,8 +3,8 @@ ghost use Rattle.std.specs.Prelude.{◌≡◌};
 ghost use Rattle.bx_editor.specs.Editor.{cleared};
 ghost use Rattle.bx_editor.specs.Selecting.{after_select, aged, is_selection, is_soft, mark_left, soft_behind, soft_left, unselected};
 
+use crate::cursor::Soft;
 use crate::editor::Editor;
-use crate::soft::Soft;
 use bx_keys::Key;
 use bx_ucd::BidiData;
 

@@ -4,9 +4,8 @@ ghost use Rattle.bx_terms.specs.Characters.{are_ascii_printable};
 ghost use Rattle.bx_document.specs.QueryRow.{IsNarrow};
 ghost use Rattle.bx_editor.specs.Status.{glyph_row, letter_glyphs, prompt_glyphs, prompt_text, query_prompt, search_glyphs, search_prompt, status_line, typed_glyphs};
 
-use crate::aim::Aim;
 use crate::editor::Editor;
-use crate::seek::Seek;
+use crate::seek::{Aim, Seek};
 use bx_asking::Ask;
 use bx_document::Document;
 use bx_grid::Grid;
@@ -46,6 +45,7 @@ pub(crate) fn status_line(
     ensures line { IfOk result (λ t. string_bytes t ≡ status_line changed paragraph unit) }
     ensures printable { IfOk result (λ t. are_ascii_printable (string_bytes t) ≡ true) }
 {
+    // The proof compares the text, so it has a name.
     let line = write_line(alloc, changed, paragraph, unit)?;
     Ok(line)
 }
@@ -130,6 +130,7 @@ fn draw_question<D: BidiData + Drop>(
 {
     let mut line = line;
     line.push_str(prompt_text(ask))?;
+    // The proof compares the row, so it has a name.
     let row = document.draw_typed(line.as_str(), answer)?;
     Ok(row)
 }

@@ -12,8 +12,8 @@ use Rattle.bx_grid.proofs.Laid.{plain_run_width}
 use Rattle.bx_cells.proofs.Rest.{chars_encoded}
 use Rattle.bx_rows.specs.RowPicture.{glyph, letter_glyphs}
 use Rattle.bx_asking.specs.declared.line.Target.{Target}
-use Rattle.bx_asking.specs.declared.question.Ask.{Ask}
-use Rattle.bx_asking.specs.declared.question.Ask.TheVariants.{Off, Line, Name, Code}
+use Rattle.bx_asking.specs.declared.answers.Ask.{Ask}
+use Rattle.bx_asking.specs.declared.answers.Ask.TheVariants.{Off, Line, Name, Code}
 use Rattle.bx_asking.specs.Answers.{lengthened, shortened}
 use Rattle.bx_asking.specs.Codes.{coded, is_code_letter}
 use Rattle.bx_asking.specs.Line.{asked, is_line_letter}

@@ -9,7 +9,7 @@ use Rattle.std.proofs.lemmas.Bool.Decides.{nat_tests}
 use Rattle.std.proofs.lemmas.Str.{chars-IsAscii, encode_ascii}
 use Rattle.bx_terms.specs.Sizes.{largest_text}
 use Rattle.bx_terms.specs.declared.base.Base.{Base}
-use Rattle.bx_asking.specs.declared.question.Ask.TheVariants.{Off, Code}
+use Rattle.bx_asking.specs.declared.answers.Ask.TheVariants.{Off, Code}
 use Rattle.bx_asking.specs.Answers.{lengthened}
 use Rattle.bx_asking.specs.Codes.{coded, is_code, is_code_letter, is_scalar}
 use Rattle.bx_asking.specs.Names.{asks_code, named}

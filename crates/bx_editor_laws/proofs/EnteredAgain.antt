@@ -16,7 +16,7 @@ use Rattle.bx_rows.specs.VisualOrder.{visual}
 use Rattle.bx_rows.proofs.NumbersBelow.{below_if_visual}
 use Rattle.bx_rows.proofs.PictureSums.{columns-length}
 use Rattle.bx_paragraph.specs.declared.moves.Visual.TheVariants.{Left, Right}
-use Rattle.bx_paragraph.specs.declared.slot.Slot.{Slot}
+use Rattle.bx_paragraph.specs.declared.slots.Slot.{Slot}
 use Rattle.bx_paragraph.specs.BodyRows.{BodyRow}
 use Rattle.bx_paragraph.specs.Slots.{column_of, covers, end_slot, entry, extent_of, first_in, left_column, opposite, or_else, row_slots, side_by_side, slot, slot_offsets, toward}
 use Rattle.bx_paragraph.proofs.RowSlots.{columns-in-order, extent-is}

@@ -18,14 +18,14 @@ use Rattle.bx_runs.specs.declared.typing.Kind.TheVariants as kinds
 use Rattle.bx_runs.specs.declared.typing.Removal.{Removal}
 use Rattle.bx_runs.specs.declared.typing.Typing.{Typing}
 use Rattle.bx_ucd.specs.Data.{Data}
-use Rattle.bx_asking.specs.declared.question.Ask.{Ask}
-use Rattle.bx_asking.specs.declared.question.Ask.TheVariants as asks
-use Rattle.bx_editor.specs.declared.aim.Aim.TheVariants as aims
+use Rattle.bx_asking.specs.declared.answers.Ask.{Ask}
+use Rattle.bx_asking.specs.declared.answers.Ask.TheVariants as asks
+use Rattle.bx_editor.specs.declared.seek.Aim.TheVariants as aims
 use Rattle.bx_editor.specs.declared.message.Message.TheVariants as messages
 use Rattle.bx_editor.specs.declared.seek.Seek.{Seek}
 use Rattle.bx_editor.specs.declared.seek.Seek.TheVariants as seeks
-use Rattle.bx_editor.specs.declared.soft.Soft.{Soft}
-use Rattle.bx_editor.specs.declared.soft.Soft.TheVariants as softness
+use Rattle.bx_editor.specs.declared.cursor.Soft.{Soft}
+use Rattle.bx_editor.specs.declared.cursor.Soft.TheVariants as softness
 use Rattle.bx_editor.specs.Asking.{without_ask}
 use Rattle.bx_editor.specs.Editor.{Editor, after_redo, after_save, after_step, after_undo, cleared, stored_behind}
 use Rattle.bx_editor.specs.Editor.{with_exchange, with_insertion, with_insertion_at, with_removal}

@@ -4,14 +4,14 @@ use Rattle.std.specs.Prelude.{◌==◌, Option, Some, None, if◌then◌else◌}
 use Rattle.std.proofs.lemmas.Bool.Decides.{nat_tests}
 use Rattle.bx_keys.specs.declared.key.Key.TheVariants.{Mark, TextStart, TextEnd}
 use Rattle.bx_ucd.specs.Data.{Data}
-use Rattle.bx_asking.specs.declared.question.Ask.{Ask}
-use Rattle.bx_asking.specs.declared.question.Ask.TheVariants as asks
+use Rattle.bx_asking.specs.declared.answers.Ask.{Ask}
+use Rattle.bx_asking.specs.declared.answers.Ask.TheVariants as asks
 use Rattle.bx_editor.specs.declared.message.Message.{Message}
 use Rattle.bx_editor.specs.declared.message.Message.TheVariants.{MarkOff, MarkSet}
 use Rattle.bx_editor.specs.declared.seek.Seek.{Seek}
 use Rattle.bx_editor.specs.declared.seek.Seek.TheVariants.{Off, Begun, Typed, WithBegun, WithTyped, Replacing}
-use Rattle.bx_editor.specs.declared.soft.Soft.{Soft}
-use Rattle.bx_editor.specs.declared.soft.Soft.TheVariants as softness
+use Rattle.bx_editor.specs.declared.cursor.Soft.{Soft}
+use Rattle.bx_editor.specs.declared.cursor.Soft.TheVariants as softness
 use Rattle.bx_runs.specs.declared.typing.Typing.TheVariants as typings
 use Rattle.bx_editor.specs.Editor.{Editor, cleared, with_place}
 use Rattle.bx_editor.specs.Effects.{Before, before}

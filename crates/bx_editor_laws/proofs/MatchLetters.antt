@@ -15,7 +15,7 @@ use Rattle.bx_ucd.specs.Data.{Data}
 use Rattle.bx_ucd.specs.declared.class.Class.{Class}
 use Rattle.bx_ucd.specs.declared.class.Class.TheVariants.{NSM}
 use Rattle.bx_terms.specs.Characters.{is_direction_mark}
-use Rattle.bx_find.specs.declared.reading.Reading.TheVariants.{Close}
+use Rattle.bx_find.specs.declared.letters.Reading.TheVariants.{Close}
 use Rattle.bx_find_laws.specs.Laws.{AreSpans}
 use Rattle.bx_find.specs.Nearest.{MatchesAt}
 use Rattle.bx_find.specs.Letters.{is_passed_over, letters, letters_of}

@@ -11,17 +11,17 @@ use Rattle.bx_keys.specs.declared.key.Key.TheVariants.{Find, Insert, NewLine, Re
 use Rattle.bx_text.specs.Edits.{fits, splice}
 use Rattle.bx_runs.specs.declared.typing.Typing.{Typing}
 use Rattle.bx_ucd.specs.Data.{Data}
-use Rattle.bx_asking.specs.declared.question.Ask.TheVariants as asks
+use Rattle.bx_asking.specs.declared.answers.Ask.TheVariants as asks
 use Rattle.bx_find_laws.specs.Laws.{AreSpans}
 use Rattle.bx_find.specs.Nearest.{IsFirst, MatchesAt}
 use Rattle.bx_find.specs.Matches.{first_from}
 use Rattle.bx_find.specs.Spans.{match_end}
-use Rattle.bx_find.specs.declared.reading.Reading.{Reading}
-use Rattle.bx_find.specs.declared.reading.Reading.TheVariants.{Close}
+use Rattle.bx_find.specs.declared.letters.Reading.{Reading}
+use Rattle.bx_find.specs.declared.letters.Reading.TheVariants.{Close}
 use Rattle.bx_find.proofs.Nearest.{first_is}
 use Rattle.bx_find_laws.proofs.Following.{spans_are}
 use Rattle.bx_document.specs.Swapped.{behind_character, last_stop, swapped}
-use Rattle.bx_editor.specs.declared.aim.Aim.TheVariants as aims
+use Rattle.bx_editor.specs.declared.seek.Aim.TheVariants as aims
 use Rattle.bx_editor.specs.declared.message.Message.TheVariants.{TextFull}
 use Rattle.bx_editor.specs.declared.seek.Seek.TheVariants.{Off, Replacing}
 use Rattle.bx_editor_laws.specs.AskingLaws.{is_enter}

@@ -1,8 +1,8 @@
 -- Keys while a question is on.
 use Rattle.std.proofs.Common.{◌≡◌, ℕ, Bool, true, false, List, [], ◌∷◌, length, refl, sym, ap, subst, ◌∙◌, if◌then◌else◌}
 use Rattle.std.specs.Prelude.{◌≢◌, ◌||◌, ◌==◌, chars, encode_utf8, Option, Some, None}
-use Rattle.bx_asking.specs.declared.question.Ask.{Ask}
-use Rattle.bx_asking.specs.declared.question.Ask.TheVariants.{Off, Line, Name, Code}
+use Rattle.bx_asking.specs.declared.answers.Ask.{Ask}
+use Rattle.bx_asking.specs.declared.answers.Ask.TheVariants.{Off, Line, Name, Code}
 use Rattle.bx_asking.specs.Answers.{lengthened, shortened}
 use Rattle.bx_asking.specs.Codes.{coded, is_code_letter}
 use Rattle.bx_asking.specs.declared.line.Target.{Target}
@@ -18,7 +18,7 @@ use Rattle.bx_text.specs.Edits.{fits, fits_both}
 use Rattle.bx_ucd.specs.Data.{Data}
 use Rattle.bx_editor.specs.declared.message.Message.TheVariants as messages
 use Rattle.bx_editor.specs.declared.seek.Seek.{Seek}
-use Rattle.bx_editor.specs.declared.soft.Soft.TheVariants as softness
+use Rattle.bx_editor.specs.declared.cursor.Soft.TheVariants as softness
 use Rattle.bx_editor.specs.Asking.{after_answer_letter, after_code, after_code_letter, after_going, after_line_letter, after_name_letter, after_named}
 use Rattle.bx_editor.specs.Asking.{after_shorter_answer, gone_to, longest_code, longest_line, with_answer, with_character, without_ask}
 use Rattle.bx_editor_laws.specs.AskingLaws.{IsUntouched, QuestionsChangeThemselves, StaysAsked, erases, types}

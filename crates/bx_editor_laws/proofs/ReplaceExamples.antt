@@ -9,8 +9,8 @@ use Rattle.unicode_width.proofs.Computing.{unicode_width}
 use Rattle.bx_keys.specs.declared.key.Key.{Key}
 use Rattle.bx_keys.specs.declared.key.Key.TheVariants.{Insert, Erase, Delete, Copy, Find, FindBack, FindNext, Forward, Mark, Quit, Replace, Repaint, Right, TextEnd, Undo}
 use Rattle.bx_keys.specs.declared.key.Key.TheVariants.{Cancel, NewLine, PasteStart, PasteEnd, RedoRun, UndoRun}
-use Rattle.bx_editor.specs.declared.aim.Aim.{Aim}
-use Rattle.bx_editor.specs.declared.aim.Aim.TheVariants as aims
+use Rattle.bx_editor.specs.declared.seek.Aim.{Aim}
+use Rattle.bx_editor.specs.declared.seek.Aim.TheVariants as aims
 use Rattle.bx_editor.specs.declared.message.Message.{Message}
 use Rattle.bx_editor.specs.declared.message.Message.TheVariants.{FromStart, FromEnd, NotFound, Pasting, Replaced}
 use Rattle.bx_editor.specs.declared.seek.Seek.{Seek}

@@ -15,7 +15,7 @@ use Rattle.bx_store.specs.declared.store.StoreFault.{StoreFault}
 use Rattle.bx_find.specs.Nearest.{MatchesAt}
 use Rattle.bx_find.specs.Letters.{letters}
 use Rattle.bx_find.specs.Spans.{is_attached, match_end}
-use Rattle.bx_find.specs.declared.reading.Reading.TheVariants.{Close}
+use Rattle.bx_find.specs.declared.letters.Reading.TheVariants.{Close}
 use Rattle.bx_view.specs.Moves.{place_at}
 use Rattle.bx_editor.specs.Editor.{Editor, rows}
 use Rattle.bx_editor_laws.specs.ReplaceLaws.{with_all, AreApart, EnterReplaces, FindPassesOver, IsMatch, IsShowing, LiesIn}

@@ -9,8 +9,8 @@ use Rattle.std.proofs.lemmas.List.Sorted.{Contains-permutation}
 use Rattle.bx_keys.specs.declared.key.Key.{Key}
 use Rattle.bx_keys.specs.declared.key.Key.TheVariants.{LineDown, LineUp, PageBack, PageOn}
 use Rattle.bx_ucd.specs.Data.{Data}
-use Rattle.bx_asking.specs.declared.question.Ask.{Ask}
-use Rattle.bx_asking.specs.declared.question.Ask.TheVariants as asks
+use Rattle.bx_asking.specs.declared.answers.Ask.{Ask}
+use Rattle.bx_asking.specs.declared.answers.Ask.TheVariants as asks
 use Rattle.bx_terms.specs.declared.base.Base.{Base}
 use Rattle.bx_paragraph.specs.Slots.{entry}
 use Rattle.bx_view.specs.declared.moves.Vertical.{Vertical}
@@ -21,7 +21,7 @@ use Rattle.bx_view.proofs.Entered.{row-entered}
 use Rattle.bx_view.proofs.KeptPlaces.{counted-contains, places-kept}
 use Rattle.bx_view.proofs.OneSlot.{one-slot, row-slots}
 use Rattle.bx_editor.specs.declared.seek.Seek.TheVariants.{Off}
-use Rattle.bx_editor.specs.declared.soft.Soft.{Soft}
+use Rattle.bx_editor.specs.declared.cursor.Soft.{Soft}
 use Rattle.bx_runs.specs.declared.typing.Typing.TheVariants as typings
 use Rattle.bx_editor.specs.Asking.{without_ask}
 use Rattle.bx_editor.specs.Editor.{Editor, cleared, rows, text_height}

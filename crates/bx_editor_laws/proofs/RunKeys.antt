@@ -14,11 +14,11 @@ use Rattle.bx_runs.specs.Runs.{run_end, run_start}
 use Rattle.bx_runs.proofs.RunLaws.{redo-ends, undo-ends}
 use Rattle.bx_runs.proofs.Steps.{end-bound, end-last, start-bound}
 use Rattle.bx_ucd.specs.Data.{Data}
-use Rattle.bx_asking.specs.declared.question.Ask.{Ask}
-use Rattle.bx_asking.specs.declared.question.Ask.TheVariants as asks
+use Rattle.bx_asking.specs.declared.answers.Ask.{Ask}
+use Rattle.bx_asking.specs.declared.answers.Ask.TheVariants as asks
 use Rattle.bx_editor.specs.declared.seek.Seek.{Seek}
 use Rattle.bx_editor.specs.declared.seek.Seek.TheVariants as seeks
-use Rattle.bx_editor.specs.declared.soft.Soft.TheVariants as softness
+use Rattle.bx_editor.specs.declared.cursor.Soft.TheVariants as softness
 use Rattle.bx_editor.specs.Asking.{without_ask}
 use Rattle.bx_editor.specs.Editor.{Editor, after_step, cleared, with_step}
 use Rattle.bx_editor.specs.Effects.{Before, before}

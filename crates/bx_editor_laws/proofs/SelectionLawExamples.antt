@@ -11,8 +11,8 @@ use Rattle.bx_keys.specs.declared.key.Key.{Key}
 use Rattle.bx_keys.specs.declared.key.Key.TheVariants.{Insert, Erase, Delete, Back, Forward, Mark, Copy, Cancel, Find, Put, TextEnd, EraseWord, DeleteWord, ErasePoint, NewLine}
 use Rattle.bx_keys.specs.declared.key.Key.TheVariants.{Select, UndoRun, PasteStart, PasteEnd, Help}
 use Rattle.bx_editor.specs.declared.message.Message.TheVariants.{Pasting}
-use Rattle.bx_editor.specs.declared.soft.Soft.{Soft}
-use Rattle.bx_editor.specs.declared.soft.Soft.TheVariants.{Off, Fresh, Old}
+use Rattle.bx_editor.specs.declared.cursor.Soft.{Soft}
+use Rattle.bx_editor.specs.declared.cursor.Soft.TheVariants.{Off, Fresh, Old}
 use Rattle.bx_editor.specs.Editor.{Editor}
 use Rattle.bx_editor_laws.specs.SelectionLaws.{HasSelection, MoveTakesSelectionOff, SeekingTakesSelectionOff, SelectionComesBack, SelectionGivesWay, SelectionIsRemoved}
 use Rattle.bx_editor.proofs.Computed.{tables, start, after, letters}

@@ -8,7 +8,7 @@ use Rattle.bx_rows.specs.RowPicture.{columns_used}
 use Rattle.std.proofs.lemmas.List.{get_or-map, length-map}
 use Rattle.bx_ucd.specs.Data.{Data}
 use Rattle.bx_paragraph.proofs.Starts.{side-some}
-use Rattle.bx_paragraph.specs.declared.slot.Slot.{Slot}
+use Rattle.bx_paragraph.specs.declared.slots.Slot.{Slot}
 use Rattle.bx_paragraph.specs.Slots.{column_of, entry, slot_offsets}
 use Rattle.bx_view.specs.declared.moves.Vertical.TheVariants.{Up, Down}
 use Rattle.bx_view.specs.Cells.{HasOneSlot}

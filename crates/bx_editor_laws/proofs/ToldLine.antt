@@ -6,7 +6,7 @@ use Rattle.std.proofs.lemmas.Bool.Decides.{nat_tests}
 use Rattle.std.proofs.lemmas.Str.{encode_ascii}
 use Rattle.bx_terms.specs.Sizes.{largest_text}
 use Rattle.bx_terms.specs.declared.base.Base.TheVariants.{Auto}
-use Rattle.bx_asking.specs.declared.question.Ask.TheVariants.{Off, Line}
+use Rattle.bx_asking.specs.declared.answers.Ask.TheVariants.{Off, Line}
 use Rattle.bx_asking.specs.Answers.{lengthened}
 use Rattle.bx_asking.specs.Line.{asked, is_line_letter}
 use Rattle.bx_keys.specs.declared.key.Key.{Key}

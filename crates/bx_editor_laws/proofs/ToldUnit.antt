@@ -8,8 +8,8 @@ use Rattle.std.proofs.lemmas.Str.{chars-nil}
 use Rattle.unicode_segmentation.specs.Grapheme.{graphemes}
 use Rattle.bx_terms.specs.Characters.{are_ascii_printable}
 use Rattle.bx_terms.specs.declared.base.Base.{Base}
-use Rattle.bx_asking.specs.declared.question.Ask.{Ask}
-use Rattle.bx_asking.specs.declared.question.Ask.TheVariants as asks
+use Rattle.bx_asking.specs.declared.answers.Ask.{Ask}
+use Rattle.bx_asking.specs.declared.answers.Ask.TheVariants as asks
 use Rattle.bx_asking.specs.Told.{told_text}
 use Rattle.bx_asking.proofs.Printable as text_proofs
 use Rattle.bx_keys.specs.declared.key.Key.TheVariants.{Tell}

@@ -15,7 +15,7 @@ use Rattle.bx_explicit.specs.Matching.{before_pdi, match_of}
 use Rattle.bx_resolve.specs.Laws.{class_at, entry_at, level_at}
 use Rattle.bx_resolve.specs.Levels.{is_kept, levels_under, paragraph_level_under}
 use Rattle.unicode_segmentation.specs.Grapheme.{graphemes}
-use Rattle.bx_asking.specs.declared.question.Ask.TheVariants.{Off}
+use Rattle.bx_asking.specs.declared.answers.Ask.TheVariants.{Off}
 use Rattle.bx_asking.specs.Codes.{coded}
 use Rattle.bx_asking.specs.Names.{asks_code, closing, named}
 use Rattle.bx_asking.specs.Told.{character_text, others_text}
@@ -30,7 +30,7 @@ use Rattle.bx_document.specs.Document.{wrapped_end}
 use Rattle.bx_document.specs.PlaceLevel.{IsFirstLevel}
 use Rattle.bx_editor.specs.declared.message.Message.{Message}
 use Rattle.bx_editor.specs.declared.message.Message.TheVariants.{MoreThanOneLine, TextFull}
-use Rattle.bx_editor.specs.declared.soft.Soft.TheVariants as softness
+use Rattle.bx_editor.specs.declared.cursor.Soft.TheVariants as softness
 use Rattle.bx_editor.specs.Answers.{IsAnswer}
 use Rattle.bx_editor.specs.Asking.{after_going, longest_code, with_answer, without_ask}
 use Rattle.bx_editor.specs.Editor.{Editor, at_start, place_after, HasRows}

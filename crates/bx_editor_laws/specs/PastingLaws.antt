@@ -6,7 +6,7 @@ use Rattle.bx_keys.specs.declared.key.Key.{Key}
 use Rattle.bx_keys.specs.declared.key.Key.TheVariants.{Insert, UndoRun}
 use Rattle.bx_store.specs.declared.store.StoreFault.{StoreFault}
 use Rattle.bx_ucd.specs.Data.{Data}
-use Rattle.bx_asking.specs.declared.question.Ask.TheVariants as asks
+use Rattle.bx_asking.specs.declared.answers.Ask.TheVariants as asks
 use Rattle.bx_editor.specs.declared.seek.Seek.TheVariants.{Off}
 use Rattle.bx_editor.specs.Editor.{Editor, at_start}
 use Rattle.bx_editor.specs.Keys.{after_key, after_keys, ends_paste}

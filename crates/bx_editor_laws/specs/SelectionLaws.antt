@@ -9,10 +9,10 @@ use Rattle.bx_keys.specs.declared.key.Key.TheVariants.{WordLeft, WordRight, Text
 use Rattle.bx_keys.specs.declared.key.Key.TheVariants.{EraseWord, DeleteWord, ErasePoint, NewLine}
 use Rattle.bx_keys.specs.declared.key.Key.TheVariants.{Cancel, LineUp, LineDown, PageBack, PageOn, Point, Select, UndoRun}
 use Rattle.bx_ucd.specs.Data.{Data}
-use Rattle.bx_asking.specs.declared.question.Ask.TheVariants as asks
+use Rattle.bx_asking.specs.declared.answers.Ask.TheVariants as asks
 use Rattle.bx_editor.specs.declared.message.Message.TheVariants.{TextFull}
 use Rattle.bx_editor.specs.declared.seek.Seek.TheVariants as searches
-use Rattle.bx_editor.specs.declared.soft.Soft.TheVariants.{Off, Old}
+use Rattle.bx_editor.specs.declared.cursor.Soft.TheVariants.{Off, Old}
 use Rattle.bx_editor.specs.Editor.{Editor, place_after}
 use Rattle.bx_editor.specs.Keys.{after_key, after_keys}
 use Rattle.bx_editor_laws.specs.Laws.{IsPart}

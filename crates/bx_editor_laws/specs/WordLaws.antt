@@ -3,7 +3,7 @@
 use Rattle.std.specs.Prelude.{◌≡◌, ℕ, ◌+◌, ◌<◌, ◌≤◌, false, ◌++◌, length, take, drop, None, IsUtf8}
 use Rattle.bx_keys.specs.declared.key.Key.TheVariants.{DeleteWord, EraseWord, UndoRun}
 use Rattle.bx_ucd.specs.Data.{Data}
-use Rattle.bx_asking.specs.declared.question.Ask.TheVariants as asks
+use Rattle.bx_asking.specs.declared.answers.Ask.TheVariants as asks
 use Rattle.bx_view.specs.declared.moves.Logical.TheVariants.{Back, Forward}
 use Rattle.bx_view.specs.Laws.{IsGreatestBefore, IsLeastBehind}
 use Rattle.bx_view.specs.Words.{text_stops}

@@ -3,7 +3,6 @@
 
 mod ends;
 mod entry;
-mod error;
 mod isolates;
 mod laws;
 mod library;
@@ -17,7 +16,6 @@ mod state;
 mod walk;
 
 pub use entry::{Explicit, ExplicitChar};
-pub use error::ExplicitError;
 pub use laws::stack_has_room;
 pub use library::{Sequence, sequences};
 pub use paragraph::{base_level, paragraph_level};

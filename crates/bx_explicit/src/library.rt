@@ -7,8 +7,8 @@ ghost use Rattle.bx_explicit.specs.Stack.{max_depth};
 ghost use Rattle.bx_explicit.specs.Walk.{AreGiven};
 
 use crate::entry::{Explicit, ExplicitChar};
-use crate::error::ExplicitError;
 use crate::walk::SequenceWalk;
+use bx_terms::OutOfMemory;
 use bx_ucd::Class;
 use smallvec::SmallVec;
 use std::alloc::{AllocError, Global};
@@ -130,7 +130,7 @@ fn lent_sequence(
 }
 
 /// The sequences of a paragraph body, in the order in which they end.
-fn ended_sequences(alloc: Global, explicit: &Explicit) -> Result<Vec<Sequence>, ExplicitError>
+fn ended_sequences(alloc: Global, explicit: &Explicit) -> Result<Vec<Sequence>, OutOfMemory>
     ensures { IfOk result (λ v. AreGiven v.items (sequences explicit.now.level explicit.now.classes.items explicit.now.kept.items)) }
 {
     let mut walk = SequenceWalk::new(alloc, explicit);
@@ -142,7 +142,7 @@ fn ended_sequences(alloc: Global, explicit: &Explicit) -> Result<Vec<Sequence>, 
 }
 
 /// The isolating run sequences of a paragraph body, sorted by first index, with their sos and eos (BD13, X10).
-pub fn sequences(alloc: Global, explicit: &Explicit) -> Result<Vec<Sequence>, ExplicitError>
+pub fn sequences(alloc: Global, explicit: &Explicit) -> Result<Vec<Sequence>, OutOfMemory>
     ensures sequences { IfOk result (λ v. v.items ≡ sequences explicit.now.level explicit.now.classes.items explicit.now.kept.items) }
     ensures low { IfOk result (λ v. All (λ s. s.level ≤ max_depth) v.items) }
     ensures within { IfOk result (λ v. All (λ s. All (λ p. p < length explicit.now.kept.items) s.indexes) v.items) }

@@ -8,8 +8,8 @@ ghost use Rattle.bx_explicit.specs.StoredChains.{open_with, chains_of, AreOpen};
 
 use crate::ends::{end_class, start_class};
 use crate::entry::Explicit;
-use crate::error::ExplicitError;
 use crate::runs::{Run, make_room};
+use bx_terms::OutOfMemory;
 use bx_ucd::Class;
 use bx_ucd::class::is_initiator;
 use std::alloc::{AllocError, Global};
@@ -127,7 +127,7 @@ impl<'e> OpenChains<'e> {
 
     /// Takes the next run, before which the newest chain must not end: the run joins that chain if they have the same level,
     /// else it begins a chain.
-    pub fn take(&mut self, run: Run) -> Result<(), ExplicitError>
+    pub fn take(&mut self, run: Run) -> Result<(), OutOfMemory>
         requires own { run ≡ run_at self.old.explicit.kept.items run.first }
         requires within { run.first < length self.old.explicit.kept.items }
         ensures explicit { self.new.explicit ≡ self.old.explicit }

@@ -3,9 +3,9 @@ ghost use Rattle.std.specs.Prelude.{◌≡◌, ◌≤◌, IfOk};
 ghost use Rattle.bx_explicit.specs.Explicit.{explicit_levels};
 
 use crate::entry::{Explicit, ExplicitChar};
-use crate::error::ExplicitError;
 use crate::isolates::isolate_levels;
 use crate::state::State;
+use bx_terms::OutOfMemory;
 use bx_ucd::Class;
 use std::alloc::{AllocError, Global};
 
@@ -30,7 +30,7 @@ fn kept_of(
 
 /// The explicit levels of a paragraph body with paragraph level `level` (X1 to X9).
 #[tactic(auto, using(crate::proofs::Steps::levels_length, crate::proofs::Bounds::levels_low))]
-pub fn explicit(alloc: Global, classes: &[Class], level: u8) -> Result<Explicit, ExplicitError>
+pub fn explicit(alloc: Global, classes: &[Class], level: u8) -> Result<Explicit, OutOfMemory>
     requires { level ≤ 1 }
     ensures classes { IfOk result (λ e. e.classes.items ≡ classes.now) }
     ensures kept { IfOk result (λ e. e.kept.items ≡ explicit_levels level classes.now) }

@@ -7,9 +7,9 @@ ghost use Rattle.bx_explicit.specs.Stack.{max_depth};
 ghost use Rattle.bx_explicit.specs.Walk.{SequencesLeft, AreGiven, IsToCome, unlent, sequences_left, IsWalk};
 
 use crate::entry::Explicit;
-use crate::error::ExplicitError;
 use crate::open_chains::OpenChains;
 use crate::runs::{Run, next_run};
+use bx_terms::OutOfMemory;
 use bx_ucd::Class;
 use std::alloc::Global;
 use std::marker::Model;
@@ -19,7 +19,7 @@ fn end_newest(
     explicit: &Explicit,
     chains: &mut OpenChains<'_>,
     run: &mut Option<Run>,
-) -> Result<bool, ExplicitError>
+) -> Result<bool, OutOfMemory>
     requires own { chains.old.explicit ≡ explicit.now }
     requires run { IsToCome explicit.now.kept.items run.old }
     ensures own { chains.new.explicit ≡ explicit.now }
@@ -92,7 +92,7 @@ impl<'e> SequenceWalk<'e> {
     }
 
     /// Lends the next sequence; false if none is left. After an error the same sequences are left.
-    pub fn advance(&mut self) -> Result<bool, ExplicitError>
+    pub fn advance(&mut self) -> Result<bool, OutOfMemory>
         ensures explicit { self.new.explicit ≡ self.old.explicit }
         ensures lent { IfOk result (λ b. b ≡ self.new.has_current) }
         ensures next { IfOk result (λ b. b ≡ true → self.old.left ≡ self.new.current ∷ self.new.left) }

@@ -10,8 +10,8 @@ use Rattle.unicode_normalization.specs.Decompose.{decompose}
 use Rattle.bx_ucd.specs.Data.{Data}
 use Rattle.bx_find.specs.Letters.{is_passed_over, main_letter, folded, letters_of_parts, letters_of}
 use Rattle.bx_find.specs.Short.{is_short, is_simple, simple_letter}
-use Rattle.bx_find.specs.declared.reading.Reading.{Reading}
-use Rattle.bx_find.specs.declared.reading.Reading.TheVariants.{Wide, Close}
+use Rattle.bx_find.specs.declared.letters.Reading.{Reading}
+use Rattle.bx_find.specs.declared.letters.Reading.TheVariants.{Wide, Close}
 use Rattle.bx_find.proofs.UnicodeFacts.{nfd_one, few_folded, short_whole, short_fold}
 
 or-long : (c : ℕ) (cs : List ℕ) → 0 < length cs → length (or_itself c cs) ≡ length cs

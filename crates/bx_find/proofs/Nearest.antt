@@ -9,7 +9,7 @@ use Rattle.std.proofs.lemmas.Str.{encodes-chars, encodes-append, scalars-chars, 
 use Rattle.bx_ucd.specs.Data.{Data}
 use Rattle.bx_find.specs.Matches.{is_match, matches, first_from, last_below, last_before}
 use Rattle.bx_find.specs.Nearest.{MatchesAt, IsFirst, IsLast}
-use Rattle.bx_find.specs.declared.reading.Reading.{Reading}
+use Rattle.bx_find.specs.declared.letters.Reading.{Reading}
 use Rattle.bx_find.proofs.Offsets.{widths, widths-more, matches-here, matches-not, front-bytes, cut_chars}
 use lib.Utf8.{scalars}
 

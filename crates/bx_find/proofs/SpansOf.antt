@@ -10,7 +10,7 @@ use Rattle.bx_find.specs.Letters.{letters_of, letters}
 use Rattle.bx_find.specs.Matches.{begins_some, is_some, is_match, matches, first_from}
 use Rattle.bx_find.specs.Spans.{is_attached, behind_attached, behind_letters, match_end, spans_of, spans_from}
 use Rattle.bx_find.specs.Nearest.{MatchesAt, IsFirst}
-use Rattle.bx_find.specs.declared.reading.Reading.{Reading}
+use Rattle.bx_find.specs.declared.letters.Reading.{Reading}
 use Rattle.bx_find.proofs.Offsets.{widths, width-some, widths-more, matches-here, matches-not, cond-here, cond-not}
 use Rattle.bx_find.proofs.Nearest.{first_is, text_at, bound_at}
 

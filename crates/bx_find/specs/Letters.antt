@@ -6,8 +6,8 @@ use Rattle.unicode_normalization.specs.Forms.{nfd}
 use Rattle.bx_ucd.specs.Data.{Data}
 use Rattle.bx_ucd.specs.Class.{is_unlettered}
 use Rattle.bx_terms.specs.Characters.{is_direction_mark}
-use Rattle.bx_find.specs.declared.reading.Reading.{Reading}
-use Rattle.bx_find.specs.declared.reading.Reading.TheVariants.{Wide, Close}
+use Rattle.bx_find.specs.declared.letters.Reading.{Reading}
+use Rattle.bx_find.specs.declared.letters.Reading.TheVariants.{Wide, Close}
 
 -- ARABIC TATWEEL, which lengthens a stroke, or a directional mark: ALM, LRM or RLM
 abbrev pub is_stroke_or_mark : ℕ → Bool

@@ -5,7 +5,7 @@ use Rattle.std.specs.Prelude.{ℕ, ◌+◌, true, false, List, [], ◌∷◌, �
 use Rattle.bx_ucd.specs.Data.{Data}
 use Rattle.bx_find.specs.Letters.{letters_of}
 use Rattle.bx_find.specs.Matches.{begins_some}
-use Rattle.bx_find.specs.declared.reading.Reading.{Reading}
+use Rattle.bx_find.specs.declared.letters.Reading.{Reading}
 
 -- a letter with its place
 abbrev pub Placed : Type 0

@@ -5,7 +5,7 @@ use Rattle.bx_ucd.specs.declared.class.Class.{Class}
 use Rattle.bx_ucd.specs.declared.class.Class.TheVariants.{NSM}
 use Rattle.bx_find.specs.Letters.{letters_of}
 use Rattle.bx_find.specs.Matches.{is_match}
-use Rattle.bx_find.specs.declared.reading.Reading.{Reading}
+use Rattle.bx_find.specs.declared.letters.Reading.{Reading}
 
 -- the class of marks that go with the letter before
 abbrev pub is_nonspacing : Class → Bool

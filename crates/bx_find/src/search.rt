@@ -5,8 +5,8 @@ ghost use Rattle.bx_find.specs.Matches.{first_from, first_before, last_before, l
 use crate::backward::{Latest, last_in};
 use crate::forward::first_in;
 use crate::haystack::{Haystack, upto};
+use crate::letters::Reading;
 use crate::query::Query;
-use crate::reading::Reading;
 use crate::sought::Sought;
 use bx_ucd::BidiData;
 

@@ -3,8 +3,8 @@ ghost use Rattle.std.specs.Prelude.{◌≡◌, ℕ, ◌+◌, ◌≤◌, ◌<◌,
 ghost use Rattle.bx_find.specs.Spans.{is_attached, behind_letters, match_end, spans_from};
 
 use crate::haystack::Haystack;
+use crate::letters::Reading;
 use crate::query::Query;
-use crate::reading::Reading;
 use crate::search::first_match;
 use crate::sought::Sought;
 use bx_terms::first_char;

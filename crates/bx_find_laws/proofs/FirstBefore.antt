@@ -7,7 +7,7 @@ use Rattle.bx_ucd.specs.Data.{Data}
 use Rattle.bx_find.specs.Matches.{is_match, matches, first_below, first_before}
 use Rattle.bx_find.specs.Nearest.{MatchesAt}
 use Rattle.bx_find_laws.specs.Laws.{IsFirstBefore}
-use Rattle.bx_find.specs.declared.reading.Reading.{Reading}
+use Rattle.bx_find.specs.declared.letters.Reading.{Reading}
 use Rattle.bx_find.proofs.Offsets.{matches-here, matches-not, none-below}
 use Rattle.bx_find.proofs.Nearest.{MatchesIn, above, in-text, of-text}
 

@@ -6,7 +6,7 @@ use Rattle.bx_find.specs.Matches.{first_from}
 use Rattle.bx_find.specs.Spans.{match_end, spans_from}
 use Rattle.bx_find.specs.Nearest.{MatchesAt, IsFirst}
 use Rattle.bx_find_laws.specs.Laws.{AreSpans}
-use Rattle.bx_find.specs.declared.reading.Reading.{Reading}
+use Rattle.bx_find.specs.declared.letters.Reading.{Reading}
 use Rattle.bx_find.proofs.Nearest.{first_is}
 use Rattle.bx_find.proofs.SpansOf.{IsNext, next_span}
 

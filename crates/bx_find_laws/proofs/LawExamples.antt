@@ -8,7 +8,7 @@ use Rattle.bx_ucd.specs.SmallTables.{small}
 use Rattle.bx_find.specs.Nearest.{IsFirst, IsLast, MatchesAt}
 use Rattle.bx_ucd.specs.Class.{is_unlettered}
 use Rattle.bx_find.specs.Letters.{is_passed_over}
-use Rattle.bx_find.specs.declared.reading.Reading.TheVariants.{Close}
+use Rattle.bx_find.specs.declared.letters.Reading.TheVariants.{Close}
 
 -- ---- whatever the tables say
 

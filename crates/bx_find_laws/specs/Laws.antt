@@ -3,7 +3,7 @@ use Rattle.std.specs.Prelude.{◌≡◌, ℕ, ◌≤◌, ◌<◌, List, [], ◌�
 use Rattle.bx_ucd.specs.Data.{Data}
 use Rattle.bx_find.specs.Matches.{is_match, first_from, first_before, last_before}
 use Rattle.bx_find.specs.Spans.{match_end, spans_from}
-use Rattle.bx_find.specs.declared.reading.Reading.{Reading}
+use Rattle.bx_find.specs.declared.letters.Reading.{Reading}
 use Rattle.bx_find.specs.Nearest.{IsFirst, IsLast, MatchesAt}
 
 -- `first_from` is the first match at or after x, None if there is none

@@ -8,7 +8,6 @@ ghost use Rattle.bx_grid.specs.Picture.{GridState, HasRoom, IsGrid, IsWithin, is
 ghost use Rattle.bx_terms.specs.Sizes.{largest_side};
 
 use crate::borrowed_row::BorrowedRow;
-use crate::cell::Cell;
 use crate::codes::{blank_codes, note_codes, set_column};
 use crate::column::Column;
 use crate::columns::{are_blank, blank_columns, put_over_blanks};
@@ -18,6 +17,15 @@ use crate::glyph_text::SHORT;
 use bx_terms::{OutOfMemory, is_side, run_width};
 use std::alloc::{AllocError, Global};
 use std::marker::Model;
+
+/// A cell of a grid: its line and its column.
+#[derive(Clone, Copy, PartialEq, Eq)]
+pub struct Cell {
+    /// The row, from 1 at the top.
+    pub line: u16,
+    /// The column, from 1 at the left.
+    pub column: u16,
+}
 
 /// A grid of columns, row by row. Each row consists of whole glyphs.
 #[derive(Drop)]

@@ -11,7 +11,6 @@ ghost use Rattle.bx_grid.specs.Picture.{AreWholeTokens, IsIdle, IsPicture, Pictu
 ghost use Rattle.bx_grid.specs.Terminal.{Terminal, reads, run_ended};
 
 mod borrowed_row;
-mod cell;
 mod codes;
 mod column;
 mod columns;
@@ -25,14 +24,13 @@ mod rows;
 mod turning;
 
 pub use borrowed_row::BorrowedRow;
-pub use cell::Cell;
 pub use column::{Column, all_same};
 pub use columns::{fill_blank, put_glyphs};
 pub use command::Command;
 pub use error::GridError;
 pub use glyph_run::GlyphRun;
 pub use glyph_text::GlyphText;
-pub use grid::Grid;
+pub use grid::{Cell, Grid};
 pub use picture::Picture;
 
 /// Two pictures of one size differ in whole glyphs: a column that both have belongs to a glyph that both have as a whole,

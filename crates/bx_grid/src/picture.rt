@@ -3,8 +3,7 @@
 ghost use Rattle.std.specs.Prelude.{◌≡◌, ◌+◌, ◌-◌, ◌*◌, ◌≤◌, ◌<◌, length};
 ghost use Rattle.bx_grid.specs.Picture.{GridState, PictureState, IsPicture, IsWithin};
 
-use crate::cell::Cell;
-use crate::grid::Grid;
+use crate::grid::{Cell, Grid};
 use std::marker::Model;
 
 /// A grid and the cell of the cursor.
@@ -47,7 +46,7 @@ impl Picture {
         ensures grid { result.now ≡ record { height = self.now.height; width = self.now.width; columns = self.now.columns } }
         ensures picture { IsPicture self.now }
     {
-        // its contract has the invariant of grids
+        // `columns` promises what always holds of a grid.
         let _columns = self.grid.columns();
         &self.grid
     }

@@ -73,6 +73,7 @@ impl Grid {
 
 /// Copies the columns `others[at..]` over `columns`, where `others[0]` belongs at the index `from`, up to the first where
 /// the old or the new one has a text on the heap or is unknown. Returns that one's index in `others`.
+// Not inlined, so that this loop stays apart from the code that allocates.
 #[inline(never)]
 fn copy_short(columns: &mut [Column], from: usize, others: &[Column], at: usize) -> usize
     requires inside { from + length others.now ≤ length columns.old }

@@ -132,8 +132,3 @@ pub separator_at : (ps : List Lengths) (n : ℕ) (d : Lengths) → n < length ps
 separator_at [] n d h = absurd (omega arith)
 separator_at (p ∷ ps) zero d h = refl
 separator_at (p ∷ ps) (suc n) d h = separator_at ps n d (omega arith)
-
-pub separator_of_last : (ps : List Lengths) (u : Lengths) (n : ℕ) → n ≡ length ps → slice_get (separators (ps ++ u ∷ [])) n ≡ Some u.separator
-separator_of_last ps u n e =
-    let here : get_or (ps ++ u ∷ []) n u ≡ u = ap (λ k. get_or (ps ++ u ∷ []) k u) e ∙ get_or-append_seam ps u [] u in
-    separator_at (ps ++ u ∷ []) n u (omega (arith, e, length-append ps (u ∷ []))) ∙ ap (λ (q : Lengths). Some q.separator) here

@@ -5,7 +5,7 @@ ghost use Rattle.std.specs.Prelude.{take, drop, slice_get, min, IsUtf8, IfOk, On
 ghost use Rattle.bx_text.specs.Edits.{IsChange, largest_text};
 ghost use Rattle.bx_text.specs.Text.{HasRoomFor};
 ghost use Rattle.bx_index.specs.Paragraphs.{lengths, separator_count};
-ghost use Rattle.bx_index.specs.Positions.{total, spans, separators, paragraph_of};
+ghost use Rattle.bx_index.specs.Positions.{total, spans, paragraph_of};
 ghost use Rattle.bx_index.specs.Flat.{flat};
 ghost use Rattle.bx_index.specs.Spots.{closed};
 ghost use Rattle.bx_index.specs.Touched.{IsTouched};
@@ -67,7 +67,7 @@ fn touched<D: BidiData>(
         × IsTouched (D.data tables.now) old change.now text.now.edited.text (flat front.now.blocks)
         (record { body = last; separator = 0 }) result.0 result.1 }
 {
-    // used by the contract alone
+    // `len` promises that the text is UTF-8. Only the contract names the tables.
     let _utf8 = text.len();
     let _ = tables;
     let first = front.find(change.start.saturating_sub(1));
@@ -116,7 +116,7 @@ fn range_after<D: BidiData>(
     requires short { total (closed front.now.blocks last) ≤ largest_text }
     ensures { IsScanRange (D.data tables.now) text.now.edited.text reached.0.start result }
 {
-    // used by the contract alone
+    // Only the contract names the old paragraphs and the tables.
     let _ = front;
     let _ = tables;
     let _last = last;
@@ -232,15 +232,8 @@ impl Index {
         self.front.size().0 + 1
     }
 
-    /// The number of the paragraph, from 0, that an offset in bytes falls in: the last that begins at or before it.
-    pub fn paragraph_of(&self, offset: usize) -> usize
-        ensures { result ≡ paragraph_of self.now.paragraphs offset }
-    {
-        self.front.find(offset).number
-    }
-
-    /// The number of the paragraph, from 0, that an offset in bytes falls in, and the offsets of its body's start and end.
-    /// Takes one search.
+    /// The number of the paragraph, from 0, that an offset in bytes falls in, which is the last that begins at or before it, and the
+    /// offsets of its body's start and end. Takes one search.
     pub fn span_at(&self, offset: usize) -> (usize, (usize, usize))
         ensures number { result.0 ≡ paragraph_of self.now.paragraphs offset }
         ensures span { slice_get (spans self.now.paragraphs) result.0 ≡ Some result.1 }
@@ -264,17 +257,6 @@ impl Index {
                 let start = self.front.size().1;
                 (start, start + self.last as usize)
             }
-        }
-    }
-
-    /// Length in bytes of the separator that ends paragraph `number`, from 0; 0 for the last.
-    pub fn separator(&self, number: usize) -> usize
-        requires { number < length self.now.paragraphs }
-        ensures { slice_get (separators self.now.paragraphs) number ≡ Some result }
-    {
-        match self.front.get(number) {
-            Some((_, paragraph)) => paragraph.separator as usize,
-            None => 0,
         }
     }
 

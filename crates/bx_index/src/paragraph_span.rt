@@ -1,6 +1,7 @@
 //! Where a paragraph is in the text, as a search of the blocks finds it.
 
-/// A paragraph's number, and its offsets in the text, in bytes.
+/// A paragraph's number, and its offsets in the text, in bytes. It is no range, since one search finds the number and the separator
+/// too, and the blocks do not know where the text's last paragraph ends.
 #[derive(Clone, Copy)]
 pub struct ParagraphSpan {
     /// Its number, from 0.

@@ -7,7 +7,8 @@ ghost use Rattle.bx_index.specs.ScanRanges.{IsScanRange};
 
 use bx_text::Text;
 
-/// The part of a text that a scan for paragraphs has to read. All numbers count bytes.
+/// The part of a text that a scan for paragraphs has to read. All numbers count bytes. It is no plain range, since the lengths of
+/// what follows it in its last paragraph are known.
 #[derive(Clone, Copy)]
 pub struct ScanRange {
     /// Offset of its start. The paragraph that is scanned begins at or before it, and has no separator before it.

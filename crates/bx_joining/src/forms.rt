@@ -154,7 +154,7 @@ fn first_joiner<D: BidiData>(
     let mut rest = text;
     let mut left = levels;
     let mut lowest = None;
-    'chars: while let Some((c, behind)) = first_char(rest) {
+    while let Some((c, behind)) = first_char(rest) {
         let Some((level, after)) = left.split_first() else {
             return None;
         };
@@ -181,7 +181,7 @@ fn last_joiner<D: BidiData>(
     let mut rest = text;
     let mut left = levels;
     let mut lowest = None;
-    'chars: while let Some((c, before)) = last_char(rest) {
+    while let Some((c, before)) = last_char(rest) {
         let Some((level, earlier)) = left.split_last() else {
             return None;
         };

@@ -32,7 +32,7 @@ pub fn joined_image<D: BidiData>(
     let mut left = shown;
     let mut offset = at.offset;
     let mut number = at.number;
-    'chars: while let Some((letter, after)) = first_char(rest) {
+    while let Some((letter, after)) = first_char(rest) {
         let Some((c, behind)) = first_char(left) else {
             return Ok(other);
         };

@@ -10,8 +10,9 @@ use crate::row_ends::{row_end, row_home};
 use crate::vertical::{rows_away, rows_straight};
 use crate::visual::step_visual;
 use crate::word_moves::{step_word, word_towards};
+use bx_terms::OutOfMemory;
 use bx_ucd::BidiData;
-use bx_view::{Move, Source, View, ViewError};
+use bx_view::{Move, Source, View};
 
 /// The place that the move `m` leads to from `place`.
 fn led_by<D: BidiData>(
@@ -19,11 +20,12 @@ fn led_by<D: BidiData>(
     source: &Source<'_, D>,
     m: Move,
     place: usize,
-) -> Result<usize, ViewError>
+) -> Result<usize, OutOfMemory>
     requires data { IsViewBy source.now view.old }
     ensures keeps { Keeps source.now view.old view.new }
     ensures place { IfOk result (λ o. o ≡ moved (D.data source.now.tables.now) (bytes source.now) view.old.w (rows source.now view.old) m place) }
 {
+    // The proof compares the place, so each arm names it.
     match m {
         Move::Logical(way) => {
             let place = step_logical(view, source, way, place)?;
@@ -68,7 +70,7 @@ pub fn moved<D: BidiData>(
     source: &Source<'_, D>,
     m: Move,
     place: usize,
-) -> Result<usize, ViewError>
+) -> Result<usize, OutOfMemory>
     requires data { IsViewBy source.now view.old }
     ensures keeps { Keeps source.now view.old view.new }
     ensures place { IfOk result (λ o. o ≡ moved (D.data source.now.tables.now) (bytes source.now) view.old.w (rows source.now view.old) m place) }
@@ -78,8 +80,9 @@ pub fn moved<D: BidiData>(
     ensures boundary { IsCharBoundary (bytes source.now) place → IfOk result (λ o. IsCharBoundary (bytes source.now) o) }
     ensures row_boundary { is_to_row_end m ≡ true → IfOk result (λ o. IsCharBoundary (bytes source.now) o) }
 {
-    // proof only: the width is within its limits
+    // `width` promises that the width is from 1 to 500.
     let _side = view.width();
+    // The proof compares the place, so it has a name.
     let place = led_by(view, source, m, place)?;
     Ok(place)
 }

@@ -5,15 +5,16 @@ ghost use Rattle.bx_view.specs.Source.{IsViewBy, Keeps, rows};
 ghost use Rattle.bx_view.specs.TextRows.{places};
 
 use crate::placed::{first_place_after, last_place_before};
+use bx_terms::OutOfMemory;
 use bx_ucd::BidiData;
-use bx_view::{Logical, Source, View, ViewError, last_place};
+use bx_view::{Logical, Source, View, last_place};
 
 /// The next place after a place; at the text's end the place itself.
 fn step_forward<D: BidiData>(
     view: &mut View,
     source: &Source<'_, D>,
     place: usize,
-) -> Result<usize, ViewError>
+) -> Result<usize, OutOfMemory>
     requires data { IsViewBy source.now view.old }
     ensures keeps { Keeps source.now view.old view.new }
     ensures place { IfOk result (λ o. o ≡ unwrap_or (find (nat_lt place) (places (rows source.now view.old))) place) }
@@ -33,7 +34,7 @@ fn step_back<D: BidiData>(
     view: &mut View,
     source: &Source<'_, D>,
     place: usize,
-) -> Result<usize, ViewError>
+) -> Result<usize, OutOfMemory>
     requires data { IsViewBy source.now view.old }
     ensures keeps { Keeps source.now view.old view.new }
     ensures place { IfOk result (λ o. o ≡ unwrap_or (find (λ p. nat_lt p place)
@@ -46,6 +47,7 @@ fn step_back<D: BidiData>(
     let Some(above) = view.row_before(source, at)? else {
         return Ok(place);
     };
+    // The proof compares the place, so it has a name.
     let last = last_place(&view.row(source, above))?;
     Ok(last)
 }
@@ -56,11 +58,12 @@ pub(crate) fn step_logical<D: BidiData>(
     source: &Source<'_, D>,
     way: Logical,
     place: usize,
-) -> Result<usize, ViewError>
+) -> Result<usize, OutOfMemory>
     requires data { IsViewBy source.now view.old }
     ensures keeps { Keeps source.now view.old view.new }
     ensures step { IfOk result (λ o. o ≡ step_logical (rows source.now view.old) way place) }
 {
+    // The proof compares the place, so each arm names it.
     match way {
         Logical::Forward => {
             let place = step_forward(view, source, place)?;

@@ -7,8 +7,9 @@ ghost use Rattle.bx_view.specs.Placed.{columns, placed};
 ghost use Rattle.bx_view.specs.TextRows.{places_of};
 
 use bx_paragraph::{LentRow, Visual, reading_side};
+use bx_terms::OutOfMemory;
 use bx_ucd::BidiData;
-use bx_view::{ViewError, place_of};
+use bx_view::place_of;
 
 /// The first of `offsets`, which are in order, after an offset.
 fn first_after(offsets: &[usize], offset: usize) -> Option<usize>
@@ -29,7 +30,7 @@ pub(crate) fn place_beside<D: BidiData>(
     row: &LentRow<'_, '_, D>,
     side: Visual,
     place: usize,
-) -> Result<Option<usize>, ViewError>
+) -> Result<Option<usize>, OutOfMemory>
     requires { row.now.start ≤ place }
     ensures { IfOk result (λ o. o ≡ place_in (placed row.now)
         (beside (columns row.now) (placed row.now).row side (place - row.now.start))) }
@@ -41,7 +42,7 @@ pub(crate) fn place_beside<D: BidiData>(
 /// The place at the reading start of the row.
 pub(crate) fn reading_start<D: BidiData>(
     row: &LentRow<'_, '_, D>,
-) -> Result<Option<usize>, ViewError>
+) -> Result<Option<usize>, OutOfMemory>
     ensures { IfOk result (λ o. o ≡ place_in (placed row.now) (reading_start (columns row.now) (placed row.now).row)) }
 {
     let offset = row.reading_start()?;
@@ -49,7 +50,9 @@ pub(crate) fn reading_start<D: BidiData>(
 }
 
 /// The place at the reading end of the row.
-pub(crate) fn reading_end<D: BidiData>(row: &LentRow<'_, '_, D>) -> Result<Option<usize>, ViewError>
+pub(crate) fn reading_end<D: BidiData>(
+    row: &LentRow<'_, '_, D>,
+) -> Result<Option<usize>, OutOfMemory>
     ensures { IfOk result (λ o. o ≡ place_in (placed row.now) (reading_end (columns row.now) (placed row.now).row)) }
 {
     let offset = row.reading_end()?;
@@ -60,7 +63,7 @@ pub(crate) fn reading_end<D: BidiData>(row: &LentRow<'_, '_, D>) -> Result<Optio
 pub(crate) fn entry<D: BidiData>(
     row: &LentRow<'_, '_, D>,
     column: u16,
-) -> Result<Option<usize>, ViewError>
+) -> Result<Option<usize>, OutOfMemory>
     ensures { IfOk result (λ o. o ≡ entry_in (columns row.now) (placed row.now) column) }
 {
     let offset = row.entry(column)?;
@@ -79,7 +82,7 @@ pub(crate) fn reads_on<D: BidiData>(row: &LentRow<'_, '_, D>, side: Visual) -> b
 pub(crate) fn first_place_after<D: BidiData>(
     row: &LentRow<'_, '_, D>,
     place: usize,
-) -> Result<Option<usize>, ViewError>
+) -> Result<Option<usize>, OutOfMemory>
     requires { row.now.start ≤ place }
     ensures { IfOk result (λ o. o ≡ find (nat_lt place) (places_of (placed row.now))) }
 {
@@ -92,7 +95,7 @@ pub(crate) fn first_place_after<D: BidiData>(
 pub(crate) fn last_place_before<D: BidiData>(
     row: &LentRow<'_, '_, D>,
     place: usize,
-) -> Result<Option<usize>, ViewError>
+) -> Result<Option<usize>, OutOfMemory>
     requires { row.now.start ≤ place }
     ensures { IfOk result (λ o. o ≡ find (λ p. nat_lt p place) (reverse (places_of (placed row.now)))) }
 {

@@ -7,8 +7,9 @@ ghost use Rattle.bx_view.specs.Source.{IsViewBy, Keeps, bytes, rows};
 
 use crate::placed::entry;
 use crate::vertical::rows_down;
+use bx_terms::OutOfMemory;
 use bx_ucd::BidiData;
-use bx_view::{Source, View, ViewError};
+use bx_view::{Source, View};
 
 /// The place that is pointed at by a row and a column of the picture, both from 1, where row 0 means 1. The first row that the
 /// picture shows is that of the offset `top`. It is the place of the unit that covers the column, else the row's reading end;
@@ -19,14 +20,14 @@ pub fn pointed_at<D: BidiData>(
     top: usize,
     row: u16,
     column: u16,
-) -> Result<usize, ViewError>
+) -> Result<usize, OutOfMemory>
     requires data { IsViewBy source.now view.old }
     ensures keeps { Keeps source.now view.old view.new }
     ensures place { IfOk result (λ o. o ≡ pointed_at view.old.w (rows source.now view.old) top row column) }
     ensures text_place { IfOk result (IsTextPlace (D.data source.now.tables.now) (bytes source.now)) }
     ensures boundary { IfOk result (λ o. IsCharBoundary (bytes source.now) o) }
 {
-    // proof only: the width is within its limits
+    // `width` promises that the width is from 1 to 500.
     let _side = view.width();
     let first = view.row_at(source, top)?;
     let below = usize::from(row.saturating_sub(1));

@@ -3,15 +3,16 @@ ghost use Rattle.std.specs.Prelude.{◌≡◌, IfOk};
 ghost use Rattle.bx_view.specs.Moves.{row_end, row_home};
 ghost use Rattle.bx_view.specs.Source.{IsViewBy, Keeps, rows};
 
+use bx_terms::OutOfMemory;
 use bx_ucd::BidiData;
-use bx_view::{Source, View, ViewError, last_place};
+use bx_view::{Source, View, last_place};
 
 /// The first place of the row that a place falls in.
 pub(crate) fn row_home<D: BidiData>(
     view: &mut View,
     source: &Source<'_, D>,
     place: usize,
-) -> Result<usize, ViewError>
+) -> Result<usize, OutOfMemory>
     requires data { IsViewBy source.now view.old }
     ensures keeps { Keeps source.now view.old view.new }
     ensures home { IfOk result (λ home. home ≡ row_home (rows source.now view.old) place) }
@@ -26,12 +27,13 @@ pub(crate) fn row_end<D: BidiData>(
     view: &mut View,
     source: &Source<'_, D>,
     place: usize,
-) -> Result<usize, ViewError>
+) -> Result<usize, OutOfMemory>
     requires data { IsViewBy source.now view.old }
     ensures keeps { Keeps source.now view.old view.new }
     ensures end { IfOk result (λ o. o ≡ row_end (rows source.now view.old) place) }
 {
     let at = view.row_at(source, place)?;
+    // The proof compares the place, so it has a name.
     let end = last_place(&view.row(source, at))?;
     Ok(end)
 }

@@ -5,8 +5,9 @@ ghost use Rattle.bx_view.specs.Source.{IsViewBy, Keeps, Stands, StandsOn, rows};
 ghost use Rattle.bx_view.specs.TextRows.{cell_of};
 
 use crate::placed::entry;
+use bx_terms::OutOfMemory;
 use bx_ucd::BidiData;
-use bx_view::{RowAt, Source, Vertical, View, ViewError};
+use bx_view::{RowAt, Source, Vertical, View};
 
 /// The row `count` rows above `at`, or the text's first row if there are fewer.
 pub(crate) fn rows_up<D: BidiData>(
@@ -14,7 +15,7 @@ pub(crate) fn rows_up<D: BidiData>(
     source: &Source<'_, D>,
     at: RowAt,
     count: usize,
-) -> Result<RowAt, ViewError>
+) -> Result<RowAt, OutOfMemory>
     requires row { Stands source.now view.old at }
     ensures keeps { Keeps source.now view.old view.new }
     ensures row { (n : ℕ) → StandsOn source.now view.old at n → IfOk result (λ b. StandsOn source.now view.new b (n - count)) }
@@ -38,7 +39,7 @@ pub(crate) fn rows_down<D: BidiData>(
     source: &Source<'_, D>,
     at: RowAt,
     count: usize,
-) -> Result<RowAt, ViewError>
+) -> Result<RowAt, OutOfMemory>
     requires row { Stands source.now view.old at }
     ensures keeps { Keeps source.now view.old view.new }
     ensures row { (n : ℕ) → StandsOn source.now view.old at n
@@ -64,12 +65,13 @@ fn row_away<D: BidiData>(
     way: Vertical,
     count: usize,
     at: RowAt,
-) -> Result<RowAt, ViewError>
+) -> Result<RowAt, OutOfMemory>
     requires row { Stands source.now view.old at }
     ensures keeps { Keeps source.now view.old view.new }
     ensures row { (n : ℕ) → StandsOn source.now view.old at n
         → IfOk result (λ b. StandsOn source.now view.new b (row_away (length (rows source.now view.old)) way count n)) }
 {
+    // The proof compares the row, so each arm names it.
     match way {
         Vertical::Up => {
             let there = rows_up(view, source, at, count)?;
@@ -91,7 +93,7 @@ pub(crate) fn rows_away<D: BidiData>(
     count: usize,
     column: u16,
     place: usize,
-) -> Result<usize, ViewError>
+) -> Result<usize, OutOfMemory>
     requires data { IsViewBy source.now view.old }
     ensures keeps { Keeps source.now view.old view.new }
     ensures place { IfOk result (λ o. o ≡ rows_away view.old.w (rows source.now view.old) way count column place) }
@@ -115,12 +117,13 @@ pub(crate) fn rows_straight<D: BidiData>(
     way: Vertical,
     count: usize,
     place: usize,
-) -> Result<usize, ViewError>
+) -> Result<usize, OutOfMemory>
     requires data { IsViewBy source.now view.old }
     ensures keeps { Keeps source.now view.old view.new }
     ensures place { IfOk result (λ o. o ≡ rows_away view.old.w (rows source.now view.old) way count (cell_of view.old.w (rows source.now view.old) place) place) }
 {
     let column = view.cell_of(source, place)?;
+    // The proof compares the place, so it has a name.
     let place = rows_away(view, source, way, count, column, place)?;
     Ok(place)
 }

@@ -5,15 +5,16 @@ ghost use Rattle.bx_view.specs.Source.{IsViewBy, Keeps, Stands, StandsOn, rows};
 
 use crate::placed::{place_beside, reading_end, reading_start, reads_on};
 use bx_paragraph::Visual;
+use bx_terms::OutOfMemory;
 use bx_ucd::BidiData;
-use bx_view::{RowAt, Source, View, ViewError};
+use bx_view::{RowAt, Source, View};
 
 /// The place at the reading start of the next row, if there is one.
 fn start_after<D: BidiData>(
     view: &mut View,
     source: &Source<'_, D>,
     at: RowAt,
-) -> Result<Option<usize>, ViewError>
+) -> Result<Option<usize>, OutOfMemory>
     requires row { Stands source.now view.old at }
     ensures keeps { Keeps source.now view.old view.new }
     ensures place { (n : ℕ) → StandsOn source.now view.old at n
@@ -22,6 +23,7 @@ fn start_after<D: BidiData>(
     let Some(there) = view.next_row(source, at)? else {
         return Ok(None);
     };
+    // The proof compares the place, so it has a name.
     let place = reading_start(&view.row(source, there))?;
     Ok(place)
 }
@@ -31,7 +33,7 @@ fn end_before<D: BidiData>(
     view: &mut View,
     source: &Source<'_, D>,
     at: RowAt,
-) -> Result<Option<usize>, ViewError>
+) -> Result<Option<usize>, OutOfMemory>
     requires row { Stands source.now view.old at }
     ensures keeps { Keeps source.now view.old view.new }
     ensures place { (n : ℕ) → StandsOn source.now view.old at n
@@ -40,6 +42,7 @@ fn end_before<D: BidiData>(
     let Some(there) = view.row_before(source, at)? else {
         return Ok(None);
     };
+    // The proof compares the place, so it has a name.
     let place = reading_end(&view.row(source, there))?;
     Ok(place)
 }
@@ -51,12 +54,13 @@ fn past<D: BidiData>(
     source: &Source<'_, D>,
     at: RowAt,
     side: Visual,
-) -> Result<Option<usize>, ViewError>
+) -> Result<Option<usize>, OutOfMemory>
     requires row { Stands source.now view.old at }
     ensures keeps { Keeps source.now view.old view.new }
     ensures place { (n : ℕ) → StandsOn source.now view.old at n
         → IfOk result (λ o. o ≡ past view.old.w (rows source.now view.old) side n) }
 {
+    // The proof compares the place, so it has a name on both ways.
     if reads_on(&view.row(source, at), side) {
         let place = start_after(view, source, at)?;
         return Ok(place);
@@ -72,7 +76,7 @@ pub(crate) fn step_visual<D: BidiData>(
     source: &Source<'_, D>,
     side: Visual,
     place: usize,
-) -> Result<usize, ViewError>
+) -> Result<usize, OutOfMemory>
     requires data { IsViewBy source.now view.old }
     ensures keeps { Keeps source.now view.old view.new }
     ensures step { IfOk result (λ o. o ≡ step_visual view.old.w (rows source.now view.old) side place) }

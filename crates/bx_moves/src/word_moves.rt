@@ -9,8 +9,9 @@ ghost use Rattle.bx_view.specs.declared.moves.Logical.TheVariants.{Back, Forward
 use crate::placed::reads_on;
 use crate::words::{first_stop, start_before, stop_after};
 use bx_paragraph::Visual;
+use bx_terms::OutOfMemory;
 use bx_ucd::BidiData;
-use bx_view::{Logical, RowAt, Source, View, ViewError, current_span};
+use bx_view::{Logical, RowAt, Source, View, current_span};
 
 /// The way in text order that leads toward a side: forward if the paragraph is read toward it (`is_read_on`), else back.
 fn word_way(is_read_on: bool) -> Logical
@@ -29,7 +30,7 @@ fn stop_below<D: BidiData>(
     view: &mut View,
     source: &Source<'_, D>,
     at: RowAt,
-) -> Result<Option<usize>, ViewError>
+) -> Result<Option<usize>, OutOfMemory>
     requires row { Stands source.now view.old at }
     ensures keeps { Keeps source.now view.old view.new }
     ensures stop { IfOk result (λ found. MatchOption found (at.paragraph + 1 ≡ count source.now)
@@ -55,7 +56,7 @@ fn start_above<D: BidiData>(
     source: &Source<'_, D>,
     at: RowAt,
     place: usize,
-) -> Result<Option<usize>, ViewError>
+) -> Result<Option<usize>, OutOfMemory>
     requires row { Stands source.now view.old at }
     requires order { at.start ≤ place }
     ensures keeps { Keeps source.now view.old view.new }
@@ -80,7 +81,7 @@ fn word_forward<D: BidiData>(
     view: &mut View,
     source: &Source<'_, D>,
     place: usize,
-) -> Result<usize, ViewError>
+) -> Result<usize, OutOfMemory>
     requires data { IsViewBy source.now view.old }
     ensures keeps { Keeps source.now view.old view.new }
     ensures place { IfOk result (λ o. o ≡ step_word (D.data source.now.tables.now) (bytes source.now) Forward place) }
@@ -101,7 +102,7 @@ fn word_back<D: BidiData>(
     view: &mut View,
     source: &Source<'_, D>,
     place: usize,
-) -> Result<usize, ViewError>
+) -> Result<usize, OutOfMemory>
     requires data { IsViewBy source.now view.old }
     ensures keeps { Keeps source.now view.old view.new }
     ensures place { IfOk result (λ o. o ≡ step_word (D.data source.now.tables.now) (bytes source.now) Back place) }
@@ -122,11 +123,12 @@ pub(crate) fn step_word<D: BidiData>(
     source: &Source<'_, D>,
     way: Logical,
     place: usize,
-) -> Result<usize, ViewError>
+) -> Result<usize, OutOfMemory>
     requires data { IsViewBy source.now view.old }
     ensures keeps { Keeps source.now view.old view.new }
     ensures place { IfOk result (λ o. o ≡ step_word (D.data source.now.tables.now) (bytes source.now) way place) }
 {
+    // The proof compares the place, so each arm names it.
     match way {
         Logical::Forward => {
             let place = word_forward(view, source, place)?;
@@ -145,13 +147,14 @@ pub(crate) fn word_towards<D: BidiData>(
     source: &Source<'_, D>,
     side: Visual,
     place: usize,
-) -> Result<usize, ViewError>
+) -> Result<usize, OutOfMemory>
     requires data { IsViewBy source.now view.old }
     ensures keeps { Keeps source.now view.old view.new }
     ensures place { IfOk result (λ o. o ≡ word_towards (D.data source.now.tables.now) (bytes source.now) (rows source.now view.old) side place) }
 {
     let at = view.row_at(source, place)?;
     let way = word_way(reads_on(&view.row(source, at), side));
+    // The proof compares the place, so it has a name.
     let place = step_word(view, source, way, place)?;
     Ok(place)
 }

@@ -77,7 +77,7 @@ fn first_start<D: BidiData>(
 {
     let mut at = start;
     let mut inside = is_inside;
-    'units: while at < body.len() {
+    while at < body.len() {
         let (is_in, stop) = unit_at(body, at, tables);
         if begins_from(is_in, inside, from, at) {
             return at;
@@ -109,7 +109,7 @@ fn last_start<D: BidiData>(body: &str, start: usize, bound: usize, tables: &D) -
     let mut at = start;
     let mut inside = true;
     let mut found = None;
-    'units: while at < end {
+    while at < end {
         let (is_in, stop) = unit_at(body, at, tables);
         found = later(found, is_in, inside, at);
         inside = is_in;
@@ -169,7 +169,7 @@ pub(crate) fn start_before<D: BidiData>(
     let body = paragraph.body();
     let mut row = paragraph.row_of(offset);
     let mut bound = offset;
-    'rows: while row > 0 {
+    while row > 0 {
         let start = paragraph.first(row);
         if let Some(found) = last_start(body, start, bound, tables) {
             return found;

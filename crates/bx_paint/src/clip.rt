@@ -7,7 +7,6 @@ ghost use Rattle.bx_grid.specs.Effects.{effects};
 ghost use Rattle.bx_grid.specs.Picture.{AreWholeTokens, IsIdle, PictureState, Shows};
 ghost use Rattle.bx_grid.specs.Terminal.{Terminal, reads};
 
-use crate::error::PaintError;
 use crate::output::Output;
 use base64::engine::general_purpose::STANDARD;
 use bx_terms::OutOfMemory;
@@ -33,7 +32,7 @@ fn write_clip(alloc: Global, out: &mut Output, held: &[u8]) -> Result<(), AllocE
 /// that shows a picture after a painting still shows it after the clip.
 ///
 /// Errors: `OutOfMemory`, and nothing is appended.
-pub fn clip_into(out: &mut Vec<u8>, held: &[u8]) -> Result<(), PaintError>
+pub fn clip_into(out: &mut Vec<u8>, held: &[u8]) -> Result<(), OutOfMemory>
     ensures bytes { OnOk result (out.new.items ≡ out.old.items ++ clip_bytes held.now) }
     ensures err { OnErr result (out.new.items ≡ out.old.items) }
     ensures same { (t : Terminal) → IsIdle t → reads t (clip_bytes held.now) ≡ t }

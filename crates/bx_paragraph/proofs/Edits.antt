@@ -18,7 +18,7 @@ use Rattle.bx_resolve.proofs.PlainKept.{Each}
 use Rattle.bx_resolve.proofs.PlainLengths.{levels_length}
 use Rattle.bx_resolve.proofs.PlainLevels.{each_pass, found, unformatted_levels}
 use Rattle.bx_resolve.proofs.CutParagraph.{less_back, less_front, pass_each}
-use Rattle.bx_rows.specs.declared.row.Row.{Row}
+use Rattle.bx_rows.specs.declared.wrapping.Row.{Row}
 use Rattle.bx_rows.specs.declared.start_search.RowStart.{RowStart}
 use Rattle.bx_rows.specs.RowStarts.{start_of}
 use Rattle.bx_rows.specs.Wrapping.{wrap}

@@ -7,7 +7,7 @@ use Rattle.unicode_segmentation.proofs.Computing.{unicode_segmentation}
 use Rattle.unicode_width.proofs.Computing.{unicode_width}
 use Rattle.bx_terms.specs.declared.base.Base.TheVariants.{Ltr, Rtl}
 use Rattle.bx_paragraph.specs.declared.moves.Visual.TheVariants.{Right}
-use Rattle.bx_resolve.specs.TestTables.{small}
+use Rattle.bx_ucd.specs.SmallTables.{small}
 use Rattle.bx_rows.specs.RowStarts.{row_starts}
 use Rattle.bx_rows.specs.declared.start_search.RowStart.{RowStart}
 use Rattle.bx_paragraph.specs.Laws.{RowsBeforeStay}

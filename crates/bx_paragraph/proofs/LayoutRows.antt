@@ -11,7 +11,7 @@ use Rattle.bx_cells.specs.Units.{units}
 use Rattle.bx_rows.specs.RowLevels.{row_levels}
 use Rattle.bx_rows.specs.NumberedRows.{draw_numbered}
 use Rattle.bx_rows.specs.RowPicture.{Glyph}
-use Rattle.bx_rows.specs.declared.row.Row.{Row}
+use Rattle.bx_rows.specs.declared.wrapping.Row.{Row}
 use Rattle.bx_rows.specs.RowStarts.{start_of, units_in, units_of_row}
 use Rattle.bx_rows.specs.Wrapping.{row_units, wrap}
 use Rattle.bx_paragraph.specs.BodyRows.{BodyRow, no_row, offsets_of, row_glyphs, row_with, rows_units, with_last}

@@ -16,7 +16,7 @@ use Rattle.bx_rows.specs.VisualOrder.{visual}
 use Rattle.bx_rows.proofs.NumbersBelow.{below_if_visual}
 use Rattle.bx_rows.proofs.Permutes.{visual-permutes}
 use Rattle.bx_rows.proofs.PictureSums.{columns-length}
-use Rattle.bx_paragraph.specs.declared.slot.Slot.{Slot}
+use Rattle.bx_paragraph.specs.declared.slots.Slot.{Slot}
 use Rattle.bx_paragraph.specs.BodyRows.{BodyRow, offsets_of}
 use Rattle.bx_paragraph.specs.Slots.{end_slot, extent_of, left_column, row_slots, side_by_side, slot_offsets, unit_slots}
 use Rattle.bx_paragraph.proofs.RowSlots.{extent-is}

@@ -12,7 +12,7 @@ use Rattle.bx_rows.specs.RowPicture.{unit_columns, columns_used}
 use Rattle.bx_rows.specs.VisualOrder.{visual}
 use Rattle.bx_rows.proofs.NumbersBelow.{sum-visual}
 use Rattle.bx_rows.proofs.PictureSums.{columns-length, sum_by-same}
-use Rattle.bx_paragraph.specs.declared.slot.Slot.{Slot}
+use Rattle.bx_paragraph.specs.declared.slots.Slot.{Slot}
 use Rattle.bx_paragraph.specs.BodyRows.{BodyRow}
 use Rattle.bx_paragraph.specs.OrderedColumns.{ordered_columns}
 use Rattle.bx_paragraph.specs.Slots.{extent_of, row_slots, side_by_side, slot}

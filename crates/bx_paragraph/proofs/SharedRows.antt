@@ -14,7 +14,7 @@ use Rattle.bx_cells.specs.declared.unit.Face.TheVariants.{Tab, Mark, Own}
 use Rattle.bx_cells.specs.declared.unit.Unit.{Unit}
 use Rattle.bx_cells.specs.Units.{units}
 use Rattle.bx_cells.proofs.Rest.{unit-behind}
-use Rattle.bx_rows.specs.declared.row.Row.{Row}
+use Rattle.bx_rows.specs.declared.wrapping.Row.{Row}
 use Rattle.bx_rows.specs.declared.start_search.RowStart.{RowStart}
 use Rattle.bx_rows.specs.RowStarts.{first_offset, row_starts, start_of}
 use Rattle.bx_rows.specs.Wrapping.{FitsWindow, columns_at, fit_count, fit_count_from, is_break, row_len, rows_from, up_to_break, up_to_last}

@@ -11,7 +11,7 @@ use Rattle.bx_ucd.specs.Data.{Data}
 use Rattle.bx_resolve.proofs.Small.{few_chars}
 use Rattle.bx_cells.specs.Units.{units}
 use Rattle.bx_cells.proofs.Rest.{few-units}
-use Rattle.bx_rows.specs.declared.row.Row.{Row}
+use Rattle.bx_rows.specs.declared.wrapping.Row.{Row}
 use Rattle.bx_rows.specs.declared.start_search.RowStart.{RowStart}
 use Rattle.bx_rows.specs.LaterRows.{behind}
 use Rattle.bx_rows.specs.RowStarts.{row_starts, start_of}

@@ -8,7 +8,7 @@ use Rattle.bx_rows.specs.VisualOrder.{visual}
 use Rattle.bx_rows.specs.RowPicture.{unit_columns, columns_used}
 use Rattle.bx_paragraph.specs.declared.moves.Visual.{Visual}
 use Rattle.bx_paragraph.specs.declared.moves.Visual.TheVariants.{Left, Right}
-use Rattle.bx_paragraph.specs.declared.slot.Slot.{Slot}
+use Rattle.bx_paragraph.specs.declared.slots.Slot.{Slot}
 use Rattle.bx_paragraph.specs.BodyRows.{BodyRow}
 
 -- a slot by its offset, its leftmost column and its number of columns

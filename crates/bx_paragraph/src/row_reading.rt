@@ -11,8 +11,7 @@ ghost use Rattle.bx_paragraph.specs.OwnGlyphs.{row_own_glyphs};
 ghost use Rattle.bx_paragraph.specs.Slots.{row_slots};
 
 use crate::lent_row::LentRow;
-use crate::slot::Slot;
-use crate::slots::row_slots;
+use crate::slots::{Slot, row_slots};
 use bx_rows::{LaidRow, RowPicture};
 use bx_terms::OutOfMemory;
 use bx_ucd::BidiData;
@@ -33,6 +32,7 @@ impl<'a, 't, D: BidiData> LentRow<'a, 't, D> {
         ensures side { IfOk result (λ r. is_side r.lines.w ≡ true) }
     {
         let lines = self.paragraph.lines(self.tables);
+        // The proof compares the row, so it has a name.
         let row = lines.row(self.paragraph.allocator(), self.number)?;
         Ok(row)
     }
@@ -66,6 +66,7 @@ impl<'a, 't, D: BidiData> LentRow<'a, 't, D> {
         ensures columns { IfOk result (λ p. sum_by (λ g. g.columns) p.glyphs.items ≡ self.now.paragraph.now.w) }
     {
         let alloc = self.paragraph.allocator();
+        // The proof compares the picture, so it has a name.
         let picture = self
             .paragraph
             .lines(self.tables)
@@ -81,6 +82,7 @@ impl<'a, 't, D: BidiData> LentRow<'a, 't, D> {
         ensures widths { IfOk result (λ p. All (λ g. run_width (cow_str_bytes g.text) ≡ g.columns) p.glyphs.items) }
     {
         let alloc = self.paragraph.allocator();
+        // The proof compares the picture, so it has a name.
         let picture = self
             .paragraph
             .lines(self.tables)

@@ -133,7 +133,7 @@ impl Pieces {
         ensures back { result.1 ≡ back self at }
         ensures spares { spares.old ≤ spares.new + 1 }
     {
-        // For the proof: the length in bytes is a `usize`.
+        // The length is a `usize`, so that of each part is one too.
         let _len = self.len();
         let (before, after) = cutting::cut(self.tree, at, spares);
         (Pieces { tree: before }, Pieces { tree: after })

@@ -72,7 +72,7 @@ impl Tree {
         ensures fits { total (sequence result.0.now) + (result.1.len + total (sequence result.2.now)) < 2 ^ 64 }
         ensures shallower { (depth_of result.0.now < self.now.depth) × (depth_of result.2.now < self.now.depth) }
     {
-        // For the proof: the length in bytes is a `usize`.
+        // The length is a `usize`, so that of each side is one too.
         let _len = self.len;
         (&self.left, self.piece, &self.right)
     }
@@ -104,7 +104,7 @@ pub fn height(tree: &Link) -> u8
     ensures shallow { IsShallow (depth_of tree.now) (sequence tree.now) }
     ensures small { depth_of tree.now < 130 }
 {
-    // For the proof: the length in bytes is a `usize`, so the tree is shallow.
+    // The length is a `usize`, so the tree is shallow.
     let _len = len(tree);
     match tree {
         None => 0,

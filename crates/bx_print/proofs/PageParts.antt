@@ -10,7 +10,7 @@ use Rattle.bx_index.specs.Paragraphs.{Paragraph, lengths_of, paragraphs}
 use Rattle.bx_index.specs.Positions.{bytes_of}
 use Rattle.bx_paragraph.specs.BodyRows.{body_rows}
 use Rattle.bx_view.specs.TextRows.{TextRow, rows_from, text_row, text_row_glyphs}
-use Rattle.bx_print.specs.declared.marks.Marks.{Marks}
+use Rattle.bx_print.specs.declared.style.Marks.{Marks}
 use Rattle.bx_print.specs.BodyLines.{body_lines}
 use Rattle.bx_print.specs.Page.{line, page}
 

@@ -4,7 +4,7 @@ use Rattle.std.specs.Prelude.{ℕ, List, ◌∷◌, flat_map}
 use Rattle.bx_ucd.specs.Data.{Data}
 use Rattle.bx_terms.specs.declared.base.Base.{Base}
 use Rattle.bx_paragraph.specs.BodyRows.{BodyRow, body_rows, row_glyphs}
-use Rattle.bx_print.specs.declared.marks.Marks.{Marks}
+use Rattle.bx_print.specs.declared.style.Marks.{Marks}
 use Rattle.bx_print.specs.Page.{line}
 
 -- the line of a row of a body, after a line feed

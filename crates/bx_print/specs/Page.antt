@@ -5,8 +5,8 @@ use Rattle.bx_ucd.specs.Data.{Data}
 use Rattle.bx_terms.specs.declared.base.Base.{Base}
 use Rattle.bx_rows.specs.RowPicture.{Glyph}
 use Rattle.bx_view.specs.TextRows.{text_row_glyphs, text_rows}
-use Rattle.bx_print.specs.declared.marks.Marks.{Marks}
-use Rattle.bx_print.specs.declared.marks.Marks.TheVariants.{Bracketed, LeftOut}
+use Rattle.bx_print.specs.declared.style.Marks.{Marks}
+use Rattle.bx_print.specs.declared.style.Marks.TheVariants.{Bracketed, LeftOut}
 
 -- the printed bytes of a mark with this letter; 91 and 93 are `[` and `]`
 abbrev pub mark_bytes : Marks → List ℕ → List ℕ

@@ -6,8 +6,7 @@ ghost use Rattle.bx_print.specs.BodyLines.{body_lines};
 
 use crate::error::PrintError;
 use crate::line::push_line;
-use crate::marks::Marks;
-use crate::style::Style;
+use crate::style::{Marks, Style};
 use bx_paragraph::{LentRow, ParagraphLayout};
 use bx_ucd::BidiData;
 use bx_view::Source;

@@ -17,8 +17,8 @@ use Rattle.bx_ucd.specs.declared.error.UcdFile.TheVariants.{Classes, Brackets, M
 use Rattle.bx_cli.specs.declared.unicode.UnicodeFiles.{UnicodeFiles}
 use Rattle.bx_store.specs.declared.faults.Faults.{Faults}
 use Rattle.bx_editor.specs.Opening.{Causes}
-use Rattle.bx_editor.specs.declared.error.OpenError.{OpenError}
-use Rattle.bx_editor.specs.declared.error.OpenError.TheVariants as text
+use Rattle.bx_editor.specs.declared.opening.OpenError.{OpenError}
+use Rattle.bx_editor.specs.declared.opening.OpenError.TheVariants as text
 use Rattle.bx_recovery.specs.declared.beginning.Beginning.{Beginning}
 use Rattle.bx_recovery.specs.declared.fault.RecoveryFault.{RecoveryFault}
 use Rattle.bx_recovery.specs.declared.fault.RecoveryFault.TheVariants.{Tables, Open, Unwritten, OutOfMemory}

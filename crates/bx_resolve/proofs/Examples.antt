@@ -4,7 +4,7 @@ use Rattle.bx_ucd.specs.declared.class.Class.TheVariants.{L, AN, NSM, BN, B, LRE
 use Rattle.bx_terms.specs.declared.base.Base.{Base}
 use Rattle.bx_terms.specs.declared.base.Base.TheVariants.{Auto, Ltr, Rtl}
 use Rattle.bx_resolve.specs.Levels.{is_kept, levels_under, paragraph_level_under}
-use Rattle.bx_resolve.specs.TestTables.{small}
+use Rattle.bx_ucd.specs.SmallTables.{small}
 
 abbrev levels : Base → List ℕ → List (Option ℕ)
 levels base chars = levels_under small base chars

@@ -10,4 +10,3 @@ pub mod Uniform
 pub mod ClassLevels
 pub mod Edited
 pub mod Laws
-pub mod TestTables

@@ -8,11 +8,10 @@ ghost use Rattle.bx_resolve.specs.Levels.{chars_at};
 ghost use Rattle.bx_resolve.specs.LevelRuns.{MeetsRun, run_indexes, sequence_indexes};
 
 use crate::body::Body;
-use crate::error::ResolveError;
 use crate::lent_sequence::{LentSequence, LevelRun};
 use crate::scratch::{Ends, Scratch, may_have_brackets};
-use bx_brackets::{BracketError, PairSearch};
-use bx_terms::first_char;
+use bx_brackets::PairSearch;
+use bx_terms::{OutOfMemory, first_char};
 use bx_ucd::{BidiData, Class};
 
 /// Passes the characters of a text to a search, each with its type.
@@ -22,7 +21,7 @@ fn meet_text<D: BidiData>(
     text: &str,
     types: &[Class],
     tables: &D,
-) -> Result<(), BracketError>
+) -> Result<(), OutOfMemory>
     requires next { search.old.next ≡ 0 }
     requires count { search.old.count ≡ length types.now }
     ensures pairs { OnOk result (search.new.progress.pairs ≡ pairs_after (D.data tables.now) search.old.progress 0 (chars text.now) types.now) }
@@ -48,7 +47,7 @@ fn meet_run<D: BidiData>(
     run: LevelRun<'_>,
     types: &[Class],
     met: usize,
-) -> Result<usize, BracketError>
+) -> Result<usize, OutOfMemory>
     requires as_long { length body.now ≡ length run.kept.now }
     requires next { search.old.next ≤ met }
     requires count { search.old.count ≡ length types.now }
@@ -89,7 +88,7 @@ fn meet_sequence<D: BidiData>(
     tables: &D,
     sequence: LentSequence<'_>,
     types: &[Class],
-) -> Result<(), BracketError>
+) -> Result<(), OutOfMemory>
     requires as_long { length body.now ≡ length sequence.kept.now }
     requires next { search.old.next ≡ 0 }
     requires count { search.old.count ≡ length types.now }
@@ -113,7 +112,7 @@ pub(crate) fn resolve_brackets_of<D: BidiData>(
     tables: &D,
     types: &mut [Class],
     ends: Ends,
-) -> Result<(), ResolveError>
+) -> Result<(), OutOfMemory>
     requires small { length types.old ≤ 2 ^ 32 }
     requires marks { length scratch.old.marks.items ≡ length types.old }
     ensures { OnOk result (types.new ≡ resolve_pairs (direction ends.level) ends.sos scratch.old.marks.items
@@ -136,7 +135,7 @@ pub(crate) fn resolve_brackets_in<D: BidiData>(
     tables: &D,
     sequence: LentSequence<'_>,
     types: &mut [Class],
-) -> Result<(), ResolveError>
+) -> Result<(), OutOfMemory>
     requires as_long { length body.old ≡ length sequence.kept.now }
     requires small { length types.old ≤ 2 ^ 32 }
     requires marks { length scratch.old.marks.items ≡ length types.old }

@@ -7,13 +7,12 @@ ghost use Rattle.bx_resolve.specs.Levels.{levels_in, max_level, paragraph_level_
 
 use crate::at_indexes::{chars_at, types_at, write_levels};
 use crate::body::{chars_of, classes_of};
-use crate::error::ResolveError;
 use crate::neutral::{implicit, n1, n2};
 use crate::paragraph::{Level, Levels};
 use crate::weak::{marks, w1, w2, w3, w4, w5, w6, w7};
 use bx_brackets::{pairs, resolve_pairs};
 use bx_explicit::{Explicit, ExplicitChar, Sequence, base_level, explicit, sequences};
-use bx_terms::Base;
+use bx_terms::{Base, OutOfMemory};
 use bx_ucd::BidiData;
 use bx_ucd::class::direction;
 use std::alloc::Global;
@@ -26,7 +25,7 @@ fn levels_in<D: BidiData>(
     chars: &[char],
     kept: &[Option<ExplicitChar>],
     sequence: &Sequence,
-) -> Result<Vec<u8>, ResolveError>
+) -> Result<Vec<u8>, OutOfMemory>
     requires low { sequence.now.level ≤ max_depth }
     requires within { All (λ p. p < length kept.now) sequence.now.indexes }
     requires as_long { length chars.now ≡ length kept.now }
@@ -57,7 +56,7 @@ fn each_by_rules<D: BidiData>(
     tables: &D,
     chars: &[char],
     explicit: &Explicit,
-) -> Result<Vec<Level>, ResolveError>
+) -> Result<Vec<Level>, OutOfMemory>
     requires as_long { length chars.now ≡ length explicit.now.classes.items }
     ensures { IfOk result (λ v. v.items ≡ with_sequences (D.data tables.now) chars.now explicit.now.kept.items
         (sequences explicit.now.level explicit.now.classes.items explicit.now.kept.items) (replicate (length chars.now) None)) }
@@ -77,7 +76,7 @@ pub fn levels_by_rules<D: BidiData>(
     body: &str,
     tables: &D,
     base: Base,
-) -> Result<Levels, ResolveError>
+) -> Result<Levels, OutOfMemory>
     ensures paragraph { IfOk result (λ v. v.paragraph ≡ paragraph_level_under (D.data tables.now) base (chars body.now)) }
     ensures each { IfOk result (λ v. v.each.items ≡ levels_under (D.data tables.now) base (chars body.now)) }
 {

@@ -5,11 +5,10 @@ ghost use Rattle.std.specs.List.{splice};
 ghost use Rattle.bx_resolve.specs.Levels.{paragraph_levels};
 ghost use Rattle.bx_resolve.specs.Edited.{FollowsBetween, FollowsToEnd};
 
-use crate::error::ResolveError;
 use crate::paragraph::{Level, Levels};
 use crate::resolve::levels;
 use crate::splice::{Span, replace_span};
-use bx_terms::Base;
+use bx_terms::{Base, OutOfMemory};
 use bx_ucd::BidiData;
 use std::alloc::Global;
 
@@ -19,7 +18,7 @@ fn piece_levels<D: BidiData>(
     piece: &str,
     tables: &D,
     paragraph: u8,
-) -> Result<Vec<Level>, ResolveError>
+) -> Result<Vec<Level>, OutOfMemory>
     requires { paragraph ≤ 1 }
     ensures { IfOk result (λ v. v.items ≡ paragraph_levels (D.data tables.now) paragraph (chars piece.now)) }
 {
@@ -40,7 +39,7 @@ pub fn follow_between<D: BidiData>(
     tables: &D,
     piece: &str,
     span: Span,
-) -> Result<(), ResolveError>
+) -> Result<(), OutOfMemory>
     requires low { levels.old.paragraph ≤ 1 }
     requires ordered { span.first ≤ span.last }
     requires inside { span.last ≤ length levels.old.each.items }
@@ -67,7 +66,7 @@ pub fn follow_to_end<D: BidiData>(
     tables: &D,
     piece: &str,
     first: usize,
-) -> Result<(), ResolveError>
+) -> Result<(), OutOfMemory>
     requires low { levels.old.paragraph ≤ 1 }
     requires inside { first ≤ length levels.old.each.items }
     ensures paragraph { levels.new.paragraph ≡ levels.old.paragraph }

@@ -8,12 +8,12 @@ ghost use Rattle.bx_resolve.specs.LevelRuns.{WritesRun, run_indexes, sequence_in
 
 use crate::body::Body;
 use crate::brackets::resolve_brackets_in;
-use crate::error::ResolveError;
 use crate::lent_sequence::{LentSequence, LevelRun};
 use crate::neutral::found_level;
 use crate::paragraph::{Level, Levels};
 use crate::scratch::{Ends, Scratch, resolve_neutral};
 use bx_explicit::{Explicit, ExplicitChar, SequenceWalk, explicit};
+use bx_terms::OutOfMemory;
 use bx_ucd::{BidiData, Class};
 use std::alloc::{AllocError, Global};
 
@@ -104,7 +104,7 @@ fn write_sequence<D: BidiData>(
     tables: &D,
     types: &mut [Class],
     sequence: LentSequence<'_>,
-) -> Result<(), ResolveError>
+) -> Result<(), OutOfMemory>
     requires low { sequence.ends.level ≤ max_depth }
     requires small { length types.old ≤ 2 ^ 32 }
     requires as_long { length body.old ≡ length sequence.kept.now }
@@ -136,7 +136,7 @@ fn write_lent<D: BidiData>(
     tables: &D,
     walk: &SequenceWalk<'_>,
     kept: &[Option<ExplicitChar>],
-) -> Result<(), ResolveError>
+) -> Result<(), OutOfMemory>
     requires lent { walk.now.has_current ≡ true }
     requires same { kept.now ≡ walk.now.explicit.kept.items }
     requires small { length walk.now.current.indexes ≤ 2 ^ 32 }
@@ -173,7 +173,7 @@ fn write_left<D: BidiData>(
     tables: &D,
     walk: &mut SequenceWalk<'_>,
     kept: &[Option<ExplicitChar>],
-) -> Result<(), ResolveError>
+) -> Result<(), OutOfMemory>
     requires same { kept.now ≡ walk.old.explicit.kept.items }
     requires few { All (λ (s : RunSequence). length s.indexes ≤ length kept.now) walk.old.left }
     requires small { length kept.now ≤ 2 ^ 32 }
@@ -194,7 +194,7 @@ fn each_level<D: BidiData>(
     body: &str,
     tables: &D,
     explicit: &Explicit,
-) -> Result<Vec<Level>, ResolveError>
+) -> Result<Vec<Level>, OutOfMemory>
     requires small { length body.now < 2 ^ 32 }
     requires as_long { length (chars body.now) ≡ length explicit.now.classes.items }
     ensures { IfOk result (λ v. v.items ≡ with_sequences (D.data tables.now) (chars body.now) explicit.now.kept.items
@@ -218,7 +218,7 @@ pub fn formatted_levels<D: BidiData>(
     tables: &D,
     classes: Vec<Class>,
     paragraph: u8,
-) -> Result<Levels, ResolveError>
+) -> Result<Levels, OutOfMemory>
     requires classes { classes.items ≡ map (D.data tables.now).class (chars body.now) }
     requires low { paragraph ≤ 1 }
     requires small { length body.now < 2 ^ 32 }

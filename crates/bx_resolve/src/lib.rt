@@ -7,7 +7,6 @@ mod body;
 mod brackets;
 mod by_rules;
 mod edited;
-mod error;
 mod formatted;
 mod laws;
 mod lent_sequence;
@@ -22,7 +21,6 @@ mod weak;
 
 pub use by_rules::levels_by_rules;
 pub use edited::{follow_between, follow_to_end};
-pub use error::ResolveError;
 pub use laws::{each_in_one_sequence, left_texts_are_flat, letters_keep_direction};
 pub use paragraph::{Level, Levels};
 pub use resolve::levels;

@@ -13,6 +13,7 @@ pub fn weak_in_one_pass(types: &mut [Class], sos: Class)
 {
     let mut before = Before::new(sos);
     let mut i = 0;
+    // Both loops go by `i`: their labels tell them apart in the proof.
     'types: while i < types.len() {
         let whole: &[Class] = &types[..];
         let t = whole[i];

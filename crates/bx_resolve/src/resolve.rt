@@ -10,7 +10,6 @@ ghost use Rattle.bx_resolve.specs.Uniform.{is_unformatted, all_pass};
 use crate::body::classes_of;
 use crate::brackets::resolve_brackets_of;
 use crate::by_rules::levels_by_rules;
-use crate::error::ResolveError;
 use crate::formatted::formatted_levels;
 use crate::neutral::found_level;
 use crate::one_pass::weak_in_one_pass;
@@ -18,7 +17,7 @@ use crate::paragraph::{Level, Levels};
 use crate::scratch::{Ends, Scratch, resolve_neutral};
 use crate::uniform::{are_from_right, are_plain, are_plain_right, are_unformatted};
 use bx_explicit::base_level;
-use bx_terms::Base;
+use bx_terms::{Base, OutOfMemory};
 use bx_ucd::class::direction;
 use bx_ucd::{BidiData, Class};
 use std::alloc::{AllocError, Global};
@@ -62,7 +61,7 @@ fn unformatted_levels<D: BidiData>(
     tables: &D,
     classes: &mut [Class],
     paragraph: u8,
-) -> Result<Levels, ResolveError>
+) -> Result<Levels, OutOfMemory>
     requires classes { classes.old ≡ map (D.data tables.now).class (chars body.now) }
     requires low { paragraph ≤ 1 }
     requires small { length body.now < 2 ^ 32 }
@@ -115,7 +114,7 @@ fn resolved_levels<D: BidiData>(
     body: &str,
     tables: &D,
     base: Base,
-) -> Result<Levels, ResolveError>
+) -> Result<Levels, OutOfMemory>
     ensures paragraph { IfOk result (λ v. v.paragraph ≡ paragraph_level_under (D.data tables.now) base (chars body.now)) }
     ensures each { IfOk result (λ v. v.each.items ≡ levels_under (D.data tables.now) base (chars body.now)) }
 {
@@ -139,12 +138,13 @@ pub fn levels<D: BidiData>(
     body: &str,
     tables: &D,
     base: Base,
-) -> Result<Levels, ResolveError>
+) -> Result<Levels, OutOfMemory>
     ensures paragraph { IfOk result (λ v. v.paragraph ≡ paragraph_level_under (D.data tables.now) base (chars body.now)) }
     ensures each { IfOk result (λ v. v.each.items ≡ levels_under (D.data tables.now) base (chars body.now)) }
     ensures kept { IfOk result (λ v. map is_some v.each.items ≡ map is_kept (map (D.data tables.now).class (chars body.now))) }
     ensures low { IfOk result (λ v. All (λ l. IfSome l (λ n. n ≤ max_level)) v.each.items) }
 {
+    // The proof compares the levels, so they have a name.
     let levels = resolved_levels(alloc, body, tables, base)?;
     Ok(levels)
 }

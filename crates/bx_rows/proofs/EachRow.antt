@@ -17,7 +17,7 @@ use Rattle.bx_cells.specs.Faces.{face_of, format_letter, is_tab, only_char, size
 use Rattle.bx_cells.specs.Units.{units, units_from, unit_text, HasFace}
 use Rattle.bx_cells.proofs.Rest.{IsUnitAt, unit-behind, few-units}
 use Rattle.bx_cells.proofs.Standing.{faces-units}
-use Rattle.bx_rows.specs.declared.row.Row.{Row}
+use Rattle.bx_rows.specs.declared.wrapping.Row.{Row}
 use Rattle.bx_rows.specs.declared.start_search.RowStart.{RowStart}
 use Rattle.bx_rows.specs.RowLevels.{chars_before}
 use Rattle.bx_rows.specs.RowStarts.{first_offset, start_of, row_starts, units_in, units_of_row, most_units}

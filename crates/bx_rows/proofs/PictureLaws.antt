@@ -10,7 +10,7 @@ use Rattle.std.proofs.lemmas.List.Sums.{sum_by-append, sum_by-cons}
 use Rattle.std.proofs.lemmas.List.Folds.{sum_by-replicate}
 use Rattle.bx_cells.specs.declared.unit.Unit.{Unit}
 use Rattle.bx_cells.specs.Units.{unit_text, HasFace}
-use Rattle.bx_rows.specs.declared.row.Row.{Row}
+use Rattle.bx_rows.specs.declared.wrapping.Row.{Row}
 use Rattle.bx_rows.specs.Wrapping.{columns_at, row_units}
 use Rattle.bx_rows.specs.RowPicture.{unit_forms}
 use Rattle.bx_rows.specs.RowPicture.{Glyph, blank, face_glyphs, letter_glyphs, unit_columns, unit_glyphs, columns_used, draw, own_glyphs}

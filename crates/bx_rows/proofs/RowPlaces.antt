@@ -14,7 +14,7 @@ use Rattle.bx_cells.specs.Units.{StandsIn, unit_text, units}
 use Rattle.bx_joining.specs.Joining.{text_forms}
 use Rattle.bx_joining.specs.Places.{StandsAt}
 use Rattle.bx_joining.specs.declared.forms.TextAt.{TextAt}
-use Rattle.bx_rows.specs.declared.row.Row.{Row}
+use Rattle.bx_rows.specs.declared.wrapping.Row.{Row}
 use Rattle.bx_rows.specs.declared.start_search.RowStart.{RowStart}
 use Rattle.bx_rows.specs.RowStarts.{row_starts, start_of}
 use Rattle.bx_rows.specs.RowStarts.{StartsRow}

@@ -15,7 +15,7 @@ use Rattle.bx_cells.specs.declared.unit.Unit.{Unit}
 use Rattle.bx_cells.specs.Faces.{face, only_char}
 use Rattle.bx_cells.specs.Units.{unit_at, unit_text, units, units_from}
 use Rattle.bx_cells.proofs.Rest.{IsUnitAt, none-behind, unit-behind}
-use Rattle.bx_rows.specs.declared.row.Row.{Row}
+use Rattle.bx_rows.specs.declared.wrapping.Row.{Row}
 use Rattle.bx_rows.specs.declared.start_search.RowStart.{RowStart}
 use Rattle.bx_rows.specs.LaterRows.{behind, moved}
 use Rattle.bx_rows.specs.RowStarts.{first_offset, row_starts, start_of}

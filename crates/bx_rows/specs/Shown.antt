@@ -6,7 +6,7 @@ use Rattle.bx_cells.specs.declared.unit.Face.{Face}
 use Rattle.bx_cells.specs.declared.unit.Face.TheVariants.{Mark}
 use Rattle.bx_cells.specs.declared.unit.Unit.{Unit}
 use Rattle.bx_rows.specs.declared.drawn.Drawn.{Drawn}
-use Rattle.bx_rows.specs.declared.row.Row.{Row}
+use Rattle.bx_rows.specs.declared.wrapping.Row.{Row}
 use Rattle.bx_rows.specs.RowPicture.{Glyph, glyph, columns_used}
 use Rattle.bx_rows.specs.Wrapping.{row_units}
 

@@ -20,7 +20,7 @@ fn break_behind<D: BidiData>(bytes: &[u8], at: usize, stop: usize, tables: &D) -
     ensures none { (i : ℕ) → result ≤ i → i < stop → is_blank ((D.data tables.now).class (get_or bytes.now i 0)) ≡ false }
 {
     let mut next = stop;
-    'bytes: while next > at {
+    while next > at {
         if is_blank(tables.class(char::from(bytes[next - 1]))) {
             return next;
         }

@@ -120,6 +120,7 @@ pub(crate) fn mirrored<'a, D: BidiData>(
 }
 
 /// Replaces a glyph's text by its mirror image, if that is shown as itself in one column.
+// Not inlined: few glyphs are mirrored, and the loop over all stays short.
 #[inline(never)]
 fn mirror_text<D: BidiData>(
     drawn: &mut Drawn<'_>,

@@ -60,6 +60,7 @@ fn grown(run: NarrowRun, stop: usize, is_break: bool) -> NarrowRun
 /// The run of one-column units at an offset, at most `most`. It ends before the first unit that has more columns or needs
 /// the full cluster rules, and is empty if the first character is not common (`common_kind`: printable ASCII, Hebrew and most
 /// Arabic letters).
+// Not inlined: it has a loop of its own, and runs once a run.
 #[inline(never)]
 pub(crate) fn narrow_run<D: BidiData>(body: &str, at: usize, most: u16, tables: &D) -> NarrowRun
     requires { IsCharBoundary body.now at }
@@ -83,7 +84,7 @@ pub(crate) fn narrow_run<D: BidiData>(body: &str, at: usize, most: u16, tables: 
     // The unit that begins here joins the run once the next one begins: `is_break` changes if a mark follows.
     let mut is_break = is_blank(tables.class(c));
     let mut rest = behind;
-    'chars: while let Some((c, behind)) = first_char(rest) {
+    while let Some((c, behind)) = first_char(rest) {
         match simple_kind(c) {
             Simple::Begins(columns) => {
                 let stop = body.len() - rest.len();

@@ -31,8 +31,7 @@ impl<'a, 't, D: BidiData> Lines<'a, 't, D> {
         ensures one_each { IfOk result (λ v. length v.items ≡ length units.now) }
     {
         let chars = self.starts[number].chars;
-        let found = each_level(alloc, self.body, units, chars, self.levels, self.tables)?;
-        Ok(found)
+        Ok(each_level(alloc, self.body, units, chars, self.levels, self.tables)?)
     }
 
     /// Row `number`, from 0, laid out. Reads no other row.

@@ -87,8 +87,7 @@ fn row_glyphs<'a, D: BidiData>(
 {
     let (glyphs, used) = unit_row(alloc, row)?;
     let blanks = row.lines.w - used;
-    let all = with_blanks(alloc, glyphs, blanks, row.lines.levels.paragraph)?;
-    Ok(all)
+    Ok(with_blanks(alloc, glyphs, blanks, row.lines.levels.paragraph)?)
 }
 
 impl<'a, 't, D: BidiData> LaidRow<'a, 't, D> {

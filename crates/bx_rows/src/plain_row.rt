@@ -135,7 +135,7 @@ impl<'a, 't, D: BidiData> Lines<'a, 't, D> {
         let mut rest = &self.body[start.offset..];
         let mut left = &each[start.chars.min(each.len())..];
         let mut waiting = 0;
-        'chars: while glyphs.len() < count && !rest.is_empty() {
+        while glyphs.len() < count && !rest.is_empty() {
             let Some((c, text, behind)) = first_part(rest) else {
                 return Ok(None);
             };

@@ -48,6 +48,7 @@ impl<'a, 't, D: BidiData> Lines<'a, 't, D> {
             start: start.offset,
             count,
         };
+        // The proof compares the units, so they have a name.
         let units = units_from(alloc, self.body, range, self.tables, self.w)?;
         Ok(units)
     }

@@ -125,6 +125,5 @@ pub fn visual(alloc: Global, levels: &[u8]) -> Result<Vec<usize>, OutOfMemory>
     ensures order { IfOk result (λ v. v.items ≡ visual levels.now) }
     ensures below { IfOk result (λ v. All (λ k. k < length levels.now) v.items) }
 {
-    let order = numbers_in_order(alloc, levels)?;
-    Ok(order)
+    Ok(numbers_in_order(alloc, levels)?)
 }

@@ -3,7 +3,7 @@ use Rattle.std.proofs.Common.{ℕ, Bool, List, map, Option}
 use Rattle.std.specs.Prelude.{flat_map, chars, encode_utf8_all, Some, None, ◌==◌, if◌then◌else◌}
 use Rattle.bx_ucd.specs.Data.{Data}
 pub use Rattle.bx_ucd.specs.SmallTables.{mirror}
-use Rattle.bx_resolve.specs.TestTables.{small}
+use Rattle.bx_ucd.specs.SmallTables.{small}
 use Rattle.bx_terms.specs.declared.base.Base.{Base}
 use Rattle.bx_terms.specs.declared.base.Base.TheVariants.{Auto}
 use Rattle.bx_resolve.specs.Levels.{paragraph_level_under, levels_under}

@@ -12,14 +12,14 @@ use Rattle.bx_ucd.specs.declared.joining.Form.{Form}
 use Rattle.bx_ucd.specs.declared.joining.Joining.{Joining}
 use Rattle.unicode_segmentation.proofs.Computing.{unicode_segmentation}
 use Rattle.unicode_width.proofs.Computing.{unicode_width}
-use Rattle.bx_resolve.specs.TestTables.{small}
+use Rattle.bx_ucd.specs.SmallTables.{small}
 use Rattle.bx_cells.specs.declared.unit.Face.{Face}
 use Rattle.bx_cells.specs.declared.unit.Face.TheVariants.{Tab, Mark, Own}
 use Rattle.bx_cells.specs.declared.unit.Unit.{Unit}
 use Rattle.bx_cells.specs.Units.{HasFace, StandsIn, unit_chars, unit_text, units}
 use Rattle.bx_cells.proofs.Rest.{chars_encoded}
 use Rattle.bx_joining.specs.JoinedText.{AreFormless}
-use Rattle.bx_rows.specs.declared.row.Row.{Row}
+use Rattle.bx_rows.specs.declared.wrapping.Row.{Row}
 use Rattle.bx_rows.specs.declared.start_search.RowStart.{RowStart}
 use Rattle.bx_rows_laws.specs.JoiningLaws.{FormlessRowsStay, FormsChangeTextsAlone, IsSameOrForm, LettersShowTheirForms, ShownLetter, columns_shown, text_shown}
 use Rattle.bx_rows_laws.specs.Laws.{EndsWell, IsFull, RowsAreOfRest, RowsCutUnits, RowsEndWell, RowsMeetAgain, StandInTurn, UnitsFitWindow, UnitsMakeBody}

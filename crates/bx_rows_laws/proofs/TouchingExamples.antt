@@ -11,7 +11,7 @@ use Rattle.bx_ucd.specs.declared.joining.Form.TheVariants.{Initial}
 use Rattle.bx_ucd.specs.declared.joining.Joining.TheVariants.{D, T, U}
 use Rattle.unicode_segmentation.proofs.Computing.{unicode_segmentation}
 use Rattle.unicode_width.proofs.Computing.{unicode_width}
-use Rattle.bx_resolve.specs.TestTables.{small}
+use Rattle.bx_ucd.specs.SmallTables.{small}
 use Rattle.bx_cells.specs.declared.unit.Face.TheVariants.{Mark, Own}
 use Rattle.bx_cells.specs.declared.unit.Unit.{Unit}
 use Rattle.bx_cells.specs.Units.{StandsIn}

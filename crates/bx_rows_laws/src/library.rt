@@ -111,8 +111,7 @@ pub fn wrap<D: BidiData>(
     ensures fit { IfOk result (λ v. All (IsRowOf w units.now) v.items) }
     ensures cut { 1 ≤ w → IfOk result (λ v. CutUnits w units.now v.items) }
 {
-    let rows = all_rows(alloc, body, units, tables, w)?;
-    Ok(rows)
+    Ok(all_rows(alloc, body, units, tables, w)?)
 }
 
 /// The number of a body's characters before a row's units.
@@ -143,8 +142,7 @@ pub fn row_levels<D: BidiData>(
     ensures one_each { IfOk result (λ v. length v.items ≡ length units.now) }
 {
     let chars = chars_before(body, units);
-    let found = each_level(alloc, body, units, chars, levels, tables)?;
-    Ok(found)
+    Ok(each_level(alloc, body, units, chars, levels, tables)?)
 }
 
 /// Whether a body is known to have a single row in a window of `w` columns, from its characters alone: true is sure, false

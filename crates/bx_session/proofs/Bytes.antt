@@ -15,8 +15,8 @@ use Rattle.bx_ucd.specs.Data.{Data}
 use Rattle.bx_editor.specs.Editor.{Editor, EditorState, HasRows, at_start, with_top}
 use Rattle.bx_editor.specs.Keys.{after_key, asks_for_whole}
 use Rattle.bx_editor.specs.Pasting.{paste_ended}
-use Rattle.bx_session.specs.declared.error.Refused.{Refused}
-use Rattle.bx_session.specs.declared.error.Refused.TheVariants.{Edit, Paint, Size}
+use Rattle.bx_session.specs.declared.status.Refused.{Refused}
+use Rattle.bx_session.specs.declared.status.Refused.TheVariants.{Edit, Paint, Size}
 use Rattle.bx_session.specs.Session.{Session, SessionState, with_painting, with_painting_owed, with_picture, at_opening, before_painting, key_of_byte}
 use Rattle.bx_session.specs.Session.{after_spending, session_after_any, unpainted_after_byte, is_idle, is_painted, needs_painting, painted_after, picture_of}
 use Rattle.bx_session.specs.Session.{after_byte, session_after_key, unpainted_after_told}

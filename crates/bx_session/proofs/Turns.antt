@@ -11,8 +11,8 @@ use Rattle.bx_grid.specs.Picture.{PictureState}
 use Rattle.bx_store.specs.declared.store.StoreFault.{StoreFault}
 use Rattle.bx_ucd.specs.Data.{Data}
 use Rattle.bx_session.specs.declared.status.Status.{Status}
-use Rattle.bx_session.specs.declared.error.Refused.{Refused}
-use Rattle.bx_session.specs.declared.error.Refused.TheVariants.{Edit, Paint, Size}
+use Rattle.bx_session.specs.declared.status.Refused.{Refused}
+use Rattle.bx_session.specs.declared.status.Refused.TheVariants.{Edit, Paint, Size}
 use Rattle.bx_session.specs.Session.{Session, clip_after, painted_after, painting, picture_of, scrolled, then_clip, with_painting_owed, key_of_byte, after_spending}
 use Rattle.bx_session.specs.Session.{session_after_any, unpainted_after_byte, is_painted}
 use Rattle.bx_session.specs.Painting.{FeedPaints, QueuesPicture}

@@ -11,8 +11,8 @@ use Rattle.bx_editor.specs.Editor.{Editor}
 use Rattle.bx_editor.specs.Keys.{is_save, may_refuse}
 use Rattle.bx_editor.specs.Pasting.{paste_ended}
 use Rattle.bx_session.specs.declared.status.Status.{Status}
-use Rattle.bx_session.specs.declared.error.Refused.{Refused}
-use Rattle.bx_session.specs.declared.error.Refused.TheVariants as refused
+use Rattle.bx_session.specs.declared.status.Refused.{Refused}
+use Rattle.bx_session.specs.declared.status.Refused.TheVariants as refused
 use Rattle.bx_session.specs.Session.{Session, key_of_byte, after_spending, after_byte, owing_after_byte, status_of, is_painted, after_told, owing_after_told}
 
 -- a store's content, None if it is not known, and its failed calls: their number and the latest fault

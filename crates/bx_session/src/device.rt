@@ -1,7 +1,7 @@
 //! What a run reads, journals, writes and saves through: a reader, a journal, a writer and a store as one, so that the order among
 //! them is told.
 
-use crate::error::Refused;
+use crate::status::Refused;
 use crate::session::Session;
 use crate::status::Status;
 use bx_bytes::WriteFault;

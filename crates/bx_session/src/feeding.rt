@@ -10,10 +10,9 @@ ghost use Rattle.bx_session.specs.Saving.{Feeds, SaveEnds, StoreAfter, ToldBy, i
 ghost use Rattle.bx_session.specs.Session.{after_spending, is_idle, is_painted, key_of_byte, needs_painting, session_after_key};
 ghost use Rattle.bx_session.specs.Session.{unpainted_after_byte, unpainted_after_told};
 
-use crate::error::Refused;
 use crate::saving::save_pieces;
 use crate::session::Session;
-use crate::status::Status;
+use crate::status::{Refused, Status};
 use bx_editor::Editor;
 use bx_keys::Key;
 use bx_store::Store;

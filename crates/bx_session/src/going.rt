@@ -4,8 +4,8 @@
 ghost use Rattle.std.specs.Prelude.{◌≡◌, OnErr, OnOk};
 ghost use Rattle.bx_session.specs.Session.{after_going, as_changed, with_clipboard};
 
-use crate::error::Refused;
 use crate::session::Session;
+use crate::status::Refused;
 use bx_ucd::BidiData;
 
 impl<D: BidiData + Drop> Session<D> {

@@ -55,6 +55,7 @@ impl Journal for NoJournal {
     ghost failure_count = { λ s. 0 };
 
     fn append(&mut self, bytes: &[u8]) -> Result<(), JournalFault> {
+        // No byte is kept.
         let _ = bytes;
         Ok(())
     }
@@ -240,6 +241,7 @@ fn append_last<J: Journal + Drop>(journal: &mut J, mut waiting: Vec<u8>, bytes: 
         (record { journal = journal.old; backlog = Backlog.Lost waiting })
         (record { journal = journal.new; backlog = result }) bytes.now }
 {
+    // Only the contract names the bytes that are lost.
     let _ = bytes;
     if waiting.is_empty() {
         return Backlog::Lost(waiting);

@@ -6,7 +6,7 @@ ghost use Rattle.bx_session.specs.InMemory.{DidLog, stored_in};
 
 use crate::action::{Action, ActionBytes};
 use crate::device::{Device, DeviceFault};
-use crate::error::Refused;
+use crate::status::Refused;
 use crate::session::Session;
 use crate::status::Status;
 use bx_bytes::WriteFault;

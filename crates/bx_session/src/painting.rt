@@ -8,12 +8,12 @@ ghost use Rattle.bx_grid.specs.Terminal.{Terminal, reads};
 ghost use Rattle.bx_session.specs.Painting.{AppendsPainting, QueuesPicture, Updates, text_in};
 ghost use Rattle.bx_session.specs.Session.{clip_after, known_if, painted_after, painting, then_clip, with_painting, with_painting_owed};
 
-use crate::error::Refused;
 use crate::session::Session;
+use crate::status::Refused;
 use bx_editor::Editor;
 use bx_grid::{Grid, Picture};
 use bx_keys::Key;
-use bx_paint::{PaintError, changes_into, clip_into, whole_into};
+use bx_paint::{changes_into, clip_into, whole_into};
 use bx_terms::OutOfMemory;
 use bx_ucd::BidiData;
 use std::alloc::Global;
@@ -27,7 +27,7 @@ fn append(
     painted: &Option<Picture>,
     is_known: bool,
     picture: &Picture,
-) -> Result<(), PaintError>
+) -> Result<(), OutOfMemory>
     requires fits { IfSome (known_if is_known painted.now) (λ p. (p.height ≡ picture.now.height) × (p.width ≡ picture.now.width)) }
     ensures bytes { OnOk result (queue.new.items ≡ queue.old.items ++ painting (known_if is_known painted.now) picture.now) }
     ensures err { OnErr result (queue.new.items ≡ queue.old.items) }
@@ -44,7 +44,7 @@ fn append(
 /// Appends the clip of a text, if there is one.
 ///
 /// Errors: `OutOfMemory`, and nothing is appended.
-fn append_clip(queue: &mut Vec<u8>, clip: Option<&str>) -> Result<(), PaintError>
+fn append_clip(queue: &mut Vec<u8>, clip: Option<&str>) -> Result<(), OutOfMemory>
     ensures bytes { OnOk result (queue.new.items ≡ then_clip queue.old.items (text_in clip.entry)) }
     ensures err { OnErr result (queue.new.items ≡ queue.old.items) }
     ensures shows { (t : Terminal) (painting : List ℕ) (p : PictureState) → Shows (reads t painting) p
@@ -65,7 +65,7 @@ fn append_both(
     is_known: bool,
     picture: &Picture,
     clip: Option<&str>,
-) -> Result<(), PaintError>
+) -> Result<(), OutOfMemory>
     requires fits { IfSome (known_if is_known painted.now) (λ p. (p.height ≡ picture.now.height) × (p.width ≡ picture.now.width)) }
     ensures bytes { OnOk result (queue.new.items
         ≡ then_clip (queue.old.items ++ painting (known_if is_known painted.now) picture.now) (text_in clip.entry)) }

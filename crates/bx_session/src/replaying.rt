@@ -9,9 +9,9 @@ ghost use Rattle.bx_session.specs.Session.{after_replay, after_replayed_key, aft
 ghost use Rattle.bx_session.specs.Session.{session_after_replayed, session_replayed_on, session_scrolled};
 ghost use Rattle.bx_store.specs.Stores.{with_fault};
 
-use crate::error::Refused;
 use crate::saving::{is_text, save_pieces};
 use crate::session::Session;
+use crate::status::Refused;
 use bx_asking::Ask;
 use bx_editor::Seek;
 use bx_keys::Key;

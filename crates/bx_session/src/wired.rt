@@ -3,7 +3,7 @@
 ghost use Rattle.std.specs.Prelude.{◌≡◌};
 
 use crate::device::{Device, DeviceFault};
-use crate::error::Refused;
+use crate::status::Refused;
 use crate::journal::{Journal, Recorder};
 use crate::session::Session;
 use crate::status::Status;

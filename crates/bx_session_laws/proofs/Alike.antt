@@ -16,11 +16,11 @@ use Rattle.bx_runs.specs.declared.typing.Removal.{Removal}
 use Rattle.bx_runs.specs.declared.typing.Typing.{Typing}
 use Rattle.bx_runs.specs.Runs.{edited, run_end, run_start}
 use Rattle.bx_runs.specs.Typing.{after_insertion, after_removal, goes_on, goes_on_removing, kind_of}
-use Rattle.bx_editor.specs.declared.aim.Aim.TheVariants as aims
+use Rattle.bx_editor.specs.declared.seek.Aim.TheVariants as aims
 use Rattle.bx_editor.specs.declared.message.Message.TheVariants.{TextFull, Copied, LineCopied, MarkOff, MarkSet, NothingToCopy, NothingToPut}
 use Rattle.bx_editor.specs.declared.seek.Seek.TheVariants as seeks
-use Rattle.bx_editor.specs.declared.soft.Soft.{Soft}
-use Rattle.bx_editor.specs.declared.soft.Soft.TheVariants as softness
+use Rattle.bx_editor.specs.declared.cursor.Soft.{Soft}
+use Rattle.bx_editor.specs.declared.cursor.Soft.TheVariants as softness
 use Rattle.bx_editor.specs.Editor.{Editor, after_redo, after_step, after_undo, place_after, stored_behind, with_insertion, with_removal, with_typing}
 use Rattle.bx_editor.specs.Effects.{Effect, Types, BeginsLine, Puts, Removes, RemovesWord, Steps, StepsRun, Goes, GoesByRows, Marks, Selects, Unmarks, Copies}
 use Rattle.bx_editor.specs.Effects.{Cuts, Seeks, SeeksNext, Saves, Quits, Turns, Helps, AsksLine, AsksName, Tells, Rests, Before, before, by}

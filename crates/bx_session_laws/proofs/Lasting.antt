@@ -6,11 +6,11 @@ use Rattle.bx_keys.specs.declared.key.Key.TheVariants.{Point}
 use Rattle.bx_terms.specs.declared.base.Base.{Base}
 use Rattle.bx_text.specs.Edits.{Edited}
 use Rattle.bx_ucd.specs.Data.{Data}
-use Rattle.bx_asking.specs.declared.question.Ask.{Ask}
+use Rattle.bx_asking.specs.declared.answers.Ask.{Ask}
 use Rattle.bx_runs.specs.declared.typing.Typing.{Typing}
-use Rattle.bx_editor.specs.declared.aim.Aim.{Aim}
+use Rattle.bx_editor.specs.declared.seek.Aim.{Aim}
 use Rattle.bx_editor.specs.declared.seek.Seek.{Seek}
-use Rattle.bx_editor.specs.declared.soft.Soft.{Soft}
+use Rattle.bx_editor.specs.declared.cursor.Soft.{Soft}
 use Rattle.bx_view.specs.Pointing.{pointed_at}
 use Rattle.bx_editor.specs.Editor.{Editor, rows, text_height}
 use Rattle.bx_editor.specs.Effects.{Goes}

@@ -14,8 +14,8 @@ use Rattle.bx_store.specs.Stores.{no_faults}
 use Rattle.bx_text.specs.Edits.{Edited}
 use Rattle.bx_editor.specs.Editor.{Editor, HasRows}
 use Rattle.bx_editor.proofs.Computed.{tables, ascii_columns}
-use Rattle.bx_session.specs.declared.error.Refused.{Refused}
-use Rattle.bx_session.specs.declared.error.Refused.TheVariants.{Edit, Paint}
+use Rattle.bx_session.specs.declared.status.Refused.{Refused}
+use Rattle.bx_session.specs.declared.status.Refused.TheVariants.{Edit, Paint}
 use Rattle.bx_session.specs.declared.status.Status.{Status}
 use Rattle.bx_session.specs.declared.journal.Backlog.TheVariants.{Empty, Waiting}
 use Rattle.bx_session_laws.specs.Anew.{AlwaysStaysPainted}

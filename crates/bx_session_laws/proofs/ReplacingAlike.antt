@@ -9,7 +9,7 @@ use Rattle.bx_document.specs.Swapped.{behind_character, last_stop, swapped}
 use Rattle.bx_runs.specs.declared.typing.Typing.{Typing}
 use Rattle.bx_view.specs.Moves.{place_at}
 use Rattle.bx_view.specs.TextRows.{text_rows}
-use Rattle.bx_editor.specs.declared.aim.Aim.TheVariants.{Replace}
+use Rattle.bx_editor.specs.declared.seek.Aim.TheVariants.{Replace}
 use Rattle.bx_editor.specs.declared.matches.Landing.{Landing}
 use Rattle.bx_editor.specs.declared.message.Message.TheVariants.{TextFull}
 use Rattle.bx_editor.specs.declared.seek.Seek.TheVariants.{Off, Replacing}

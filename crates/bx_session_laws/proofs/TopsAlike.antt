@@ -16,8 +16,8 @@ use Rattle.bx_editor.specs.Prompts.{HasOnePrompt}
 use Rattle.bx_editor.proofs.TopOnce.{top-stays}
 use Rattle.bx_editor.proofs.Unseen.{paste-is-unseen}
 use Rattle.bx_view.specs.Top.{follow}
-use Rattle.bx_session.specs.declared.error.Refused.{Refused}
-use Rattle.bx_session.specs.declared.error.Refused.TheVariants as refused
+use Rattle.bx_session.specs.declared.status.Refused.{Refused}
+use Rattle.bx_session.specs.declared.status.Refused.TheVariants as refused
 use Rattle.bx_session.specs.declared.status.Status.{Status}
 use Rattle.bx_session.specs.Laws.{after_replaying}
 use Rattle.bx_session.specs.Running.{ByteAnswer, FeedsAll, bytes_of}

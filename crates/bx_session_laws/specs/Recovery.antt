@@ -6,13 +6,13 @@ use Rattle.bx_keys.specs.Keys.{decoding, keys_from}
 use Rattle.bx_keys.specs.declared.key.Key.{Key}
 use Rattle.bx_keys.specs.declared.key.Key.TheVariants.{Point, Save}
 use Rattle.bx_ucd.specs.Data.{Data}
-use Rattle.bx_asking.specs.declared.question.Ask.TheVariants as asks
+use Rattle.bx_asking.specs.declared.answers.Ask.TheVariants as asks
 use Rattle.bx_runs.specs.declared.typing.Typing.TheVariants as typings
 use Rattle.bx_editor.specs.Editor.{Editor, HasRows, at_start}
 use Rattle.bx_editor.specs.Pasting.{paste_ended}
 use Rattle.bx_editor.specs.Prompts.{HasOnePrompt}
 use Rattle.bx_editor.specs.declared.seek.Seek.TheVariants.{Off}
-use Rattle.bx_session.specs.declared.error.Refused.TheVariants as refused
+use Rattle.bx_session.specs.declared.status.Refused.TheVariants as refused
 use Rattle.bx_session.specs.declared.journal.Backlog.TheVariants.{Empty}
 use Rattle.bx_session.specs.Beginning.{Beginning, at_offset, begun, unpainted_at}
 use Rattle.bx_session.specs.Journal.{RecorderState, RunsRecorded}

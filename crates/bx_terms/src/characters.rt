@@ -1,7 +1,7 @@
 //! Kinds of characters that several layers use.
 
-ghost use Rattle.std.specs.Prelude.{◌≡◌, [], ◌∷◌, MatchOption, true, false};
-ghost use Rattle.bx_terms.specs.Characters.{are_ascii_printable, are_printable, is_ascii_glyph, is_ascii_printable, is_control, is_direction_mark};
+ghost use Rattle.std.specs.Prelude.{◌≡◌};
+ghost use Rattle.bx_terms.specs.Characters.{are_ascii_printable, are_printable, is_ascii_printable, is_control, is_direction_mark};
 
 /// Whether a character is a control of C0 or C1 (ECMA-48), DELETE, LINE SEPARATOR or PARAGRAPH SEPARATOR.
 pub fn is_control(c: char) -> bool
@@ -38,14 +38,4 @@ pub fn are_printable(text: &str) -> bool
     ensures { result ≡ are_printable text.now }
 {
     text.chars().all(|c| !is_control(c))
-}
-
-/// The byte of a text that is a single printable ASCII character, else `None`.
-pub fn ascii_glyph(text: &str) -> Option<u8>
-    ensures { MatchOption result (is_ascii_glyph text.now ≡ false) (λ byte. (text.now ≡ byte ∷ []) × (is_ascii_printable byte ≡ true)) }
-{
-    match text.as_bytes() {
-        [byte] if is_ascii_printable(*byte) => Some(*byte),
-        _ => None,
-    }
 }

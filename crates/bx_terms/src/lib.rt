@@ -3,7 +3,6 @@
 
 mod base;
 mod characters;
-mod equality;
 mod glyphs;
 mod memory;
 mod sizes;
@@ -11,11 +10,9 @@ mod texts;
 
 pub use base::{Base, UnknownBase};
 pub use characters::{
-    are_ascii_printable, are_printable, ascii_glyph, is_ascii_printable, is_control,
-    is_direction_mark,
+    are_ascii_printable, are_printable, is_ascii_printable, is_control, is_direction_mark,
 };
-pub use equality::are_equal;
 pub use glyphs::{is_glyph, run_width};
 pub use memory::OutOfMemory;
 pub use sizes::{LARGEST_SIDE, LARGEST_TEXT, is_side};
-pub use texts::first_char;
+pub use texts::{are_equal, first_char};

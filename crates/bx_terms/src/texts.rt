@@ -1,6 +1,6 @@
-//! The first character of a text.
+//! The first character of a text, and equality of bytes, with contracts on what is in them.
 
-ghost use Rattle.std.specs.Prelude.{◌≡◌, ◌<◌, ◌∷◌, ◌++◌, MatchOption, chars, encode_utf8, length};
+ghost use Rattle.std.specs.Prelude.{◌≡◌, ◌<◌, ◌∷◌, ◌++◌, MatchOption, chars, encode_utf8, length, ◌↔◌, IsTrue};
 
 /// The first character of a text, and the rest; `None` if the text is empty.
 #[inline(always)]
@@ -13,4 +13,11 @@ pub fn first_char(text: &str) -> Option<(char, &str)>
         Some(c) => Some((c, chars.as_str())),
         None => None,
     }
+}
+
+/// Whether two byte slices are equal.
+pub fn are_equal(left: &[u8], right: &[u8]) -> bool
+    ensures { IsTrue result ↔ (left.now ≡ right.now) }
+{
+    left == right
 }

@@ -101,14 +101,6 @@ impl Text {
         self.next_undos(1)
     }
 
-    /// The change that `redo` would make next; none if the future is empty.
-    #[tactic(auto, using(crate::proofs::OneStep::redo_one))]
-    pub fn next_redo(&self) -> Option<Change>
-        ensures { result ≡ next_redo self.now.edited }
-    {
-        self.next_redos(1)
-    }
-
     /// Reserves memory for an edit that inserts `bytes` bytes, with three nodes (`put`). The text is unchanged.
     fn grow(&mut self, bytes: usize) -> Result<(), AllocError>
         ensures edited { self.new.edited ≡ self.old.edited }

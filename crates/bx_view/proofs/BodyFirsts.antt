@@ -9,7 +9,7 @@ use Rattle.unicode_segmentation.proofs.SegmentsLemmas.{AllPieces, concat-segment
 use Rattle.bx_terms.specs.declared.base.Base.{Base}
 use Rattle.bx_cells.specs.declared.unit.Unit.{Unit}
 use Rattle.bx_cells.specs.Units.{unit_at, units}
-use Rattle.bx_rows.specs.declared.row.Row.{Row}
+use Rattle.bx_rows.specs.declared.wrapping.Row.{Row}
 use Rattle.bx_rows.specs.RowStarts.{first_offset, start_of}
 use Rattle.bx_rows.specs.Wrapping.{is_break, row_len, rows_from, rows_of}
 use Rattle.bx_paragraph.specs.BodyRows.{body_rows}

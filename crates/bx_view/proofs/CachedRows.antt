@@ -11,7 +11,7 @@ use Rattle.bx_paragraph.specs.BodyRows.{body_rows, first_of}
 use Rattle.bx_paragraph.specs.BodyRows.{row_at as row_at_body, row_of as row_of_body}
 use Rattle.bx_paragraph.specs.Layout.{LayoutState, row_by, rows_by}
 use Rattle.bx_paragraph.proofs.Starts.{row_count, side-some}
-use Rattle.bx_view.specs.declared.row_at.RowAt.{RowAt}
+use Rattle.bx_view.specs.declared.in_row.RowAt.{RowAt}
 use Rattle.bx_view.specs.FoundRow.{StandsOn}
 use Rattle.bx_view.specs.Caching.{Caches, IsCached, IsOfText, IsViewBy, Keeps, ViewState}
 use Rattle.bx_view.specs.Moves.{row_home}

@@ -4,7 +4,7 @@ use Rattle.std.proofs.Common.{ap, ◌∙◌, subst, sym, arith}
 use Rattle.std.specs.Prelude.{All, IfSome}
 use Rattle.bx_ucd.specs.declared.data.BidiData.{Ghosts}
 use Rattle.bx_paragraph.specs.declared.moves.Visual.{Visual}
-use Rattle.bx_paragraph.specs.declared.slot.Slot.{Slot}
+use Rattle.bx_paragraph.specs.declared.slots.Slot.{Slot}
 use Rattle.bx_paragraph.specs.BodyRows.{last_of, offsets_of}
 use Rattle.bx_paragraph.specs.LentRow.{row}
 use Rattle.bx_paragraph.specs.Slots.{beside, entry, reading_end, reading_start, row_slots}

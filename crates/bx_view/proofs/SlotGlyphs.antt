@@ -9,7 +9,7 @@ use Rattle.bx_ucd.specs.Data.{Data}
 use Rattle.bx_rows.specs.RowPicture.{Glyph, blank, columns_used, unit_columns}
 use Rattle.bx_rows.specs.VisualOrder.{visual}
 use Rattle.bx_rows.proofs.PictureLaws.{columns_of_glyphs}
-use Rattle.bx_paragraph.specs.declared.slot.Slot.{Slot}
+use Rattle.bx_paragraph.specs.declared.slots.Slot.{Slot}
 use Rattle.bx_paragraph.specs.Slots.{extent_of, side_by_side, slot, unit_slots}
 use Rattle.bx_view.specs.Cells.{glyphs_of}
 use Rattle.bx_view.specs.TextRows.{TextRow, text_row_glyphs}

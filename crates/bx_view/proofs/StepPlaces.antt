@@ -3,7 +3,7 @@ use Rattle.std.proofs.Common.{◌≡◌, ℕ, ◌+◌, ◌-◌, ◌<◌, ◌≤�
 use Rattle.std.proofs.Common.{sym, ap, ◌∙◌, arith}
 use Rattle.bx_ucd.specs.Data.{Data}
 use Rattle.bx_paragraph.specs.BodyRows.{last_of}
-use Rattle.bx_view.specs.declared.row_at.RowAt.{RowAt}
+use Rattle.bx_view.specs.declared.in_row.RowAt.{RowAt}
 use Rattle.bx_view.specs.FoundRow.{StandsOn, rows_by}
 use Rattle.bx_view.specs.Caching.{Keeps, ViewState}
 use Rattle.bx_view.specs.Moves.{place_at, place_from}

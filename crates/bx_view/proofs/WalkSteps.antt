@@ -7,7 +7,7 @@ use Rattle.bx_index.specs.Positions.{total}
 use Rattle.bx_index.specs.Walk.{WalkState}
 use Rattle.bx_ucd.specs.Data.{Data}
 use Rattle.bx_view.specs.Standing.{count, start_at}
-use Rattle.bx_view.specs.declared.row_at.RowAt.{RowAt}
+use Rattle.bx_view.specs.declared.in_row.RowAt.{RowAt}
 use Rattle.bx_view.proofs.Numbers.{lengths-count}
 
 module _ (ps : List Lengths) (n : ℕ) (walk : WalkState) (stands : walk ≡ record { paragraphs = ps; number = n }) (moved : Bool) where

@@ -15,11 +15,11 @@ use Rattle.bx_cells.proofs.Standing.{stand_if_units}
 use Rattle.bx_rows.specs.RowPicture.{unit_columns}
 use Rattle.bx_rows.specs.VisualOrder.{visual}
 use Rattle.bx_rows.specs.Wrapping.{row_units, wrap}
-use Rattle.bx_rows.specs.declared.row.Row.{Row}
+use Rattle.bx_rows.specs.declared.wrapping.Row.{Row}
 use Rattle.bx_rows.proofs.PictureLaws.{faces-row}
 use Rattle.bx_paragraph.specs.declared.moves.Visual.{Visual}
 use Rattle.bx_paragraph.specs.declared.moves.Visual.TheVariants.{Left, Right}
-use Rattle.bx_paragraph.specs.declared.slot.Slot.{Slot}
+use Rattle.bx_paragraph.specs.declared.slots.Slot.{Slot}
 use Rattle.bx_paragraph.specs.BodyRows.{BodyRow, body_rows, last_of, last_offset, offsets_of, row_with, rows_units, with_last}
 use Rattle.bx_paragraph.specs.BodyRows.{row_at as row_at_body}
 use Rattle.bx_paragraph.specs.Slots.{beside, covering_in, covers, end_slot, entry, extent_of, first_in, left_column, next_in, or_else}

@@ -2,7 +2,7 @@
 use Rattle.std.specs.Prelude.{◌≡◌, ℕ, ◌+◌, ◌-◌, ◌<◌, true, List, length, Option, MatchOption}
 use Rattle.bx_ucd.specs.Data.{Data}
 use Rattle.bx_terms.specs.Sizes.{is_side}
-use Rattle.bx_view.specs.declared.row_at.RowAt.{RowAt}
+use Rattle.bx_view.specs.declared.in_row.RowAt.{RowAt}
 use Rattle.bx_view.specs.Caching.{Caches, IsViewBy, ViewState}
 use Rattle.bx_view.specs.Standing.{IsRow, body_at, start_at}
 use Rattle.bx_view.specs.TextRows.{TextRow, row_at, text_rows}

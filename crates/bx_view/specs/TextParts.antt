@@ -1,6 +1,6 @@
 -- A part of a text, from the offset `part.0` up to `part.1`, and the units that begin in it of a row in `w` columns.
 use Rattle.std.specs.Prelude.{ℕ, ◌+◌, nat_le, nat_lt, Bool, false, ◌&&◌, List, filter, Option, Some, None}
-use Rattle.bx_paragraph.specs.declared.slot.Slot.{Slot}
+use Rattle.bx_paragraph.specs.declared.slots.Slot.{Slot}
 use Rattle.bx_paragraph.specs.Slots.{covering, row_slots}
 use Rattle.bx_view.specs.Moves.{place_in}
 use Rattle.bx_view.specs.TextRows.{TextRow}

@@ -12,16 +12,17 @@ ghost use Rattle.bx_view.specs.Places.{IsTextPlace};
 ghost use Rattle.bx_view.specs.Source.{IsViewBy, Keeps, bytes};
 
 use crate::cache::{edit_in, find_in, lay_out_in};
-use crate::error::ViewError;
 use crate::placed::first_from;
 use crate::source::Source;
 use crate::span::paragraph_under;
 use crate::view::View;
 use bx_index::separates;
 use bx_paragraph::{LentRow, ParagraphLayout};
+use bx_terms::OutOfMemory;
 use bx_ucd::BidiData;
 
-/// A range of bytes in the body of a cached paragraph, from the offset `start` up to `stop`.
+/// A range of bytes in the body of a cached paragraph, from the offset `start` up to `stop`. It is no plain range, since its offsets
+/// mean nothing without the paragraph.
 #[derive(Clone, Copy)]
 pub struct CachedRange {
     // the paragraph's index among the cached ones
@@ -50,7 +51,7 @@ fn place_in_body<D: BidiData>(
     paragraph: &ParagraphLayout,
     offset: usize,
     tables: &D,
-) -> Result<usize, ViewError>
+) -> Result<usize, OutOfMemory>
     requires data { IsLayoutBy (D.data tables.now) paragraph.now }
     ensures place { IfOk result (λ o. o ≡ place_in_body (rows_of_body (D.data tables.now) paragraph.now) offset) }
     ensures within { IfOk result (λ o. o ≤ length paragraph.now.body) }
@@ -70,6 +71,7 @@ fn place_in_body<D: BidiData>(
     if row + 1 < rows {
         return Ok(paragraph.first(row + 1));
     }
+    // The proof compares the place, so it has a name.
     let last = lent.last()?;
     Ok(last)
 }
@@ -85,7 +87,7 @@ impl View {
         start: usize,
         stop: usize,
         new: &str,
-    ) -> Result<Option<usize>, ViewError>
+    ) -> Result<Option<usize>, OutOfMemory>
         requires data { IsViewBy source.now self.old }
         ensures keeps { Keeps source.now self.old self.new }
         ensures place { IfOk result (λ found. IfSome found (λ o. o ≡ place_from
@@ -147,7 +149,7 @@ impl View {
         range: CachedRange,
         new: &str,
         tables: &D,
-    ) -> Result<(), ViewError>
+    ) -> Result<(), OutOfMemory>
         requires data { caching.IsViewBy (D.data tables.now) self.old }
         ensures keeps { caching.Keeps (D.data tables.now) self.old self.new }
     {

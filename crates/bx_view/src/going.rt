@@ -6,10 +6,10 @@ ghost use Rattle.bx_view.specs.Going.{place_of, unit_place};
 ghost use Rattle.bx_view.specs.Places.{IsTextPlace, boundaries};
 ghost use Rattle.bx_view.specs.Source.{IsViewBy, Keeps, bytes, count};
 
-use crate::error::ViewError;
 use crate::source::Source;
 use crate::span::span_of;
 use crate::view::View;
+use bx_terms::OutOfMemory;
 use bx_ucd::BidiData;
 use unicode_segmentation::UnicodeSegmentation;
 
@@ -34,7 +34,7 @@ fn unit_start(body: &str, number: usize) -> usize
 {
     let mut at = 0;
     let mut left = number;
-    'units: while left > 0 && at < body.len() {
+    while left > 0 && at < body.len() {
         at = unit_end(body, at);
         left -= 1;
     }
@@ -58,7 +58,7 @@ impl View {
         source: &Source<'_, D>,
         paragraph: usize,
         unit: usize,
-    ) -> Result<usize, ViewError>
+    ) -> Result<usize, OutOfMemory>
         requires data { IsViewBy source.now self.old }
         ensures keeps { Keeps source.now self.old self.new }
         ensures place { IfOk result (λ o. o ≡ place_of (D.data source.now.tables.now) (bytes source.now) paragraph unit) }

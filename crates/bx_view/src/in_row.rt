@@ -1,14 +1,26 @@
-//! Rows of the text.
+//! Rows of the text, and the handles by which a view finds them.
 ghost use Rattle.std.specs.Prelude.{◌≡◌};
 ghost use Rattle.bx_view.specs.Placed.{columns, placed};
 ghost use Rattle.bx_view.specs.Source.{IsOfText, OfRow, Stands};
 ghost use Rattle.bx_view.specs.TextRows.{first};
 
-use crate::row_at::RowAt;
 use crate::source::Source;
 use crate::view::View;
 use bx_paragraph::LentRow;
 use bx_ucd::BidiData;
+
+/// A row of a text, found by a view. It is valid until that view searches for another row.
+#[derive(Clone, Copy)]
+pub struct RowAt {
+    /// The number of the row's paragraph, from 0.
+    pub paragraph: usize,
+    /// The offset, in bytes of the text, at which that paragraph's body begins.
+    pub start: usize,
+    /// The row's number in the paragraph, from 0.
+    pub row: usize,
+    /// The index of the cached paragraph.
+    pub cached: usize,
+}
 
 impl View {
     /// Lends a row with its paragraph and tables.

@@ -6,10 +6,10 @@ ghost use Rattle.bx_view.specs.Moves.{place_at, place_from};
 ghost use Rattle.bx_view.specs.Places.{IsTextPlace};
 ghost use Rattle.bx_view.specs.Source.{IsViewBy, Keeps, bytes, rows};
 
-use crate::error::ViewError;
 use crate::placed::{first_place_from, last_place, last_place_at};
 use crate::source::Source;
 use crate::view::View;
+use bx_terms::OutOfMemory;
 use bx_ucd::BidiData;
 
 impl View {
@@ -18,7 +18,7 @@ impl View {
         &mut self,
         source: &Source<'_, D>,
         offset: usize,
-    ) -> Result<usize, ViewError>
+    ) -> Result<usize, OutOfMemory>
         requires data { IsViewBy source.now self.old }
         ensures keeps { Keeps source.now self.old self.new }
         ensures place { IfOk result (λ o. o ≡ place_from (rows source.now self.old) offset) }
@@ -31,6 +31,7 @@ impl View {
             return Ok(place);
         }
         let Some(next) = self.next_row(source, at)? else {
+            // The proof compares the place, so it has a name.
             let last = last_place(&self.row(source, at))?;
             return Ok(last);
         };
@@ -42,7 +43,7 @@ impl View {
         &mut self,
         source: &Source<'_, D>,
         offset: usize,
-    ) -> Result<usize, ViewError>
+    ) -> Result<usize, OutOfMemory>
         requires data { IsViewBy source.now self.old }
         ensures keeps { Keeps source.now self.old self.new }
         ensures place { IfOk result (λ o. o ≡ place_at (rows source.now self.old) offset) }

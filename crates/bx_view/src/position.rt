@@ -6,10 +6,10 @@ ghost use Rattle.bx_view.specs.Position.{IsPosition};
 ghost use Rattle.bx_view.specs.Source.{IsViewBy, Keeps, StandsOn, bytes, rows};
 ghost use Rattle.bx_view.specs.TextRows.{cell_of, row_of};
 
-use crate::error::ViewError;
-use crate::row_at::RowAt;
+use crate::in_row::RowAt;
 use crate::source::Source;
 use crate::view::View;
+use bx_terms::OutOfMemory;
 use bx_ucd::BidiData;
 
 /// The position of a place. All fields count from 1.
@@ -30,13 +30,13 @@ impl View {
         source: &Source<'_, D>,
         at: RowAt,
         place: usize,
-    ) -> Result<Position, ViewError>
+    ) -> Result<Position, OutOfMemory>
         requires row { StandsOn source.now self.now at (row_of (rows source.now self.now) place) }
         requires paragraph { at.paragraph ≡ paragraph_of (lengths (D.data source.now.tables.now) (bytes source.now)) place }
         requires order { at.start ≤ place }
         ensures { IfOk result (IsPosition (D.data source.now.tables.now) self.now.w (bytes source.now) (rows source.now self.now) place) }
     {
-        // proof only: the number of paragraphs is within its limit
+        // `count` promises that the number of paragraphs is a `usize`.
         let _count = source.index.count();
         let row = self.row(source, at);
         let standing = row.standing(place - at.start)?;
@@ -52,7 +52,7 @@ impl View {
         &mut self,
         source: &Source<'_, D>,
         place: usize,
-    ) -> Result<u16, ViewError>
+    ) -> Result<u16, OutOfMemory>
         requires data { IsViewBy source.now self.old }
         ensures keeps { Keeps source.now self.old self.new }
         ensures cell { IfOk result (λ column. column ≡ cell_of self.old.w (rows source.now self.old) place) }

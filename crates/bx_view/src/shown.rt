@@ -7,11 +7,11 @@ ghost use Rattle.bx_rows.specs.Shown.{glyph_of};
 ghost use Rattle.bx_view.specs.Source.{OfRow, Stands, rows_of_body};
 ghost use Rattle.bx_view.specs.TextRows.{text_row_glyphs};
 
-use crate::error::ViewError;
-use crate::row_at::RowAt;
+use crate::in_row::RowAt;
 use crate::source::Source;
 use crate::view::View;
 use bx_rows::RowPicture;
+use bx_terms::OutOfMemory;
 use bx_ucd::BidiData;
 
 impl View {
@@ -20,7 +20,7 @@ impl View {
         &self,
         source: &Source<'_, D>,
         at: RowAt,
-    ) -> Result<RowPicture<'_>, ViewError>
+    ) -> Result<RowPicture<'_>, OutOfMemory>
         requires row { Stands source.now self.now at }
         ensures picture { OfRow source.now self.now at (λ r. IfOk result
             (λ p. map glyph_of p.glyphs.items ≡ text_row_glyphs (D.data source.now.tables.now) self.now.w r)) }
@@ -28,6 +28,7 @@ impl View {
         ensures widths { IfOk result (λ p. All (λ g. run_width (cow_str_bytes g.text) ≡ g.columns) p.glyphs.items) }
         ensures columns { IfOk result (λ p. sum_by (λ g. g.columns) p.glyphs.items ≡ self.now.w) }
     {
+        // The proof compares the picture, so it has a name.
         let picture = self.row(source, at).picture()?;
         Ok(picture)
     }

@@ -38,7 +38,7 @@ impl<'a, D: BidiData> Source<'a, D> {
         ensures text { result.text.now ≡ text.now }
         ensures tables { result.tables.now ≡ tables.now }
     {
-        // proof only: the text is UTF-8 and within its limit
+        // `len` promises that the text is UTF-8 and within its limit.
         let _utf8 = text.len();
         Source {
             text,

@@ -5,9 +5,19 @@ ghost use Rattle.bx_index.specs.Positions.{paragraph_of};
 ghost use Rattle.bx_view.specs.Source.{IsSpan, bytes, count};
 
 use crate::source::Source;
-use crate::text_span::TextSpan;
 use bx_index::ParagraphWalk;
 use bx_ucd::BidiData;
+
+/// The body of a paragraph, by its offsets in bytes of the text. It is no plain range, since rows are told by the paragraph's number.
+#[derive(Clone, Copy)]
+pub struct TextSpan {
+    /// The number of the paragraph, from 0.
+    pub number: usize,
+    /// The offset at which the body begins.
+    pub start: usize,
+    /// The offset at which it ends.
+    pub stop: usize,
+}
 
 /// The body of the walk's current paragraph.
 pub fn current_span<D: BidiData>(source: &Source<'_, D>, walk: &ParagraphWalk<'_>) -> TextSpan
@@ -16,7 +26,7 @@ pub fn current_span<D: BidiData>(source: &Source<'_, D>, walk: &ParagraphWalk<'_
     ensures number { result.number ≡ walk.now.number }
     ensures is { IsSpan source.now result }
 {
-    // used by the contract alone
+    // Only the contract names the text.
     let _ = source;
     let (start, stop) = walk.span();
     TextSpan {

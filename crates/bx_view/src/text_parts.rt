@@ -3,11 +3,11 @@ ghost use Rattle.std.specs.Prelude.{◌≡◌, ◌&&◌, nat_lt, filter, IfOk};
 ghost use Rattle.bx_view.specs.Source.{OfRow, Stands};
 ghost use Rattle.bx_view.specs.TextParts.{is_in, slots_in};
 
-use crate::error::ViewError;
-use crate::row_at::RowAt;
+use crate::in_row::RowAt;
 use crate::source::Source;
 use crate::view::View;
 use bx_paragraph::Slot;
+use bx_terms::OutOfMemory;
 use bx_ucd::BidiData;
 
 /// Keeps the slots of units that begin from `start` up to `stop`, offsets of the body. The slot of the paragraph's end, the only
@@ -26,7 +26,7 @@ impl View {
         source: &Source<'_, D>,
         at: RowAt,
         part: (usize, usize),
-    ) -> Result<Vec<Slot>, ViewError>
+    ) -> Result<Vec<Slot>, OutOfMemory>
         requires row { Stands source.now self.now at }
         ensures { OfRow source.now self.now at (λ r. IfOk result (λ v. v.items ≡ slots_in self.now.w part r)) }
     {

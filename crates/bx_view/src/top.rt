@@ -5,11 +5,11 @@ ghost use Rattle.bx_view.specs.Source.{BeginsAt, IsViewBy, Keeps, Stands, Stands
 ghost use Rattle.bx_view.specs.TextRows.{row_of};
 ghost use Rattle.bx_view.specs.Top.{nearest_top};
 
-use crate::error::ViewError;
+use crate::in_row::RowAt;
 use crate::position::Position;
-use crate::row_at::RowAt;
 use crate::source::Source;
 use crate::view::View;
+use bx_terms::OutOfMemory;
 use bx_ucd::BidiData;
 
 /// A place among the visible rows.
@@ -32,7 +32,7 @@ impl View {
         at: RowAt,
         old: usize,
         t: usize,
-    ) -> Result<(RowAt, usize), ViewError>
+    ) -> Result<(RowAt, usize), OutOfMemory>
         requires row { Stands source.now self.old at }
         requires some { 0 < t }
         ensures keeps { Keeps source.now self.old self.new }
@@ -66,7 +66,7 @@ impl View {
         top: usize,
         place: usize,
         t: usize,
-    ) -> Result<Located, ViewError>
+    ) -> Result<Located, OutOfMemory>
         requires data { IsViewBy source.now self.old }
         requires some { 0 < t }
         ensures keeps { Keeps source.now self.old self.new }

@@ -9,11 +9,9 @@ ghost use Rattle.bx_view.specs.Source.{IsAlong, IsBefore, IsNext, IsOfText, IsSp
 ghost use Rattle.bx_view.specs.TextRows.{row_of};
 
 use crate::cache::{add, cache_limit, find_in, lay_out_in};
-use crate::error::ViewError;
-use crate::row_at::RowAt;
+use crate::in_row::RowAt;
 use crate::source::Source;
-use crate::span::{current_span, paragraph_under};
-use crate::text_span::TextSpan;
+use crate::span::{TextSpan, current_span, paragraph_under};
 use bx_index::ParagraphWalk;
 use bx_paragraph::ParagraphLayout;
 use bx_terms::{Base, OutOfMemory};
@@ -115,7 +113,7 @@ impl View {
         &mut self,
         source: &Source<'_, D>,
         span: TextSpan,
-    ) -> Result<usize, ViewError>
+    ) -> Result<usize, OutOfMemory>
         requires data { IsViewBy source.now self.old }
         requires span { IsSpan source.now span }
         ensures keeps { Keeps source.now self.old self.new }
@@ -147,7 +145,7 @@ impl View {
         requires cached { Caches (body_at source.now number) self.now.w self.now.cache cached }
         ensures { IsOfText source.now self.now number result.now }
     {
-        // used by the contract alone
+        // Only the contract names the text and the paragraph's number.
         let _ = source;
         let _ = number;
         &self.cache[cached]
@@ -184,7 +182,7 @@ impl View {
         &mut self,
         source: &Source<'_, D>,
         offset: usize,
-    ) -> Result<RowAt, ViewError>
+    ) -> Result<RowAt, OutOfMemory>
         requires data { IsViewBy source.now self.old }
         ensures keeps { Keeps source.now self.old self.new }
         ensures row { IfOk result (λ at. StandsOn source.now self.new at (row_of (rows source.now self.new) offset)) }
@@ -201,7 +199,7 @@ impl View {
         requires row { Stands source.now self.now at }
         ensures { IsAlong source.now result at }
     {
-        // used by the contract alone
+        // Only the contract names the view.
         let _ = self;
         source.index.walk_at(at.paragraph, at.start)
     }
@@ -211,7 +209,7 @@ impl View {
         &mut self,
         source: &Source<'_, D>,
         at: RowAt,
-    ) -> Result<Option<RowAt>, ViewError>
+    ) -> Result<Option<RowAt>, OutOfMemory>
         requires row { Stands source.now self.old at }
         ensures keeps { Keeps source.now self.old self.new }
         ensures next { (n : ℕ) → StandsOn source.now self.old at n → IfOk result (IsNext source.now self.new n) }
@@ -222,8 +220,7 @@ impl View {
             return Ok(Some(below(at)));
         }
         let mut walk = self.walk_from(source, at);
-        let next = self.next_row_along(source, &mut walk, at)?;
-        Ok(next)
+        self.next_row_along(source, &mut walk, at)
     }
 
     /// Like `next_row`, but advances `walk`, which is at the paragraph of `at`.
@@ -232,7 +229,7 @@ impl View {
         source: &Source<'_, D>,
         walk: &mut ParagraphWalk<'_>,
         at: RowAt,
-    ) -> Result<Option<RowAt>, ViewError>
+    ) -> Result<Option<RowAt>, OutOfMemory>
         requires row { Stands source.now self.old at }
         requires along { IsAlong source.now walk.old at }
         ensures keeps { Keeps source.now self.old self.new }
@@ -262,7 +259,7 @@ impl View {
         &mut self,
         source: &Source<'_, D>,
         at: RowAt,
-    ) -> Result<Option<RowAt>, ViewError>
+    ) -> Result<Option<RowAt>, OutOfMemory>
         requires row { Stands source.now self.old at }
         ensures keeps { Keeps source.now self.old self.new }
         ensures before { (n : ℕ) → StandsOn source.now self.old at n → IfOk result (IsBefore source.now self.new n) }
@@ -272,8 +269,7 @@ impl View {
             return Ok(Some(above(at)));
         }
         let mut walk = self.walk_from(source, at);
-        let before = self.row_before_along(source, &mut walk, at)?;
-        Ok(before)
+        self.row_before_along(source, &mut walk, at)
     }
 
     /// Like `row_before`, for many steps in turn: `walk`, which is at the paragraph of `at`, goes along.
@@ -282,7 +278,7 @@ impl View {
         source: &Source<'_, D>,
         walk: &mut ParagraphWalk<'_>,
         at: RowAt,
-    ) -> Result<Option<RowAt>, ViewError>
+    ) -> Result<Option<RowAt>, OutOfMemory>
         requires row { Stands source.now self.old at }
         requires along { IsAlong source.now walk.old at }
         ensures keeps { Keeps source.now self.old self.new }
@@ -313,7 +309,7 @@ impl View {
         source: &Source<'_, D>,
         at: RowAt,
         offset: usize,
-    ) -> Result<RowAt, ViewError>
+    ) -> Result<RowAt, OutOfMemory>
         requires row { Stands source.now self.old at }
         ensures keeps { Keeps source.now self.old self.new }
         ensures row { IfOk result (λ at. StandsOn source.now self.new at (row_of (rows source.now self.new) offset)) }

@@ -16,7 +16,7 @@ use Rattle.bx_rows.proofs.NumbersBelow.{below_if_visual}
 use Rattle.bx_rows.proofs.PictureLaws.{columns_of_glyphs}
 use Rattle.bx_rows.proofs.PictureSums.{columns-length}
 use Rattle.bx_index.specs.Paragraphs.{paragraphs}
-use Rattle.bx_paragraph.specs.declared.slot.Slot.{Slot}
+use Rattle.bx_paragraph.specs.declared.slots.Slot.{Slot}
 use Rattle.bx_paragraph.specs.BodyRows.{offsets_of}
 use Rattle.bx_paragraph.specs.Slots.{column_in, column_of, covers, end_column, end_slot, extent_of, left_column, row_slots, side_by_side, slot, slot_offsets, unit_slots}
 use Rattle.bx_paragraph.proofs.OnceEach.{once-contains, once-summed}

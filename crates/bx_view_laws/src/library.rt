@@ -18,7 +18,7 @@ use bx_paragraph::Slot;
 use bx_rows::{RowStart, row_starts};
 use bx_terms::OutOfMemory;
 use bx_ucd::BidiData;
-use bx_view::{Source, View, ViewError, current_span};
+use bx_view::{Source, View, current_span};
 use std::alloc::{AllocError, Global};
 
 /// The row starts of the walk's current paragraph in a window of `w` columns, as offsets of its body.
@@ -27,7 +27,7 @@ fn starts_in<D: BidiData>(
     source: &Source<'_, D>,
     walk: &ParagraphWalk<'_>,
     w: u16,
-) -> Result<Vec<RowStart>, ViewError>
+) -> Result<Vec<RowStart>, OutOfMemory>
     requires walk { walk.now.paragraphs ≡ lengths (D.data source.now.tables.now) (bytes source.now) }
     requires number { walk.now.number < count source.now }
     ensures { IfOk result (λ v. v.items ≡ row_starts (D.data source.now.tables.now) w (body_at source.now walk.now.number)) }
@@ -36,6 +36,7 @@ fn starts_in<D: BidiData>(
     let Ok(body) = source.text.copy_range(span.start, span.stop) else {
         return Err(OutOfMemory);
     };
+    // The proof compares the row starts, so they have a name.
     let starts = row_starts(alloc, body.as_str(), source.tables, w)?;
     Ok(starts)
 }
@@ -46,7 +47,7 @@ fn rows_before<D: BidiData>(
     source: &Source<'_, D>,
     w: u16,
     number: usize,
-) -> Result<usize, ViewError>
+) -> Result<usize, OutOfMemory>
     requires side { is_side w ≡ true }
     requires number { number ≤ count source.now }
     ensures { IfOk result (λ n. (base : Base) → n ≡ rows_ahead (D.data source.now.tables.now) base w (bytes source.now) number) }
@@ -80,10 +81,11 @@ pub fn row_count<D: BidiData>(
     alloc: Global,
     view: &View,
     source: &Source<'_, D>,
-) -> Result<usize, ViewError>
+) -> Result<usize, OutOfMemory>
     ensures { IfOk result (λ n. n ≡ length (rows source.now view.now)) }
 {
     let count = source.index.count();
+    // The proof compares the number, so it has a name.
     let rows = rows_before(alloc, source, view.width(), count)?;
     Ok(rows)
 }
@@ -94,7 +96,7 @@ pub fn row_of<D: BidiData>(
     view: &mut View,
     source: &Source<'_, D>,
     offset: usize,
-) -> Result<usize, ViewError>
+) -> Result<usize, OutOfMemory>
     requires data { IsViewBy source.now view.old }
     ensures keeps { Keeps source.now view.old view.new }
     ensures row { IfOk result (λ n. n ≡ row_of (rows source.now view.old) offset) }
@@ -111,7 +113,7 @@ pub fn first<D: BidiData>(
     view: &View,
     source: &Source<'_, D>,
     row: usize,
-) -> Result<Option<usize>, ViewError>
+) -> Result<Option<usize>, OutOfMemory>
     ensures { IfOk result (λ o. o ≡ option_map first (slice_get (rows source.now view.now) row)) }
 {
     let w = view.width();
@@ -137,7 +139,7 @@ pub fn slots<D: BidiData>(
     view: &mut View,
     source: &Source<'_, D>,
     place: usize,
-) -> Result<Vec<usize>, ViewError>
+) -> Result<Vec<usize>, OutOfMemory>
     requires data { IsViewBy source.now view.old }
     ensures keeps { Keeps source.now view.old view.new }
     ensures slots { IfOk result (λ v. v.items
@@ -146,8 +148,7 @@ pub fn slots<D: BidiData>(
     let at = view.row_at(source, place)?;
     let row = view.row(source, at);
     let slots = row.slots()?;
-    let offsets = in_text(*slots.allocator(), row.start, &slots)?;
-    Ok(offsets)
+    Ok(in_text(*slots.allocator(), row.start, &slots)?)
 }
 
 /// The offset of the top row after scrolling `t` visible rows, from the row of the offset `top`, by the fewest rows that
@@ -158,7 +159,7 @@ pub fn follow<D: BidiData>(
     top: usize,
     place: usize,
     t: usize,
-) -> Result<usize, ViewError>
+) -> Result<usize, OutOfMemory>
     requires data { IsViewBy source.now view.old }
     requires some { 0 < t }
     ensures keeps { Keeps source.now view.old view.new }

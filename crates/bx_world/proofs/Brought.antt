@@ -15,7 +15,7 @@ use Rattle.bx_store.specs.declared.store.StoreFault.{StoreFault}
 use Rattle.bx_ucd.specs.Data.{Data}
 use Rattle.bx_view.specs.Top.{follow}
 use Rattle.bx_editor.specs.Editor.{Editor, rows, text_height, with_top}
-use Rattle.bx_session.specs.declared.error.Refused.TheVariants as refused
+use Rattle.bx_session.specs.declared.status.Refused.TheVariants as refused
 use Rattle.bx_session.specs.Session.{Session, key_of_byte, after_spending, session_after_any, unpainted_after_byte, painted_after, is_painted, after_byte, scrolled}
 use Rattle.bx_session.specs.Saving.{StoreState, StoreAfter, is_save_key, is_save_byte, text_to_save}
 use Rattle.bx_session.specs.Laws.{keys_from}

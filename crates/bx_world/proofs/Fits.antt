@@ -7,7 +7,7 @@ use Rattle.bx_store.specs.declared.store.StoreFault.{StoreFault}
 use Rattle.bx_ucd.specs.Data.{Data}
 use Rattle.bx_editor.specs.Editor.{Editor}
 use Rattle.bx_editor.specs.Keys.{after_key}
-use Rattle.bx_session.specs.declared.error.Refused.TheVariants as refused
+use Rattle.bx_session.specs.declared.status.Refused.TheVariants as refused
 use Rattle.bx_session.specs.Saving.{StoreState}
 use Rattle.bx_session.specs.Session.{Session, key_of_byte, after_byte, is_painted, owing_after_byte}
 use Rattle.bx_session.proofs.KeySizes.{SameSize}

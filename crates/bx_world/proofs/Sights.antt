@@ -10,7 +10,7 @@ use Rattle.bx_grid.specs.Terminal.{Terminal, reads}
 use Rattle.bx_grid.proofs.Reading.{reads-append}
 use Rattle.bx_store.specs.declared.store.StoreFault.{StoreFault}
 use Rattle.bx_ucd.specs.Data.{Data}
-use Rattle.bx_session.specs.declared.error.Refused.TheVariants as refused
+use Rattle.bx_session.specs.declared.status.Refused.TheVariants as refused
 use Rattle.bx_session.specs.Session.{Session, after_byte, clip_after, is_painted, key_of_byte, painted_after, painting, scrolled, then_clip, unpainted_after_byte}
 use Rattle.bx_session.specs.Session.{unpainted_after_told}
 use Rattle.bx_session.specs.Session as sessions

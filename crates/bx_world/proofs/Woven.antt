@@ -8,7 +8,7 @@ use Rattle.bx_grid.specs.declared.error.GridError.TheVariants as grid
 use Rattle.bx_grid.specs.Picture.{is_size}
 use Rattle.bx_grid.specs.Terminal.{Terminal}
 use Rattle.bx_ucd.specs.Data.{Data}
-use Rattle.bx_session.specs.declared.error.Refused.{Refused}
+use Rattle.bx_session.specs.declared.status.Refused.{Refused}
 use Rattle.bx_session.specs.declared.status.Status.{Status}
 use Rattle.bx_session.specs.Session.{Session, key_of_byte, is_painted, after_sending}
 use Rattle.bx_session.specs.Saving.{StoreState, Feeds}

@@ -11,7 +11,7 @@ use Rattle.bx_ucd.specs.Data.{Data}
 use Rattle.bx_editor.specs.Editor.{Editor, with_size, with_top}
 use Rattle.bx_editor.specs.Keys.{after_key}
 use Rattle.bx_editor.specs.Picture.{next_top}
-use Rattle.bx_session.specs.declared.error.Refused.TheVariants as refused
+use Rattle.bx_session.specs.declared.status.Refused.TheVariants as refused
 use Rattle.bx_session.specs.Saving.{StoreState, with_text, is_save_key, text_to_save}
 use Rattle.bx_session.specs.Session.{needs_painting}
 use Rattle.bx_world.specs.declared.step.Step.{Step}

@@ -6,7 +6,7 @@ use Rattle.bx_grid.specs.Picture.{is_size}
 use Rattle.bx_grid.specs.declared.error.GridError.TheVariants as grid
 use Rattle.bx_store.specs.declared.store.StoreFault.{StoreFault}
 use Rattle.bx_ucd.specs.Data.{Data}
-use Rattle.bx_session.specs.declared.error.Refused.TheVariants as refused
+use Rattle.bx_session.specs.declared.status.Refused.TheVariants as refused
 use Rattle.bx_session.specs.Session.{key_of_byte, after_spending, after_byte, owing_after_byte, is_painted, after_told, owing_after_told}
 use Rattle.bx_session.specs.Saving.{StoreState, StoreAfter, is_save_byte, may_refuse_key, text_to_save}
 use Rattle.bx_world.specs.declared.step.Step.{Step}

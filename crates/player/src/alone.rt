@@ -71,8 +71,7 @@ impl<D: BidiData + Drop> Alone<D> {
             // a scene of this mode has no such steps
             Step::Window(_, _) | Step::Read(_) => '?',
         };
-        answers.letters.push(letter)?;
-        Ok(())
+        answers.letters.push(letter)
     }
 
     /// Replays a byte of a journal, and notes the answer.
@@ -81,8 +80,7 @@ impl<D: BidiData + Drop> Alone<D> {
             Ok(()) => 'o',
             Err(refused) => letter_of_refusal(refused),
         };
-        answers.letters.push(letter)?;
-        Ok(())
+        answers.letters.push(letter)
     }
 
     /// Ends a replay, and notes an answer only where that is refused.

@@ -51,8 +51,7 @@ pub fn add_text(line: &mut String, text: &[u8], file: &[u8]) -> Result<(), Alloc
 
 /// Appends 1 for true, 0 for false.
 pub fn add_flag(line: &mut String, flag: bool) -> Result<(), AllocError> {
-    line.push(if flag { '1' } else { '0' })?;
-    Ok(())
+    line.push(if flag { '1' } else { '0' })
 }
 
 /// The letter of a session's refusal.

@@ -51,10 +51,7 @@ fn word_of_question(ask: Ask) -> &'static str {
 fn add_mark(looks: &mut String, mark: Option<usize>) -> Result<(), AllocError> {
     match mark {
         Some(place) => add_number(looks, place),
-        None => {
-            looks.push('-')?;
-            Ok(())
-        }
+        None => looks.push('-'),
     }
 }
 

@@ -44,10 +44,7 @@ fn add_level(line: &mut String, level: Option<u8>) -> Result<(), AllocError> {
     add_blank(line)?;
     match level {
         Some(level) => write!(line, "{level}"),
-        None => {
-            line.push('x')?;
-            Ok(())
-        }
+        None => line.push('x'),
     }
 }
 

@@ -62,7 +62,7 @@ fn follow<D: BidiData>(index: &mut Index, text: &Text, tables: &D, change: &Chan
     requires room { index.old.room ≡ Some change.now.added }
     ensures { index.new.paragraphs ≡ lengths (D.data tables.now) text.now.edited.text }
 {
-    // the contract of `len` tells the proofs that the text is UTF-8
+    // `len` promises that the text is UTF-8.
     let _utf8 = text.len();
     index.edited(text, tables, change);
 }
@@ -73,7 +73,7 @@ fn paragraphs_and_questions(alloc: Global, offset: usize) -> Result<(usize, u32)
     let mut text = Text::open(alloc, thousand(alloc, "abcd")?)?;
     let mut index = Index::build(alloc, &text, &tables)?;
     tables.questions();
-    // the contract of `len` tells the proofs that the text is UTF-8
+    // `len` promises that the text is UTF-8.
     let _utf8 = text.len();
     index.ready(2)?;
     let change = text.insert(offset, "x\n", offset, offset)?;

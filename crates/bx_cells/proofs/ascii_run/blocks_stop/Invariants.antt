@@ -3,12 +3,12 @@ use Rattle.std.proofs.Common.{◌≡◌, ◌<◌, ◌≤◌, ◌-◌, ℕ, true,
 use Rattle.bx_terms.specs.Characters.{is_ascii_printable}
 use Rattle.bx_cells.proofs.ascii_run.blocks_stop.Given as goal
 
-abbrev pub invariant-steps : goal.invariant-steps
-invariant-steps l = record {
+abbrev pub invariant-loop-stop : goal.invariant-loop-stop
+invariant-loop-stop l = record {
   order : l.at ≤ l.stop;
   inside : l.stop ≤ length l.bytes;
   printable : (i : ℕ) → l.at ≤ i → i < l.stop → is_ascii_printable (get_or l.bytes i 0) ≡ true;
 }
 
-abbrev pub decreases-steps : goal.decreases-steps
-decreases-steps l = length l.bytes - l.stop
+abbrev pub decreases-loop-stop : goal.decreases-loop-stop
+decreases-loop-stop l = length l.bytes - l.stop

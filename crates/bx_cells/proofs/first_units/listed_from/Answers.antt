@@ -3,7 +3,7 @@ use Rattle.std.proofs.lemmas.List.{length_push}
 use Rattle.bx_cells.specs.declared.unit.Unit.{Unit}
 use Rattle.bx_cells.proofs.Rest.{none-behind}
 use Rattle.bx_cells.proofs.first_units.listed_from.Goals as goal
-use Rattle.bx_cells.proofs.first_units.listed_from.Goals.{then-units-test+else-next-body, else-units-test}
+use Rattle.bx_cells.proofs.first_units.listed_from.Goals.{then-loop-range-test+else-next-body, else-loop-range-test}
 
 one_more : (count : ℕ) (done new all rest left : List Unit) (u : Unit) → length done < count → left ≡ u ∷ rest → new ≡ done ++ u ∷ []
     → done ++ take (count - length done) left ≡ all → new ++ take (count - length new) rest ≡ all
@@ -30,23 +30,23 @@ none_left : (n : ℕ) (done all left : List Unit) → left ≡ [] → done ++ ta
 none_left n done all left e inv =
     sym (append-nil done) ∙ ap (λ xs. done ++ xs) (sym (take_none n)) ∙ ap (λ xs. done ++ take n xs) (sym e) ∙ inv
 
-pub units-preserved : goal.units-preserved
-units-preserved g c =
-    let test = c.units-test.true in
+pub loop-range-preserved : goal.loop-range-preserved
+loop-range-preserved g c =
+    let test = c.loop-range-test.true in
     let read = c.len.ensures in
-    let less : length c.units.units.items < c.args.range.count = omega (arith, test, read) in
+    let less : length c.loop-range.units.items < c.args.range.count = omega (arith, test, read) in
     let pushed = c.in_ok-push.ensures.items in
     record {
       boundary = c.unit_at-unit.ensures.stop.1;
-      within = one_longer c.args.range.count c.units.units.items c.push.new.self.items c.unit_at-unit.result less pushed;
-      all = one_more c.args.range.count c.units.units.items c.push.new.self.items _ _ _ c.unit_at-unit.result less c.unit_at-unit.ensures.units pushed
-          c.units.invariant.all;
+      within = one_longer c.args.range.count c.loop-range.units.items c.push.new.self.items c.unit_at-unit.result less pushed;
+      all = one_more c.args.range.count c.loop-range.units.items c.push.new.self.items _ _ _ c.unit_at-unit.result less c.unit_at-unit.ensures.units pushed
+          c.loop-range.invariant.all;
     }
 
 pub returns : goal.returns
-returns g c = elim c.units-test.branch [
-  | then-units-test+else-next-body w ↦ none_left (c.args.range.count - length c.units.units.items) c.units.units.items _ _
-      (none-behind (g.D.BidiData.data c.args.tables.now) c.args.w c.args.body.now c.units.next w.if-next-body.false) c.units.invariant.all
-  | else-units-test w ↦ none_more c.args.range.count c.units.units.items _ _ (let test = w.units-test.false in let read = c.len.ensures in omega (arith, test, read))
-      c.units.invariant.all
+returns g c = elim c.loop-range-test.branch [
+  | then-loop-range-test+else-next-body w ↦ none_left (c.args.range.count - length c.loop-range.units.items) c.loop-range.units.items _ _
+      (none-behind (g.D.BidiData.data c.args.tables.now) c.args.w c.args.body.now c.loop-range.next w.if-next-body.false) c.loop-range.invariant.all
+  | else-loop-range-test w ↦ none_more c.args.range.count c.loop-range.units.items _ _ (let test = w.loop-range-test.false in let read = c.len.ensures in omega (arith, test, read))
+      c.loop-range.invariant.all
 ]

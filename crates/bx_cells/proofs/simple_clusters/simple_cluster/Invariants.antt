@@ -5,12 +5,12 @@ use denote.Shadow.{shadow}
 use Rattle.bx_cells.proofs.OpenCluster.{IsOpen}
 use Rattle.bx_cells.proofs.simple_clusters.simple_cluster.Given as goal
 
-abbrev pub invariant-chars : goal.invariant-chars
-invariant-chars l = record {
+abbrev pub invariant-loop-c : goal.invariant-loop-c
+invariant-loop-c l = record {
   text : shadow (Utf8 l.rest);
   cluster : IsOpen l.body l.at l.first l.is_marked l.rest;
   within : length l.rest ≤ length l.body;
 }
 
-abbrev pub decreases-chars : goal.decreases-chars
-decreases-chars l = length l.rest
+abbrev pub decreases-loop-c : goal.decreases-loop-c
+decreases-loop-c l = length l.rest

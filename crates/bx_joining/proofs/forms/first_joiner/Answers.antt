@@ -6,4 +6,4 @@ use Rattle.bx_joining.proofs.forms.first_joiner.Goals as goal
 pub returns : goal.returns
 returns g c =
     let says = g.D.BidiData.data c.args.tables.now in
-    sym (c.chars.invariant.near ∙ ap (nearest_with c.chars.lowest) (no_joiners says c.chars.rest.now c.chars.left.now c.in_default.ensures))
+    sym (c.loop-c.invariant.near ∙ ap (nearest_with c.loop-c.lowest) (no_joiners says c.loop-c.rest.now c.loop-c.left.now c.in_default.ensures))

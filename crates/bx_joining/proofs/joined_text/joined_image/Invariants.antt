@@ -8,8 +8,8 @@ use Rattle.bx_joining.specs.Joining.{text_forms}
 use Rattle.bx_joining.specs.Places.{StandsAt}
 use Rattle.bx_joining.proofs.joined_text.joined_image.Given as goal
 
-abbrev pub invariant-chars : goal.invariant-chars
-invariant-chars g l =
+abbrev pub invariant-loop-letter : goal.invariant-loop-letter
+invariant-loop-letter g l =
     let says = g.D.BidiData.data l.tables in
     let body = l.fn.at.body.text.now in
     let each = l.fn.at.body.each.now in
@@ -22,5 +22,5 @@ invariant-chars g l =
           ≡ string_bytes l.other ++ joined_image says (text_forms says body each l.number l.rest) l.rest l.left;
     }
 
-abbrev pub decreases-chars : goal.decreases-chars
-decreases-chars g l = length l.rest
+abbrev pub decreases-loop-letter : goal.decreases-loop-letter
+decreases-loop-letter g l = length l.rest

@@ -7,5 +7,5 @@ pub returns : goal.returns
 returns g c =
     let says = g.D.BidiData.data c.args.tables.now in
     let body = c.args.body.now in
-    sym (ap (λ x. unwrap_or x (length body)) (c.units.invariant.same
-    ∙ ap (λ us. find (nat_le c.args.from) (word_starts says c.units.inside c.units.at us)) (none-left body c.units.at (omega (arith, c.units-test.false)))))
+    sym (ap (λ x. unwrap_or x (length body)) (c.loop-at.invariant.same
+    ∙ ap (λ us. find (nat_le c.args.from) (word_starts says c.loop-at.inside c.loop-at.at us)) (none-left body c.loop-at.at (omega (arith, c.loop-at-test.false)))))

@@ -5,12 +5,12 @@ use Rattle.unicode_segmentation.specs.Grapheme.{graphemes}
 use Rattle.bx_view.specs.Words.{word_starts}
 use Rattle.bx_moves.proofs.words.first_start.Given as goal
 
-abbrev pub invariant-units : goal.invariant-units
-invariant-units g l = record {
+abbrev pub invariant-loop-at : goal.invariant-loop-at
+invariant-loop-at g l = record {
   bound : IsCharBoundary l.body l.at;
   same : find (nat_le l.from) (word_starts (g.D.BidiData.data l.tables) l.fn.is_inside l.fn.start (graphemes true (drop l.fn.start l.body)))
       ≡ find (nat_le l.from) (word_starts (g.D.BidiData.data l.tables) l.inside l.at (graphemes true (drop l.at l.body)));
 }
 
-abbrev pub decreases-units : goal.decreases-units
-decreases-units g l = length l.body - l.at
+abbrev pub decreases-loop-at : goal.decreases-loop-at
+decreases-loop-at g l = length l.body - l.at

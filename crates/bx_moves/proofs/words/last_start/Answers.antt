@@ -5,8 +5,8 @@ use Rattle.bx_view.specs.Words.{word_starts}
 use Rattle.bx_view.proofs.WordParts.{last-later, none-from}
 use Rattle.bx_moves.proofs.words.last_start.Goals as goal
 
-pub units-preserved : goal.units-preserved
-units-preserved g c =
+pub loop-at-preserved : goal.loop-at-preserved
+loop-at-preserved g c =
     let says = g.D.BidiData.data c.args.tables.now in
     let body = c.args.body.now in
     let is_in = c.unit_at-is_in.result.0 in
@@ -14,15 +14,15 @@ units-preserved g c =
     let rest = word_starts says is_in stop (graphemes true (drop stop body)) in
     record {
       bound = c.unit_at-is_in.ensures.stop.1;
-      same = c.units.invariant.same
-          ∙ ap (λ os. option_or (find (λ o. nat_lt o c.args.bound) (reverse os)) c.units.found) (c.unit_at-is_in.ensures.words c.units.inside)
-          ∙ last-later c.args.bound c.units.at rest c.units.found (is_in && not c.units.inside) (omega (arith, c.units-test.true, c.min-end.ensures))
+      same = c.loop-at.invariant.same
+          ∙ ap (λ os. option_or (find (λ o. nat_lt o c.args.bound) (reverse os)) c.loop-at.found) (c.unit_at-is_in.ensures.words c.loop-at.inside)
+          ∙ last-later c.args.bound c.loop-at.at rest c.loop-at.found (is_in && not c.loop-at.inside) (omega (arith, c.loop-at-test.true, c.min-end.ensures))
           ∙ ap (λ x. option_or (find (λ o. nat_lt o c.args.bound) (reverse rest)) x) (sym c.later-found.ensures);
     }
 
 pub returns : goal.returns
 returns g c =
     let says = g.D.BidiData.data c.args.tables.now in
-    sym (c.units.invariant.same
-    ∙ ap (λ x. option_or x c.units.found) (none-from says c.args.body.now c.units.inside c.units.at c.args.bound
-    (omega (arith, c.units-test.false, c.min-end.ensures))))
+    sym (c.loop-at.invariant.same
+    ∙ ap (λ x. option_or x c.loop-at.found) (none-from says c.args.body.now c.loop-at.inside c.loop-at.at c.args.bound
+    (omega (arith, c.loop-at-test.false, c.min-end.ensures))))

@@ -11,8 +11,8 @@ last_start-requires g c =
     let says = g.D.BidiData.data c.args.tables.now in
     let side = c.row_of-row.ensures.sound.side in
     let utf8 = c.row_of-row.ensures.sound.utf8 in
-    let part = row-part says c.args.paragraph.now c.requires side utf8 c.rows.row c.first-start.result (c.first-start.ensures says c.requires)
-    c.rows.invariant.within in
+    let part = row-part says c.args.paragraph.now c.requires side utf8 c.loop-row.row c.first-start.result (c.first-start.ensures says c.requires)
+    c.loop-row.invariant.within in
     subst (λ b. IsCharBoundary b c.first-start.result) (sym c.body-body.ensures) part.bound
 
 pub returns-in-Some : goal.returns-in-Some
@@ -20,28 +20,28 @@ returns-in-Some g c =
     let says = g.D.BidiData.data c.args.tables.now in
     let l = c.args.paragraph.now in
     let start = c.first-start.result in
-    let bound = c.rows.bound in
+    let bound = c.loop-row.bound in
     let side = c.row_of-row.ensures.sound.side in
     let utf8 = c.row_of-row.ensures.sound.utf8 in
-    let part = row-part says l c.requires side utf8 c.rows.row start (c.first-start.ensures says c.requires) c.rows.invariant.within in
+    let part = row-part says l c.requires side utf8 c.loop-row.row start (c.first-start.ensures says c.requires) c.loop-row.invariant.within in
     let found = ap (λ b. find (λ o. nat_lt o bound) (reverse (word_starts says true start (graphemes true (drop start b))))) (sym c.body-body.ensures)
     ∙ sym c.last_start.ensures ∙ c.in-Some.is in
-    sym (ap (λ x. unwrap_or x 0) (c.rows.invariant.same ∙ last-found says l.body start part bound c.in-Some.found found))
+    sym (ap (λ x. unwrap_or x 0) (c.loop-row.invariant.same ∙ last-found says l.body start part bound c.in-Some.found found))
 
-pub rows-preserved : goal.rows-preserved
-rows-preserved g c =
+pub loop-row-preserved : goal.loop-row-preserved
+loop-row-preserved g c =
     let says = g.D.BidiData.data c.args.tables.now in
     let l = c.args.paragraph.now in
     let start = c.first-start.result in
-    let bound = c.rows.bound in
+    let bound = c.loop-row.bound in
     let side = c.row_of-row.ensures.sound.side in
     let utf8 = c.row_of-row.ensures.sound.utf8 in
-    let part = row-part says l c.requires side utf8 c.rows.row start (c.first-start.ensures says c.requires) c.rows.invariant.within in
+    let part = row-part says l c.requires side utf8 c.loop-row.row start (c.first-start.ensures says c.requires) c.loop-row.invariant.within in
     let none = ap (λ b. find (λ o. nat_lt o bound) (reverse (word_starts says true start (graphemes true (drop start b))))) (sym c.body-body.ensures)
     ∙ sym c.last_start.ensures ∙ c.in_default.is in
     record {
-      within = omega (arith, c.rows.invariant.within);
-      same = c.rows.invariant.same ∙ last-nearer says l.body start part bound none
+      within = omega (arith, c.loop-row.invariant.within);
+      same = c.loop-row.invariant.same ∙ last-nearer says l.body start part bound none
           ∙ ap (λ n. find (λ o. nat_lt o n) (reverse (body_words says l.body))) (sym c.bound_above-bound.ensures);
     }
 
@@ -55,5 +55,5 @@ returns g c =
     let utf8 = c.row_of-row.ensures.sound.utf8 in
     c.unwrap_or.ensures
     ∙ ap (λ x. unwrap_or x 0) (c.last_start-2.ensures
-    ∙ ap (λ b. find (λ o. nat_lt o c.rows.bound) (reverse (word_starts says true 0 (graphemes true b)))) c.body-body.ensures)
-    ∙ sym (ap (λ x. unwrap_or x 0) c.rows.invariant.same ∙ last-of-all says l.body utf8 c.rows.bound)
+    ∙ ap (λ b. find (λ o. nat_lt o c.loop-row.bound) (reverse (word_starts says true 0 (graphemes true b)))) c.body-body.ensures)
+    ∙ sym (ap (λ x. unwrap_or x 0) c.loop-row.invariant.same ∙ last-of-all says l.body utf8 c.loop-row.bound)

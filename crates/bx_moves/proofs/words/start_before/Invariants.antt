@@ -3,12 +3,12 @@ use Rattle.std.proofs.Common.{◌≡◌, ◌<◌, find, length, nat_lt, reverse}
 use Rattle.bx_view.specs.Words.{body_words}
 use Rattle.bx_moves.proofs.words.start_before.Given as goal
 
-abbrev pub invariant-rows : goal.invariant-rows
-invariant-rows g l = record {
+abbrev pub invariant-loop-row : goal.invariant-loop-row
+invariant-loop-row g l = record {
   within : l.row < length l.paragraph.starts;
   same : find (λ o. nat_lt o l.fn.offset) (reverse (body_words (g.D.BidiData.data l.tables) l.paragraph.body))
       ≡ find (λ o. nat_lt o l.bound) (reverse (body_words (g.D.BidiData.data l.tables) l.paragraph.body));
 }
 
-abbrev pub decreases-rows : goal.decreases-rows
-decreases-rows g l = l.row
+abbrev pub decreases-loop-row : goal.decreases-loop-row
+decreases-loop-row g l = l.row

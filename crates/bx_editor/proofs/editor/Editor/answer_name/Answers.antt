@@ -1,6 +1,6 @@
 use Rattle.std.proofs.Common.{◌≡◌, ap, Some, sym, subst, string_bytes, ◌∙◌}
 use Rattle.bx_asking.specs.Names.{closing, named}
-use Rattle.bx_asking.specs.declared.question.Ask.TheVariants.{Name}
+use Rattle.bx_asking.specs.declared.answers.Ask.TheVariants.{Name}
 use Rattle.bx_editor.specs.Answers.{IsAnswer}
 use Rattle.bx_editor.specs.Asking.{after_name_letter, without_ask}
 use Rattle.bx_editor.specs.Editor.{Editor, EditorState, cleared}

@@ -1,12 +1,12 @@
 use Rattle.std.proofs.Common.{◌≡◌, ◌∙◌, Bool, ap, chars, false, length, string_bytes, sym}
 use Rattle.std.specs.Prelude.{◌==◌, not}
 use Rattle.bx_find.specs.Letters.{letters}
-use Rattle.bx_find.specs.declared.reading.Reading.TheVariants.{Close}
+use Rattle.bx_find.specs.declared.letters.Reading.TheVariants.{Close}
 use Rattle.bx_document.specs.Document.{DocumentState, rows as document_rows}
 use Rattle.bx_editor.specs.declared.matches.Landing.{Landing}
 use Rattle.bx_editor.specs.Editor.{Editor, EditorState, cleared}
 use Rattle.bx_editor.specs.Search.{forward, landed, landing_from, sought}
-use Rattle.bx_editor.specs.declared.aim.Aim.TheVariants.{Replace}
+use Rattle.bx_editor.specs.declared.seek.Aim.TheVariants.{Replace}
 use Rattle.bx_editor.specs.declared.seek.Seek.TheVariants.{Typed}
 use Rattle.bx_editor.proofs.AskedOther.{asked-nowhere, is-false}
 use Rattle.bx_editor.proofs.Viewed.{value_with}

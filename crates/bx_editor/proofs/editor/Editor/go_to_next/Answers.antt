@@ -1,8 +1,8 @@
 use Rattle.std.proofs.Common.{◌≡◌, ◌∙◌, ap, chars, false, length, subst, sym}
 use Rattle.std.specs.Prelude.{◌==◌}
 use Rattle.bx_find.specs.Letters.{letters}
-use Rattle.bx_find.specs.declared.reading.Reading.TheVariants.{Wide}
-use Rattle.bx_editor.specs.declared.aim.Aim.TheVariants.{Find}
+use Rattle.bx_find.specs.declared.letters.Reading.TheVariants.{Wide}
+use Rattle.bx_editor.specs.declared.seek.Aim.TheVariants.{Find}
 use Rattle.bx_editor.specs.declared.seek.Seek.TheVariants.{Off}
 use Rattle.bx_editor.specs.Editor.{Editor, EditorState, cleared, rows}
 use Rattle.bx_editor.specs.Search.{forward, landed, next_or_start, sought}

@@ -1,8 +1,8 @@
 use Rattle.std.proofs.Common.{rules, ◌≡◌, ◌∙◌, Err, Result, sym, ap, subst}
 use Rattle.std.specs.Prelude.{◌&&◌}
 use Rattle.bx_ucd.specs.Data.{Data}
-use Rattle.bx_session.specs.declared.error.Refused.{Refused}
-use Rattle.bx_session.specs.declared.error.Refused.TheVariants.{Paint}
+use Rattle.bx_session.specs.declared.status.Refused.{Refused}
+use Rattle.bx_session.specs.declared.status.Refused.TheVariants.{Paint}
 use Rattle.bx_session.specs.declared.status.Status.{Status}
 use Rattle.bx_session.specs.Saving.{StoreAfter, is_applied, is_save_byte, store_state, text_to_save}
 use Rattle.bx_session.specs.Session.{SessionState}
