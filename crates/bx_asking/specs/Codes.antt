@@ -3,7 +3,7 @@ use Rattle.std.specs.Prelude.{ℕ, ◌&&◌, not, nat_le, nat_lt, Bool, List, le
 use Rattle.std.specs.List.{list_all}
 use Rattle.std.specs.Char.{is_digit}
 use Rattle.std.specs.Str.Parse.{digits_value}
-use Rattle.bx_ucd.specs.Codes.{is_surrogate}
+use Rattle.bx_terms.specs.Characters.{is_surrogate}
 
 -- a hexadecimal digit of either case
 abbrev pub is_code_letter : ℕ → Bool

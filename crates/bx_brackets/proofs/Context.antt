@@ -4,7 +4,8 @@ use Rattle.std.proofs.Common.{false, Option, Some, None, length-append, length-d
 use Rattle.std.proofs.lemmas.List.{reverse-append, take-append-le, take-append-drop, length-take-le}
 use Rattle.bx_ucd.specs.declared.class.Class.{Class}
 use Rattle.bx_ucd.specs.declared.class.Class.TheVariants.{L, R}
-use Rattle.bx_brackets.specs.Resolve.{nearest, is_left, is_right, context_of, change_marks, change_bracket, pair_direction, resolve_in, IsPairWithin}
+use Rattle.bx_brackets.specs.Resolve.{nearest, is_left, is_right, context_of, change_marks, change_bracket, pair_direction, resolve_in}
+use Rattle.bx_brackets.specs.Search.{IsPairWithin}
 use Rattle.bx_brackets.specs.Clear.{IsKnown, known_first}
 
 pub nearest-append : (sos : Class) (xs ys : List Class) → nearest sos (xs ++ ys) ≡ nearest (nearest sos ys) xs

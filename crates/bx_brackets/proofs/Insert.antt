@@ -5,8 +5,7 @@ use Rattle.std.specs.Prelude.{All, nat_lt, find}
 use Rattle.std.proofs.lemmas.Bool.Decides.{nat_tests}
 use Rattle.std.proofs.lemmas.List.Elements.{All-nil, All-cons, All-head, All-tail}
 use Rattle.bx_brackets.specs.Pairs.{insert_pair}
-use Rattle.bx_brackets.specs.Resolve.{IsPairWithin}
-use Rattle.bx_brackets.specs.Search.{AreSorted, AreFound, is_for, index_of, left_by, found_by, below_first}
+use Rattle.bx_brackets.specs.Search.{IsPairWithin, AreSorted, AreFound, is_for, index_of, left_by, found_by, below_first}
 use Rattle.bx_brackets.proofs.Stack.{found_below, falling_later, falling_below}
 
 pub insert_later : (p q : ℕ × ℕ) (qs : List (ℕ × ℕ)) → q.0 ≤ p.0 → insert_pair p (q ∷ qs) ≡ q ∷ insert_pair p qs

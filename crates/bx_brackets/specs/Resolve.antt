@@ -1,5 +1,5 @@
 -- N0: the types of bracket pairs.
-use Rattle.std.specs.Prelude.{◌<◌, ℕ, ◌+◌, ◌-◌, Bool, true, false, List, [], ◌∷◌, ◌++◌, Option, Some, None, take, drop, reverse}
+use Rattle.std.specs.Prelude.{ℕ, ◌+◌, ◌-◌, Bool, true, false, List, [], ◌∷◌, ◌++◌, Option, Some, None, take, drop, reverse}
 use Rattle.std.specs.List.{list_any}
 use Rattle.bx_ucd.specs.declared.class.Class.{Class}
 use Rattle.bx_ucd.specs.declared.class.Class.TheVariants.{L, R, EN, AN}
@@ -75,8 +75,3 @@ resolve_pair embedding sos was pq ts = resolve_in embedding (context_of sos ts p
 abbrev pub resolve_pairs : Class → Class → List Bool → List (ℕ × ℕ) → List Class → List Class
 resolve_pairs embedding sos was [] ts = ts
 resolve_pairs embedding sos was (p ∷ ps) ts = resolve_pairs embedding sos was ps (resolve_pair embedding sos was p ts)
-
--- a pair lies inside a list of length n
-pub record IsPairWithin (n : ℕ) (pq : ℕ × ℕ) : Type 0 where
-  pub ordered : pq.0 < pq.1
-  pub ends : pq.1 < n

@@ -8,7 +8,6 @@ use Rattle.bx_ucd.specs.declared.data.Side.{Side}
 use Rattle.bx_ucd.specs.declared.data.Side.TheVariants.{Opener, Closer}
 use Rattle.bx_ucd.specs.declared.class.Class.{Class}
 use Rattle.bx_brackets.specs.Pairs.{bracket_room, canonical, bracket_at, insert_pair}
-use Rattle.bx_brackets.specs.Resolve.{IsPairWithin}
 
 -- the openers below the first one that passes the test
 abbrev pub below_first : ((ℕ × ℕ) → Bool) → List (ℕ × ℕ) → List (ℕ × ℕ)
@@ -86,6 +85,11 @@ IsFalling j (o ∷ os) = (o.0 < j) × IsFalling o.0 os
 abbrev pub AreSorted : ℕ → List (ℕ × ℕ) → Type 0
 AreSorted k [] = Unit {0}
 AreSorted k (p ∷ ps) = (k ≤ p.0) × AreSorted p.0 ps
+
+-- a pair lies inside a list of length n
+pub record IsPairWithin (n : ℕ) (pq : ℕ × ℕ) : Type 0 where
+  pub ordered : pq.0 < pq.1
+  pub ends : pq.1 < n
 
 -- the invariant of the openers and pairs before index `j`
 pub record AreFound (j : ℕ) (os ps : List (ℕ × ℕ)) : Type 0 where

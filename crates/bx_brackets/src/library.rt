@@ -3,8 +3,8 @@
 ghost use Rattle.std.specs.Prelude.{◌≡◌, ◌+◌, ◌≤◌, ◌++◌, ◌∷◌, drop, All, IfOk, OnOk, length, take, find, false};
 ghost use Rattle.bx_ucd.specs.Class.{direction};
 ghost use Rattle.bx_brackets.specs.Pairs.{insert_pair, pairs};
-ghost use Rattle.bx_brackets.specs.Resolve.{IsPairWithin, resolve_pairs};
-ghost use Rattle.bx_brackets.specs.Search.{is_for, progress, turn, left_by, found_by, AreSorted, AreFound};
+ghost use Rattle.bx_brackets.specs.Resolve.{resolve_pairs};
+ghost use Rattle.bx_brackets.specs.Search.{AreFound, AreSorted, IsPairWithin, found_by, is_for, left_by, progress, turn};
 
 use crate::open_stack::{OpenStack, bracket_at, canonical};
 use crate::resolve::{known_first, resolve_next};

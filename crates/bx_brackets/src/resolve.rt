@@ -4,9 +4,9 @@ ghost use Rattle.std.specs.Prelude.{◌≡◌, ◌+◌, ◌-◌, ◌<◌, ◌≤
 ghost use Rattle.std.specs.List.{list_any};
 ghost use Rattle.bx_ucd.specs.Class.{direction};
 ghost use Rattle.bx_brackets.specs.Clear.{IsClear, AreClear, IsKnown, known_first, AreSameFrom, between, clear_after};
-ghost use Rattle.bx_brackets.specs.Resolve.{opposite, is_left, is_right, counts_as, nearest, pair_direction, change_bracket, resolve_in, context_of};
-ghost use Rattle.bx_brackets.specs.Resolve.{resolve_pair, resolve_pairs, IsPairWithin};
-ghost use Rattle.bx_brackets.specs.Search.{pairs_in};
+ghost use Rattle.bx_brackets.specs.Resolve.{change_bracket, context_of, counts_as, is_left, is_right, nearest, opposite, pair_direction, resolve_in};
+ghost use Rattle.bx_brackets.specs.Resolve.{resolve_pair, resolve_pairs};
+ghost use Rattle.bx_brackets.specs.Search.{IsPairWithin, pairs_in};
 
 use bx_ucd::Class;
 use bx_ucd::class::direction;

@@ -4,7 +4,7 @@ use Rattle.std.specs.Borrow.{Bor}
 use Rattle.clap.specs.Words.{App, Rule, Text, new_rule, with_rule}
 use Rattle.clap.specs.declared.builder.ArgAction.TheVariants.{SetTrue}
 use Rattle.clap.specs.declared.builder.value_parser.ValueParser.TheVariants as vp
-use Rattle.bx_terms.specs.Sizes.{largest_side}
+use Rattle.bx_terms.specs.Characters.{largest_side}
 
 -- `--name`, which has a value
 abbrev pub option_rule : Text → Rule

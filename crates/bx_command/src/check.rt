@@ -1,7 +1,7 @@
 //! The check that a file's bytes can be opened.
 
 ghost use Rattle.std.specs.Prelude.{◌≡◌, ◌≤◌, IfErr, IsUtf8, OnOk, length};
-ghost use Rattle.bx_terms.specs.Sizes.{largest_text};
+ghost use Rattle.bx_terms.specs.Characters.{largest_text};
 ghost use Rattle.bx_command.specs.Check.{Refuses, line_of};
 
 use bx_terms::LARGEST_TEXT;

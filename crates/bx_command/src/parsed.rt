@@ -1,7 +1,7 @@
 //! The parsed command line.
 
 ghost use Rattle.std.specs.Prelude.{◌≡◌, true};
-ghost use Rattle.bx_terms.specs.Sizes.{is_side};
+ghost use Rattle.bx_terms.specs.Characters.{is_side};
 
 use bx_cli::UnicodePaths;
 use bx_terms::Base;

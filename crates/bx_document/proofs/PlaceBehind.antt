@@ -1,6 +1,6 @@
 -- The last place at or before an offset behind an edit, found in the touched paragraphs or in the text before the edit.
 use Rattle.std.proofs.Common.{◌≡◌, ℕ, ◌+◌, ◌-◌, ◌<◌, ◌≤◌, true, List, length, IsUtf8, IsCharBoundary, sym, ap, subst, ◌∙◌, arith}
-use Rattle.bx_terms.specs.Sizes.{is_side}
+use Rattle.bx_terms.specs.Characters.{is_side}
 use Rattle.bx_ucd.specs.Data.{Data}
 use Rattle.bx_text.specs.Edits.{IsRange, splice}
 use Rattle.bx_view.specs.Moves.{place_at}

@@ -4,7 +4,7 @@ use Rattle.std.proofs.Common.{append-nil, append_assoc, sym, ap, apâ‚‚, subst, â
 use Rattle.std.proofs.lemmas.Bool.{cases_lt}
 use Rattle.std.proofs.lemmas.Str.{IsUtf8-nil}
 use Rattle.std.proofs.lemmas.List.{drop-drop, drop_at, length-take-le, take-append-drop, take_at}
-use Rattle.bx_terms.specs.Sizes.{is_side}
+use Rattle.bx_terms.specs.Characters.{is_side}
 use Rattle.bx_terms.specs.declared.base.Base.{Base}
 use Rattle.bx_text.specs.Edits.{IsRange, fits, largest_text, splice}
 use Rattle.bx_text.proofs.Without.{behind as bound_behind}

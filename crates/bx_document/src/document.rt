@@ -3,7 +3,7 @@ ghost use Rattle.std.specs.Borrow.{Bor};
 ghost use Rattle.std.specs.Iterator.{Drains};
 ghost use Rattle.bx_text.specs.Slices.{joined, lends};
 ghost use Rattle.std.specs.Prelude.{◌≡◌, ℕ, ◌+◌, ◌≤◌, ◌<◌, ◌↔◌, List, true, IfOk, IsErrOf, IsUtf8, OnOk, length, string_bytes};
-ghost use Rattle.bx_terms.specs.Sizes.{is_side};
+ghost use Rattle.bx_terms.specs.Characters.{is_side};
 ghost use Rattle.bx_text.specs.Edits.{largest_text};
 ghost use Rattle.bx_view.specs.Numbers.{paragraph_number};
 ghost use Rattle.bx_document.specs.Document.{at_opening};

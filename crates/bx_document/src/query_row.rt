@@ -1,9 +1,8 @@
 //! Draws status rows: a text, or a text and after it a query or what was typed.
 ghost use Rattle.std.specs.Prelude.{◌≡◌, ◌≤◌, ◌∷◌, [], ◌++◌, All, IfOk, OnOk, chars, length, map, string_bytes, sum_by, take, true};
 ghost use Rattle.std.specs.Cow.{cow_str_bytes};
-ghost use Rattle.bx_terms.specs.Characters.{are_ascii_printable};
+ghost use Rattle.bx_terms.specs.Characters.{are_ascii_printable, is_side};
 ghost use Rattle.bx_terms.specs.Glyphs.{is_one_glyph, run_width};
-ghost use Rattle.bx_terms.specs.Sizes.{is_side};
 ghost use Rattle.bx_terms.specs.declared.base.Base.TheVariants.{Auto};
 ghost use Rattle.bx_rows.specs.Shown.{glyph_of};
 ghost use Rattle.bx_paragraph.specs.Layout.{IsLayoutBy};

@@ -1,6 +1,6 @@
 //! The place after an edit, found in the cached paragraph or in a copy of the paragraphs that the edit touches.
 ghost use Rattle.std.specs.Prelude.{◌≡◌, ◌≤◌, ◌<◌, ◌+◌, true, IfOk, IsCharBoundary, OnOk, length, string_bytes};
-ghost use Rattle.bx_terms.specs.Sizes.{is_side};
+ghost use Rattle.bx_terms.specs.Characters.{is_side};
 ghost use Rattle.bx_index.specs.Paragraphs.{lengths};
 ghost use Rattle.bx_text.specs.Edits.{IsRange, fits, splice};
 ghost use Rattle.bx_view.specs.FoundRow.{rows_by};

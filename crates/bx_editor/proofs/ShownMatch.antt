@@ -3,7 +3,7 @@ use Rattle.std.proofs.Common.{◌≡◌, ◌≢◌, ◌≤◌, ◌<◌, ◌+◌,
 use Rattle.std.proofs.Common.{ap, subst, arith, refl, IsUtf8}
 use Rattle.std.specs.Prelude.{Option, Some, None, IsNone, IsSome, MatchOption}
 use Rattle.std.proofs.lemmas.Bool.{and_parts}
-use Rattle.bx_terms.specs.Sizes.{largest_text}
+use Rattle.bx_terms.specs.Characters.{largest_text}
 use Rattle.bx_ucd.specs.Data.{Data}
 use Rattle.bx_find.specs.Nearest.{MatchesAt, IsFirst}
 use Rattle.bx_find.specs.Letters.{letters_of, letters}

@@ -1,6 +1,6 @@
 -- The value of an editor's fields, and what holds of them, also once the document is another.
 use Rattle.std.specs.Prelude.{◌≡◌, ◌≤◌, true, IfSome, chars, length}
-use Rattle.bx_terms.specs.Sizes.{is_side}
+use Rattle.bx_terms.specs.Characters.{is_side}
 use Rattle.bx_ucd.specs.declared.data.BidiData.{Ghosts}
 use Rattle.bx_document.specs.Document.{DocumentState}
 use Rattle.bx_view.specs.Places.{IsTextPlace}

@@ -1,6 +1,6 @@
 -- Errors of opening a file.
 use Rattle.std.specs.Prelude.{◌≡◌, ℕ, ◌<◌, ◌≤◌, true, false, List, length, take, IsUtf8}
-use Rattle.bx_terms.specs.Sizes.{largest_text}
+use Rattle.bx_terms.specs.Characters.{largest_text}
 use Rattle.bx_grid.specs.Picture.{is_size}
 use Rattle.bx_editor.specs.declared.opening.OpenError.{OpenError}
 use Rattle.bx_editor.specs.declared.opening.OpenError.TheVariants.{NotUtf8, OutOfMemory, SizeOutOfRange, TooLong}

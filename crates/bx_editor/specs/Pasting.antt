@@ -1,7 +1,7 @@
 -- A paste: what stands between PasteStart and PasteEnd goes into the text at once. `d` is Unicode's data, `e` the editor, `list` what
 -- the paste has brought so far, in UTF-8, and `c` a character.
 use Rattle.std.specs.Prelude.{ℕ, ◌==◌, ◌&&◌, ◌||◌, nat_lt, Bool, false, List, [], ◌∷◌, ◌++◌, length, Option, Some, None, encode_utf8, if◌then◌else◌}
-use Rattle.bx_terms.specs.Sizes.{largest_text}
+use Rattle.bx_terms.specs.Characters.{largest_text}
 use Rattle.bx_ucd.specs.Data.{Data}
 use Rattle.bx_document.specs.FirstSeparator.{has_crlf_first}
 use Rattle.bx_asking.specs.declared.answers.Ask.{Ask}

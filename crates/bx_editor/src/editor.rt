@@ -2,7 +2,7 @@
 ghost use Rattle.std.specs.Prelude.{◌≡◌, ℕ, List, true, None};
 ghost use Rattle.std.specs.Borrow.{Bor};
 ghost use Rattle.std.specs.Iterator.{Drains};
-ghost use Rattle.bx_terms.specs.Sizes.{is_side};
+ghost use Rattle.bx_terms.specs.Characters.{is_side};
 ghost use Rattle.bx_text.specs.Slices.{joined, lends};
 ghost use Rattle.bx_grid.specs.Picture.{is_size};
 ghost use Rattle.bx_editor.specs.Editor.{with_size, with_top};
@@ -49,7 +49,7 @@ pub struct Editor<D: BidiData + Drop> {
 
 impl<D: BidiData + Drop> Model for Editor<D> {
     ghost use Rattle.std.specs.Prelude.{◌≡◌, ◌≤◌, true, IfSome, chars, length, option_map, string_bytes};
-    ghost use Rattle.bx_terms.specs.Sizes.{is_side};
+    ghost use Rattle.bx_terms.specs.Characters.{is_side};
     ghost use Rattle.bx_view.specs.Places.{IsTextPlace};
     ghost use Rattle.bx_editor.specs.Answers.{IsAnswer};
     ghost use Rattle.bx_editor.specs.Editor.{EditorState};

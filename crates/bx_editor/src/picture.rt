@@ -1,6 +1,6 @@
 //! The picture of an editor.
 ghost use Rattle.std.specs.Prelude.{◌≡◌, ◌*◌, ◌≤◌, ◌++◌, false, true, IfOk, OnOk, length, take};
-ghost use Rattle.bx_terms.specs.Sizes.{is_side};
+ghost use Rattle.bx_terms.specs.Characters.{is_side};
 ghost use Rattle.bx_view.specs.Position.{IsPosition};
 ghost use Rattle.bx_editor.specs.Editor.{rows, text_height};
 ghost use Rattle.bx_editor.specs.Picture.{StandsOnItsCell, next_top, picture};

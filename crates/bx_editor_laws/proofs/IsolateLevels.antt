@@ -11,10 +11,9 @@ use Rattle.bx_ucd.specs.declared.class.Class.TheVariants.{ON, LRI, RLI, FSI}
 use Rattle.bx_explicit.specs.declared.entry.ExplicitChar.{ExplicitChar}
 use Rattle.bx_explicit.specs.declared.state.State.{State}
 use Rattle.bx_explicit.specs.Explicit.{even_above, explicit_from, explicit_levels, first_above, isolate, next_state, odd_above, start, top}
+use Rattle.bx_explicit.specs.Explicit.{role_of}
 use Rattle.bx_explicit.specs.Laws.{states, states_from}
-use Rattle.bx_explicit.specs.Matching.{before_pdi, match_after, match_of, one_more}
-use Rattle.bx_explicit.specs.ParagraphLevel.{base_level, isolate_level}
-use Rattle.bx_explicit.specs.Role.{role_of}
+use Rattle.bx_explicit.specs.ParagraphLevel.{before_pdi, match_after, match_of, one_more, base_level, isolate_level}
 use Rattle.bx_explicit.proofs.FirstLow.{pick, resumes_at}
 use Rattle.bx_explicit.proofs.Inside.{IsInside, out_at}
 use Rattle.bx_explicit.proofs.Steps.{first_higher, state_at}

@@ -13,7 +13,7 @@ use Rattle.bx_ucd.specs.Class.{is_initiator}
 use Rattle.bx_ucd.specs.Data.{Data}
 use Rattle.bx_ucd.specs.declared.class.Class.{Class}
 use Rattle.bx_ucd.specs.declared.class.Class.TheVariants.{B, PDI}
-use Rattle.bx_explicit.specs.Matching.{before_pdi, count_after, match_after, match_of, one_more}
+use Rattle.bx_explicit.specs.ParagraphLevel.{before_pdi, count_after, match_after, match_of, one_more}
 use Rattle.bx_resolve.specs.Laws.{level_at}
 use Rattle.bx_asking.specs.Names.{beside, closing, closings, named, names}
 use Rattle.bx_keys.specs.declared.key.Key.TheVariants.{Insert, Name}

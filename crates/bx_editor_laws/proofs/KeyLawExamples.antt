@@ -6,7 +6,7 @@ use Rattle.std.specs.Prelude.{codes, Option, Some, None}
 use Rattle.std.specs.Fmt.{digits}
 use Rattle.unicode_segmentation.proofs.Computing.{unicode_segmentation}
 use Rattle.unicode_width.proofs.Computing.{unicode_width}
-use Rattle.bx_terms.specs.Sizes.{largest_text}
+use Rattle.bx_terms.specs.Characters.{largest_text}
 use Rattle.bx_terms.specs.declared.base.Base.TheVariants.{Auto}
 use Rattle.bx_keys.specs.declared.key.Key.{Key}
 use Rattle.bx_keys.specs.declared.key.Key.TheVariants.{Cancel, DeleteWord, EraseWord, Forward, GoTo, Mark, NewLine, RedoRun, Save, Select}

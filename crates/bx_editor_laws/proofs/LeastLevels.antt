@@ -12,9 +12,8 @@ use Rattle.bx_explicit.specs.declared.entry.ExplicitChar.{ExplicitChar}
 use Rattle.bx_explicit.specs.declared.runs.Run.{Run}
 use Rattle.bx_explicit.specs.Explicit.{explicit_levels}
 use Rattle.bx_explicit.specs.OpenChains.{is_over, sequence_of_runs, with_run}
-use Rattle.bx_explicit.specs.Runs.{IsRunWithin, join_run, run, runs_from}
-use Rattle.bx_explicit.specs.Sequences.{RunSequence, chain_indexes, sequences}
-use Rattle.bx_explicit.specs.Walk.{AreGiven, ending, over_before, sequences_of, still_open}
+use Rattle.bx_explicit.specs.Sequences.{join_run, run, runs_from, RunSequence, chain_indexes, sequences}
+use Rattle.bx_explicit.specs.Walk.{IsRunWithin, AreGiven, ending, over_before, sequences_of, still_open}
 use Rattle.bx_explicit.proofs.LevelRuns.{all_within}
 use Rattle.bx_explicit.proofs.SequenceOrder.{given_by_levels}
 use Rattle.bx_explicit.proofs.Spans.{Spans, each_of_chain}

@@ -6,7 +6,7 @@ use Rattle.std.specs.Prelude.{◌≢◌, ◌==◌, ◌&&◌, nat_le, Some, None}
 use Rattle.std.proofs.lemmas.Bool.{eqb-true}
 use Rattle.std.proofs.lemmas.Bool.Decides.{nat_tests}
 use Rattle.std.proofs.lemmas.List.{take-append-drop}
-use Rattle.bx_terms.specs.Sizes.{largest_text}
+use Rattle.bx_terms.specs.Characters.{largest_text}
 use Rattle.bx_keys.specs.declared.key.Key.TheVariants.{NewLine}
 use Rattle.bx_document.specs.FirstSeparator.{is_cr_lf}
 use Rattle.bx_runs.specs.Typing.{after_insertion, goes_on}

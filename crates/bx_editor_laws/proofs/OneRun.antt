@@ -7,7 +7,7 @@ use Rattle.std.specs.Fn.{iterate}
 use Rattle.std.proofs.lemmas.Bool.Decides.{nat_tests}
 use Rattle.std.proofs.lemmas.List.{length-drop, length-take}
 use Rattle.std.proofs.lemmas.List.Elements.{All-head, All-tail}
-use Rattle.bx_terms.specs.Sizes.{largest_text}
+use Rattle.bx_terms.specs.Characters.{largest_text}
 use Rattle.bx_keys.specs.declared.key.Key.TheVariants.{Insert, PasteEnd, UndoRun}
 use Rattle.bx_text.specs.Edits.{Edit, Edited, splice}
 use Rattle.bx_document.specs.declared.history.HistoryStep.TheVariants as steps

@@ -5,7 +5,7 @@ use Rattle.std.specs.Prelude.{◌==◌, if◌then◌else◌, unwrap_or}
 use Rattle.std.proofs.lemmas.Bool.{cases_lt, le-leb}
 use Rattle.std.proofs.lemmas.Bool.Decides.{nat_tests}
 use Rattle.std.proofs.lemmas.List.{append-nil, drop-drop, drop_at, length-take-le, take-append-drop, take_at}
-use Rattle.bx_terms.specs.Sizes.{largest_text}
+use Rattle.bx_terms.specs.Characters.{largest_text}
 use Rattle.bx_keys.specs.declared.key.Key.TheVariants.{Copy, Cut, Put}
 use Rattle.bx_text.specs.Edits.{fits, splice}
 use Rattle.bx_editor.specs.declared.message.Message.TheVariants.{Copied, LineCopied, NothingToCopy, NothingToPut, TextFull}

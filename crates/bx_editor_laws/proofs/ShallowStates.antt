@@ -9,9 +9,9 @@ use Rattle.bx_explicit.specs.declared.entry.Override.{Override}
 use Rattle.bx_explicit.specs.declared.entry.Override.TheVariants.{Neutral, Left, Right}
 use Rattle.bx_explicit.specs.declared.state.State.{State}
 use Rattle.bx_explicit.specs.Stack.{entry, top_of, after_isolate, after_embedding}
-use Rattle.bx_explicit.specs.Explicit.{embed, end_embedding, end_isolate, even_above, first_above, is_valid, isolate, next_state, odd_above, start, top}
+use Rattle.bx_explicit.specs.Explicit.{embed, end_embedding, end_isolate, even_above, first_above, is_valid, isolate, next_state}
+use Rattle.bx_explicit.specs.Explicit.{odd_above, start, top, role_of}
 use Rattle.bx_explicit.specs.ParagraphLevel.{isolate_level}
-use Rattle.bx_explicit.specs.Role.{role_of}
 use Rattle.bx_editor_laws.specs.AskingLaws.{begins_level}
 
 -- no entry is above the level `high`

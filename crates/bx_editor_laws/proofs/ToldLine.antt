@@ -4,7 +4,7 @@ use Rattle.std.proofs.Common.{length-append, refl, sym, ap, ap₂, subst, ◌∙
 use Rattle.std.specs.Prelude.{◌≢◌, ◌==◌, chars, codes, decimal, encode_utf8, IsUtf8, None}
 use Rattle.std.proofs.lemmas.Bool.Decides.{nat_tests}
 use Rattle.std.proofs.lemmas.Str.{encode_ascii}
-use Rattle.bx_terms.specs.Sizes.{largest_text}
+use Rattle.bx_terms.specs.Characters.{largest_text}
 use Rattle.bx_terms.specs.declared.base.Base.TheVariants.{Auto}
 use Rattle.bx_asking.specs.declared.answers.Ask.TheVariants.{Off, Line}
 use Rattle.bx_asking.specs.Answers.{lengthened}

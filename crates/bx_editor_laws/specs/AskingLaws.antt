@@ -3,15 +3,14 @@
 use Rattle.std.specs.Prelude.{◌≡◌, ◌≢◌, ◌⊎◌, ℕ, ◌+◌, ◌==◌, ◌||◌, ◌<◌, ◌≤◌, Bool, true, false, List, [], ◌∷◌, ◌++◌, length, map, take, drop, count_by}
 use Rattle.std.specs.Prelude.{chars, codes, decimal, encode_utf8, Option, Some, None, All, IsUtf8, if◌then◌else◌}
 use Rattle.std.specs.List.{concat}
-use Rattle.bx_terms.specs.Characters.{are_ascii_printable}
+use Rattle.bx_terms.specs.Characters.{are_ascii_printable, largest_text}
 use Rattle.bx_terms.specs.Glyphs.{is_one_glyph, run_width}
-use Rattle.bx_terms.specs.Sizes.{largest_text}
 use Rattle.bx_terms.specs.declared.base.Base.{Base}
 use Rattle.bx_ucd.specs.Data.{Data}
 use Rattle.bx_ucd.specs.Class.{is_initiator}
 use Rattle.bx_ucd.specs.declared.class.Class.{Class}
 use Rattle.bx_ucd.specs.declared.class.Class.TheVariants.{LRE, LRO, RLE, RLO, LRI, RLI, FSI, PDI}
-use Rattle.bx_explicit.specs.Matching.{before_pdi, match_of}
+use Rattle.bx_explicit.specs.ParagraphLevel.{before_pdi, match_of}
 use Rattle.bx_resolve.specs.Laws.{class_at, entry_at, level_at}
 use Rattle.bx_resolve.specs.Levels.{is_kept, levels_under, paragraph_level_under}
 use Rattle.unicode_segmentation.specs.Grapheme.{graphemes}

@@ -1,7 +1,7 @@
 -- Laws of the editor: the top, undo and redo, the region, the text's ends, and a search. In all files of this folder `d` is the
 -- data of Unicode's tables, `e` the editor before some keys, and `new` the editor after them.
 use Rattle.std.specs.Prelude.{◌≡◌, ◌≢◌, ◌⊎◌, ℕ, ◌+◌, ◌<◌, ◌≤◌, ◌&&◌, Bool, true, false, List, [], ◌∷◌, ◌++◌, length, take, drop, replicate, Option, Some, None, IsUtf8}
-use Rattle.bx_terms.specs.Sizes.{largest_text}
+use Rattle.bx_terms.specs.Characters.{largest_text}
 use Rattle.bx_terms.specs.declared.base.Base.{Base}
 use Rattle.bx_keys.specs.declared.key.Key.{Key}
 use Rattle.bx_keys.specs.declared.key.Key.TheVariants.{Quit, Undo, Redo, Mark, Copy, Cut, Put, Find, FindBack, FindNext, Replace, TextStart, TextEnd, Cancel}

@@ -9,12 +9,13 @@ use Rattle.bx_explicit.specs.declared.role.Role.TheVariants.{Lre, Rle, Lro, Rlo,
 use Rattle.bx_explicit.specs.declared.entry.ExplicitChar.{ExplicitChar}
 use Rattle.bx_explicit.specs.declared.state.State.{State}
 use Rattle.bx_explicit.specs.declared.runs.Run.{Run}
-use Rattle.bx_explicit.specs.Role.{role_of}
+use Rattle.bx_explicit.specs.Explicit.{role_of, next_state, kept_by, start, explicit_from, explicit_levels}
 use Rattle.bx_explicit.specs.CharLevel.{level_or_0}
-use Rattle.bx_explicit.specs.Stack.{max_depth, IsRising}
-use Rattle.bx_explicit.specs.Explicit.{next_state, kept_by, start, explicit_from, explicit_levels}
-use Rattle.bx_explicit.specs.Runs.{run, join_run, runs_from, kept_indexes, indexes_of, IsRunWithin}
-use Rattle.bx_explicit.specs.Sequences.{RunSequence, is_joined, followers, follows, chain_indexes, sequence_of, sequences_from, sequences}
+use Rattle.bx_explicit.specs.Stack.{max_depth}
+use Rattle.bx_explicit.specs.StackCalls.{IsRising}
+use Rattle.bx_explicit.specs.Sequences.{run, join_run, runs_from, kept_indexes, indexes_of, RunSequence, is_joined, followers, follows}
+use Rattle.bx_explicit.specs.Sequences.{chain_indexes, sequence_of, sequences_from, sequences}
+use Rattle.bx_explicit.specs.Walk.{IsRunWithin}
 use Rattle.bx_explicit.proofs.Rising.{rising_top}
 use Rattle.bx_explicit.proofs.Steps.{rising_next}
 use Rattle.bx_explicit.proofs.LevelRuns.{all_within}

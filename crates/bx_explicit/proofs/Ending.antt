@@ -4,9 +4,8 @@ use Rattle.std.specs.Prelude.{IfNone, IfSome}
 use Rattle.bx_ucd.specs.declared.class.Class.{Class}
 use Rattle.bx_explicit.specs.declared.entry.ExplicitChar.{ExplicitChar}
 use Rattle.bx_explicit.specs.declared.runs.Run.{Run}
-use Rattle.bx_explicit.specs.Runs.{runs_from}
+use Rattle.bx_explicit.specs.Sequences.{runs_from, RunSequence}
 use Rattle.bx_explicit.specs.OpenChains.{is_over, with_run, sequence_of_runs}
-use Rattle.bx_explicit.specs.Sequences.{RunSequence}
 use Rattle.bx_explicit.specs.Walk.{over_before, still_open, ending, sequences_of, runs_to_come}
 
 over_at : (cs : List Class) (c : List Run) (chains : List (List Run)) (q : Run) (b : Bool) → is_over cs (c ∷ chains) q ≡ b

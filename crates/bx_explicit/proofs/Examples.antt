@@ -3,8 +3,7 @@ use Rattle.std.proofs.Common.{◌≡◌, ℕ, zero, suc, List, [], ◌∷◌, �
 use Rattle.bx_ucd.specs.declared.class.Class.{Class}
 use Rattle.bx_ucd.specs.declared.class.Class.TheVariants.{L, R, EN, ON, LRE, RLE, PDF, LRI, RLI, FSI, PDI}
 use Rattle.bx_explicit.specs.declared.entry.ExplicitChar.{ExplicitChar}
-use Rattle.bx_explicit.specs.Matching.{match_of}
-use Rattle.bx_explicit.specs.ParagraphLevel.{paragraph_level}
+use Rattle.bx_explicit.specs.ParagraphLevel.{match_of, paragraph_level}
 use Rattle.bx_explicit.specs.Explicit.{explicit_levels}
 use Rattle.bx_explicit.specs.Sequences.{sequences, RunSequence}
 

@@ -5,8 +5,8 @@ use Rattle.std.proofs.lemmas.Bool.Decides.{nat_tests}
 use Rattle.std.proofs.lemmas.List.Elements.{All-head, All-tail}
 use Rattle.bx_explicit.specs.declared.entry.ExplicitChar.{ExplicitChar}
 use Rattle.bx_explicit.specs.declared.runs.Run.{Run}
-use Rattle.bx_explicit.specs.Matching.{one_more}
-use Rattle.bx_explicit.specs.Runs.{run, join_run, runs_from, AreRising}
+use Rattle.bx_explicit.specs.ParagraphLevel.{one_more}
+use Rattle.bx_explicit.specs.Sequences.{run, join_run, runs_from, AreRising}
 use Rattle.bx_explicit.specs.OpenChains.{all_above}
 use Rattle.bx_explicit.proofs.Scan.{further, further_more}
 

@@ -9,8 +9,7 @@ use Rattle.bx_explicit.specs.declared.entry.Override.TheVariants.{Neutral, Left,
 use Rattle.bx_explicit.specs.declared.state.State.{State}
 use Rattle.bx_explicit.specs.Stack.{entry, top_of, after_isolate, after_embedding}
 use Rattle.bx_explicit.specs.Explicit.{top, is_valid, embed, isolate, end_isolate, end_embedding, explicit_from, even_above, odd_above, first_above}
-use Rattle.bx_explicit.specs.Matching.{before_pdi, one_more}
-use Rattle.bx_explicit.specs.ParagraphLevel.{isolate_level}
+use Rattle.bx_explicit.specs.ParagraphLevel.{before_pdi, one_more, isolate_level}
 use Rattle.bx_explicit.proofs.Steps.{first_higher}
 use Rattle.bx_explicit.proofs.FirstLow.{pick, pick_above, pick_same, resumes_at}
 

@@ -6,18 +6,15 @@ use Rattle.std.proofs.lemmas.Bool.Decides.{nat_tests}
 use Rattle.bx_ucd.specs.declared.class.Class.{Class}
 use Rattle.bx_ucd.specs.declared.class.Class.TheVariants.{LRI, RLI, FSI}
 use Rattle.bx_ucd.specs.Class.{is_initiator}
-use Rattle.bx_explicit.specs.Role.{role_of}
+use Rattle.bx_explicit.specs.Explicit.{role_of, start, top, forced_class, is_valid, isolate, even_above, odd_above, first_above}
+use Rattle.bx_explicit.specs.Explicit.{next_state, kept_by, explicit_from, explicit_levels}
 use Rattle.bx_explicit.specs.declared.entry.ExplicitChar.{ExplicitChar}
 use Rattle.bx_explicit.specs.declared.entry.Override.TheVariants.{Neutral}
 use Rattle.bx_explicit.specs.declared.runs.Run.{Run}
 use Rattle.bx_explicit.specs.declared.state.State.{State}
 use Rattle.bx_explicit.specs.Stack.{entry}
-use Rattle.bx_explicit.specs.ParagraphLevel.{isolate_level}
-use Rattle.bx_explicit.specs.Explicit.{start, top, forced_class, is_valid, isolate, even_above, odd_above, first_above, next_state, kept_by, explicit_from}
-use Rattle.bx_explicit.specs.Explicit.{explicit_levels}
-use Rattle.bx_explicit.specs.Matching.{before_pdi, match_after}
-use Rattle.bx_explicit.specs.Runs.{runs_from, AreRising}
-use Rattle.bx_explicit.specs.Sequences.{is_joined, starts_with_initiator}
+use Rattle.bx_explicit.specs.ParagraphLevel.{isolate_level, before_pdi, match_after}
+use Rattle.bx_explicit.specs.Sequences.{runs_from, AreRising, is_joined, starts_with_initiator}
 use Rattle.bx_explicit.specs.OpenChains.{all_above, is_resumed}
 use Rattle.bx_explicit.proofs.Scan.{further}
 use Rattle.bx_explicit.proofs.Steps.{state_at, first_higher}

@@ -9,7 +9,7 @@ use Rattle.std.proofs.lemmas.List.Elements.{All-cons, All-nil, All-head, All-tai
 use Rattle.bx_ucd.specs.declared.class.Class.{Class}
 use Rattle.bx_ucd.specs.Class.{is_initiator}
 use Rattle.bx_explicit.specs.declared.runs.Run.{Run}
-use Rattle.bx_explicit.specs.Matching.{match_after}
+use Rattle.bx_explicit.specs.ParagraphLevel.{match_after}
 use Rattle.bx_explicit.specs.Sequences.{is_joined, followers, follows, starts_with_initiator}
 use Rattle.bx_explicit.specs.OpenChains.{all_above, ends_in_initiator, is_resumed}
 

@@ -7,8 +7,8 @@ use Rattle.std.proofs.lemmas.List.{drop_all, take_all}
 use Rattle.bx_ucd.specs.declared.class.Class.{Class}
 use Rattle.bx_explicit.specs.declared.entry.ExplicitChar.{ExplicitChar}
 use Rattle.bx_explicit.specs.declared.runs.Run.{Run}
-use Rattle.bx_explicit.specs.Runs.{run, join_run, runs_from, kept_indexes, indexes_of}
-use Rattle.bx_explicit.specs.Sequences.{RunSequence, direction, level_of_first, level_after, starts_with_initiator, sequences, sequences_from}
+use Rattle.bx_explicit.specs.Sequences.{run, join_run, runs_from, kept_indexes, indexes_of, RunSequence, direction, level_of_first}
+use Rattle.bx_explicit.specs.Sequences.{level_after, starts_with_initiator, sequences, sequences_from}
 
 -- a class kept at a level
 abbrev pub kept_as : ℕ → Class → Option ExplicitChar

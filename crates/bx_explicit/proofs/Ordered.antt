@@ -12,9 +12,9 @@ use Rattle.bx_ucd.specs.declared.class.Class.{Class}
 use Rattle.bx_ucd.specs.declared.class.Class.TheVariants.{L}
 use Rattle.bx_explicit.specs.declared.entry.ExplicitChar.{ExplicitChar}
 use Rattle.bx_explicit.specs.declared.runs.Run.{Run}
-use Rattle.bx_explicit.specs.Runs.{run, join_run, runs_from, kept_indexes, indexes_of, IsRunWithin, AreRising}
-use Rattle.bx_explicit.specs.Sequences.{RunSequence, followers, follows, sequence_of, sequences_from, sequences, chain_indexes}
-use Rattle.bx_explicit.specs.Walk.{AreGiven}
+use Rattle.bx_explicit.specs.Sequences.{run, join_run, runs_from, kept_indexes, indexes_of, AreRising, RunSequence, followers, follows}
+use Rattle.bx_explicit.specs.Sequences.{sequence_of, sequences_from, sequences, chain_indexes}
+use Rattle.bx_explicit.specs.Walk.{IsRunWithin, AreGiven}
 use Rattle.bx_explicit.proofs.LevelRuns.{runs_within, all_rising}
 use Rattle.bx_explicit.proofs.Bounds.{sequences_each, followers_each}
 

@@ -5,7 +5,8 @@ use Rattle.std.proofs.lemmas.Bool.Decides.{nat_tests}
 use Rattle.bx_ucd.specs.declared.class.Class.{Class}
 use Rattle.bx_explicit.specs.declared.role.Role.{Role}
 use Rattle.bx_explicit.specs.declared.role.Role.TheVariants.{Lre, Rle, Lro, Rlo, Lri, Rli, Fsi, Pdi, Pdf, Bn, Other}
-use Rattle.bx_explicit.specs.Role.{role_of}
+use Rattle.bx_explicit.specs.Explicit.{role_of, top, is_valid, embed, end_isolate, end_embedding, even_above, odd_above, next_state}
+use Rattle.bx_explicit.specs.Explicit.{kept_by, explicit_from}
 use Rattle.bx_explicit.specs.declared.entry.Entry.{Entry}
 use Rattle.bx_explicit.specs.declared.entry.ExplicitChar.{ExplicitChar}
 use Rattle.bx_explicit.specs.declared.entry.Override.{Override}
@@ -13,9 +14,7 @@ use Rattle.bx_explicit.specs.declared.entry.Override.TheVariants.{Neutral, Left,
 use Rattle.bx_explicit.specs.declared.runs.Run.{Run}
 use Rattle.bx_explicit.specs.declared.state.State.{State}
 use Rattle.bx_explicit.specs.Stack.{entry, top_of, after_isolate, after_embedding}
-use Rattle.bx_explicit.specs.Explicit.{top, is_valid, embed, end_isolate, end_embedding, even_above, odd_above, next_state, kept_by, explicit_from}
-use Rattle.bx_explicit.specs.Runs.{run, join_run, runs_from}
-use Rattle.bx_explicit.specs.Sequences.{level_of_first}
+use Rattle.bx_explicit.specs.Sequences.{run, join_run, runs_from, level_of_first}
 use Rattle.bx_explicit.proofs.Steps.{embed_stack}
 use Rattle.bx_explicit.proofs.RunEnd.{IsUnlike}
 

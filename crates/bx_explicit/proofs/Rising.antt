@@ -2,7 +2,8 @@
 use Rattle.std.proofs.Common.{◌≡◌, ◌<◌, ◌≤◌, ◌+◌, ℕ, List, [], ◌∷◌, length, reverse, arith}
 use Rattle.std.proofs.lemmas.List.{length-reverse}
 use Rattle.bx_explicit.specs.declared.entry.Entry.{Entry}
-use Rattle.bx_explicit.specs.Stack.{max_depth, stack_room, IsRising, top_of}
+use Rattle.bx_explicit.specs.Stack.{max_depth, top_of}
+use Rattle.bx_explicit.specs.StackCalls.{stack_room, IsRising}
 
 pub rising_length : (es : List Entry) → IsRising es → length es ≤ (top_of es).level + 1
 rising_length [] r = omega arith

@@ -4,7 +4,7 @@ use Rattle.std.specs.Prelude.{◌==◌}
 use Rattle.std.proofs.lemmas.Bool.Decides.{nat_tests}
 use Rattle.bx_explicit.specs.declared.entry.ExplicitChar.{ExplicitChar}
 use Rattle.bx_explicit.specs.declared.runs.Run.{Run}
-use Rattle.bx_explicit.specs.Runs.{run, join_run, runs_from}
+use Rattle.bx_explicit.specs.Sequences.{run, join_run, runs_from}
 
 -- the first run has another level
 abbrev pub IsUnlike : ℕ → List Run → Type 0

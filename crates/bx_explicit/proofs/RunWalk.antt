@@ -8,7 +8,8 @@ use Rattle.bx_explicit.specs.declared.entry.ExplicitChar.{ExplicitChar}
 use Rattle.bx_explicit.specs.declared.runs.Run.{Run}
 use Rattle.bx_explicit.specs.LevelIndexes.{level_indexes}
 use Rattle.bx_explicit.specs.OpenChains.{run_at, first_run_of}
-use Rattle.bx_explicit.specs.Runs.{run, join_run, runs_from, kept_indexes, indexes_of, IsRunWithin}
+use Rattle.bx_explicit.specs.Sequences.{run, join_run, runs_from, kept_indexes, indexes_of}
+use Rattle.bx_explicit.specs.Walk.{IsRunWithin}
 use Rattle.bx_explicit.specs.Stack.{max_depth}
 use Rattle.bx_explicit.specs.StoredChains.{BeginsRun}
 use Rattle.bx_explicit.proofs.LevelRuns.{runs_within, within_eq}

@@ -7,7 +7,7 @@ use Rattle.std.proofs.lemmas.List.{at_drop_more, at_drop_all}
 use Rattle.bx_explicit.specs.declared.entry.ExplicitChar.{ExplicitChar}
 use Rattle.bx_explicit.specs.declared.runs.Run.{Run}
 use Rattle.bx_explicit.specs.CharLevel.{HasLevel}
-use Rattle.bx_explicit.specs.Runs.{run, join_run, runs_from}
+use Rattle.bx_explicit.specs.Sequences.{run, join_run, runs_from}
 use Rattle.bx_explicit.proofs.LevelRuns.{runs_some}
 
 -- a run that reaches the index `last`, before the runs after it

@@ -5,8 +5,7 @@ use Rattle.std.proofs.Math.Seq.{drop-length}
 use Rattle.bx_ucd.specs.declared.class.Class.{Class}
 use Rattle.bx_ucd.specs.declared.class.Class.TheVariants.{L, R, AL, PDI, LRI, RLI, FSI}
 use Rattle.bx_ucd.specs.Class.{is_strong}
-use Rattle.bx_explicit.specs.Matching.{before_pdi, count_after, or_end, one_more}
-use Rattle.bx_explicit.specs.ParagraphLevel.{first_strong, level_of_strong, level_of}
+use Rattle.bx_explicit.specs.ParagraphLevel.{before_pdi, count_after, or_end, one_more, first_strong, level_of_strong, level_of}
 
 -- the first strong class of the rest, where `n` isolates are open
 abbrev pub rest_strong : ℕ → List Class → Option Class

@@ -12,10 +12,9 @@ use Rattle.bx_explicit.specs.declared.entry.Explicit.{Explicit}
 use Rattle.bx_explicit.specs.declared.entry.ExplicitChar.{ExplicitChar}
 use Rattle.bx_explicit.specs.declared.runs.Run.{Run}
 use Rattle.bx_explicit.specs.Explicit.{explicit_levels}
-use Rattle.bx_explicit.specs.Runs.{runs_from, IsRunWithin}
-use Rattle.bx_explicit.specs.Sequences.{RunSequence, is_joined, followers, follows, sequence_of, sequences_from, sequences}
+use Rattle.bx_explicit.specs.Sequences.{runs_from, RunSequence, is_joined, followers, follows, sequence_of, sequences_from, sequences}
+use Rattle.bx_explicit.specs.Walk.{IsRunWithin, IsIn, IsOut, AreGiven, ending, sequences_of}
 use Rattle.bx_explicit.specs.OpenChains.{ends_in_initiator, is_over, with_run, sequence_of_runs}
-use Rattle.bx_explicit.specs.Walk.{IsIn, IsOut, AreGiven, ending, sequences_of}
 use Rattle.bx_explicit.proofs.LevelRuns.{runs_within}
 use Rattle.bx_explicit.proofs.JoinedByLevel.{joined_by_level}
 use Rattle.bx_explicit.proofs.RunEnd.{EndsAt, run_ends}

@@ -5,9 +5,8 @@ use Rattle.std.proofs.lemmas.List.{length-take, reverse-append}
 use Rattle.std.proofs.lemmas.List.Elements.{All-cons, All-nil, All-head, All-tail, All-append}
 use Rattle.bx_explicit.specs.declared.entry.ExplicitChar.{ExplicitChar}
 use Rattle.bx_explicit.specs.declared.runs.Run.{Run}
-use Rattle.bx_explicit.specs.Runs.{kept_indexes, indexes_of, IsRunWithin}
-use Rattle.bx_explicit.specs.Sequences.{chain_indexes}
-use Rattle.bx_explicit.specs.Walk.{IsIn, IsOut}
+use Rattle.bx_explicit.specs.Sequences.{kept_indexes, indexes_of, chain_indexes}
+use Rattle.bx_explicit.specs.Walk.{IsRunWithin, IsIn, IsOut}
 
 -- a property of all indexes of a run holds of its kept ones, and so of a chain's
 module _ (P : ℕ → Type 0) where

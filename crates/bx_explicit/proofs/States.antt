@@ -5,9 +5,9 @@ use Rattle.std.proofs.lemmas.List.Elements.{All-cons, All-nil}
 use Rattle.bx_ucd.specs.declared.class.Class.{Class}
 use Rattle.bx_explicit.specs.declared.entry.ExplicitChar.{ExplicitChar}
 use Rattle.bx_explicit.specs.declared.state.State.{State}
-use Rattle.bx_explicit.specs.Role.{role_of}
-use Rattle.bx_explicit.specs.Stack.{max_depth, IsRising, top_of}
-use Rattle.bx_explicit.specs.Explicit.{start, next_state, kept_by, explicit_from}
+use Rattle.bx_explicit.specs.Explicit.{role_of, start, next_state, kept_by, explicit_from}
+use Rattle.bx_explicit.specs.Stack.{max_depth, top_of}
+use Rattle.bx_explicit.specs.StackCalls.{IsRising}
 use Rattle.bx_explicit.specs.Laws.{states_from, given_between, StatesGiveLevels, HasRoom, AlwaysHasRoom}
 use Rattle.bx_explicit.proofs.Rising.{rising_length, rising_top}
 use Rattle.bx_explicit.proofs.Steps.{rising_next}

@@ -6,18 +6,19 @@ use Rattle.bx_ucd.specs.declared.class.Class.{Class}
 use Rattle.bx_ucd.specs.declared.class.Class.TheVariants.{L}
 use Rattle.bx_explicit.specs.declared.role.Role.{Role}
 use Rattle.bx_explicit.specs.declared.role.Role.TheVariants.{Lre, Rle, Lro, Rlo, Lri, Rli, Fsi, Pdi, Pdf, Bn, Other}
-use Rattle.bx_explicit.specs.Role.{role_of}
+use Rattle.bx_explicit.specs.Explicit.{role_of, first_above, state_after, next_state, kept_by, explicit_from, embed, isolate, end_isolate}
+use Rattle.bx_explicit.specs.Explicit.{end_embedding, is_valid}
 use Rattle.bx_explicit.specs.declared.entry.Override.{Override}
 use Rattle.bx_explicit.specs.declared.entry.Override.TheVariants.{Neutral}
 use Rattle.bx_explicit.specs.declared.entry.Entry.{Entry}
 use Rattle.bx_explicit.specs.ParagraphLevel.{isolate_level}
 use Rattle.std.proofs.lemmas.Bool.Decides.{nat_tests}
 use Rattle.bx_explicit.specs.declared.state.State.{State}
-use Rattle.bx_explicit.specs.Stack.{max_depth, IsRising, top_of, after_isolate, after_embedding, entry}
+use Rattle.bx_explicit.specs.Stack.{max_depth, top_of, after_isolate, after_embedding, entry}
+use Rattle.bx_explicit.specs.StackCalls.{IsRising}
 use Rattle.bx_explicit.proofs.Rising.{rising_push}
 use Rattle.bx_ucd.specs.declared.class.Class.TheVariants.{FSI}
 use Rattle.bx_explicit.specs.TextLevels.{is_fsi}
-use Rattle.bx_explicit.specs.Explicit.{first_above, state_after, next_state, kept_by, explicit_from, embed, isolate, end_isolate, end_embedding, is_valid}
 
 abbrev pub total : State → ℕ
 total s = s.overflow_isolates + s.overflow_embeddings + s.valid_isolates

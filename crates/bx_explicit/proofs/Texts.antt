@@ -4,8 +4,7 @@ use Rattle.std.proofs.lemmas.List.{at_drop_more}
 use Rattle.bx_ucd.specs.declared.class.Class.{Class}
 use Rattle.bx_ucd.specs.declared.class.Class.TheVariants.{L, R, AL, PDI, LRI, RLI, FSI}
 use Rattle.bx_ucd.specs.Class.{is_strong}
-use Rattle.bx_explicit.specs.Matching.{count_after}
-use Rattle.bx_explicit.specs.ParagraphLevel.{isolate_level, level_of_strong}
+use Rattle.bx_explicit.specs.ParagraphLevel.{count_after, isolate_level, level_of_strong}
 use Rattle.bx_explicit.specs.TextLevels.{levels_before, rest_levels, with_level, first_level}
 use Rattle.bx_explicit.proofs.Scan.{level_of_rest, level_step, level_here, until_pdi, until_cons, until_none}
 

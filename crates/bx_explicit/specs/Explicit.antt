@@ -2,10 +2,9 @@
 use Rattle.std.specs.Prelude.{ℕ, ◌+◌, ◌-◌, ◌%◌, nat_le, ◌&&◌, Bool, true, false, List, [], ◌∷◌, Option, Some, None}
 use Rattle.std.proofs.Common.{zero, suc}
 use Rattle.bx_ucd.specs.declared.class.Class.{Class}
-use Rattle.bx_ucd.specs.declared.class.Class.TheVariants.{L, R}
+use Rattle.bx_ucd.specs.declared.class.Class.TheVariants.{L, R, BN, LRE, LRO, RLE, RLO, PDF, LRI, RLI, FSI, PDI}
 use Rattle.bx_explicit.specs.declared.role.Role.{Role}
 use Rattle.bx_explicit.specs.declared.role.Role.TheVariants.{Lre, Rle, Lro, Rlo, Lri, Rli, Fsi, Pdi, Pdf, Bn, Other}
-use Rattle.bx_explicit.specs.Role.{role_of}
 use Rattle.bx_explicit.specs.declared.entry.Entry.{Entry}
 use Rattle.bx_explicit.specs.declared.state.State.{State}
 use Rattle.bx_explicit.specs.declared.entry.ExplicitChar.{ExplicitChar}
@@ -13,6 +12,20 @@ use Rattle.bx_explicit.specs.declared.entry.Override.{Override}
 use Rattle.bx_explicit.specs.declared.entry.Override.TheVariants.{Neutral, Left, Right}
 use Rattle.bx_explicit.specs.Stack.{max_depth, entry, top_of, after_isolate, after_embedding}
 use Rattle.bx_explicit.specs.ParagraphLevel.{isolate_level}
+
+-- the role of a class: which of X2 to X9 is for it
+abbrev pub role_of : Class → Role
+role_of LRE = Lre
+role_of RLE = Rle
+role_of LRO = Lro
+role_of RLO = Rlo
+role_of LRI = Lri
+role_of RLI = Rli
+role_of FSI = Fsi
+role_of PDI = Pdi
+role_of PDF = Pdf
+role_of BN = Bn
+role_of _ = Other
 
 -- X1: the stack has one entry of the paragraph level, and all counts are 0
 abbrev pub start : ℕ → State

@@ -3,9 +3,8 @@ use Rattle.std.specs.Prelude.{◌≡◌, ◌≤◌, ℕ, ◌+◌, List, [], ◌�
 use Rattle.bx_ucd.specs.declared.class.Class.{Class}
 use Rattle.bx_explicit.specs.declared.entry.ExplicitChar.{ExplicitChar}
 use Rattle.bx_explicit.specs.declared.state.State.{State}
-use Rattle.bx_explicit.specs.Role.{role_of}
+use Rattle.bx_explicit.specs.Explicit.{role_of, start, next_state, kept_by, explicit_levels}
 use Rattle.bx_explicit.specs.Stack.{max_depth}
-use Rattle.bx_explicit.specs.Explicit.{start, next_state, kept_by, explicit_levels}
 
 -- the states over the classes of a text: before each character, and after the last
 abbrev pub states_from : State → List Class → List State

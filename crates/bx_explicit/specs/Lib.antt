@@ -1,10 +1,7 @@
-pub mod Role
-pub mod Matching
 pub mod ParagraphLevel
 pub mod Stack
 pub mod Explicit
 pub mod CharLevel
-pub mod Runs
 pub mod Sequences
 pub mod TextLevels
 pub mod OpenChains
@@ -12,3 +9,4 @@ pub mod StoredChains
 pub mod LevelIndexes
 pub mod Walk
 pub mod Laws
+pub mod StackCalls

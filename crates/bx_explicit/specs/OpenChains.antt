@@ -7,8 +7,7 @@ use Rattle.bx_ucd.specs.declared.class.Class.TheVariants.{L}
 use Rattle.bx_explicit.specs.declared.entry.Explicit.{Explicit}
 use Rattle.bx_explicit.specs.declared.entry.ExplicitChar.{ExplicitChar}
 use Rattle.bx_explicit.specs.declared.runs.Run.{Run}
-use Rattle.bx_explicit.specs.Runs.{run, runs_from}
-use Rattle.bx_explicit.specs.Sequences.{RunSequence, starts_with_initiator, sequence_of}
+use Rattle.bx_explicit.specs.Sequences.{run, runs_from, RunSequence, starts_with_initiator, sequence_of}
 
 -- the first of some runs, or `run 0 0 0` if there is none
 abbrev pub first_run_of : List Run → Run

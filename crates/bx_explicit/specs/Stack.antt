@@ -1,5 +1,5 @@
 -- The directional status stack (X1), its last entry first.
-use Rattle.std.specs.Prelude.{ℕ, ◌<◌, ◌≤◌, Bool, true, false, List, [], ◌∷◌, Option, Some, None}
+use Rattle.std.specs.Prelude.{ℕ, Bool, true, false, List, [], ◌∷◌}
 use Rattle.bx_explicit.specs.declared.entry.Entry.{Entry}
 use Rattle.bx_explicit.specs.declared.entry.Override.{Override}
 use Rattle.bx_explicit.specs.declared.entry.Override.TheVariants.{Neutral}
@@ -7,10 +7,6 @@ use Rattle.bx_explicit.specs.declared.entry.Override.TheVariants.{Neutral}
 -- BD2: no explicit level exceeds max_depth
 abbrev pub max_depth : ℕ
 max_depth = 125
-
--- the greatest number of entries: max_depth + 2
-abbrev pub stack_room : ℕ
-stack_room = 127
 
 -- an entry of a level and an override status, and whether an isolate initiator pushed it
 abbrev pub entry : ℕ → Override → Bool → Entry
@@ -20,25 +16,6 @@ entry l o i = record { level = l; forced = o; isolate = i }
 abbrev pub top_of : List Entry → Entry
 top_of [] = entry 0 Neutral false
 top_of (e ∷ es) = e
-
--- what a pop gives, and the stack after it
-abbrev pub first_of : List Entry → Option Entry
-first_of [] = None
-first_of (e ∷ es) = Some e
-
-abbrev pub rest_of : List Entry → List Entry
-rest_of [] = []
-rest_of (e ∷ es) = es
-
--- the entry has a higher level than the last one of a stack, if that has one
-abbrev pub IsAbove : Entry → List Entry → Type 0
-IsAbove e [] = Unit {0}
-IsAbove e (f ∷ es) = f.level < e.level
-
--- each entry has a higher level than the one pushed before it, and none exceeds max_depth
-abbrev pub IsRising : List Entry → Type 0
-IsRising [] = Unit {0}
-IsRising (e ∷ es) = (e.level ≤ max_depth) × IsAbove e es × IsRising es
 
 -- the stack without its entries through the last isolate
 abbrev pub after_isolate : List Entry → List Entry

@@ -5,8 +5,7 @@ use Rattle.bx_ucd.specs.declared.class.Class.{Class}
 use Rattle.bx_explicit.specs.declared.entry.Explicit.{Explicit}
 use Rattle.bx_explicit.specs.declared.entry.ExplicitChar.{ExplicitChar}
 use Rattle.bx_explicit.specs.declared.runs.Run.{Run}
-use Rattle.bx_explicit.specs.Runs.{runs_from, IsRunWithin}
-use Rattle.bx_explicit.specs.Sequences.{RunSequence}
+use Rattle.bx_explicit.specs.Sequences.{runs_from, RunSequence}
 use Rattle.bx_explicit.specs.OpenChains.{OpenRuns, run_at, is_over, with_run, others, sequence_of_runs}
 
 -- the chains that end before the run `q`, the newest first
@@ -55,6 +54,12 @@ AreGiven (s ∷ given) all = (before : List RunSequence) × (after : List RunSeq
 abbrev pub runs_to_come : List (Option ExplicitChar) → Option Run → List Run
 runs_to_come kept None = []
 runs_to_come kept (Some r) = r ∷ runs_from (r.last + 1) (drop (r.last + 1) kept)
+
+-- a run lies within `low..high`
+pub record IsRunWithin (low high : ℕ) (r : Run) : Type 0 where
+  pub starts : low ≤ r.first
+  pub ordered : r.first ≤ r.last
+  pub ends : r.last < high
 
 -- `r` is a level run of the text
 pub record IsRunOf (kept : List (Option ExplicitChar)) (r : Run) : Type 0 where

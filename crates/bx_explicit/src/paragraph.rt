@@ -1,7 +1,6 @@
 //! The paragraph level (P2, P3, HL1).
 ghost use Rattle.std.specs.Prelude.{◌≡◌, ◌<◌, ◌≤◌};
-ghost use Rattle.bx_explicit.specs.Matching.{count_after};
-ghost use Rattle.bx_explicit.specs.ParagraphLevel.{paragraph_level, base_level, level_of_strong};
+ghost use Rattle.bx_explicit.specs.ParagraphLevel.{base_level, count_after, level_of_strong, paragraph_level};
 
 use bx_terms::Base;
 use bx_ucd::Class;

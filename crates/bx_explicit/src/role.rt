@@ -1,6 +1,6 @@
 //! The role of each class in the rules for explicit levels: which of X2 to X9 is for it.
 ghost use Rattle.std.specs.Prelude.{◌≡◌};
-ghost use Rattle.bx_explicit.specs.Role.{role_of};
+ghost use Rattle.bx_explicit.specs.Explicit.{role_of};
 
 use bx_ucd::Class;
 

@@ -3,7 +3,8 @@ ghost use Rattle.std.specs.Prelude.{◌≡◌, ◌+◌, ◌<◌, ◌≤◌, IfOk
 ghost use Rattle.std.specs.Prelude.{vec_capacity};
 ghost use Rattle.bx_explicit.specs.CharLevel.{HasLevel};
 ghost use Rattle.bx_explicit.specs.OpenChains.{run_at};
-ghost use Rattle.bx_explicit.specs.Runs.{run, join_run, runs_from, IsRunWithin, AreRising};
+ghost use Rattle.bx_explicit.specs.Sequences.{AreRising, join_run, run, runs_from};
+ghost use Rattle.bx_explicit.specs.Walk.{IsRunWithin};
 
 use crate::entry::ExplicitChar;
 use std::alloc::AllocError;

@@ -1,7 +1,8 @@
 //! The directional status stack (X1).
 ghost use Rattle.std.specs.Prelude.{◌≡◌, ℕ, ◌<◌, ◌≤◌, List, [], ◌∷◌, reverse, length, false};
 ghost use Rattle.bx_explicit.specs.declared.entry.Entry.{Entry};
-ghost use Rattle.bx_explicit.specs.Stack.{max_depth, stack_room, IsRising, entry, top_of, first_of, rest_of, after_isolate, after_embedding};
+ghost use Rattle.bx_explicit.specs.Stack.{after_embedding, after_isolate, entry, max_depth, top_of};
+ghost use Rattle.bx_explicit.specs.StackCalls.{IsRising, first_of, rest_of, stack_room};
 
 use crate::entry::{Entry, Override};
 use arrayvec::ArrayVec;

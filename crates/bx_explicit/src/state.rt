@@ -1,9 +1,7 @@
 //! The state of the rules for explicit levels (X1), with one method per rule.
 ghost use Rattle.std.specs.Prelude.{◌≡◌, ◌<◌, ◌≤◌};
-ghost use Rattle.bx_explicit.specs.Role.{role_of};
+ghost use Rattle.bx_explicit.specs.Explicit.{embed, end_embedding, end_isolate, even_above, first_above, forced_class, is_valid, isolate, kept_by, kept_under, odd_above, role_of, start, state_after, top};
 ghost use Rattle.bx_explicit.specs.Stack.{max_depth};
-ghost use Rattle.bx_explicit.specs.Explicit.{start, top, odd_above, even_above, is_valid, embed, isolate, end_isolate, end_embedding, forced_class, kept_under};
-ghost use Rattle.bx_explicit.specs.Explicit.{first_above, state_after, kept_by};
 
 use crate::entry::{Entry, ExplicitChar, Override};
 use crate::role::{Role, role_of};

@@ -1,20 +1,14 @@
 -- Where a match ends, and the matches that follow one another without a common part. `says` is Unicode's data.
 use Rattle.std.specs.Prelude.{ℕ, zero, suc, ◌+◌, ◌-◌, ◌==◌, ◌||◌, ◌&&◌, Bool, true, false, List, [], ◌∷◌, length, nat_le, chars, drop, encode_utf8}
 use Rattle.bx_ucd.specs.Data.{Data}
-use Rattle.bx_ucd.specs.declared.class.Class.{Class}
-use Rattle.bx_ucd.specs.declared.class.Class.TheVariants.{NSM}
+use Rattle.bx_ucd.specs.Class.{is_nsm}
 use Rattle.bx_find.specs.Letters.{letters_of}
 use Rattle.bx_find.specs.Matches.{is_match}
 use Rattle.bx_find.specs.declared.letters.Reading.{Reading}
 
--- the class of marks that go with the letter before
-abbrev pub is_nonspacing : Class → Bool
-is_nonspacing NSM = true
-is_nonspacing _ = false
-
 -- a character that goes with the letter before it: of class NSM, or ARABIC TATWEEL
 abbrev pub is_attached : Data → ℕ → Bool
-is_attached says c = is_nonspacing (says.class c) || (c == 0x640)
+is_attached says c = is_nsm (says.class c) || (c == 0x640)
 
 -- the offset after the attached characters with which a text begins; its first character is at the offset `at`
 abbrev pub behind_attached : Data → ℕ → List ℕ → ℕ

@@ -12,7 +12,7 @@ use Rattle.bx_grid.specs.Codes.{code_of, codes_of, blank_code}
 use Rattle.bx_grid.specs.Seen.{seen, all_seen}
 use Rattle.bx_grid.specs.declared.column.Column.{Column}
 use Rattle.bx_grid.specs.Picture.{GridState, HasRoom, IsGrid, IsWithin}
-use Rattle.bx_terms.specs.Sizes.{is_side, largest_side}
+use Rattle.bx_terms.specs.Characters.{is_side, largest_side}
 use Rattle.bx_grid.proofs.Pasted.{length-paste, rows_paste}
 use Rattle.bx_grid.proofs.Puts.{run_length, narrow_columns}
 use Rattle.bx_grid.proofs.Whole.{rows-blank, columns_some, whole_glyph}

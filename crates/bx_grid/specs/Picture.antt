@@ -2,7 +2,7 @@
 use Rattle.std.specs.Prelude.{◌≡◌, ℕ, ◌+◌, ◌-◌, ◌*◌, ◌≤◌, ◌<◌, Bool, false, ◌&&◌, List, [], Some, length}
 use Rattle.bx_grid.specs.Columns.{Col, AreBlank}
 use Rattle.bx_grid.specs.Glyphs.{AreWholeRows}
-use Rattle.bx_terms.specs.Sizes.{is_side, largest_side}
+use Rattle.bx_terms.specs.Characters.{is_side, largest_side}
 use Rattle.bx_grid.specs.Terminal.{Terminal, reads}
 
 -- the columns of a grid, row by row, with its numbers of rows and of columns in a row

@@ -4,7 +4,7 @@ ghost use Rattle.std.specs.Prelude.{◌≡◌, ◌+◌, ◌-◌, ◌≤◌, ◌<
 ghost use Rattle.bx_grid.specs.Effects.{effects};
 ghost use Rattle.bx_grid.specs.Picture.{AreWholeTokens, PictureState, IsGrid, IsIdle, IsPicture, Shows};
 ghost use Rattle.bx_grid.specs.Terminal.{Terminal, reads};
-ghost use Rattle.bx_terms.specs.Sizes.{largest_side};
+ghost use Rattle.bx_terms.specs.Characters.{largest_side};
 ghost use Rattle.bx_paint.specs.Changed.{changed, differing};
 ghost use Rattle.bx_paint.specs.Painting.{whole_bytes, changes_bytes, columns_changed, ended, render_change, move_bytes};
 

@@ -10,8 +10,7 @@ use Rattle.std.proofs.Math.ListN.{get_or-map as get_or-map-all}
 use Rattle.bx_ucd.specs.Data.{Data}
 use Rattle.unicode_segmentation.specs.Grapheme.{graphemes}
 use Rattle.unicode_segmentation.specs.Segments.{with_offsets}
-use Rattle.bx_terms.specs.Characters.{is_control}
-use Rattle.bx_terms.specs.Sizes.{is_side, largest_side}
+use Rattle.bx_terms.specs.Characters.{is_control, is_side, largest_side}
 use Rattle.bx_terms.specs.declared.base.Base.{Base}
 use Rattle.bx_resolve.specs.Levels.{paragraph_level_under, levels_under}
 use Rattle.bx_cells.specs.declared.unit.Face.TheVariants.{Tab, Mark, Own}

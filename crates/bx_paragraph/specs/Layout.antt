@@ -1,7 +1,7 @@
 -- The model of a paragraph's layout, and its rows. `says` is what the tables say.
 use Rattle.std.specs.Prelude.{◌≡◌, ℕ, Bool, true, List, Option, IsUtf8, chars}
 use Rattle.bx_ucd.specs.Data.{Data}
-use Rattle.bx_terms.specs.Sizes.{is_side}
+use Rattle.bx_terms.specs.Characters.{is_side}
 use Rattle.bx_terms.specs.declared.base.Base.{Base}
 use Rattle.bx_resolve.specs.Edited.{HasNoFormatting}
 use Rattle.bx_resolve.specs.Levels.{paragraph_level_under, levels_under}

@@ -1,7 +1,7 @@
 //! The row starts of an edited body, found from a row well before the edit until they meet the old ones.
 ghost use Rattle.std.specs.Prelude.{◌≡◌, ◌≤◌, ◌<◌, ◌+◌, ◌^◌, ◌++◌, All, IfSome, OnOk, drop, length, map, take, true};
 ghost use Rattle.std.specs.Str.{IsCharBoundary};
-ghost use Rattle.bx_terms.specs.Sizes.{is_side};
+ghost use Rattle.bx_terms.specs.Characters.{is_side};
 ghost use Rattle.bx_rows.specs.LaterRows.{behind};
 ghost use Rattle.bx_rows.specs.RowStarts.{row_starts};
 ghost use Rattle.bx_paragraph.specs.BodyEdits.{IsEdit, changed};

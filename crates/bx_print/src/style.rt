@@ -1,6 +1,6 @@
 //! Options of printing, such as how marks are printed.
 ghost use Rattle.std.specs.Prelude.{◌≡◌, true};
-ghost use Rattle.bx_terms.specs.Sizes.{is_side};
+ghost use Rattle.bx_terms.specs.Characters.{is_side};
 
 use bx_terms::Base;
 

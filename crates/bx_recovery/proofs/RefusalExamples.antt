@@ -5,7 +5,7 @@ use Rattle.std.specs.Prelude.{◌&&◌, codes}
 use Rattle.std.specs.Str.{chars, is_utf8}
 use Rattle.std.proofs.lemmas.List.{take_all}
 use Rattle.std.proofs.lemmas.Str.{is_utf8-from_IsUtf8}
-use Rattle.bx_terms.specs.Sizes.{is_side, largest_text}
+use Rattle.bx_terms.specs.Characters.{is_side, largest_text}
 use Rattle.bx_grid.specs.Picture.{is_size}
 use Rattle.bx_ucd.specs.ClassFile.{class_lines}
 use Rattle.bx_ucd.specs.Lines.{first_refusal, no_memory_in}

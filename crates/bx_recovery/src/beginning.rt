@@ -1,7 +1,7 @@
 //! Everything that a session starts from, read from its files and from the command line.
 
 ghost use Rattle.std.specs.Prelude.{◌≡◌, true};
-ghost use Rattle.bx_terms.specs.Sizes.{is_side};
+ghost use Rattle.bx_terms.specs.Characters.{is_side};
 
 use bx_cli::UnicodeFiles;
 use bx_terms::Base;

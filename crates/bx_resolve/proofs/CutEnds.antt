@@ -4,10 +4,10 @@ use Rattle.std.proofs.Common.{Bool, true, false}
 use Rattle.std.proofs.lemmas.List.{map-append}
 use Rattle.bx_ucd.specs.declared.class.Class.{Class}
 use Rattle.bx_ucd.specs.declared.class.Class.TheVariants.{L, R, ES, CS, ON}
-use Rattle.bx_ucd.specs.Class.{is_strong, is_neutral}
-use Rattle.bx_resolve.specs.AtEach.{at_each}
-use Rattle.bx_resolve.specs.Weak.{w1, w2, w3, w4, w5, w6, w7, w1_at, w2_at, w3_at, w4_at, w5_at, w6_at, w7_at, weak, is_nsm, is_en, is_et, mark_class}
-use Rattle.bx_resolve.specs.Weak.{nearest_that, number_after, left_number, is_left_or_right, beside, separator, terminator_of, is_en_past}
+use Rattle.bx_ucd.specs.Class.{is_strong, is_neutral, is_nsm}
+use Rattle.bx_resolve.specs.Weak.{at_each, w1, w2, w3, w4, w5, w6, w7, w1_at, w2_at, w3_at, w4_at, w5_at, w6_at, w7_at, weak, is_en, is_et}
+use Rattle.bx_resolve.specs.Weak.{mark_class, nearest_that, number_after, left_number, is_left_or_right, beside, separator, terminator_of}
+use Rattle.bx_resolve.specs.Weak.{is_en_past}
 use Rattle.bx_resolve.specs.Neutral.{n1, n2, n1_at, n2_at, side, side_of, agreed, implicit, implicit_at}
 use Rattle.bx_resolve.proofs.Cuts.{if_not, strong_no_nsm, strong_no_en, turned_strong}
 use Rattle.bx_resolve.proofs.Cuts.{turned_no_et, turned_no_neutral, turned_no_separator, turned_by_w6}

@@ -11,8 +11,7 @@ use Rattle.bx_ucd.specs.declared.class.Class.TheVariants.{L, R, AL, LRI, RLI, FS
 use Rattle.bx_ucd.specs.Class.{is_strong, is_initiator}
 use Rattle.bx_terms.specs.declared.base.Base.{Base}
 use Rattle.bx_terms.specs.declared.base.Base.TheVariants.{Auto, Ltr, Rtl}
-use Rattle.bx_explicit.specs.ParagraphLevel.{base_level, first_strong, level_of, skipped}
-use Rattle.bx_explicit.specs.Matching.{isolated}
+use Rattle.bx_explicit.specs.ParagraphLevel.{base_level, first_strong, level_of, skipped, isolated}
 use Rattle.bx_explicit.specs.Sequences.{direction}
 use Rattle.bx_resolve.specs.Weak.{is_left_or_right}
 use Rattle.bx_resolve.specs.Uniform.{is_unformatted, all_pass}

@@ -4,12 +4,11 @@ use Rattle.std.specs.Prelude.{◌%◌}
 use Rattle.bx_ucd.specs.Data.{Data}
 use Rattle.bx_ucd.specs.declared.class.Class.{Class}
 use Rattle.bx_ucd.specs.declared.class.Class.TheVariants.{L, R, AL, EN, AN, NSM, ON}
-use Rattle.bx_ucd.specs.Class.{is_strong}
+use Rattle.bx_ucd.specs.Class.{is_strong, is_nsm}
 use Rattle.bx_explicit.specs.Sequences.{direction}
 use Rattle.bx_brackets.specs.Pairs.{is_on, pairs}
 use Rattle.bx_brackets.specs.Resolve.{context_of, pair_direction, change_marks, change_bracket, resolve_pair, resolve_pairs}
-use Rattle.bx_resolve.specs.AtEach.{at_each}
-use Rattle.bx_resolve.specs.Weak.{w1, w2, w3, w4, w5, w6, w1_at, w2_at, w3_at, w4_at, w5_at, w6_at, w7_at, weak, is_nsm, is_left_or_right}
+use Rattle.bx_resolve.specs.Weak.{at_each, w1, w2, w3, w4, w5, w6, w1_at, w2_at, w3_at, w4_at, w5_at, w6_at, w7_at, weak, is_left_or_right}
 use Rattle.bx_resolve.specs.Weak.{nearest_that, number_after, left_number}
 use Rattle.bx_resolve.specs.Neutral.{n1, n1_at, n2_at, implicit, implicit_at, rise_even, rise_odd}
 use Rattle.bx_resolve.specs.Levels.{sequence_types, sequence_levels}

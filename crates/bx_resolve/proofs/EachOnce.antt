@@ -11,10 +11,9 @@ use Rattle.bx_ucd.specs.declared.class.Class.{Class}
 use Rattle.bx_explicit.specs.declared.entry.ExplicitChar.{ExplicitChar}
 use Rattle.bx_explicit.specs.declared.runs.Run.{Run}
 use Rattle.bx_explicit.specs.Explicit.{explicit_levels}
-use Rattle.bx_explicit.specs.Runs.{run, join_run, runs_from, kept_indexes, indexes_of, IsRunWithin}
-use Rattle.bx_explicit.specs.Sequences.{RunSequence, chain_indexes, sequences}
+use Rattle.bx_explicit.specs.Sequences.{run, join_run, runs_from, kept_indexes, indexes_of, RunSequence, chain_indexes, sequences}
+use Rattle.bx_explicit.specs.Walk.{IsRunWithin, AreGiven, ending, sequences_of}
 use Rattle.bx_explicit.specs.OpenChains.{is_over, with_run, sequence_of_runs}
-use Rattle.bx_explicit.specs.Walk.{AreGiven, ending, sequences_of}
 use Rattle.bx_explicit.proofs.LevelRuns.{runs_within}
 use Rattle.bx_explicit.proofs.Ending.{ending_over, ending_open}
 use Rattle.bx_explicit.proofs.PendingChains.{indexes_of_runs}

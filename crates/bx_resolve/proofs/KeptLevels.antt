@@ -16,11 +16,9 @@ use Rattle.bx_terms.specs.declared.base.Base.TheVariants.{Auto, Ltr, Rtl}
 use Rattle.bx_explicit.specs.declared.entry.ExplicitChar.{ExplicitChar}
 use Rattle.bx_explicit.specs.declared.state.State.{State}
 use Rattle.bx_explicit.specs.Stack.{max_depth}
-use Rattle.bx_explicit.specs.Role.{role_of}
-use Rattle.bx_explicit.specs.Explicit.{explicit_from, explicit_levels, kept_by, next_state, start}
+use Rattle.bx_explicit.specs.Explicit.{role_of, explicit_from, explicit_levels, kept_by, next_state, start}
 use Rattle.bx_explicit.specs.ParagraphLevel.{base_level, first_strong, level_of, level_of_strong}
-use Rattle.bx_explicit.specs.Runs.{kept_indexes}
-use Rattle.bx_explicit.specs.Sequences.{RunSequence, sequences}
+use Rattle.bx_explicit.specs.Sequences.{kept_indexes, RunSequence, sequences}
 use Rattle.bx_explicit.proofs.Bounds.{levels_low, sequences_low}
 use Rattle.bx_explicit.proofs.Steps.{levels_length as explicit_length}
 use Rattle.bx_resolve.specs.Neutral.{implicit, implicit_at, rise_even, rise_odd}

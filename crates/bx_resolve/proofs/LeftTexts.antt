@@ -12,8 +12,8 @@ use Rattle.bx_explicit.specs.ParagraphLevel.{paragraph_level, base_level}
 use Rattle.bx_explicit.specs.Sequences.{direction}
 use Rattle.bx_brackets.specs.Pairs.{is_on, pairs}
 use Rattle.bx_brackets.specs.Resolve.{resolve_pairs}
-use Rattle.bx_resolve.specs.AtEach.{at_each}
-use Rattle.bx_resolve.specs.Weak.{w1_at, w2_at, w3_at, w4_at, w5_at, w6_at, w7_at, w1, w2, w3, w4, w5, w6, w7, weak, is_nsm}
+use Rattle.bx_resolve.specs.Weak.{at_each, w1_at, w2_at, w3_at, w4_at, w5_at, w6_at, w7_at, w1, w2, w3, w4, w5, w6, w7, weak}
+use Rattle.bx_ucd.specs.Class.{is_nsm}
 use Rattle.bx_resolve.specs.Neutral.{n1, n2, n1_at, n2_at, implicit, implicit_at}
 use Rattle.bx_resolve.specs.Levels.{sequence_levels, paragraph_levels, paragraph_level_under}
 use Rattle.bx_resolve.specs.Uniform.{is_unformatted, all_pass}

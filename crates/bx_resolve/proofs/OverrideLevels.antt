@@ -9,9 +9,9 @@ use Rattle.bx_explicit.specs.declared.entry.Entry.{Entry}
 use Rattle.bx_explicit.specs.declared.entry.Override.{Override}
 use Rattle.bx_explicit.specs.declared.entry.Override.TheVariants.{Neutral, Left, Right}
 use Rattle.bx_explicit.specs.declared.state.State.{State}
-use Rattle.bx_explicit.specs.Role.{role_of}
+use Rattle.bx_explicit.specs.Explicit.{role_of, explicit_from, next_state, kept_by, start, top, embed, isolate, end_isolate, end_embedding}
+use Rattle.bx_explicit.specs.Explicit.{is_valid, forced_class}
 use Rattle.bx_explicit.specs.Stack.{entry, top_of, after_isolate, after_embedding}
-use Rattle.bx_explicit.specs.Explicit.{explicit_from, next_state, kept_by, start, top, embed, isolate, end_isolate, end_embedding, is_valid, forced_class}
 use Rattle.bx_explicit.specs.ParagraphLevel.{base_level}
 use Rattle.bx_explicit.specs.Laws.{states_from}
 use Rattle.bx_explicit.proofs.Steps.{embed_stack}

@@ -7,8 +7,8 @@ use Rattle.bx_brackets.specs.Pairs.{pairs}
 use Rattle.bx_brackets.specs.Resolve.{context_of, pair_direction, change_bracket, resolve_in, resolve_pairs}
 use Rattle.bx_brackets.proofs.Context.{change_length}
 use Rattle.bx_explicit.specs.Sequences.{direction}
-use Rattle.bx_resolve.specs.AtEach.{at_each}
-use Rattle.bx_resolve.specs.Weak.{w1, w2, w3, w4, w5, w6, w1_at, w2_at, w3_at, w4_at, w5_at, w6_at, w7_at, weak, is_nsm}
+use Rattle.bx_resolve.specs.Weak.{at_each, w1, w2, w3, w4, w5, w6, w1_at, w2_at, w3_at, w4_at, w5_at, w6_at, w7_at, weak}
+use Rattle.bx_ucd.specs.Class.{is_nsm}
 use Rattle.bx_resolve.specs.Neutral.{n1, n2, n1_at, n2_at, implicit_at}
 use Rattle.bx_resolve.specs.Levels.{sequence_levels}
 use Rattle.bx_resolve.proofs.PlainPairs.{AreInside, pairs_inside}

@@ -12,7 +12,8 @@ use Rattle.bx_explicit.specs.Sequences.{sequences, direction}
 use Rattle.bx_resolve.specs.Levels.{with_levels, with_sequences, levels_in, sequence_types, sequence_levels, paragraph_levels, types_at}
 use Rattle.bx_brackets.specs.Pairs.{pairs}
 use Rattle.bx_brackets.specs.Resolve.{resolve_pairs}
-use Rattle.bx_resolve.specs.Weak.{weak, is_nsm}
+use Rattle.bx_resolve.specs.Weak.{weak}
+use Rattle.bx_ucd.specs.Class.{is_nsm}
 use Rattle.bx_resolve.specs.Neutral.{n1, n2, implicit_at}
 use Rattle.bx_resolve.specs.Uniform.{is_plain, is_plain_right, is_from_right, is_unformatted, all_pass}
 use Rattle.bx_explicit.proofs.OneSequence.{kept_as, indexes_from, whole, sequences_plain}

@@ -6,13 +6,12 @@ use Rattle.std.specs.List.{list_any}
 use Rattle.bx_ucd.specs.Data.{Data}
 use Rattle.bx_ucd.specs.declared.class.Class.{Class}
 use Rattle.bx_ucd.specs.declared.class.Class.TheVariants.{L, R, AN, EN, ES, ET, CS, NSM, B, S, WS, ON}
-use Rattle.bx_ucd.specs.Class.{is_strong}
+use Rattle.bx_ucd.specs.Class.{is_strong, is_nsm}
 use Rattle.bx_brackets.specs.Pairs.{pairs}
 use Rattle.bx_brackets.specs.Resolve.{counts_as, opposite, context_of, pair_direction, change_marks, change_bracket, resolve_in, resolve_pairs}
 use Rattle.bx_brackets.proofs.Context.{change_length}
-use Rattle.bx_resolve.specs.AtEach.{at_each}
-use Rattle.bx_resolve.specs.Weak.{w1, w2, w3, w4, w5, w6, w1_at, w2_at, w3_at, w4_at, w5_at, w6_at, w7_at, weak, is_nsm, is_en, is_an, mark_class, nearest_that}
-use Rattle.bx_resolve.specs.Weak.{number_after, left_number, is_left_or_right, beside, terminator_of, is_en_past}
+use Rattle.bx_resolve.specs.Weak.{at_each, w1, w2, w3, w4, w5, w6, w1_at, w2_at, w3_at, w4_at, w5_at, w6_at, w7_at, weak, is_en, is_an}
+use Rattle.bx_resolve.specs.Weak.{mark_class, nearest_that, number_after, left_number, is_left_or_right, beside, terminator_of, is_en_past}
 use Rattle.bx_resolve.specs.Neutral.{n1, n2, n1_at, side, agreed, implicit}
 use Rattle.bx_resolve.specs.Levels.{sequence_levels}
 use Rattle.bx_resolve.specs.Uniform.{is_plain}

@@ -9,11 +9,11 @@ use Rattle.bx_ucd.specs.declared.class.Class.{Class}
 use Rattle.bx_ucd.specs.declared.class.Class.TheVariants.{L, R, AL, AN, EN, ES, ET, CS, NSM, B, S, WS, ON}
 use Rattle.bx_brackets.specs.Pairs.{is_on, pairs}
 use Rattle.bx_brackets.specs.Resolve.{counts_as, opposite, context_of, pair_direction, change_marks, change_bracket, resolve_in, resolve_pairs}
-use Rattle.bx_ucd.specs.Class.{is_strong}
-use Rattle.bx_resolve.specs.Weak.{w1, w2, w3, w4, w5, w6, w1_at, w2_at, w3_at, w4_at, w5_at, w6_at, w7_at, weak, is_nsm, is_en, is_an, is_left_or_right}
-use Rattle.bx_resolve.specs.Weak.{mark_class, nearest_that, number_after, left_number, beside, terminator_of, is_en_past}
+use Rattle.bx_ucd.specs.Class.{is_strong, is_nsm}
+use Rattle.bx_resolve.specs.Weak.{w1, w2, w3, w4, w5, w6, w1_at, w2_at, w3_at, w4_at, w5_at, w6_at, w7_at, weak, is_en, is_an}
+use Rattle.bx_resolve.specs.Weak.{is_left_or_right, mark_class, nearest_that, number_after, left_number, beside, terminator_of, is_en_past}
+use Rattle.bx_resolve.specs.Weak.{at_each}
 use Rattle.bx_resolve.specs.Neutral.{n2, n1_at, n2_at, side, agreed, rise_odd, implicit, implicit_at}
-use Rattle.bx_resolve.specs.AtEach.{at_each}
 use Rattle.bx_resolve.specs.Levels.{sequence_levels}
 use Rattle.bx_resolve.specs.Uniform.{is_from_right}
 use Rattle.bx_resolve.proofs.PlainKept.{Each}

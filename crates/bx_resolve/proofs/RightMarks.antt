@@ -8,7 +8,8 @@ use Rattle.bx_resolve.specs.declared.before.Strong.TheVariants.{Left, Right, Ara
 use Rattle.bx_resolve.specs.declared.before.Neighbour.{Neighbour}
 use Rattle.bx_resolve.specs.declared.before.Terminators.{Terminators}
 use Rattle.bx_resolve.specs.declared.before.Terminators.TheVariants.{Numbers, Neutrals, Undecided}
-use Rattle.bx_resolve.specs.Weak.{weak, is_nsm, is_en_past, w3_at, beside}
+use Rattle.bx_resolve.specs.Weak.{weak, is_en_past, w3_at, beside}
+use Rattle.bx_ucd.specs.Class.{is_nsm}
 use Rattle.bx_resolve.specs.Turns.{after_w1, after_w2, after_w4, after_w6, after_w7, begin, decided, left_number_by, mark_next, neighbour_of, next}
 use Rattle.bx_resolve.specs.Turns.{moved, strong_next, terminator_by, terminators_next, third, thirds, written}
 use Rattle.bx_resolve.specs.Neutral.{rise_odd}

@@ -14,8 +14,7 @@ use Rattle.bx_explicit.specs.declared.entry.Override.TheVariants.{Neutral, Left,
 use Rattle.bx_explicit.specs.declared.state.State.{State}
 use Rattle.bx_explicit.specs.Explicit.{explicit_levels, start, top}
 use Rattle.bx_explicit.specs.Laws.{states}
-use Rattle.bx_explicit.specs.Runs.{kept_indexes}
-use Rattle.bx_explicit.specs.Sequences.{RunSequence, sequences}
+use Rattle.bx_explicit.specs.Sequences.{kept_indexes, RunSequence, sequences}
 use Rattle.bx_resolve.specs.Levels.{is_kept, levels_under, paragraph_level_under, type_of}
 
 -- the indexes of all sequences, concatenated

@@ -11,7 +11,8 @@ use Rattle.bx_explicit.specs.Stack.{max_depth}
 use Rattle.bx_explicit.specs.Sequences.{RunSequence, sequences, direction}
 use Rattle.bx_brackets.specs.Pairs.{pairs}
 use Rattle.bx_brackets.specs.Resolve.{resolve_pairs}
-use Rattle.bx_resolve.specs.Weak.{weak, is_nsm}
+use Rattle.bx_resolve.specs.Weak.{weak}
+use Rattle.bx_ucd.specs.Class.{is_nsm}
 use Rattle.bx_resolve.specs.Neutral.{n1, n2, implicit}
 
 -- the type of a character after overrides; ON where X9 removes it

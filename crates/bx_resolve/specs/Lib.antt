@@ -1,4 +1,3 @@
-pub mod AtEach
 pub mod Body
 pub mod Weak
 pub mod Turns

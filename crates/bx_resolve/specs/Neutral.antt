@@ -4,7 +4,7 @@ use Rattle.std.proofs.Common.{zero, suc}
 use Rattle.bx_ucd.specs.declared.class.Class.{Class}
 use Rattle.bx_ucd.specs.declared.class.Class.TheVariants.{L, R, EN, AN}
 use Rattle.bx_ucd.specs.Class.{is_neutral}
-use Rattle.bx_resolve.specs.AtEach.{at_each}
+use Rattle.bx_resolve.specs.Weak.{at_each}
 
 -- the direction that a type counts as beside neutrals: EN and AN count as R
 abbrev pub side_of : Class → Class

@@ -10,7 +10,8 @@ use Rattle.bx_resolve.specs.declared.before.Neighbour.{Neighbour}
 use Rattle.bx_resolve.specs.declared.before.Neighbour.TheVariants.{EuropeanNumber, ArabicNumber, Other}
 use Rattle.bx_resolve.specs.declared.before.Terminators.{Terminators}
 use Rattle.bx_resolve.specs.declared.before.Terminators.TheVariants.{Numbers, Neutrals, Undecided}
-use Rattle.bx_resolve.specs.Weak.{is_nsm, is_en, is_et, mark_after, w3_at, beside, is_en_past, w6_at}
+use Rattle.bx_resolve.specs.Weak.{is_en, is_et, mark_after, w3_at, beside, is_en_past, w6_at}
+use Rattle.bx_ucd.specs.Class.{is_nsm}
 
 -- the type after W1, where an NSM becomes `mark`, and the `mark` of the next step
 abbrev pub after_w1 : Class → Class → Class

@@ -2,13 +2,13 @@
 -- nearest on. `wN_at` is the type that rule WN makes of `t`, `wN` the types that it makes of all.
 use Rattle.std.specs.Prelude.{◌&&◌, Bool, true, false, List, [], ◌∷◌, map}
 use Rattle.bx_ucd.specs.declared.class.Class.{Class}
-use Rattle.bx_ucd.specs.declared.class.Class.TheVariants.{L, R, AL, EN, ES, ET, AN, CS, NSM, ON, LRI, RLI, FSI, PDI}
-use Rattle.bx_ucd.specs.Class.{is_strong}
-use Rattle.bx_resolve.specs.AtEach.{at_each}
+use Rattle.bx_ucd.specs.declared.class.Class.TheVariants.{L, R, AL, EN, ES, ET, AN, CS, ON, LRI, RLI, FSI, PDI}
+use Rattle.bx_ucd.specs.Class.{is_strong, is_nsm}
 
-abbrev pub is_nsm : Class → Bool
-is_nsm NSM = true
-is_nsm _ = false
+-- `before` has the types before the index, the nearest first, and `after` those after it, the nearest first
+abbrev pub at_each : (List Class → Class → List Class → Class) → List Class → List Class → List Class
+at_each rule before [] = []
+at_each rule before (t ∷ after) = rule before t after ∷ at_each rule (t ∷ before) after
 
 abbrev pub is_en : Class → Bool
 is_en EN = true

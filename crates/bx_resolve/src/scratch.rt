@@ -1,10 +1,10 @@
 //! The rules W1 to N2, with buffers that later sequences reuse.
 ghost use Rattle.std.specs.Prelude.{◌≡◌, OnOk, length, map};
 ghost use Rattle.std.specs.List.{list_any};
-ghost use Rattle.bx_ucd.specs.Class.{direction};
+ghost use Rattle.bx_ucd.specs.Class.{direction, is_nsm};
 ghost use Rattle.bx_brackets.specs.Pairs.{is_on};
 ghost use Rattle.bx_brackets.specs.Resolve.{resolve_pairs};
-ghost use Rattle.bx_resolve.specs.Weak.{is_nsm, weak};
+ghost use Rattle.bx_resolve.specs.Weak.{weak};
 ghost use Rattle.bx_resolve.specs.Neutral.{n1, n2};
 
 use crate::neutral::n1_n2;

@@ -1,6 +1,7 @@
 //! The rules for weak types (W1 to W7), each as a pass over a sequence, for `levels_by_rules`. The editor runs `one_pass.rt`.
 ghost use Rattle.std.specs.Prelude.{◌≡◌, IfOk, map};
-ghost use Rattle.bx_resolve.specs.Weak.{is_nsm, mark_after, number_after, separator, is_en_past, terminator_of, left_number, w1, w2, w3, w4, w5, w6, w7};
+ghost use Rattle.bx_resolve.specs.Weak.{is_en_past, left_number, mark_after, number_after, separator, terminator_of, w1, w2, w3, w4, w5, w6, w7};
+ghost use Rattle.bx_ucd.specs.Class.{is_nsm};
 
 use bx_ucd::Class;
 use std::alloc::{AllocError, Global};

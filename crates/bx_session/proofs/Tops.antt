@@ -2,7 +2,7 @@
 use Rattle.std.proofs.Common.{◌≡◌, ℕ, ◌-◌, ◌<◌, ◌≤◌, Bool, true, false, List, [], ◌++◌, length, map, get_or, IsUtf8, refl, sym, ap, ap₂, ◌∙◌, nat_le, leb-true, arith, if◌then◌else◌}
 use Rattle.std.specs.Prelude.{◌&&◌}
 use Rattle.std.proofs.lemmas.List.{get_or-map, length-map}
-use Rattle.bx_terms.specs.Sizes.{is_side, largest_side}
+use Rattle.bx_terms.specs.Characters.{is_side, largest_side}
 use Rattle.bx_terms.specs.declared.base.Base.{Base}
 use Rattle.bx_ucd.specs.Data.{Data}
 use Rattle.bx_rows.specs.RowPicture.{Glyph}

@@ -1,7 +1,7 @@
 //! Opening a session.
 
 ghost use Rattle.std.specs.Prelude.{◌≡◌, ◌≤◌, [], true, None, IfErr, IfOk, IsUtf8, OnOk, length};
-ghost use Rattle.bx_terms.specs.Sizes.{largest_text};
+ghost use Rattle.bx_terms.specs.Characters.{largest_text};
 ghost use Rattle.bx_grid.specs.Picture.{is_size};
 ghost use Rattle.bx_editor.specs.Opening.{Causes};
 ghost use Rattle.bx_session.specs.Painting.{QueuesPicture};

@@ -1,4 +1,4 @@
--- Kinds of characters that several layers use. Characters are given by their codes, texts by their UTF-8 bytes.
+-- Kinds of characters and limits that several layers use. Characters are given by their codes, texts by their UTF-8 bytes.
 use Rattle.std.specs.Prelude.{ℕ, Bool, not, ◌&&◌, ◌||◌, ◌==◌, nat_le, List, [], ◌∷◌, false, chars}
 use Rattle.std.specs.List.{list_all}
 
@@ -31,3 +31,21 @@ abbrev pub is_ascii_glyph : List ℕ → Bool
 is_ascii_glyph [] = false
 is_ascii_glyph (c ∷ []) = is_ascii_printable c
 is_ascii_glyph (c ∷ d ∷ rest) = false
+
+-- a surrogate code point, which is not a character
+abbrev pub is_surrogate : ℕ → Bool
+is_surrogate code = nat_le 0xD800 code && nat_le code 0xDFFF
+
+-- ---- the limits of a window and of a text
+
+-- the largest number of rows or columns of a window, a chosen limit: larger sizes are refused
+abbrev pub largest_side : ℕ
+largest_side = 500
+
+-- a window may have n rows or columns
+abbrev pub is_side : ℕ → Bool
+is_side n = is_within 1 largest_side n
+
+-- the largest size of a text, in bytes (16 MiB), a chosen limit: a larger text is refused
+abbrev pub largest_text : ℕ
+largest_text = 16777216

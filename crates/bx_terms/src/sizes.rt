@@ -1,7 +1,7 @@
 //! The limits of a window and of a text.
 
 ghost use Rattle.std.specs.Prelude.{◌≡◌};
-ghost use Rattle.bx_terms.specs.Sizes.{is_side};
+ghost use Rattle.bx_terms.specs.Characters.{is_side};
 
 /// The largest number of rows or columns of a window, a chosen limit.
 pub const LARGEST_SIDE: u16 = 500;

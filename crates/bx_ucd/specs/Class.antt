@@ -29,6 +29,11 @@ is_neutral RLI = true
 is_neutral PDI = true
 is_neutral _ = false
 
+-- the class of nonspacing marks
+abbrev pub is_nsm : Class → Bool
+is_nsm NSM = true
+is_nsm _ = false
+
 -- a class of combining marks (NSM), of joiners and control characters (BN), or of formatting characters: none has a letter of its
 -- own
 abbrev pub is_unlettered : Class → Bool

@@ -2,7 +2,7 @@
 -- in an earlier one. `says` is what the tables say.
 use Rattle.std.specs.Prelude.{◌≡◌, ℕ, ◌<◌, ◌≤◌, ◌⊎◌, true, List, length, sum_by, All, HoldsAt}
 use Rattle.bx_ucd.specs.Data.{Data}
-use Rattle.bx_terms.specs.Sizes.{is_side}
+use Rattle.bx_terms.specs.Characters.{is_side}
 use Rattle.bx_terms.specs.declared.base.Base.{Base}
 use Rattle.bx_paragraph.specs.Layout.{IsLayoutBy, LayoutState, rows_by}
 use Rattle.bx_view.specs.Standing.{body_at, rows_in}

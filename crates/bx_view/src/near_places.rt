@@ -1,7 +1,7 @@
 //! The first place at or after an offset, and the last one at or before it.
 ghost use Rattle.std.specs.Prelude.{◌≡◌, true, IfOk, OnOk};
 ghost use Rattle.std.specs.Str.{IsCharBoundary};
-ghost use Rattle.bx_terms.specs.Sizes.{is_side};
+ghost use Rattle.bx_terms.specs.Characters.{is_side};
 ghost use Rattle.bx_view.specs.Moves.{place_at, place_from};
 ghost use Rattle.bx_view.specs.Places.{IsTextPlace};
 ghost use Rattle.bx_view.specs.Source.{IsViewBy, Keeps, bytes, rows};

@@ -1,6 +1,6 @@
 //! The view of a text in a width.
 ghost use Rattle.std.specs.Prelude.{◌≡◌, ℕ, ◌+◌, ◌-◌, ◌^◌, ◌<◌, ◌≤◌, [], true, IfOk, IfSome};
-ghost use Rattle.bx_terms.specs.Sizes.{is_side};
+ghost use Rattle.bx_terms.specs.Characters.{is_side};
 ghost use Rattle.bx_index.specs.Paragraphs.{lengths};
 ghost use Rattle.bx_index.specs.Positions.{paragraph_of};
 ghost use Rattle.bx_view.specs.FoundRow.{IsSameAtEnd};
@@ -34,7 +34,7 @@ pub struct View {
 
 impl Model for View {
     ghost use Rattle.std.specs.Prelude.{◌≡◌, true};
-    ghost use Rattle.bx_terms.specs.Sizes.{is_side};
+    ghost use Rattle.bx_terms.specs.Characters.{is_side};
     ghost use Rattle.bx_view.specs.Caching.{ViewState};
 
     ghost Value = { ViewState };

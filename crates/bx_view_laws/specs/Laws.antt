@@ -2,7 +2,7 @@
 -- tables say.
 use Rattle.std.specs.Prelude.{◌≡◌, ℕ, ◌-◌, ◌≤◌, true, List, IsUtf8}
 use Rattle.bx_ucd.specs.Data.{Data}
-use Rattle.bx_terms.specs.Sizes.{is_side}
+use Rattle.bx_terms.specs.Characters.{is_side}
 use Rattle.bx_terms.specs.declared.base.Base.{Base}
 use Rattle.bx_view.specs.Places.{IsTextPlace}
 use Rattle.bx_view.specs.TextRows.{TextRow, text_rows}

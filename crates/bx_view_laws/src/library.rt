@@ -2,7 +2,7 @@
 //! library. The editor does not run them: it goes from row to row by `RowAt`, and asks `locate` once for each picture.
 ghost use Rattle.std.specs.Prelude.{◌≡◌, ℕ, ◌+◌, ◌^◌, ◌<◌, ◌≤◌, true, All, IfOk, IsUtf8, length, map, option_map, slice_get, slice_range};
 ghost use Rattle.std.specs.Str.{IsCharBoundary};
-ghost use Rattle.bx_terms.specs.Sizes.{is_side};
+ghost use Rattle.bx_terms.specs.Characters.{is_side};
 ghost use Rattle.bx_terms.specs.declared.base.Base.{Base};
 ghost use Rattle.bx_text.specs.Edits.{IsRange, largest_text};
 ghost use Rattle.bx_index.specs.Paragraphs.{lengths};

@@ -1,7 +1,7 @@
 //! The world's state, and what can be read of it.
 
 ghost use Rattle.std.specs.Prelude.{◌≡◌, ◌≤◌, ◌↔◌, true, false, IfErr, IfOk, IsTrue, IsUtf8, OnOk, length};
-ghost use Rattle.bx_terms.specs.Sizes.{largest_text};
+ghost use Rattle.bx_terms.specs.Characters.{largest_text};
 ghost use Rattle.bx_grid.specs.Picture.{is_size};
 ghost use Rattle.bx_terminal.specs.Screens.{IfShown};
 ghost use Rattle.bx_editor.specs.Opening.{Causes};

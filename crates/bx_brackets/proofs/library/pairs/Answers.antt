@@ -1,7 +1,6 @@
 use Rattle.std.proofs.Common.{◌+◌, ◌∙◌, ℕ, ap, refl, sym, arith, drop, true, false}
 use Rattle.std.proofs.lemmas.List.Elements.{All-nil}
-use Rattle.bx_brackets.specs.Resolve.{IsPairWithin}
-use Rattle.bx_brackets.specs.Search.{progress}
+use Rattle.bx_brackets.specs.Search.{IsPairWithin, progress}
 use Rattle.bx_brackets.proofs.Stack.{all_found, over_after, turn_more}
 use Rattle.bx_brackets.proofs.library.pairs.Goals as goal
 

@@ -3,8 +3,7 @@ use Rattle.std.proofs.lemmas.List.{get_or_default}
 use Rattle.bx_ucd.specs.declared.class.Class.{Class}
 use Rattle.bx_ucd.specs.declared.class.Class.TheVariants.{L}
 use Rattle.bx_explicit.specs.declared.state.State.{State}
-use Rattle.bx_explicit.specs.Role.{role_of}
-use Rattle.bx_explicit.specs.Explicit.{explicit_from, kept_by, state_after}
+use Rattle.bx_explicit.specs.Explicit.{role_of, explicit_from, kept_by, state_after}
 use Rattle.bx_explicit.proofs.Steps.{total, total_next, levels_for}
 use Rattle.bx_explicit.proofs.rules.kept_of.Goals as goal
 

@@ -1,6 +1,6 @@
 -- The run so far, before the runs from index `k` on, and nothing kept between.
 use Rattle.std.proofs.Common.{◌≡◌, ◌≤◌, ◌<◌, ◌+◌, ◌-◌, drop, length}
-use Rattle.bx_explicit.specs.Runs.{runs_from}
+use Rattle.bx_explicit.specs.Sequences.{runs_from}
 use Rattle.bx_explicit.proofs.RunsAt.{extend}
 use Rattle.bx_explicit.proofs.runs.last_of_run.Given as goal
 

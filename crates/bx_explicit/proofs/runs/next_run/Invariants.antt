@@ -1,6 +1,6 @@
 -- Nothing before the index `first` is kept.
 use Rattle.std.proofs.Common.{◌≡◌, ◌≤◌, ◌-◌, drop, length}
-use Rattle.bx_explicit.specs.Runs.{runs_from}
+use Rattle.bx_explicit.specs.Sequences.{runs_from}
 use Rattle.bx_explicit.proofs.runs.next_run.Given as goal
 
 abbrev pub invariant-loop-first : goal.invariant-loop-first

@@ -1,6 +1,6 @@
 -- The marks of the types so far.
 use Rattle.std.proofs.Common.{◌≡◌, length, map, take}
-use Rattle.bx_resolve.specs.Weak.{is_nsm}
+use Rattle.bx_ucd.specs.Class.{is_nsm}
 use Rattle.bx_resolve.proofs.scratch.mark_each.Given as goal
 
 abbrev pub invariant-loop-i : goal.invariant-loop-i

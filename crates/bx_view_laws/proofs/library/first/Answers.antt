@@ -1,5 +1,5 @@
 use Rattle.std.proofs.Common.{◌≡◌, ◌+◌, ◌<◌, ◌≤◌, ◌∙◌, Some, refl, ap, arith, get_or, length, option_map, slice_get}
-use Rattle.bx_terms.specs.Sizes.{is_side}
+use Rattle.bx_terms.specs.Characters.{is_side}
 use Rattle.bx_rows.specs.RowStarts.{row_starts}
 use Rattle.bx_view.specs.Standing.{body_at, count, rows_ahead, start_at}
 use Rattle.bx_view.specs.TextRows.{first, text_rows}

@@ -1,6 +1,6 @@
 use Rattle.std.proofs.Common.{◌≡◌, ◌≤◌, ◌∙◌, true, ap, arith, chars, length, string_bytes, subst, sym, IfSome}
 use Rattle.std.specs.Prelude.{Some}
-use Rattle.bx_terms.specs.Sizes.{is_side}
+use Rattle.bx_terms.specs.Characters.{is_side}
 use Rattle.bx_find.specs.Matches.{first_from}
 use Rattle.bx_document.specs.Document.{DocumentState}
 use Rattle.bx_view.specs.Places.{IsTextPlace}

@@ -1,6 +1,6 @@
 use Rattle.std.proofs.Common.{◌≡◌, ◌+◌, ◌≤◌, ◌∙◌, ℕ, Bool, true, List, ap, ap₂, subst, sym, IsUtf8}
 use Rattle.std.specs.Prelude.{Some, None, if◌then◌else◌}
-use Rattle.bx_terms.specs.Sizes.{largest_text}
+use Rattle.bx_terms.specs.Characters.{largest_text}
 use Rattle.bx_text.specs.Edits.{fits, splice}
 use Rattle.bx_ucd.specs.Data.{Data}
 use Rattle.bx_document.proofs.TouchedPlace.{splice_utf8}

@@ -2,7 +2,7 @@ use Rattle.std.proofs.Common.{◌≡◌, ◌-◌, ◌∙◌, ◌∷◌, List, ap
 use Rattle.bx_explicit.specs.declared.entry.Explicit.{Explicit}
 use Rattle.bx_explicit.specs.declared.open_chains.OpenChain.{OpenChain}
 use Rattle.bx_explicit.specs.OpenChains.{OpenRuns, newest_sequence}
-use Rattle.bx_explicit.specs.Runs.{run}
+use Rattle.bx_explicit.specs.Sequences.{run}
 use Rattle.bx_explicit.proofs.Newest.{eos_is, ends_below}
 use Rattle.bx_explicit.proofs.open_chains.OpenChains.eos.Goals as goal
 

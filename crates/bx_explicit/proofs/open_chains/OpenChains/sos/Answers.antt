@@ -3,7 +3,7 @@ use Rattle.std.proofs.lemmas.List.{get_or_default}
 use Rattle.bx_explicit.specs.declared.entry.Explicit.{Explicit}
 use Rattle.bx_explicit.specs.declared.open_chains.OpenChain.{OpenChain}
 use Rattle.bx_explicit.specs.OpenChains.{OpenRuns, newest_sequence}
-use Rattle.bx_explicit.specs.Runs.{run}
+use Rattle.bx_explicit.specs.Sequences.{run}
 use Rattle.bx_explicit.specs.StoredChains.{BeginsRun, IsOpenChain}
 use Rattle.bx_explicit.proofs.Newest.{sos_is, first_begins, newest_is_open}
 use Rattle.bx_explicit.proofs.open_chains.OpenChains.sos.Goals as goal

@@ -2,8 +2,7 @@ use Rattle.std.proofs.Common.{◌≡◌, [], List, Option, ap, sym, subst, drop}
 use Rattle.bx_explicit.specs.declared.entry.Explicit.{Explicit}
 use Rattle.bx_explicit.specs.declared.entry.ExplicitChar.{ExplicitChar}
 use Rattle.bx_explicit.specs.declared.runs.Run.{Run}
-use Rattle.bx_explicit.specs.Runs.{runs_from}
-use Rattle.bx_explicit.specs.Sequences.{sequences}
+use Rattle.bx_explicit.specs.Sequences.{runs_from, sequences}
 use Rattle.bx_explicit.specs.Walk.{AreGiven, ending, runs_to_come}
 use Rattle.bx_explicit.proofs.Counted.{given_few}
 use Rattle.bx_explicit.proofs.SequenceOrder.{all_given}

@@ -1,5 +1,5 @@
 use Rattle.std.proofs.Common.{◌≡◌, true, ap, subst, ◌∙◌, get_or}
-use Rattle.bx_terms.specs.Sizes.{is_side}
+use Rattle.bx_terms.specs.Characters.{is_side}
 use Rattle.bx_paragraph.proofs.Starts.{first_is}
 use Rattle.bx_paragraph.proofs.layout.ParagraphLayout.first.Goals as goal
 

@@ -3,7 +3,7 @@ use Rattle.std.specs.List.Sorted.{IsNonDecreasingBy}
 use Rattle.std.specs.Prelude.{map}
 use Rattle.std.proofs.lemmas.Str.{IsUtf8-string_bytes}
 use Rattle.bx_rows.specs.declared.start_search.RowStart.{RowStart}
-use Rattle.bx_terms.specs.Sizes.{is_side}
+use Rattle.bx_terms.specs.Characters.{is_side}
 use Rattle.bx_paragraph.specs.BodyRows.{falls_in}
 use Rattle.bx_paragraph.specs.Layout.{IsSound}
 use Rattle.bx_paragraph.proofs.StartOrder.{starts-rise}

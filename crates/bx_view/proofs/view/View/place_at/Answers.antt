@@ -1,5 +1,5 @@
 use Rattle.std.proofs.Common.{◌∙◌, ap, find, nat_le, reverse, sym}
-use Rattle.bx_terms.specs.Sizes.{is_side}
+use Rattle.bx_terms.specs.Characters.{is_side}
 use Rattle.bx_view.specs.FoundRow.{rows_by}
 use Rattle.bx_view.specs.TextRows.{places_of, row_of}
 use Rattle.bx_view.proofs.KeptPlaces.{place-at-kept}

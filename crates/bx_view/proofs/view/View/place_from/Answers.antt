@@ -1,5 +1,5 @@
 use Rattle.std.proofs.Common.{ℕ, ◌+◌, ◌≡◌, ◌∙◌, ap, find, nat_le, length, subst, sym}
-use Rattle.bx_terms.specs.Sizes.{is_side}
+use Rattle.bx_terms.specs.Characters.{is_side}
 use Rattle.bx_paragraph.specs.BodyRows.{last_of}
 use Rattle.bx_view.specs.FoundRow.{IsNext, IsSameAtEnd, StandsOn, rows_by}
 use Rattle.bx_view.specs.TextRows.{places_of, row_of}

@@ -1,5 +1,5 @@
 use Rattle.std.proofs.Common.{◌∙◌, IsUtf8, ap, arith, length, subst, sym}
-use Rattle.bx_terms.specs.Sizes.{is_side}
+use Rattle.bx_terms.specs.Characters.{is_side}
 use Rattle.bx_view.proofs.CachedRows.{high-fits, of-row}
 use Rattle.bx_view.proofs.Numbers.{body-utf8}
 use Rattle.bx_view.proofs.view.View.row.Goals as goal
