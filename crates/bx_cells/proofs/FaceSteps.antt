@@ -7,7 +7,7 @@ use Rattle.bx_ucd.specs.Data.{Data}
 use Rattle.bx_terms.specs.Characters.{is_control}
 use Rattle.bx_cells.specs.declared.unit.Face.{Face}
 use Rattle.bx_cells.specs.declared.unit.Face.TheVariants.{Tab, Mark}
-use Rattle.bx_cells.specs.Faces.{face, face_of, only_char, is_tab, format_letter, sized_face, columns_of}
+use Rattle.bx_cells.specs.Units.{face, face_of, only_char, is_tab, format_letter, sized_face, columns_of}
 
 abbrev pub by_letter : Face → Option ℕ → Face
 by_letter other (Some letter) = Mark letter

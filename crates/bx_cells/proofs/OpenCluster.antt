@@ -14,11 +14,11 @@ use Rattle.bx_terms.specs.Characters.{is_control}
 use Rattle.bx_cells.specs.declared.unit.Face.{Face}
 use Rattle.bx_cells.specs.declared.unit.Face.TheVariants.{Mark}
 use Rattle.bx_cells.specs.declared.unit.Unit.{Unit}
-use Rattle.bx_cells.specs.Faces.{face, face_of, only_char, format_letter, sized_face}
+use Rattle.bx_cells.specs.Units.{face, face_of, only_char, format_letter, sized_face, unit_at}
 use Rattle.bx_cells.specs.Simple.{is_shown, own_columns, begins, is_mark, is_simple}
 use Rattle.bx_cells.specs.SimpleAt.{IsSimpleAt}
 use Rattle.bx_cells.specs.SimpleFace.{is_some_mark, simple_face}
-use Rattle.bx_cells.specs.Units.{unit_at, units_from}
+use Rattle.bx_cells.specs.UnitFacts.{units_from}
 use Rattle.bx_cells.proofs.FaceSteps.{by_letter, steps}
 use Rattle.bx_cells.proofs.SimpleBreaks.{Begins-from_test, IsMark-from_test, mark_begins_none, breaks-simple}
 use Rattle.bx_cells.proofs.SimpleColumns.{width-unit}

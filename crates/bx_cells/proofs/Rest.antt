@@ -14,8 +14,8 @@ use Rattle.unicode_segmentation.specs.Segments.{cut, segments, with_offsets}
 use Rattle.unicode_segmentation.proofs.SegmentsLemmas.{AllPieces, segments_nonempty}
 use Rattle.bx_cells.specs.declared.unit.Unit.{Unit}
 use Rattle.bx_cells.specs.declared.unit.Face.{Face}
-use Rattle.bx_cells.specs.Faces.{face}
-use Rattle.bx_cells.specs.Units.{unit_at, units, units_from}
+use Rattle.bx_cells.specs.Units.{face, unit_at, units}
+use Rattle.bx_cells.specs.UnitFacts.{units_from}
 use Rattle.bx_cells.proofs.Locality.{concat-own, TailsOwn, tails-own}
 
 -- ---- characters in front of a text

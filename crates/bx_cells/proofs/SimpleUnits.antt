@@ -11,7 +11,7 @@ use Rattle.unicode_segmentation.specs.Segments.{segments}
 use Rattle.bx_terms.specs.Characters.{is_control}
 use Rattle.bx_cells.specs.declared.unit.Face.{Face}
 use Rattle.bx_cells.specs.declared.unit.Face.TheVariants.{Tab, Mark, Own}
-use Rattle.bx_cells.specs.Faces.{face, face_of, only_char, is_tab, format_letter, sized_face, columns_of}
+use Rattle.bx_cells.specs.Units.{face, face_of, only_char, is_tab, format_letter, sized_face, columns_of}
 use Rattle.bx_cells.specs.Most.{HasAtMost}
 use Rattle.bx_cells.specs.Simple.{is_shown, own_columns, begins, is_mark, is_simple}
 use Rattle.bx_cells.proofs.SimpleBreaks.{group, cut-simple, Begins-from_test}

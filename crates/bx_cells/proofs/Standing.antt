@@ -9,8 +9,8 @@ use Rattle.unicode_segmentation.specs.Grapheme.{graphemes, is_grapheme_break}
 use Rattle.unicode_segmentation.specs.Segments.{with_offsets}
 use Rattle.unicode_segmentation.proofs.SegmentsLemmas.{IsPieceOf, All-IsPieceOf}
 use Rattle.bx_cells.specs.declared.unit.Unit.{Unit}
-use Rattle.bx_cells.specs.Faces.{face}
-use Rattle.bx_cells.specs.Units.{units, units_from, unit_at, StandsIn, HasFace}
+use Rattle.bx_cells.specs.Units.{face, units, unit_at}
+use Rattle.bx_cells.specs.UnitFacts.{units_from, StandsIn, HasFace}
 use Rattle.bx_cells.proofs.Rest.{next-cluster, first-cluster}
 
 pub stand-units : (says : Data) (w : ℕ) (body : List ℕ) → IsUtf8 body → All (StandsIn body) (units says w body)

@@ -3,10 +3,10 @@ use Rattle.std.specs.Prelude.{◌≡◌, ℕ, ◌<◌, cond, List, ◌∷◌, ch
 use Rattle.std.specs.Str.{IsCharBoundary}
 use Rattle.bx_ucd.specs.Data.{Data}
 use Rattle.bx_cells.specs.declared.simple_clusters.SimpleCluster.{SimpleCluster}
-use Rattle.bx_cells.specs.Faces.{only_char}
+use Rattle.bx_cells.specs.Units.{only_char}
 use Rattle.bx_cells.specs.Simple.{own_columns}
 use Rattle.bx_cells.specs.SimpleFace.{simple_face}
-use Rattle.bx_cells.specs.Units.{units_from}
+use Rattle.bx_cells.specs.UnitFacts.{units_from}
 
 -- `s` is the first cluster of a body from the byte offset `at` on
 pub record IsSimpleAt (body : List ℕ) (at : ℕ) (s : SimpleCluster) : Type 0 where

@@ -4,7 +4,7 @@ use Rattle.std.specs.Prelude.{ℕ, Bool, true, false, cond, List, [], ◌∷◌,
 use Rattle.bx_ucd.specs.Data.{Data}
 use Rattle.bx_cells.specs.declared.unit.Face.{Face}
 use Rattle.bx_cells.specs.declared.unit.Face.TheVariants.{Mark}
-use Rattle.bx_cells.specs.Faces.{format_letter, sized_face}
+use Rattle.bx_cells.specs.Units.{format_letter, sized_face}
 use Rattle.bx_cells.specs.Simple.{own_columns}
 
 -- a cluster of simple characters has marks: the list has what follows its first character

@@ -1,7 +1,7 @@
 //! A unit by the rules on grapheme cluster breaks (UAX #29, by `unicode_segmentation`), for clusters that are not simple.
 ghost use Rattle.std.specs.Prelude.{◌≡◌, ◌<◌, ◌∷◌, length};
 ghost use Rattle.std.specs.Str.{IsCharBoundary};
-ghost use Rattle.bx_cells.specs.Units.{units_from};
+ghost use Rattle.bx_cells.specs.UnitFacts.{units_from};
 
 use crate::faces::face;
 use crate::unit::Unit;

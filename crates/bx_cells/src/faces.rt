@@ -4,7 +4,7 @@ ghost use Rattle.std.specs.List.{list_any};
 ghost use Rattle.bx_terms.specs.Characters.{is_control};
 ghost use Rattle.bx_cells.specs.Simple.{own_columns};
 ghost use Rattle.bx_cells.specs.SimpleFace.{simple_face};
-ghost use Rattle.bx_cells.specs.Faces.{face, letter_of, sized_face, only_char, is_tab, format_letter};
+ghost use Rattle.bx_cells.specs.Units.{face, format_letter, is_tab, letter_of, only_char, sized_face};
 
 use crate::unit::Face;
 use bx_terms::is_control;

@@ -1,7 +1,7 @@
 //! The units of one row: the first ones of a body from an offset on, in a window of `w` columns.
 ghost use Rattle.std.specs.Prelude.{◌≡◌, ◌<◌, ◌∷◌, All, IfOk, length, take};
 ghost use Rattle.std.specs.Str.{IsCharBoundary};
-ghost use Rattle.bx_cells.specs.Units.{HasFace, StandsIn, units_from};
+ghost use Rattle.bx_cells.specs.UnitFacts.{HasFace, StandsIn, units_from};
 
 use crate::by_rules::ruled_unit;
 use crate::faces::simple_face;

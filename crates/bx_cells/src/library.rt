@@ -1,7 +1,8 @@
 //! All units of a body at once. The editor does not run this, it reads the few units that it needs by `units_from`. With it
 //! the crate serves by itself as a library.
 ghost use Rattle.std.specs.Prelude.{◌≡◌, IfOk, All};
-ghost use Rattle.bx_cells.specs.Units.{units, HasFace, StandsIn};
+ghost use Rattle.bx_cells.specs.Units.{units};
+ghost use Rattle.bx_cells.specs.UnitFacts.{HasFace, StandsIn};
 
 use crate::first_units::units_from;
 use crate::unit::{Unit, UnitRange};

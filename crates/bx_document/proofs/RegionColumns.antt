@@ -14,7 +14,7 @@ use Rattle.bx_grid.specs.Turned.{IsBorder, turned_in}
 use Rattle.bx_grid.proofs.Puts.{length-glyph}
 use Rattle.bx_grid.proofs.TurnedWhole.{border-turned, length-turned}
 use Rattle.bx_rows.specs.RowPicture.{Glyph, unit_columns}
-use Rattle.bx_rows.specs.VisualOrder.{visual}
+use Rattle.bx_rows.specs.RowLevels.{visual}
 use Rattle.bx_rows.proofs.PictureLaws.{columns_of_glyphs}
 use Rattle.bx_paragraph.specs.declared.slots.Slot.{Slot}
 use Rattle.bx_paragraph.specs.Slots.{covering_in, covers, end_slot, extent_of, left_column, side_by_side as slots_beside, slot, unit_slots}

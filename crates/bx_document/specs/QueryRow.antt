@@ -9,8 +9,7 @@ use Rattle.bx_rows.specs.declared.drawn.Drawn.{Drawn}
 use Rattle.std.specs.Cow.{cow_str_bytes}
 pub use Rattle.bx_rows.specs.RowPicture.{letter_glyphs}
 use Rattle.bx_grid.specs.Columns.{Col, blank}
-use Rattle.bx_paragraph.specs.BodyRows.{body_rows, row_at}
-use Rattle.bx_paragraph.specs.OwnGlyphs.{row_own_glyphs}
+use Rattle.bx_paragraph.specs.BodyRows.{body_rows, row_at, row_own_glyphs}
 use Rattle.bx_document.specs.Drawing.{side_by_side}
 
 -- The glyphs of a query from left to right. The query is laid out as a text of its own in 500 columns, the widest window

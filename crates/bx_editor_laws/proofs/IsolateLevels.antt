@@ -18,7 +18,8 @@ use Rattle.bx_explicit.proofs.FirstLow.{pick, resumes_at}
 use Rattle.bx_explicit.proofs.Inside.{IsInside, out_at}
 use Rattle.bx_explicit.proofs.Steps.{first_higher, state_at}
 use Rattle.bx_resolve.specs.Laws.{entry_at, entry_by, level_at}
-use Rattle.bx_resolve.specs.Levels.{is_kept, paragraph_levels}
+use Rattle.bx_resolve.specs.Levels.{paragraph_levels}
+use Rattle.bx_resolve.specs.Kept.{is_kept}
 use Rattle.bx_resolve.proofs.KeptLevels.{base_low, kept_each, paragraph_kept}
 use Rattle.bx_editor_laws.specs.AskingLaws.{IsAbove, IsolatesRaise, begins_level, embedding_at}
 use Rattle.bx_editor_laws.proofs.LeastLevels.{IsLeast, levels-are-least}

@@ -14,7 +14,8 @@ use Rattle.bx_asking.specs.Told.{told_text}
 use Rattle.bx_asking.proofs.Printable as text_proofs
 use Rattle.bx_keys.specs.declared.key.Key.TheVariants.{Tell}
 use Rattle.bx_ucd.specs.Data.{Data}
-use Rattle.bx_resolve.specs.Levels.{levels_under, max_level}
+use Rattle.bx_resolve.specs.Levels.{levels_under}
+use Rattle.bx_resolve.specs.Kept.{max_level}
 use Rattle.bx_resolve.proofs.KeptLevels.{levels_stay_low}
 use Rattle.bx_rows.specs.RowLevels.{first_level}
 use Rattle.bx_paragraph.proofs.Starts.{side-some}

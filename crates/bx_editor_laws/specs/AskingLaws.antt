@@ -12,7 +12,8 @@ use Rattle.bx_ucd.specs.declared.class.Class.{Class}
 use Rattle.bx_ucd.specs.declared.class.Class.TheVariants.{LRE, LRO, RLE, RLO, LRI, RLI, FSI, PDI}
 use Rattle.bx_explicit.specs.ParagraphLevel.{before_pdi, match_of}
 use Rattle.bx_resolve.specs.Laws.{class_at, entry_at, level_at}
-use Rattle.bx_resolve.specs.Levels.{is_kept, levels_under, paragraph_level_under}
+use Rattle.bx_resolve.specs.Levels.{levels_under, paragraph_level_under}
+use Rattle.bx_resolve.specs.Kept.{is_kept}
 use Rattle.unicode_segmentation.specs.Grapheme.{graphemes}
 use Rattle.bx_asking.specs.declared.answers.Ask.TheVariants.{Off}
 use Rattle.bx_asking.specs.Codes.{coded}

@@ -7,8 +7,8 @@ use Rattle.std.proofs.lemmas.Str.{chars-nil}
 use Rattle.bx_ucd.specs.Data.{Data}
 use Rattle.bx_ucd.specs.declared.joining.Form.{Form}
 use Rattle.bx_ucd.specs.declared.joining.Form.TheVariants.{Isolated}
-use Rattle.bx_joining.specs.Joining.{body_forms, first_forms, text_forms}
-use Rattle.bx_joining.specs.JoinedText.{AreFormless, in_forms, joined_image}
+use Rattle.bx_joining.specs.Joining.{body_forms, first_forms, text_forms, in_forms}
+use Rattle.bx_joining.specs.JoinedText.{AreFormless, joined_image}
 
 -- ---- as many forms as characters
 

@@ -1,12 +1,8 @@
 -- A text shown in the forms of its letters. `says` is Unicode's data.
-use Rattle.std.specs.Prelude.{◌≡◌, ℕ, All, List, None, ◌∷◌, unwrap_or, chars, encode_utf8_all}
+use Rattle.std.specs.Prelude.{◌≡◌, ℕ, All, List, None, chars, encode_utf8_all}
 use Rattle.bx_ucd.specs.Data.{Data}
 use Rattle.bx_ucd.specs.declared.joining.Form.{Form}
-
--- each letter in the form that the first list has for it, or, if the letter has no such form, the character that the last list has for it
-abbrev pub in_forms : Data → List Form → List ℕ → List ℕ → List ℕ
-in_forms says (f ∷ fs) (letter ∷ letters) (c ∷ cs) = unwrap_or (says.form letter f) c ∷ in_forms says fs letters cs
-in_forms says _ _ cs = cs
+use Rattle.bx_joining.specs.Joining.{in_forms}
 
 -- the text `shown`, with the forms `forms` of the letters of `text` in place of its characters
 abbrev pub joined_image : Data → List Form → List ℕ → List ℕ → List ℕ

@@ -2,6 +2,7 @@
 -- `says` is Unicode's data.
 use Rattle.std.specs.Prelude.{ℕ, zero, suc, ◌%◌, ◌==◌, ◌&&◌, ◌||◌, not, nat_lt, Bool, true, false, List, [], ◌∷◌, map, length, drop, Option, Some, None, chars}
 use Rattle.std.specs.List.{list_any, zip}
+use Rattle.std.specs.Prelude.{unwrap_or}
 use Rattle.bx_ucd.specs.Data.{Data}
 use Rattle.bx_ucd.specs.declared.joining.Joining.{Joining}
 use Rattle.bx_ucd.specs.declared.joining.Joining.TheVariants.{R, L, D, C, T}
@@ -100,3 +101,8 @@ first_forms (suc n) (f ∷ fs) = f ∷ first_forms n fs
 -- the forms of the characters of a text that is in the body after its first `number` characters
 abbrev pub text_forms : Data → List ℕ → List (Option ℕ) → ℕ → List ℕ → List Form
 text_forms says body each number text = first_forms (length (chars text)) (drop number (body_forms says body each))
+
+-- each letter in the form that the first list has for it, or, if the letter has no such form, the character that the last list has for it
+abbrev pub in_forms : Data → List Form → List ℕ → List ℕ → List ℕ
+in_forms says (f ∷ fs) (letter ∷ letters) (c ∷ cs) = unwrap_or (says.form letter f) c ∷ in_forms says fs letters cs
+in_forms says _ _ cs = cs

@@ -8,8 +8,8 @@ use Rattle.bx_rows.specs.declared.wrapping.Row.{Row}
 use Rattle.bx_rows.specs.declared.start_search.RowStart.{RowStart}
 use Rattle.bx_rows.specs.RowStarts.{first_offset, start_of}
 use Rattle.bx_rows.specs.Wrapping.{wrap}
-use Rattle.bx_paragraph.specs.BodyRows.{BodyRow, first_of, no_row, row_at, row_of}
-use Rattle.bx_paragraph.specs.Layout.{IsLayoutBy, LayoutState, rows_by}
+use Rattle.bx_paragraph.specs.BodyRows.{BodyRow, first_of, no_row, row_at}
+use Rattle.bx_paragraph.specs.Layout.{row_of, IsLayoutBy, LayoutState, rows_by}
 use Rattle.bx_paragraph.proofs.Starts.{first_is, side-some}
 use Rattle.bx_view.proofs.BodyFirsts.{body-firsts}
 use Rattle.bx_view.proofs.Rising.{Rises, rank, rank-first, rank-here}

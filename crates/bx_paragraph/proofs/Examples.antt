@@ -11,7 +11,8 @@ use Rattle.bx_ucd.specs.SmallTables.{small}
 use Rattle.bx_rows.specs.RowStarts.{row_starts}
 use Rattle.bx_rows.specs.declared.start_search.RowStart.{RowStart}
 use Rattle.bx_paragraph.specs.Laws.{RowsBeforeStay}
-use Rattle.bx_paragraph.specs.BodyRows.{first_of, last_of, offsets_of, row_at, row_of}
+use Rattle.bx_paragraph.specs.BodyRows.{first_of, last_of, offsets_of, row_at}
+use Rattle.bx_paragraph.specs.Layout.{row_of}
 use Rattle.bx_paragraph.specs.Slots.{beside, column_of, covering, entry, reading_order}
 use Rattle.bx_paragraph.proofs.Computed.{pictures, rows, rows_under, slots}
 

@@ -8,7 +8,7 @@ use Rattle.bx_rows.specs.RowPicture.{own_glyphs}
 use Rattle.bx_rows.specs.RowStarts.{units_of_row}
 use Rattle.bx_paragraph.specs.Layout.{IsLayoutBy, LayoutState, row_by}
 use Rattle.bx_paragraph.specs.Lent.{IsLent}
-use Rattle.bx_paragraph.specs.OwnGlyphs.{row_own_glyphs}
+use Rattle.bx_paragraph.specs.BodyRows.{row_own_glyphs}
 use Rattle.bx_paragraph.proofs.LayoutRows.{row-is, units-of-row}
 
 pub lent_own_glyphs : {D : Type 0} {g : Ghosts D} (l : LayoutState) (t : D) (s : Lines D g) (k : ℕ) → IsLent l t s → IsLayoutBy (g.data t) l

@@ -12,7 +12,7 @@ use Rattle.std.proofs.lemmas.List.Sorted.{Contains-permutation, IsPermutation-sy
 use Rattle.bx_cells.specs.declared.unit.Unit.{Unit}
 use Rattle.bx_cells.specs.declared.unit.Face.TheVariants.{Tab}
 use Rattle.bx_rows.specs.RowPicture.{unit_columns}
-use Rattle.bx_rows.specs.VisualOrder.{visual}
+use Rattle.bx_rows.specs.RowLevels.{visual}
 use Rattle.bx_rows.proofs.NumbersBelow.{below_if_visual}
 use Rattle.bx_rows.proofs.Permutes.{visual-permutes}
 use Rattle.bx_rows.proofs.PictureSums.{columns-length}

@@ -9,7 +9,7 @@ use Rattle.std.proofs.lemmas.Slice.Zip.{get_or-zip}
 use Rattle.bx_terms.specs.Characters.{is_side, largest_side}
 use Rattle.bx_cells.specs.declared.unit.Unit.{Unit}
 use Rattle.bx_rows.specs.RowPicture.{unit_columns, columns_used}
-use Rattle.bx_rows.specs.VisualOrder.{visual}
+use Rattle.bx_rows.specs.RowLevels.{visual}
 use Rattle.bx_rows.proofs.NumbersBelow.{sum-visual}
 use Rattle.bx_rows.proofs.PictureSums.{columns-length, sum_by-same}
 use Rattle.bx_paragraph.specs.declared.slots.Slot.{Slot}

@@ -17,7 +17,8 @@ use Rattle.bx_cells.proofs.Rest.{unit-behind}
 use Rattle.bx_rows.specs.declared.wrapping.Row.{Row}
 use Rattle.bx_rows.specs.declared.start_search.RowStart.{RowStart}
 use Rattle.bx_rows.specs.RowStarts.{first_offset, row_starts, start_of}
-use Rattle.bx_rows.specs.Wrapping.{FitsWindow, columns_at, fit_count, fit_count_from, is_break, row_len, rows_from, up_to_break, up_to_last}
+use Rattle.bx_rows.specs.Wrapping.{columns_at, fit_count, fit_count_from, is_break, row_len, rows_from, up_to_break, up_to_last}
+use Rattle.bx_rows.specs.UnitPlaces.{FitsWindow}
 use Rattle.bx_rows.proofs.EachRow.{found-row, units-fit}
 use Rattle.bx_rows.proofs.RowUnits.{starts-of-some}
 use Rattle.bx_rows.proofs.RowsFit.{row-within}

@@ -13,8 +13,7 @@ use Rattle.bx_ucd.specs.Data.{Data}
 use Rattle.unicode_segmentation.specs.Grapheme.{is_grapheme_break}
 use Rattle.unicode_segmentation.specs.Segments.{cut, prepend, segments, with_offsets}
 use Rattle.bx_cells.specs.declared.unit.Unit.{Unit}
-use Rattle.bx_cells.specs.Faces.{only_char}
-use Rattle.bx_cells.specs.Units.{unit_at, units}
+use Rattle.bx_cells.specs.Units.{only_char, unit_at, units}
 use Rattle.bx_cells.proofs.Locality.{concat-own}
 use Rattle.bx_cells.proofs.Rest.{chars_encoded}
 use Rattle.unicode_segmentation.proofs.TextLemmas.{take_split}

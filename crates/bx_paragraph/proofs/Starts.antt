@@ -15,14 +15,13 @@ use Rattle.bx_terms.specs.declared.base.Base.{Base}
 use Rattle.bx_resolve.specs.Levels.{paragraph_level_under, levels_under}
 use Rattle.bx_cells.specs.declared.unit.Face.TheVariants.{Tab, Mark, Own}
 use Rattle.bx_cells.specs.declared.unit.Unit.{Unit}
-use Rattle.bx_cells.specs.Faces.{columns_of, face_of, format_letter, is_tab, only_char, sized_face}
-use Rattle.bx_cells.specs.Units.{unit_at, units}
+use Rattle.bx_cells.specs.Units.{columns_of, face_of, format_letter, is_tab, only_char, sized_face, unit_at, units}
 use Rattle.bx_rows.specs.declared.start_search.RowStart.{RowStart}
 use Rattle.bx_rows.specs.RowStarts.{first_offset, row_starts, start_of}
 use Rattle.bx_rows.specs.Wrapping.{columns_at, fit_count, is_break, row_len, row_units, rows_from, rows_of, up_to_break, up_to_last, wrap}
-use Rattle.bx_paragraph.specs.BodyRows.{body_rows, falls_in, first_of, no_row, row_at, row_of, row_with, with_last}
+use Rattle.bx_paragraph.specs.BodyRows.{body_rows, falls_in, first_of, no_row, row_at, row_with, with_last}
+use Rattle.bx_paragraph.specs.Layout.{row_of, IsLayoutBy, LayoutState, OfRows, rows_by}
 use Rattle.bx_rows.proofs.Wraps.{fit_cons}
-use Rattle.bx_paragraph.specs.Layout.{IsLayoutBy, LayoutState, OfRows, rows_by}
 
 -- ---- each face fits at the left edge
 

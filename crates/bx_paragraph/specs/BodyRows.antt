@@ -8,7 +8,7 @@ use Rattle.bx_cells.specs.declared.unit.Unit.{Unit}
 use Rattle.bx_cells.specs.Units.{units}
 use Rattle.bx_rows.specs.Wrapping.{wrap, row_units, first_offset}
 use Rattle.bx_rows.specs.RowLevels.{row_levels}
-use Rattle.bx_rows.specs.RowPicture.{Glyph, draw}
+use Rattle.bx_rows.specs.RowPicture.{Glyph, draw, own_glyphs}
 
 -- a row: its paragraph's body, the paragraph level, the levels of all characters of the body (`each`), the row's units, the level of each
 -- unit by L1 (`levels`), and whether it is the paragraph's last row
@@ -64,10 +64,6 @@ last_of r = last_offset (offsets_of r)
 abbrev pub falls_in : List ℕ → ℕ → ℕ
 falls_in beginnings offset = count_by (λ b. nat_le b offset) beginnings - 1
 
--- the number of the row that an offset falls in: the last one that begins at or before it
-abbrev pub row_of : List BodyRow → ℕ → ℕ
-row_of rows offset = falls_in (map first_of rows) offset
-
 -- an empty row, for numbers without a row
 abbrev pub no_row : BodyRow
 no_row = record { body = []; paragraph = 0; each = []; units = []; levels = []; is_last = true }
@@ -79,3 +75,7 @@ row_at rows k = slice_index_or rows k no_row
 -- the glyphs of a row from left to right, with the blanks that fill it to `w` columns
 abbrev pub row_glyphs : Data → ℕ → BodyRow → List Glyph
 row_glyphs says w r = draw says w r.body r.paragraph r.each r.units r.levels
+
+-- the glyphs of a row's units from left to right
+abbrev pub row_own_glyphs : Data → ℕ → BodyRow → List Glyph
+row_own_glyphs says w r = own_glyphs says w r.body r.each r.units r.levels

@@ -1,5 +1,5 @@
 -- The model of a paragraph's layout, and its rows. `says` is what the tables say.
-use Rattle.std.specs.Prelude.{◌≡◌, ℕ, Bool, true, List, Option, IsUtf8, chars}
+use Rattle.std.specs.Prelude.{◌≡◌, ℕ, Bool, true, List, Option, IsUtf8, chars, map}
 use Rattle.bx_ucd.specs.Data.{Data}
 use Rattle.bx_terms.specs.Characters.{is_side}
 use Rattle.bx_terms.specs.declared.base.Base.{Base}
@@ -7,7 +7,7 @@ use Rattle.bx_resolve.specs.Edited.{HasNoFormatting}
 use Rattle.bx_resolve.specs.Levels.{paragraph_level_under, levels_under}
 use Rattle.bx_rows.specs.declared.start_search.RowStart.{RowStart}
 use Rattle.bx_rows.specs.RowStarts.{row_starts}
-use Rattle.bx_paragraph.specs.BodyRows.{BodyRow, body_rows, row_at}
+use Rattle.bx_paragraph.specs.BodyRows.{BodyRow, body_rows, row_at, falls_in, first_of}
 
 -- a body, the base direction, the window's columns (`w`), the paragraph level, the level of each character (`each`), the row starts, and
 -- whether the body is known to have no formatting character and none of class BN
@@ -43,3 +43,7 @@ row_by says l k = row_at (rows_by says l) k
 -- the layout's rows have the property `P`, whatever the data
 abbrev pub OfRows : LayoutState → (List BodyRow → Type 0) → Type 0
 OfRows l P = (says : Data) → IsLayoutBy says l → P (rows_by says l)
+
+-- the number of the row that an offset falls in: the last one that begins at or before it
+abbrev pub row_of : List BodyRow → ℕ → ℕ
+row_of rows offset = falls_in (map first_of rows) offset

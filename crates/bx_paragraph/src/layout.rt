@@ -2,8 +2,8 @@
 ghost use Rattle.std.specs.Prelude.{◌≡◌, ◌≤◌, ◌<◌, ◌^◌, true, IfOk, OnErr, OnOk, count_by, length, nat_le, map, slice_index_or, string_bytes};
 ghost use Rattle.std.specs.List.Sorted.{IsNonDecreasingBy};
 ghost use Rattle.bx_terms.specs.Characters.{is_side};
-ghost use Rattle.bx_paragraph.specs.BodyRows.{first_of, row_at, row_of};
-ghost use Rattle.bx_paragraph.specs.Layout.{IsLayoutBy, IsSound, OfRows};
+ghost use Rattle.bx_paragraph.specs.BodyRows.{first_of, row_at};
+ghost use Rattle.bx_paragraph.specs.Layout.{IsLayoutBy, IsSound, OfRows, row_of};
 ghost use Rattle.bx_paragraph.specs.Lent.{IsLent};
 
 use bx_resolve::{Levels, levels};

@@ -4,10 +4,9 @@ ghost use Rattle.std.specs.Cow.{cow_str_bytes};
 ghost use Rattle.bx_terms.specs.Glyphs.{is_one_glyph, run_width};
 ghost use Rattle.bx_terms.specs.Characters.{is_side};
 ghost use Rattle.bx_rows.specs.Shown.{glyph_of};
-ghost use Rattle.bx_paragraph.specs.BodyRows.{offsets_of, row_glyphs};
+ghost use Rattle.bx_paragraph.specs.BodyRows.{offsets_of, row_glyphs, row_own_glyphs};
 ghost use Rattle.bx_paragraph.specs.LaidRows.{body_row};
 ghost use Rattle.bx_paragraph.specs.LentRow.{row};
-ghost use Rattle.bx_paragraph.specs.OwnGlyphs.{row_own_glyphs};
 ghost use Rattle.bx_paragraph.specs.Slots.{row_slots};
 
 use crate::lent_row::LentRow;

@@ -3,7 +3,8 @@ use Rattle.std.proofs.Common.{◌≡◌, ℕ, List, [], ◌∷◌, ◌++◌, ref
 use Rattle.bx_ucd.specs.declared.class.Class.TheVariants.{L, AN, NSM, BN, B, LRE, LRO, RLE, RLO, PDF, LRI, FSI, PDI}
 use Rattle.bx_terms.specs.declared.base.Base.{Base}
 use Rattle.bx_terms.specs.declared.base.Base.TheVariants.{Auto, Ltr, Rtl}
-use Rattle.bx_resolve.specs.Levels.{is_kept, levels_under, paragraph_level_under}
+use Rattle.bx_resolve.specs.Levels.{levels_under, paragraph_level_under}
+use Rattle.bx_resolve.specs.Kept.{is_kept}
 use Rattle.bx_ucd.specs.SmallTables.{small}
 
 abbrev levels : Base → List ℕ → List (Option ℕ)

@@ -18,7 +18,8 @@ use Rattle.bx_resolve.specs.Weak.{w1, w2, w3, w4, w5, w6, w7, weak, w3_at, w6_at
 use Rattle.bx_resolve.specs.Weak.{number_after, left_number, terminator_of}
 use Rattle.bx_resolve.specs.Turns.{after_w1, after_w2, after_w4, after_w6, after_w7, begin, decided, is_separator, is_settled, left_number_by, mark_next}
 use Rattle.bx_resolve.specs.Turns.{neighbour_of, next, number_by, rest_after_w3, strong_next, strong_of, terminator_by, terminators_next, written}
-use Rattle.bx_resolve.specs.Neutral.{n1, n2, n2_at, taken, all_taken}
+use Rattle.bx_resolve.specs.Neutral.{n1, n2, n2_at}
+use Rattle.bx_resolve.specs.Kept.{taken, all_taken}
 use Rattle.bx_resolve.proofs.Run.{run, w1_run, w2_run, n1_run, next_mark, out_mark, next_strong, out_number, next_beside, out_separator, next_past}
 use Rattle.bx_resolve.proofs.Run.{out_terminator, next_side, out_left, w4_run, w5_run, w7_run, next_neutral, out_neutral}
 

@@ -22,7 +22,8 @@ use Rattle.bx_explicit.specs.Sequences.{kept_indexes, RunSequence, sequences}
 use Rattle.bx_explicit.proofs.Bounds.{levels_low, sequences_low}
 use Rattle.bx_explicit.proofs.Steps.{levels_length as explicit_length}
 use Rattle.bx_resolve.specs.Neutral.{implicit, implicit_at, rise_even, rise_odd}
-use Rattle.bx_resolve.specs.Levels.{chars_at, is_kept, levels_in, levels_under, max_level, paragraph_levels, types_at, with_levels, with_sequences}
+use Rattle.bx_resolve.specs.Levels.{chars_at, levels_in, levels_under, paragraph_levels, types_at, with_levels, with_sequences}
+use Rattle.bx_resolve.specs.Kept.{is_kept, max_level}
 use Rattle.bx_resolve.specs.Laws.{all_indexes}
 use Rattle.bx_resolve.proofs.PlainLengths.{levels_length}
 use Rattle.bx_resolve.proofs.EachOnce.{each_once}

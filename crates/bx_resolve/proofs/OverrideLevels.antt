@@ -15,7 +15,8 @@ use Rattle.bx_explicit.specs.Stack.{entry, top_of, after_isolate, after_embeddin
 use Rattle.bx_explicit.specs.ParagraphLevel.{base_level}
 use Rattle.bx_explicit.specs.Laws.{states_from}
 use Rattle.bx_explicit.proofs.Steps.{embed_stack}
-use Rattle.bx_resolve.specs.Levels.{is_kept, type_of}
+use Rattle.bx_resolve.specs.Levels.{type_of}
+use Rattle.bx_resolve.specs.Kept.{is_kept}
 use Rattle.bx_resolve.specs.Laws.{HasDirection, FollowsOverride, is_override, entry_by, LettersKeepDirection, OverridesGiveDirection}
 use Rattle.bx_resolve.proofs.DirectionsAt.{types_keep_direction}
 

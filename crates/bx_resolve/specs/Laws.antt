@@ -15,7 +15,8 @@ use Rattle.bx_explicit.specs.declared.state.State.{State}
 use Rattle.bx_explicit.specs.Explicit.{explicit_levels, start, top}
 use Rattle.bx_explicit.specs.Laws.{states}
 use Rattle.bx_explicit.specs.Sequences.{kept_indexes, RunSequence, sequences}
-use Rattle.bx_resolve.specs.Levels.{is_kept, levels_under, paragraph_level_under, type_of}
+use Rattle.bx_resolve.specs.Levels.{levels_under, paragraph_level_under, type_of}
+use Rattle.bx_resolve.specs.Kept.{is_kept}
 
 -- the indexes of all sequences, concatenated
 abbrev pub all_indexes : List RunSequence → List ℕ

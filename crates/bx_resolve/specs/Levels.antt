@@ -1,13 +1,12 @@
 -- The levels of a paragraph, by all rules in order. `says` is Unicode's data.
-use Rattle.std.specs.Prelude.{ℕ, ◌+◌, Bool, true, false, List, [], ◌∷◌, Option, Some, None, length, map, replicate, slice_index_or, slice_set}
+use Rattle.std.specs.Prelude.{ℕ, List, [], ◌∷◌, Option, Some, None, length, map, replicate, slice_index_or, slice_set}
 use Rattle.bx_ucd.specs.Data.{Data}
 use Rattle.bx_ucd.specs.declared.class.Class.{Class}
-use Rattle.bx_ucd.specs.declared.class.Class.TheVariants.{BN, LRE, LRO, ON, PDF, RLE, RLO}
+use Rattle.bx_ucd.specs.declared.class.Class.TheVariants.{ON}
 use Rattle.bx_explicit.specs.declared.entry.ExplicitChar.{ExplicitChar}
 use Rattle.bx_terms.specs.declared.base.Base.{Base}
 use Rattle.bx_explicit.specs.ParagraphLevel.{base_level}
 use Rattle.bx_explicit.specs.Explicit.{explicit_levels}
-use Rattle.bx_explicit.specs.Stack.{max_depth}
 use Rattle.bx_explicit.specs.Sequences.{RunSequence, sequences, direction}
 use Rattle.bx_brackets.specs.Pairs.{pairs}
 use Rattle.bx_brackets.specs.Resolve.{resolve_pairs}
@@ -67,17 +66,3 @@ paragraph_level_under says base chars = base_level base (map says.class chars)
 
 abbrev pub levels_under : Data → Base → List ℕ → List (Option ℕ)
 levels_under says base chars = paragraph_levels says (paragraph_level_under says base chars) chars
-
--- X9 keeps characters of the class, so they have a level
-abbrev pub is_kept : Class → Bool
-is_kept RLE = false
-is_kept LRE = false
-is_kept RLO = false
-is_kept LRO = false
-is_kept PDF = false
-is_kept BN = false
-is_kept _ = true
-
--- the highest level: I2 raises the highest explicit level, which is odd, by one, and I1 the one below it by two
-abbrev pub max_level : ℕ
-max_level = max_depth + 1

@@ -9,3 +9,4 @@ pub mod Uniform
 pub mod ClassLevels
 pub mod Edited
 pub mod Laws
+pub mod Kept

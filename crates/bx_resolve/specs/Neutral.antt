@@ -1,5 +1,5 @@
 -- N1, N2, I1 and I2, over the types of a sequence. `n1_at`, `n2_at` and `implicit_at` are of one type, `n1`, `n2` and `implicit` of all.
-use Rattle.std.specs.Prelude.{ℕ, ◌+◌, ◌%◌, true, false, List, [], ◌∷◌, map, Option, Some, None}
+use Rattle.std.specs.Prelude.{ℕ, ◌+◌, ◌%◌, true, false, List, [], ◌∷◌, map}
 use Rattle.std.proofs.Common.{zero, suc}
 use Rattle.bx_ucd.specs.declared.class.Class.{Class}
 use Rattle.bx_ucd.specs.declared.class.Class.TheVariants.{L, R, EN, AN}
@@ -37,15 +37,6 @@ n2_at embedding t = elim (is_neutral t) [ true ↦ embedding | false ↦ t ]
 
 abbrev pub n2 : Class → List Class → List Class
 n2 embedding ts = map (n2_at embedding) ts
-
--- N2 applied to a type, and to all types, if an embedding direction is given; else they stay
-abbrev pub taken : Option Class → Class → Class
-taken None t = t
-taken (Some embedding) t = n2_at embedding t
-
-abbrev pub all_taken : Option Class → List Class → List Class
-all_taken None ts = ts
-all_taken (Some embedding) ts = n2 embedding ts
 
 -- I1: at an even level, R goes up one level, and AN and EN go up two
 abbrev pub rise_even : Class → ℕ

@@ -1,6 +1,7 @@
 //! Characters, types and levels at the indexes of a sequence, for `levels_by_rules`.
 ghost use Rattle.std.specs.Prelude.{◌≡◌, ◌<◌, ◌≤◌, IfOk, All, None, length, slice_index_or};
-ghost use Rattle.bx_resolve.specs.Levels.{type_of, chars_at, max_level, types_at, with_levels};
+ghost use Rattle.bx_resolve.specs.Levels.{chars_at, type_of, types_at, with_levels};
+ghost use Rattle.bx_resolve.specs.Kept.{max_level};
 
 use crate::paragraph::Level;
 use bx_explicit::ExplicitChar;

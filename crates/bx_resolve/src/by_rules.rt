@@ -3,7 +3,8 @@
 ghost use Rattle.std.specs.Prelude.{◌≡◌, ◌≤◌, ◌<◌, IfOk, All, None, chars, length, replicate};
 ghost use Rattle.bx_explicit.specs.Stack.{max_depth};
 ghost use Rattle.bx_explicit.specs.Sequences.{sequences};
-ghost use Rattle.bx_resolve.specs.Levels.{levels_in, max_level, paragraph_level_under, levels_under, with_sequences};
+ghost use Rattle.bx_resolve.specs.Levels.{levels_in, levels_under, paragraph_level_under, with_sequences};
+ghost use Rattle.bx_resolve.specs.Kept.{max_level};
 
 use crate::at_indexes::{chars_at, types_at, write_levels};
 use crate::body::{chars_of, classes_of};

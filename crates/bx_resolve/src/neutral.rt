@@ -1,8 +1,8 @@
 //! The rules for neutral types (N1, N2) and implicit levels (I1, I2).
 ghost use Rattle.std.specs.Prelude.{◌≡◌, ◌≤◌, ◌+◌, ◌||◌, All, IfOk, Some};
 ghost use Rattle.bx_explicit.specs.Stack.{max_depth};
-ghost use Rattle.bx_resolve.specs.Levels.{max_level};
-ghost use Rattle.bx_resolve.specs.Neutral.{side_of, side, agreed, n1, n2, all_taken, taken, rise_even, rise_odd, implicit_at, implicit};
+ghost use Rattle.bx_resolve.specs.Kept.{all_taken, max_level, taken};
+ghost use Rattle.bx_resolve.specs.Neutral.{agreed, implicit, implicit_at, n1, n2, rise_even, rise_odd, side, side_of};
 ghost use Rattle.bx_resolve.specs.Weak.{is_an, is_en};
 
 use crate::paragraph::Level;

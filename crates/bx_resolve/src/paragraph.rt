@@ -1,6 +1,6 @@
 //! The result of this crate: a level, stored in one byte, and the levels of a paragraph.
 ghost use Rattle.std.specs.Prelude.{◌≡◌, ◌≤◌, None, Some};
-ghost use Rattle.bx_resolve.specs.Levels.{max_level};
+ghost use Rattle.bx_resolve.specs.Kept.{max_level};
 
 use std::marker::Model;
 

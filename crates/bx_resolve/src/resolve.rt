@@ -3,7 +3,8 @@ ghost use Rattle.std.specs.Prelude.{◌≡◌, ◌≤◌, ◌<◌, ◌^◌, All,
 ghost use Rattle.bx_explicit.specs.Stack.{max_depth};
 ghost use Rattle.bx_resolve.specs.Weak.{weak};
 ghost use Rattle.bx_resolve.specs.Neutral.{implicit_at};
-ghost use Rattle.bx_resolve.specs.Levels.{is_kept, levels_under, max_level, paragraph_levels, paragraph_level_under};
+ghost use Rattle.bx_resolve.specs.Levels.{levels_under, paragraph_level_under, paragraph_levels};
+ghost use Rattle.bx_resolve.specs.Kept.{is_kept, max_level};
 ghost use Rattle.bx_resolve.specs.ClassLevels.{AreLevelsOf};
 ghost use Rattle.bx_resolve.specs.Uniform.{is_unformatted, all_pass};
 

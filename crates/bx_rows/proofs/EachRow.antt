@@ -13,8 +13,8 @@ use Rattle.bx_terms.specs.Characters.{is_control}
 use Rattle.bx_cells.specs.declared.unit.Face.{Face}
 use Rattle.bx_cells.specs.declared.unit.Face.TheVariants.{Tab, Mark, Own}
 use Rattle.bx_cells.specs.declared.unit.Unit.{Unit}
-use Rattle.bx_cells.specs.Faces.{face_of, format_letter, is_tab, only_char, sized_face, columns_of}
-use Rattle.bx_cells.specs.Units.{units, units_from, unit_text, HasFace}
+use Rattle.bx_cells.specs.Units.{face_of, format_letter, is_tab, only_char, sized_face, columns_of, units, unit_text}
+use Rattle.bx_cells.specs.UnitFacts.{units_from, HasFace}
 use Rattle.bx_cells.proofs.Rest.{IsUnitAt, unit-behind, few-units}
 use Rattle.bx_cells.proofs.Standing.{faces-units}
 use Rattle.bx_rows.specs.declared.wrapping.Row.{Row}
@@ -23,7 +23,8 @@ use Rattle.bx_rows.specs.RowLevels.{chars_before}
 use Rattle.bx_rows.specs.RowStarts.{first_offset, start_of, row_starts, units_in, units_of_row, most_units}
 use Rattle.bx_rows.specs.RowPicture.{columns_used}
 use Rattle.bx_rows.specs.Shown.{IsRowOf}
-use Rattle.bx_rows.specs.Wrapping.{FitsWindow, columns_at, fit_count, is_break, row_len, row_units, rows_from, rows_of, up_to_last, wrap}
+use Rattle.bx_rows.specs.Wrapping.{columns_at, fit_count, is_break, row_len, row_units, rows_from, rows_of, up_to_last, wrap}
+use Rattle.bx_rows.specs.UnitPlaces.{FitsWindow}
 use Rattle.bx_rows.proofs.RowsFit.{fit-length, fit_if_wrapped, row-within}
 use Rattle.bx_rows.proofs.Wraps.{fit_cons, fits_full, no_unit, rows_turn}
 

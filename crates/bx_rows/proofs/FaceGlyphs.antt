@@ -19,9 +19,9 @@ use Rattle.bx_ucd.specs.declared.joining.Form.{Form}
 use Rattle.bx_ucd.specs.declared.class.Class.TheVariants.{L, R, AL, EN, ES, ET, AN, CS, NSM, BN, B, S, WS, ON, LRE, RLE, LRO, RLO, PDF, LRI, RLI, FSI, PDI}
 use Rattle.bx_cells.specs.declared.unit.Face.{Face}
 use Rattle.bx_cells.specs.declared.unit.Face.TheVariants.{Tab, Mark, Own}
-use Rattle.bx_cells.specs.Faces.{face, face_of, only_char, is_tab, letter_of, format_letter, sized_face, columns_of}
+use Rattle.bx_cells.specs.Units.{face, face_of, only_char, is_tab, letter_of, format_letter, sized_face, columns_of}
 use Rattle.bx_cells.proofs.Printable.{ascii_bytes}
-use Rattle.bx_joining.specs.JoinedText.{in_forms}
+use Rattle.bx_joining.specs.Joining.{in_forms}
 use Rattle.bx_rows.specs.RowPicture.{Glyph, glyph, blank, mirror_image, is_own, joined_image_within, mirror_image_within, mirrored_chars, shown_text, face_glyphs, letter_glyphs}
 use Rattle.bx_rows.specs.Wrapping.{columns_at}
 use Rattle.bx_rows.specs.Shown.{HasLetter}

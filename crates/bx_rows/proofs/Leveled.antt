@@ -9,13 +9,14 @@ use Rattle.std.proofs.lemmas.List.Elements.{All-rest}
 use Rattle.std.proofs.lemmas.Str.{encodes-chars}
 use Rattle.bx_ucd.specs.Data.{Data}
 use Rattle.bx_ucd.specs.declared.joining.Form.{Form}
-use Rattle.bx_cells.specs.Faces.{face}
+use Rattle.bx_cells.specs.Units.{face}
 use Rattle.bx_cells.proofs.Rest.{chars_encoded}
-use Rattle.bx_joining.specs.JoinedText.{AreFormless, in_forms}
+use Rattle.bx_joining.specs.JoinedText.{AreFormless}
+use Rattle.bx_joining.specs.Joining.{in_forms}
 use Rattle.bx_joining.proofs.TextForms.{as_it_is}
 use Rattle.bx_rows.specs.declared.drawn.Drawn.{Drawn}
-use Rattle.bx_rows.specs.PlainRows.{IsFormless, formed_glyph, joined_glyph, leveled_glyphs, mirrored_glyphs, single_glyph}
-use Rattle.bx_rows.specs.RowPicture.{Glyph, glyph, blank, is_own, joined_image_within, mirror_image, mirror_image_within, mirrored_chars, mirrored_text, shown_text}
+use Rattle.bx_rows.specs.PlainRows.{IsFormless, formed_glyph, joined_glyph, leveled_glyphs, mirrored_glyphs, single_glyph, mirrored_text}
+use Rattle.bx_rows.specs.RowPicture.{Glyph, glyph, blank, is_own, joined_image_within, mirror_image, mirror_image_within, mirrored_chars, shown_text}
 use Rattle.bx_rows.specs.Shown.{glyph_of}
 
 -- ---- the first glyphs changed, each by what is given with it

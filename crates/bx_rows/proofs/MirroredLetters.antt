@@ -5,7 +5,7 @@ use Rattle.std.proofs.lemmas.Str.{chars-nil, chars_past_char, encodes-chars}
 use Rattle.std.proofs.lemmas.List.{nil_from_length}
 use Rattle.bx_ucd.specs.Data.{Data}
 use Rattle.bx_cells.specs.declared.unit.Face.TheVariants.{Own}
-use Rattle.bx_cells.specs.Faces.{face, face_of}
+use Rattle.bx_cells.specs.Units.{face, face_of}
 use Rattle.bx_cells.specs.Simple.{begins}
 use Rattle.bx_cells.specs.SimpleFace.{simple_face}
 use Rattle.bx_cells.proofs.OpenCluster.{face-simple}

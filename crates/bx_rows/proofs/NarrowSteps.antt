@@ -9,7 +9,7 @@ use Rattle.bx_cells.specs.declared.unit.Unit.{Unit}
 use Rattle.bx_cells.specs.Simple.{begins, is_mark, own_columns}
 use Rattle.bx_cells.specs.SimpleAt.{IsSimpleAt}
 use Rattle.bx_cells.specs.SimpleFace.{simple_face}
-use Rattle.bx_cells.specs.Units.{units_from}
+use Rattle.bx_cells.specs.UnitFacts.{units_from}
 use Rattle.bx_cells.proofs.OpenCluster.{IsOpen, open-first, open-mark, open-left, at-next, at-last}
 use Rattle.bx_rows.specs.declared.narrow_run.NarrowRun.{NarrowRun}
 use Rattle.bx_rows.specs.NarrowRuns.{AreNarrow, IsNarrowRun, IsRunIn, grown}

@@ -9,12 +9,13 @@ use Rattle.std.proofs.lemmas.List.Elements.{All-append, All-cons, All-nil, All-r
 use Rattle.std.proofs.lemmas.List.Sums.{sum_by-append, sum_by-cons}
 use Rattle.std.proofs.lemmas.List.Folds.{sum_by-replicate}
 use Rattle.bx_cells.specs.declared.unit.Unit.{Unit}
-use Rattle.bx_cells.specs.Units.{unit_text, HasFace}
+use Rattle.bx_cells.specs.Units.{unit_text}
+use Rattle.bx_cells.specs.UnitFacts.{HasFace}
 use Rattle.bx_rows.specs.declared.wrapping.Row.{Row}
 use Rattle.bx_rows.specs.Wrapping.{columns_at, row_units}
 use Rattle.bx_rows.specs.RowPicture.{unit_forms}
 use Rattle.bx_rows.specs.RowPicture.{Glyph, blank, face_glyphs, letter_glyphs, unit_columns, unit_glyphs, columns_used, draw, own_glyphs}
-use Rattle.bx_rows.specs.VisualOrder.{visual}
+use Rattle.bx_rows.specs.RowLevels.{visual}
 use Rattle.bx_rows.proofs.FaceGlyphs.{IsOneGlyph, tells-face, face-one, face-sum, letters-all-one}
 use Rattle.bx_terms.specs.Characters.{are_ascii_printable}
 use Rattle.bx_rows.proofs.NumbersBelow.{sum-visual}

@@ -11,7 +11,7 @@ use Rattle.bx_cells.specs.declared.unit.Unit.{Unit}
 use Rattle.bx_cells.specs.Units.{unit_text}
 use Rattle.bx_rows.specs.RowPicture.{unit_forms}
 use Rattle.bx_rows.specs.RowPicture.{Glyph, face_glyphs, own_glyphs, unit_columns, unit_glyphs}
-use Rattle.bx_rows.specs.VisualOrder.{visual}
+use Rattle.bx_rows.specs.RowLevels.{visual}
 
 length-zip : {A B : Type 0} → (xs : List A) (ys : List B) (n : ℕ) → length xs ≡ n → length ys ≡ n → length (zip xs ys) ≡ n
 length-zip [] ys n e f = e

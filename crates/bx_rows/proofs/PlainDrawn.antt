@@ -6,17 +6,16 @@ use Rattle.std.proofs.lemmas.List.{get_or-map, length-map, take_at}
 use Rattle.std.proofs.lemmas.List.Elements.{All-rest}
 use Rattle.bx_ucd.specs.Data.{Data}
 use Rattle.bx_cells.specs.declared.unit.Unit.{Unit}
-use Rattle.bx_cells.specs.Units.{HasFace, units_from}
+use Rattle.bx_cells.specs.UnitFacts.{HasFace, units_from}
 use Rattle.bx_cells.proofs.Standing.{faces_if_taken}
 use Rattle.bx_rows.specs.declared.drawn.Drawn.{Drawn}
 use Rattle.bx_rows.specs.declared.start_search.RowStart.{RowStart}
 use Rattle.bx_rows.specs.PlainRows.{AreSingle, char_forms, leveled_glyphs, single_glyph, single_units}
-use Rattle.bx_rows.specs.RowLevels.{row_levels}
+use Rattle.bx_rows.specs.RowLevels.{row_levels, visual}
 use Rattle.bx_rows.specs.RowPicture.{Glyph, blank, columns_used, draw, with_blanks}
 use Rattle.bx_rows.specs.RowStarts.{most_units, units_of_row}
 use Rattle.bx_rows.specs.Shown.{glyph_of}
 use Rattle.bx_rows.specs.RowStarts.{StartsRow}
-use Rattle.bx_rows.specs.VisualOrder.{visual}
 use Rattle.bx_rows.proofs.EachRow.{IsRowPart, row-alone, whole}
 use Rattle.bx_rows.proofs.NumbersBelow.{below_if_visual}
 use Rattle.bx_rows.proofs.PlainPictures.{columns-single, single-draw}

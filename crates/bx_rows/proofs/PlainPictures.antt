@@ -13,7 +13,8 @@ use Rattle.unicode_width.proofs.Rules.{str_width-printable}
 use Rattle.bx_terms.specs.Characters.{are_ascii_printable}
 use Rattle.bx_cells.specs.declared.unit.Face.TheVariants.{Own}
 use Rattle.bx_cells.specs.declared.unit.Unit.{Unit}
-use Rattle.bx_cells.specs.Units.{unit_text, HasFace}
+use Rattle.bx_cells.specs.Units.{unit_text}
+use Rattle.bx_cells.specs.UnitFacts.{HasFace}
 use Rattle.bx_cells.proofs.Printable.{ascii_bytes}
 use Rattle.bx_ucd.specs.declared.joining.Form.{Form}
 use Rattle.bx_ucd.specs.declared.joining.Form.TheVariants.{Isolated}
@@ -24,7 +25,7 @@ use Rattle.bx_rows.specs.PlainRows.{char_forms, single_units, leveled_glyph, lev
 use Rattle.bx_rows.specs.RowStarts.{StartsRow}
 use Rattle.bx_rows.specs.RowPicture.{unit_forms}
 use Rattle.bx_rows.specs.RowPicture.{Glyph, glyph, blank, shown_text, text_glyphs, unit_columns, unit_glyphs, columns_used, with_blanks, draw}
-use Rattle.bx_rows.specs.VisualOrder.{visual}
+use Rattle.bx_rows.specs.RowLevels.{visual}
 use Rattle.bx_rows.proofs.FaceGlyphs.{Tells, tells-face, tells-shown}
 use Rattle.bx_rows.proofs.NumbersBelow.{below_if_visual}
 use Rattle.bx_rows.proofs.RowPlaces.{char-at}

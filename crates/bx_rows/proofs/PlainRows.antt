@@ -14,7 +14,8 @@ use Rattle.bx_cells.specs.declared.unit.Face.TheVariants.{Own}
 use Rattle.bx_cells.specs.declared.unit.Unit.{Unit}
 use Rattle.bx_cells.specs.Simple.{begins}
 use Rattle.bx_cells.specs.SimpleFace.{simple_face}
-use Rattle.bx_cells.specs.Units.{units_from, unit_chars}
+use Rattle.bx_cells.specs.Units.{unit_chars}
+use Rattle.bx_cells.specs.UnitFacts.{units_from}
 use Rattle.bx_cells.proofs.OpenCluster.{open-first, open-next, open-last, open-none, open-left, open-boundary}
 use Rattle.bx_cells.proofs.Rest.{chars_past_all, scalars_front, none-behind}
 use Rattle.bx_rows.specs.declared.drawn.Drawn.{Drawn}

@@ -10,7 +10,8 @@ use Rattle.std.proofs.lemmas.Str.{IsCharBoundary-past_char, IsUtf8-between, IsUt
 use Rattle.bx_ucd.specs.Data.{Data}
 use Rattle.bx_cells.specs.declared.unit.Face.{Face}
 use Rattle.bx_cells.specs.declared.unit.Unit.{Unit}
-use Rattle.bx_cells.specs.Units.{StandsIn, unit_text, units}
+use Rattle.bx_cells.specs.Units.{unit_text, units}
+use Rattle.bx_cells.specs.UnitFacts.{StandsIn}
 use Rattle.bx_joining.specs.Joining.{text_forms}
 use Rattle.bx_joining.specs.Places.{StandsAt}
 use Rattle.bx_joining.specs.declared.forms.TextAt.{TextAt}

@@ -8,7 +8,8 @@ use Rattle.std.proofs.lemmas.Str.{chars-nil, IsCharBoundary-start}
 use Rattle.bx_ucd.specs.Data.{Data}
 use Rattle.unicode_segmentation.specs.Segments.{with_offsets}
 use Rattle.bx_cells.specs.declared.unit.Unit.{Unit}
-use Rattle.bx_cells.specs.Units.{unit_at, units, units_from}
+use Rattle.bx_cells.specs.Units.{unit_at, units}
+use Rattle.bx_cells.specs.UnitFacts.{units_from}
 use Rattle.bx_rows.specs.declared.start_search.RowStart.{RowStart}
 use Rattle.bx_rows.specs.declared.row_scan.Extent.{Extent}
 use Rattle.bx_rows.specs.declared.row_scan.Scan.{Scan}

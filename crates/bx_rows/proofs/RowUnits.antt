@@ -9,10 +9,9 @@ use Rattle.unicode_segmentation.specs.Grapheme.{graphemes}
 use Rattle.unicode_segmentation.specs.Segments.{with_offsets}
 use Rattle.bx_cells.specs.declared.unit.Face.TheVariants.{Mark, Own}
 use Rattle.bx_cells.specs.declared.unit.Unit.{Unit}
-use Rattle.bx_cells.specs.Faces.{format_letter, sized_face}
+use Rattle.bx_cells.specs.Units.{format_letter, sized_face, unit_at, units}
 use Rattle.bx_cells.specs.Simple.{own_columns}
 use Rattle.bx_cells.specs.SimpleFace.{simple_face}
-use Rattle.bx_cells.specs.Units.{unit_at, units}
 use Rattle.bx_cells.proofs.Rest.{no-cluster, none-behind}
 use Rattle.bx_rows.specs.declared.start_search.RowStart.{RowStart}
 use Rattle.bx_rows.specs.RowStarts.{start_of, row_starts}

@@ -12,8 +12,8 @@ use Rattle.bx_ucd.specs.Data.{Data}
 use Rattle.unicode_segmentation.specs.Grapheme.{graphemes}
 use Rattle.unicode_segmentation.specs.Segments.{with_offsets}
 use Rattle.bx_cells.specs.declared.unit.Unit.{Unit}
-use Rattle.bx_cells.specs.Faces.{face, only_char}
-use Rattle.bx_cells.specs.Units.{unit_at, unit_text, units, units_from}
+use Rattle.bx_cells.specs.Units.{face, only_char, unit_at, unit_text, units}
+use Rattle.bx_cells.specs.UnitFacts.{units_from}
 use Rattle.bx_cells.proofs.Rest.{IsUnitAt, none-behind, unit-behind}
 use Rattle.bx_rows.specs.declared.wrapping.Row.{Row}
 use Rattle.bx_rows.specs.declared.start_search.RowStart.{RowStart}

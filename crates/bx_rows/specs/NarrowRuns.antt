@@ -4,7 +4,7 @@ use Rattle.std.specs.Prelude.{◌≡◌, ℕ, ◌+◌, ◌≤◌, Bool, true, fa
 use Rattle.std.specs.Str.{IsCharBoundary}
 use Rattle.bx_ucd.specs.Data.{Data}
 use Rattle.bx_cells.specs.declared.unit.Unit.{Unit}
-use Rattle.bx_cells.specs.Units.{units_from}
+use Rattle.bx_cells.specs.UnitFacts.{units_from}
 use Rattle.bx_rows.specs.declared.narrow_run.NarrowRun.{NarrowRun}
 use Rattle.bx_rows.specs.Wrapping.{columns_at, is_break, up_to_last}
 

@@ -6,12 +6,12 @@ use Rattle.bx_ucd.specs.Data.{Data}
 use Rattle.bx_ucd.specs.declared.joining.Form.{Form}
 use Rattle.bx_cells.specs.declared.unit.Face.TheVariants.{Own}
 use Rattle.bx_cells.specs.declared.unit.Unit.{Unit}
-use Rattle.bx_cells.specs.Faces.{face}
+use Rattle.bx_cells.specs.Units.{face}
 use Rattle.bx_cells.specs.Simple.{begins}
-use Rattle.bx_cells.specs.Units.{units_from}
+use Rattle.bx_cells.specs.UnitFacts.{units_from}
 use Rattle.bx_joining.specs.Joining.{body_forms, first_forms}
 use Rattle.bx_rows.specs.declared.drawn.Drawn.{Drawn}
-use Rattle.bx_rows.specs.RowPicture.{Glyph, glyph, is_own, mirrored_text, shown_text}
+use Rattle.bx_rows.specs.RowPicture.{Glyph, glyph, is_own, shown_text, mirror_image_within}
 use Rattle.bx_rows.specs.Shown.{glyph_of}
 
 -- one unit per character, the first at the offset `at`, in bytes
@@ -36,6 +36,10 @@ leveled_glyph says w c level form = glyph (shown_text says w 1 level (form ∷ [
 -- the glyphs of characters at their levels and in their forms, in text order
 abbrev pub leveled_glyphs : Data → ℕ → List ℕ → List ℕ → List Form → List Glyph
 leveled_glyphs says w cs levels forms = map (λ (c, at). leveled_glyph says w c at.0 at.1) (zip cs (zip levels forms))
+
+-- the text at a level, mirrored if the level is odd
+abbrev pub mirrored_text : Data → ℕ → ℕ → ℕ → List ℕ → List ℕ
+mirrored_text says w n level text = elim (level % 2) [ zero ↦ text | suc _ ↦ mirror_image_within says w n text ]
 
 -- the glyph of a character at a level, mirrored but not joined at an odd one
 abbrev pub mirrored_glyph : Data → ℕ → ℕ → ℕ → Glyph

@@ -9,12 +9,10 @@ use Rattle.bx_ucd.specs.declared.joining.Form.{Form}
 use Rattle.bx_cells.specs.declared.unit.Face.{Face}
 use Rattle.bx_cells.specs.declared.unit.Face.TheVariants.{Tab, Mark, Own}
 use Rattle.bx_cells.specs.declared.unit.Unit.{Unit}
-use Rattle.bx_cells.specs.Faces.{face}
-use Rattle.bx_cells.specs.Units.{unit_text}
-use Rattle.bx_joining.specs.Joining.{text_forms}
-use Rattle.bx_joining.specs.JoinedText.{in_forms}
+use Rattle.bx_cells.specs.Units.{face, unit_text}
+use Rattle.bx_joining.specs.Joining.{text_forms, in_forms}
 use Rattle.bx_rows.specs.Wrapping.{columns_at}
-use Rattle.bx_rows.specs.VisualOrder.{visual}
+use Rattle.bx_rows.specs.RowLevels.{visual}
 
 -- a glyph: its bytes, its columns, and whether it is in negative image
 pub record Glyph : Type 0 where
@@ -69,10 +67,6 @@ joined_image_within says w n forms text =
     let letters = chars text in
     let other = encode_utf8_all (in_forms says forms letters (mirrored_chars says w n letters)) in
     elim (is_own n (face says w other)) [ true ↦ other | false ↦ mirror_image_within says w n text ]
-
--- the text at a level, mirrored if the level is odd
-abbrev pub mirrored_text : Data → ℕ → ℕ → ℕ → List ℕ → List ℕ
-mirrored_text says w n level text = elim (level % 2) [ zero ↦ text | suc _ ↦ mirror_image_within says w n text ]
 
 -- the text shown at a level: mirrored and then joined if the level is odd
 abbrev pub shown_text : Data → ℕ → ℕ → ℕ → List Form → List ℕ → List ℕ

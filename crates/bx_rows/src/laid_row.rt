@@ -1,6 +1,6 @@
 //! A row laid out, from which its picture and its slots are read.
 ghost use Rattle.std.specs.Prelude.{◌≡◌, ◌≤◌, ◌<◌, All, length};
-ghost use Rattle.bx_cells.specs.Units.{StandsIn};
+ghost use Rattle.bx_cells.specs.UnitFacts.{StandsIn};
 ghost use Rattle.bx_rows.specs.Lines.{ShowsFace, levels_of, units_at};
 ghost use Rattle.bx_rows.specs.RowPicture.{columns_used};
 ghost use Rattle.std.proofs.Props.{props};

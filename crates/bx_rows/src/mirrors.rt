@@ -3,9 +3,9 @@ ghost use Rattle.std.specs.Prelude.{◌≡◌, ◌∷◌, [], ℕ, IfOk, IfSome,
 ghost use Rattle.std.specs.Cow.{cow_str_bytes};
 ghost use Rattle.bx_ucd.specs.declared.joining.Form.{Form};
 ghost use Rattle.bx_cells.specs.declared.unit.Face.TheVariants.{Own};
-ghost use Rattle.bx_cells.specs.Faces.{face};
-ghost use Rattle.bx_rows.specs.PlainRows.{IsFormless, leveled_glyphs, mirrored_glyphs, single_glyph};
-ghost use Rattle.bx_rows.specs.RowPicture.{glyph, mirror_image, mirror_image_within, mirrored_text};
+ghost use Rattle.bx_cells.specs.Units.{face};
+ghost use Rattle.bx_rows.specs.PlainRows.{IsFormless, leveled_glyphs, mirrored_glyphs, mirrored_text, single_glyph};
+ghost use Rattle.bx_rows.specs.RowPicture.{glyph, mirror_image, mirror_image_within};
 ghost use Rattle.bx_rows.specs.Shown.{glyph_of};
 
 use crate::drawn::Drawn;

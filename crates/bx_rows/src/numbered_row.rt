@@ -2,7 +2,7 @@
 ghost use Rattle.std.specs.Prelude.{◌≡◌, ◌<◌, All, IfOk, length, map, sum_by, true};
 ghost use Rattle.std.specs.Cow.{cow_str_bytes};
 ghost use Rattle.bx_terms.specs.Glyphs.{is_one_glyph, run_width};
-ghost use Rattle.bx_cells.specs.Units.{StandsIn};
+ghost use Rattle.bx_cells.specs.UnitFacts.{StandsIn};
 ghost use Rattle.bx_rows.specs.Lines.{glyphs_at, levels_of, own_glyphs_at, units_at};
 ghost use Rattle.bx_rows.specs.Shown.{glyph_of};
 

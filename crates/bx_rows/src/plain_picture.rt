@@ -7,7 +7,7 @@ ghost use Rattle.bx_rows.specs.PlainRows.{char_forms, leveled_glyphs, single_gly
 ghost use Rattle.bx_rows.specs.RowPicture.{blank};
 ghost use Rattle.bx_rows.specs.RowStarts.{StartsRow};
 ghost use Rattle.bx_rows.specs.Shown.{glyph_of};
-ghost use Rattle.bx_rows.specs.VisualOrder.{visual};
+ghost use Rattle.bx_rows.specs.RowLevels.{visual};
 
 use crate::drawn::{Drawn, RowPicture};
 use crate::glyphs::with_blanks;

@@ -7,7 +7,7 @@ ghost use Rattle.bx_cells.specs.declared.unit.Unit.{Unit};
 ghost use Rattle.bx_cells.specs.Simple.{begins};
 ghost use Rattle.bx_cells.specs.SimpleFace.{simple_face};
 ghost use Rattle.bx_cells.specs.SimpleRanges.{Tells};
-ghost use Rattle.bx_cells.specs.Units.{units_from};
+ghost use Rattle.bx_cells.specs.UnitFacts.{units_from};
 ghost use Rattle.bx_rows.specs.LevelReads.{Reads};
 ghost use Rattle.bx_rows.specs.PlainRows.{AreSingle, IsClusterEnd};
 ghost use Rattle.bx_rows.specs.Lines.{levels_of};

@@ -1,6 +1,6 @@
 //! The units of one row, read from its start, with no other row read.
 ghost use Rattle.std.specs.Prelude.{◌≡◌, ◌≤◌, ◌<◌, All, IfOk, IfSome, length, slice_get};
-ghost use Rattle.bx_cells.specs.Units.{StandsIn};
+ghost use Rattle.bx_cells.specs.UnitFacts.{StandsIn};
 ghost use Rattle.bx_rows.specs.Lines.{ShowsFace, units_at};
 ghost use Rattle.bx_rows.specs.RowStarts.{most_units};
 ghost use Rattle.bx_rows.specs.Shown.{IsRowOf};

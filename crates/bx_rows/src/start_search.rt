@@ -3,7 +3,7 @@ ghost use Rattle.std.specs.Prelude.{◌≡◌, ◌≤◌, ◌<◌, IfOk, List, l
 ghost use Rattle.std.specs.Str.{IsCharBoundary};
 ghost use Rattle.bx_cells.specs.Simple.{own_columns};
 ghost use Rattle.bx_cells.specs.SimpleFace.{simple_face};
-ghost use Rattle.bx_cells.specs.Units.{units_from};
+ghost use Rattle.bx_cells.specs.UnitFacts.{units_from};
 ghost use Rattle.bx_rows.specs.declared.start_search.RowStart.{RowStart};
 ghost use Rattle.bx_rows.specs.RowScan.{HasUnit, IsInOrder, IsRead};
 ghost use Rattle.bx_rows.specs.RowStarts.{row_starts};

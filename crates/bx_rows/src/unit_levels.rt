@@ -1,6 +1,6 @@
 //! The levels of a row's units, by L1: the units are read one after another (`level_read.rt`).
 ghost use Rattle.std.specs.Prelude.{◌≡◌, ◌<◌, All, IfOk, chars, length};
-ghost use Rattle.bx_cells.specs.Units.{StandsIn};
+ghost use Rattle.bx_cells.specs.UnitFacts.{StandsIn};
 ghost use Rattle.bx_rows.specs.RowLevels.{chars_before, row_levels};
 
 use crate::level_read::{read_unit, settle};

@@ -2,7 +2,7 @@
 ghost use Rattle.std.specs.Prelude.{◌≡◌, ◌≤◌, ◌<◌, ℕ, All, IfOk, List, [], length, map, slice_index_or, unwrap_or, None};
 ghost use Rattle.std.specs.List.{range_with_len};
 ghost use Rattle.bx_rows.specs.ReversedRuns.{AgreeUpTo, turned};
-ghost use Rattle.bx_rows.specs.VisualOrder.{highest, lower_odd, lowest_odd, reverse_runs, visual};
+ghost use Rattle.bx_rows.specs.RowLevels.{highest, lower_odd, lowest_odd, reverse_runs, visual};
 
 use bx_terms::OutOfMemory;
 use std::alloc::{AllocError, Global};

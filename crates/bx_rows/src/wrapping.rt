@@ -1,7 +1,7 @@
 //! The columns of a face in its row, and where a row may end: the two questions of wrapping. A row as wrapping defines it, by the
 //! numbers of its units in the body; the editor keeps its `RowStart` instead.
 ghost use Rattle.std.specs.Prelude.{◌≡◌, ◌≤◌};
-ghost use Rattle.bx_cells.specs.Units.{StandsIn};
+ghost use Rattle.bx_cells.specs.UnitFacts.{StandsIn};
 ghost use Rattle.bx_rows.specs.Wrapping.{columns_at, is_blank, is_break};
 
 use bx_cells::{Face, Unit, only_char};

@@ -10,8 +10,7 @@ use Rattle.bx_resolve.specs.Levels.{paragraph_level_under, levels_under}
 use Rattle.bx_cells.specs.declared.unit.Unit.{Unit}
 use Rattle.bx_cells.specs.Units.{units}
 use Rattle.bx_rows.specs.Wrapping.{wrap, row_units}
-use Rattle.bx_rows.specs.RowLevels.{row_levels}
-use Rattle.bx_rows.specs.VisualOrder.{visual}
+use Rattle.bx_rows.specs.RowLevels.{row_levels, visual}
 use Rattle.bx_rows.specs.RowPicture.{Glyph, draw}
 
 -- the same, but the opening parenthesis mirrors to a wide character

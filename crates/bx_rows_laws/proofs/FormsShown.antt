@@ -9,10 +9,8 @@ use Rattle.bx_ucd.specs.Data.{Data}
 use Rattle.bx_ucd.specs.declared.joining.Form.{Form}
 use Rattle.bx_ucd.specs.declared.joining.Form.TheVariants.{Isolated}
 use Rattle.bx_cells.specs.declared.unit.Unit.{Unit}
-use Rattle.bx_cells.specs.Faces.{face}
-use Rattle.bx_cells.specs.Units.{unit_chars, unit_text}
-use Rattle.bx_joining.specs.JoinedText.{in_forms}
-use Rattle.bx_joining.specs.Joining.{body_forms, form_if, forms_behind, joins_after, joins_before}
+use Rattle.bx_cells.specs.Units.{face, unit_chars, unit_text}
+use Rattle.bx_joining.specs.Joining.{in_forms, body_forms, form_if, forms_behind, joins_after, joins_before}
 use Rattle.bx_joining.proofs.FormsAt.{form_between}
 use Rattle.bx_joining.proofs.TextForms.{length-first_forms}
 use Rattle.bx_rows_laws.specs.JoiningLaws.{AreByJoining, GoesByJoining, LettersGoByJoining, ShownLetter, ShowsIfOwn, text_shown}

@@ -14,7 +14,8 @@ use Rattle.bx_cells.specs.Units.{unit_at, unit_text, units}
 use Rattle.bx_cells.proofs.Rest.{cluster-grows, next-cluster, no-cluster, past-all}
 use Rattle.bx_rows.specs.declared.wrapping.Row.{Row}
 use Rattle.bx_rows_laws.specs.Laws.{CutUnits, StandInTurn}
-use Rattle.bx_rows.specs.Wrapping.{FitsWindow, is_break, row_len, row_units, rows_from, rows_of, wrap}
+use Rattle.bx_rows.specs.Wrapping.{is_break, row_len, row_units, rows_from, rows_of, wrap}
+use Rattle.bx_rows.specs.UnitPlaces.{FitsWindow}
 use Rattle.bx_rows.proofs.EachRow.{row-some}
 use Rattle.bx_rows.proofs.RowsFit.{fit-length, fit_if_wrapped, rest-of, row-within}
 

@@ -12,7 +12,8 @@ use Rattle.bx_ucd.specs.declared.joining.Form.{Form}
 use Rattle.bx_cells.specs.declared.unit.Face.{Face}
 use Rattle.bx_cells.specs.declared.unit.Face.TheVariants.{Tab, Mark, Own}
 use Rattle.bx_cells.specs.declared.unit.Unit.{Unit}
-use Rattle.bx_cells.specs.Units.{HasFace, StandsIn, unit_chars, unit_text}
+use Rattle.bx_cells.specs.Units.{unit_chars, unit_text}
+use Rattle.bx_cells.specs.UnitFacts.{HasFace, StandsIn}
 use Rattle.bx_joining.specs.JoinedText.{AreFormless}
 use Rattle.bx_rows.proofs.Leveled.{formless-shown}
 use Rattle.bx_cells.proofs.Printable.{ascii_bytes}
@@ -20,7 +21,7 @@ use Rattle.unicode_width.specs.Width.{str_width}
 use Rattle.unicode_width.proofs.Rules.{str_width-printable}
 use Rattle.bx_rows_laws.specs.JoiningLaws.{FormlessRowsStay, FormsChangeTextsAlone, columns_shown, unjoined}
 use Rattle.bx_rows.specs.RowPicture.{Glyph, blank, columns_used, face_glyphs, glyph, shown_text, text_glyphs, unit_columns, unit_forms, unit_glyphs, with_blanks}
-use Rattle.bx_rows.specs.VisualOrder.{visual}
+use Rattle.bx_rows.specs.RowLevels.{visual}
 use Rattle.bx_rows.proofs.FaceGlyphs.{Tells, tells-face, tells-shown}
 
 -- ---- a unit's columns

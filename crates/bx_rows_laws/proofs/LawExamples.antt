@@ -16,7 +16,8 @@ use Rattle.bx_ucd.specs.SmallTables.{small}
 use Rattle.bx_cells.specs.declared.unit.Face.{Face}
 use Rattle.bx_cells.specs.declared.unit.Face.TheVariants.{Tab, Mark, Own}
 use Rattle.bx_cells.specs.declared.unit.Unit.{Unit}
-use Rattle.bx_cells.specs.Units.{HasFace, StandsIn, unit_chars, unit_text, units}
+use Rattle.bx_cells.specs.Units.{unit_chars, unit_text, units}
+use Rattle.bx_cells.specs.UnitFacts.{HasFace, StandsIn}
 use Rattle.bx_cells.proofs.Rest.{chars_encoded}
 use Rattle.bx_joining.specs.JoinedText.{AreFormless}
 use Rattle.bx_rows.specs.declared.wrapping.Row.{Row}
@@ -30,8 +31,9 @@ use Rattle.bx_rows_laws.specs.OrderLaws.{ShowsLeft, StandsBetween, StandsLeft, S
 use Rattle.bx_rows.specs.RowPicture.{Glyph, blank, columns_used, draw, glyph}
 use Rattle.bx_rows.specs.Shown.{IsRowOf}
 use Rattle.bx_rows.specs.RowStarts.{row_starts}
-use Rattle.bx_rows.specs.VisualOrder.{visual}
-use Rattle.bx_rows.specs.Wrapping.{FitsWindow, columns_at, row_units, wrap}
+use Rattle.bx_rows.specs.RowLevels.{visual}
+use Rattle.bx_rows.specs.Wrapping.{columns_at, row_units, wrap}
+use Rattle.bx_rows.specs.UnitPlaces.{FitsWindow}
 
 -- ---- units
 

@@ -13,14 +13,14 @@ use Rattle.bx_ucd.specs.declared.joining.Form.{Form}
 use Rattle.bx_cells.specs.declared.unit.Face.{Face}
 use Rattle.bx_cells.specs.declared.unit.Face.TheVariants.{Tab, Mark, Own}
 use Rattle.bx_cells.specs.declared.unit.Unit.{Unit}
-use Rattle.bx_cells.specs.Faces.{face}
-use Rattle.bx_cells.specs.Units.{HasFace, StandsIn, unit_text}
-use Rattle.bx_joining.specs.JoinedText.{in_forms}
+use Rattle.bx_cells.specs.Units.{face, unit_text}
+use Rattle.bx_cells.specs.UnitFacts.{HasFace, StandsIn}
+use Rattle.bx_joining.specs.Joining.{in_forms}
 use Rattle.bx_rows_laws.specs.JoiningLaws.{IsSameOrForm, LettersShowTheirForms, ShownLetter, ShowsForms, plain, text_shown, unjoined}
 use Rattle.bx_rows.specs.RowPicture.{Glyph, blank, columns_used, face_glyphs, glyph, is_own, joined_image_within, letter_glyphs, mirror_image_within, mirrored_chars, shown_text}
 use Rattle.bx_rows.specs.RowPicture.{unit_columns, unit_forms, unit_glyphs}
 use Rattle.bx_rows.specs.Shown.{HasLetter}
-use Rattle.bx_rows.specs.VisualOrder.{visual}
+use Rattle.bx_rows.specs.RowLevels.{visual}
 use Rattle.bx_rows.proofs.FaceGlyphs.{letter-face}
 use Rattle.bx_rows.proofs.GlyphTexts.{all-append, printable-from}
 use Rattle.bx_rows.proofs.Leveled.{formless-text, same-either, whole-mirrored}

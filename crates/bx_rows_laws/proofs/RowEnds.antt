@@ -9,7 +9,8 @@ use Rattle.std.proofs.lemmas.List.Sums.{sum_by-cons}
 use Rattle.bx_ucd.specs.Data.{Data}
 use Rattle.bx_cells.specs.declared.unit.Unit.{Unit}
 use Rattle.bx_rows_laws.specs.Laws.{EndsWell, IsFull}
-use Rattle.bx_rows.specs.Wrapping.{FitsWindow, columns_at, fit_count, fit_count_from, is_break, row_len, row_units, rows_from, up_to_break, up_to_last, wrap}
+use Rattle.bx_rows.specs.Wrapping.{columns_at, fit_count, fit_count_from, is_break, row_len, row_units, rows_from, up_to_break, up_to_last, wrap}
+use Rattle.bx_rows.specs.UnitPlaces.{FitsWindow}
 use Rattle.bx_rows.specs.RowPicture.{columns_used, unit_columns}
 use Rattle.bx_rows.proofs.EachRow.{row-some}
 use Rattle.bx_rows.proofs.PictureSums.{sum_by-same}

@@ -14,14 +14,13 @@ use Rattle.unicode_width.proofs.Computing.{unicode_width}
 use Rattle.bx_ucd.specs.SmallTables.{small}
 use Rattle.bx_cells.specs.declared.unit.Face.TheVariants.{Mark, Own}
 use Rattle.bx_cells.specs.declared.unit.Unit.{Unit}
-use Rattle.bx_cells.specs.Units.{StandsIn}
+use Rattle.bx_cells.specs.UnitFacts.{StandsIn}
 use Rattle.bx_rows_laws.specs.JoiningLaws.{AreByJoining, GoesByJoining, IsOwnAtOdd, LettersGoByJoining, ShownLetter, text_shown}
 use Rattle.bx_rows_laws.specs.Laws.{StandInTurn}
-use Rattle.bx_rows.specs.RowLevels.{is_segment_separator, is_trailing, row_levels}
+use Rattle.bx_rows.specs.RowLevels.{is_segment_separator, is_trailing, row_levels, visual}
 use Rattle.bx_rows.specs.RowPicture.{Glyph, draw, glyph, unit_columns, unit_glyphs}
 use Rattle.bx_rows_laws.specs.TouchingLetters.{BeginJoined, BeginsWithLetter, EqualOddLevelsTouch, IsPassedOver, JoinedLettersTouch, LettersKeepLevels}
 use Rattle.bx_rows_laws.specs.TouchingLetters.{PicturesShowTouch, ShowTouch, Touch}
-use Rattle.bx_rows.specs.VisualOrder.{visual}
 
 -- ---- units side by side
 

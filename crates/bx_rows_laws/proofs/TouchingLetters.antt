@@ -13,7 +13,8 @@ use Rattle.bx_ucd.specs.Data.{Data}
 use Rattle.bx_ucd.specs.declared.class.Class.{Class}
 use Rattle.bx_cells.specs.declared.unit.Face.TheVariants.{Tab}
 use Rattle.bx_cells.specs.declared.unit.Unit.{Unit}
-use Rattle.bx_cells.specs.Units.{StandsIn, unit_chars, unit_text}
+use Rattle.bx_cells.specs.Units.{unit_chars, unit_text}
+use Rattle.bx_cells.specs.UnitFacts.{StandsIn}
 use Rattle.bx_joining.specs.Joining.{are_one_odd, is_lower, is_transparent, joins_back, joins_on, none_is_lower}
 use Rattle.bx_rows_laws.specs.Laws.{StandInTurn}
 use Rattle.bx_rows.specs.RowLevels.{CharLevel, chars_before, is_segment_separator, is_trailing, l1, level_at, levels_or_before, only_trailing, row_chars, row_levels, trails, unit_levels}

@@ -5,7 +5,7 @@ use Rattle.std.proofs.lemmas.Grind.{flat_map-append}
 use Rattle.std.proofs.lemmas.List.{append_assoc}
 use Rattle.bx_rows.specs.RowPicture.{Glyph, blank, columns_used, unit_columns, unit_glyphs}
 use Rattle.bx_rows_laws.specs.TouchingLetters.{PicturesShowTouch, ShowTouch}
-use Rattle.bx_rows.specs.VisualOrder.{visual}
+use Rattle.bx_rows.specs.RowLevels.{visual}
 
 pieces-cut : (piece : ℕ → List Glyph) (order front middle back : List ℕ) (i j : ℕ) → order ≡ front ++ (j ∷ (middle ++ (i ∷ back)))
     → flat_map piece order ≡ flat_map piece front ++ (piece j ++ (flat_map piece middle ++ (piece i ++ flat_map piece back)))

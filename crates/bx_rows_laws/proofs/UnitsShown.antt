@@ -12,7 +12,7 @@ use Rattle.bx_ucd.specs.Data.{Data}
 use Rattle.bx_cells.specs.declared.unit.Unit.{Unit}
 use Rattle.bx_rows_laws.specs.OrderLaws.{PicturesGoByLevels, ShowsEachOnce, ShowsLeft, StandsLeft, joined}
 use Rattle.bx_rows.specs.RowPicture.{Glyph, blank, columns_used, draw, unit_columns, unit_glyphs, with_blanks}
-use Rattle.bx_rows.specs.VisualOrder.{visual}
+use Rattle.bx_rows.specs.RowLevels.{visual}
 use Rattle.bx_rows_laws.proofs.LowestLevels.{lowest-order}
 use Rattle.bx_rows.proofs.Permutes.{made-permutes, visual-permutes}
 use Rattle.bx_rows.proofs.Pieces.{pieces-length}

@@ -9,8 +9,8 @@ use Rattle.bx_ucd.specs.declared.joining.Form.{Form}
 use Rattle.bx_ucd.specs.declared.joining.Joining.TheVariants.{U}
 use Rattle.bx_cells.specs.declared.unit.Face.TheVariants.{Own}
 use Rattle.bx_cells.specs.declared.unit.Unit.{Unit}
-use Rattle.bx_cells.specs.Faces.{face}
-use Rattle.bx_cells.specs.Units.{HasFace, StandsIn, unit_chars}
+use Rattle.bx_cells.specs.Units.{face, unit_chars}
+use Rattle.bx_cells.specs.UnitFacts.{HasFace, StandsIn}
 use Rattle.bx_joining.specs.JoinedText.{AreFormless}
 use Rattle.bx_joining.specs.Joining.{Joiner, form_if, joiners, joins_after, joins_before}
 use Rattle.bx_rows.specs.RowPicture.{Glyph, draw, is_own, mirrored_chars, unit_columns, unit_glyphs}

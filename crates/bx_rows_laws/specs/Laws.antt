@@ -8,7 +8,8 @@ use Rattle.bx_rows.specs.declared.start_search.RowStart.{RowStart}
 use Rattle.bx_rows.specs.RowPicture.{columns_used}
 use Rattle.bx_rows.specs.RowStarts.{row_starts}
 use Rattle.bx_rows.specs.Shown.{IsRowOf}
-use Rattle.bx_rows.specs.Wrapping.{FitsWindow, is_break, row_units, wrap}
+use Rattle.bx_rows.specs.Wrapping.{is_break, row_units, wrap}
+use Rattle.bx_rows.specs.UnitPlaces.{FitsWindow}
 use Rattle.bx_rows.specs.LaterRows.{behind, moved}
 
 -- the units of a body joined are the body

@@ -5,7 +5,7 @@ use Rattle.std.specs.List.{between, range_with_len}
 use Rattle.bx_ucd.specs.Data.{Data}
 use Rattle.bx_cells.specs.declared.unit.Unit.{Unit}
 use Rattle.bx_rows.specs.RowPicture.{Glyph, blank, columns_used, draw, unit_columns, unit_glyphs, with_blanks}
-use Rattle.bx_rows.specs.VisualOrder.{visual}
+use Rattle.bx_rows.specs.RowLevels.{visual}
 
 -- a visual order contains each unit's number once
 abbrev pub OrdersArePermutations : Type 0

@@ -5,13 +5,13 @@ use Rattle.std.specs.Prelude.{◌≡◌, ◌+◌, ◌%◌, ◌<◌, ℕ, false, 
 use Rattle.std.specs.List.{zip}
 use Rattle.bx_ucd.specs.Data.{Data}
 use Rattle.bx_cells.specs.declared.unit.Unit.{Unit}
-use Rattle.bx_cells.specs.Units.{StandsIn, unit_chars}
+use Rattle.bx_cells.specs.Units.{unit_chars}
+use Rattle.bx_cells.specs.UnitFacts.{StandsIn}
 use Rattle.bx_joining.specs.Joining.{Joiner, is_transparent, join}
 use Rattle.bx_rows_laws.specs.Laws.{StandInTurn}
 use Rattle.bx_rows_laws.specs.OrderLaws.{AreAtLevel}
-use Rattle.bx_rows.specs.RowLevels.{is_segment_separator, is_trailing, row_levels}
+use Rattle.bx_rows.specs.RowLevels.{is_segment_separator, is_trailing, row_levels, visual}
 use Rattle.bx_rows.specs.RowPicture.{Glyph, draw, unit_columns, unit_glyphs}
-use Rattle.bx_rows.specs.VisualOrder.{visual}
 
 -- in an order of units from left to right, unit `j` is left of `i`, and only units between them in the text are between them
 pub record Touch (order : List ℕ) (i j : ℕ) : Type 0 where

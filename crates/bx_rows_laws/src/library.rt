@@ -2,7 +2,8 @@
 //! rows serve as a library. The editor does not run them: it reads rows through `Lines`.
 ghost use Rattle.std.specs.Prelude.{◌≡◌, ◌≤◌, ◌∷◌, [], All, IfOk, length, true};
 ghost use Rattle.bx_ucd.specs.Data.{Data};
-ghost use Rattle.bx_cells.specs.Units.{HasFace, StandsIn, units};
+ghost use Rattle.bx_cells.specs.Units.{units};
+ghost use Rattle.bx_cells.specs.UnitFacts.{HasFace, StandsIn};
 ghost use Rattle.bx_rows_laws.specs.Laws.{CutUnits};
 ghost use Rattle.bx_rows.specs.RowLevels.{chars_before, row_levels};
 ghost use Rattle.bx_rows.specs.Shown.{IsRowOf};

@@ -8,8 +8,8 @@ use Rattle.bx_text.specs.Edits.{IsRange}
 use Rattle.bx_index.specs.Paragraphs.{lengths}
 use Rattle.bx_index.specs.Positions.{paragraph_of}
 use Rattle.bx_paragraph.specs.BodyRows.{body_rows, first_of}
-use Rattle.bx_paragraph.specs.BodyRows.{row_at as row_at_body, row_of as row_of_body}
-use Rattle.bx_paragraph.specs.Layout.{LayoutState, row_by, rows_by}
+use Rattle.bx_paragraph.specs.BodyRows.{row_at as row_at_body}
+use Rattle.bx_paragraph.specs.Layout.{row_of as row_of_body, LayoutState, row_by, rows_by}
 use Rattle.bx_paragraph.proofs.Starts.{row_count, side-some}
 use Rattle.bx_view.specs.declared.in_row.RowAt.{RowAt}
 use Rattle.bx_view.specs.FoundRow.{StandsOn}

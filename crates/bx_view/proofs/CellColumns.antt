@@ -13,12 +13,13 @@ use Rattle.bx_resolve.specs.Levels.{paragraph_level_under, levels_under}
 use Rattle.bx_cells.specs.declared.unit.Face.{Face}
 use Rattle.bx_cells.specs.declared.unit.Face.TheVariants.{Tab, Mark, Own}
 use Rattle.bx_cells.specs.declared.unit.Unit.{Unit}
-use Rattle.bx_cells.specs.Units.{HasFace, unit_text, units}
+use Rattle.bx_cells.specs.Units.{unit_text, units}
+use Rattle.bx_cells.specs.UnitFacts.{HasFace}
 use Rattle.bx_cells.proofs.Standing.{faces-units}
 use Rattle.bx_rows.specs.declared.wrapping.Row.{Row}
 use Rattle.bx_rows.specs.RowPicture.{columns_used, unit_columns}
 use Rattle.bx_rows.specs.Shown.{IsRowOf}
-use Rattle.bx_rows.specs.VisualOrder.{visual}
+use Rattle.bx_rows.specs.RowLevels.{visual}
 use Rattle.bx_rows.specs.Wrapping.{columns_at, fit_count_from, is_break, row_len, row_units, rows_from, rows_of, wrap}
 use Rattle.bx_rows.proofs.FaceGlyphs.{Tells, tells-face}
 use Rattle.bx_rows.proofs.NumbersBelow.{below_if_visual}
@@ -27,7 +28,8 @@ use Rattle.bx_rows.proofs.Resets.{one_each}
 use Rattle.bx_rows.proofs.RowsFit.{fit_if_wrapped, rest-of, row-within}
 use Rattle.bx_paragraph.specs.declared.slots.Slot.{Slot}
 use Rattle.bx_paragraph.specs.BodyRows.{BodyRow, body_rows, row_with, rows_units}
-use Rattle.bx_paragraph.specs.BodyRows.{row_at as row_at_body, row_of as row_of_body}
+use Rattle.bx_paragraph.specs.BodyRows.{row_at as row_at_body}
+use Rattle.bx_paragraph.specs.Layout.{row_of as row_of_body}
 use Rattle.bx_paragraph.specs.OrderedColumns.{ordered_columns}
 use Rattle.bx_paragraph.specs.Slots.{column_in, end_slot, extent_of, left_column, row_slots, side_by_side, unit_slots}
 use Rattle.bx_paragraph.proofs.LayoutRows.{last-at}

@@ -16,11 +16,12 @@ use Rattle.bx_terms.specs.declared.base.Base.{Base}
 use Rattle.bx_resolve.specs.Levels.{paragraph_level_under, levels_under}
 use Rattle.bx_cells.specs.declared.unit.Face.TheVariants.{Tab}
 use Rattle.bx_cells.specs.declared.unit.Unit.{Unit}
-use Rattle.bx_cells.specs.Units.{HasFace, unit_text, units}
+use Rattle.bx_cells.specs.Units.{unit_text, units}
+use Rattle.bx_cells.specs.UnitFacts.{HasFace}
 use Rattle.bx_cells.proofs.Standing.{faces-units}
 use Rattle.bx_rows.specs.RowPicture.{Glyph, blank, columns_used, unit_columns, unit_glyphs}
 use Rattle.bx_rows.specs.RowPicture.{unit_forms}
-use Rattle.bx_rows.specs.VisualOrder.{visual}
+use Rattle.bx_rows.specs.RowLevels.{visual}
 use Rattle.bx_rows.specs.Wrapping.{columns_at, row_units, wrap}
 use Rattle.bx_rows.proofs.FaceGlyphs.{face-sum, tells-face}
 use Rattle.bx_rows.proofs.NumbersBelow.{below_if_visual}

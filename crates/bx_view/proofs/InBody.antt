@@ -8,7 +8,8 @@ use Rattle.bx_terms.specs.declared.base.Base.{Base}
 use Rattle.bx_cells.specs.Units.{units}
 use Rattle.bx_index.specs.Paragraphs.{Paragraph}
 use Rattle.bx_paragraph.specs.BodyRows.{BodyRow, body_rows, falls_in, first_of, last_of, no_row, offsets_of}
-use Rattle.bx_paragraph.specs.BodyRows.{row_at as row_at_body, row_of as row_of_body}
+use Rattle.bx_paragraph.specs.BodyRows.{row_at as row_at_body}
+use Rattle.bx_paragraph.specs.Layout.{row_of as row_of_body}
 use Rattle.bx_view.specs.BodyPlaces.{body_places, place_in_body}
 use Rattle.bx_view.specs.Moves.{place_from}
 use Rattle.bx_view.specs.TextRows.{TextRow, first, no_text_row, places, places_of, row_at, row_of, text_row}

@@ -9,7 +9,8 @@ use Rattle.bx_terms.specs.declared.base.Base.{Base}
 use Rattle.bx_index.specs.Paragraphs.{Paragraph, lengths_of, paragraphs}
 use Rattle.bx_index.specs.Positions.{bytes_of, total}
 use Rattle.bx_paragraph.specs.BodyRows.{BodyRow, body_rows, first_of, no_row}
-use Rattle.bx_paragraph.specs.BodyRows.{row_at as row_at_body, row_of as row_of_body}
+use Rattle.bx_paragraph.specs.BodyRows.{row_at as row_at_body}
+use Rattle.bx_paragraph.specs.Layout.{row_of as row_of_body}
 use Rattle.bx_view.specs.TextRows.{TextRow, first, no_text_row, row_at, row_of, rows_from, text_row, text_rows}
 use Rattle.bx_view.proofs.Parts.{AreEnded, AreUtf8}
 use Rattle.bx_view.proofs.Rising.{Rises, all-rank, rank, rank-append, rank-few, rank-first, none-rank, rises-append, rises-further, rises-moved}

@@ -7,7 +7,7 @@ use Rattle.std.proofs.lemmas.List.Folds.{sum_by-replicate}
 use Rattle.std.proofs.lemmas.List.Sums.{sum_by-append}
 use Rattle.bx_ucd.specs.Data.{Data}
 use Rattle.bx_rows.specs.RowPicture.{Glyph, blank, columns_used, unit_columns}
-use Rattle.bx_rows.specs.VisualOrder.{visual}
+use Rattle.bx_rows.specs.RowLevels.{visual}
 use Rattle.bx_rows.proofs.PictureLaws.{columns_of_glyphs}
 use Rattle.bx_paragraph.specs.declared.slots.Slot.{Slot}
 use Rattle.bx_paragraph.specs.Slots.{extent_of, side_by_side, slot, unit_slots}

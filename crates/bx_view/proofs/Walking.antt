@@ -8,7 +8,8 @@ use Rattle.bx_text.specs.Edits.{IsRange}
 use Rattle.bx_index.specs.Paragraphs.{Paragraph, bare, lengths, lengths_of, paragraphs}
 use Rattle.bx_index.specs.Positions.{bytes_of, paragraph_of, total}
 use Rattle.bx_paragraph.specs.BodyRows.{BodyRow, body_rows, no_row}
-use Rattle.bx_paragraph.specs.BodyRows.{row_at as row_at_body, row_of as row_of_body, first_of as first_of_body}
+use Rattle.bx_paragraph.specs.BodyRows.{row_at as row_at_body, first_of as first_of_body}
+use Rattle.bx_paragraph.specs.Layout.{row_of as row_of_body}
 use Rattle.bx_paragraph.specs.Slots.{column_of}
 use Rattle.bx_view.specs.Standing.{IsRow, body_at, count, paragraph_at, rows_ahead, rows_in, start_at}
 use Rattle.bx_view.specs.TextRows.{TextRow, cell_of, first, no_text_row, row_at, row_of, text_row, text_rows}

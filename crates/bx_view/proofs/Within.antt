@@ -10,10 +10,11 @@ use Rattle.bx_ucd.specs.Data.{Data}
 use Rattle.bx_terms.specs.declared.base.Base.{Base}
 use Rattle.bx_resolve.specs.Levels.{paragraph_level_under, levels_under}
 use Rattle.bx_cells.specs.declared.unit.Unit.{Unit}
-use Rattle.bx_cells.specs.Units.{StandsIn, units}
+use Rattle.bx_cells.specs.Units.{units}
+use Rattle.bx_cells.specs.UnitFacts.{StandsIn}
 use Rattle.bx_cells.proofs.Standing.{stand_if_units}
 use Rattle.bx_rows.specs.RowPicture.{unit_columns}
-use Rattle.bx_rows.specs.VisualOrder.{visual}
+use Rattle.bx_rows.specs.RowLevels.{visual}
 use Rattle.bx_rows.specs.Wrapping.{row_units, wrap}
 use Rattle.bx_rows.specs.declared.wrapping.Row.{Row}
 use Rattle.bx_rows.proofs.PictureLaws.{faces-row}

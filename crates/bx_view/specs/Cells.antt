@@ -6,7 +6,7 @@ use Rattle.bx_ucd.specs.Data.{Data}
 use Rattle.bx_ucd.specs.declared.joining.Form.{Form}
 use Rattle.bx_ucd.specs.declared.joining.Joining.{Joining}
 use Rattle.bx_rows.specs.RowPicture.{Glyph, blank, columns_used, unit_columns, unit_glyphs}
-use Rattle.bx_rows.specs.VisualOrder.{visual}
+use Rattle.bx_rows.specs.RowLevels.{visual}
 use Rattle.bx_paragraph.specs.BodyRows.{BodyRow}
 use Rattle.bx_paragraph.specs.Slots.{end_column}
 use Rattle.bx_view.specs.Moves.{entry_in}

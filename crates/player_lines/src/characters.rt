@@ -1,6 +1,6 @@
 //! Characters given by their codes, and what is found for a paragraph of them: levels, the order in one row, clusters.
 ghost use Rattle.std.specs.Prelude.{All, IfOk};
-ghost use Rattle.bx_cells.specs.Units.{StandsIn};
+ghost use Rattle.bx_cells.specs.UnitFacts.{StandsIn};
 
 use crate::words::{WordFault, count_of, field};
 use crate::writing::{add_blank, add_none};

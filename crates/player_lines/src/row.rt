@@ -1,6 +1,6 @@
 //! A row of a text in a window.
 ghost use Rattle.std.specs.Prelude.{All};
-ghost use Rattle.bx_cells.specs.Units.{StandsIn};
+ghost use Rattle.bx_cells.specs.UnitFacts.{StandsIn};
 ghost use Rattle.bx_paragraph.specs.Layout.{IsLayoutBy};
 
 use crate::words::{WordFault, bytes_of, count_of, field, side_of};

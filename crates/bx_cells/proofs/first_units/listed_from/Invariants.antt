@@ -1,7 +1,7 @@
 -- The units so far, and the first units of the rest, are the first units from the offset on.
 use Rattle.std.proofs.Common.{◌≡◌, ◌≤◌, ◌++◌, ◌-◌, length, take}
 use Rattle.std.specs.Str.{IsCharBoundary}
-use Rattle.bx_cells.specs.Units.{units_from}
+use Rattle.bx_cells.specs.UnitFacts.{units_from}
 use Rattle.bx_cells.proofs.first_units.listed_from.Given as goal
 
 abbrev pub invariant-loop-range : goal.invariant-loop-range

@@ -1,6 +1,7 @@
 -- The types done so far, and the result of the rules on the rest.
 use Rattle.std.proofs.Common.{◌≡◌, ◌++◌, take, drop, MatchOption}
-use Rattle.bx_resolve.specs.Neutral.{n1, side, all_taken}
+use Rattle.bx_resolve.specs.Neutral.{n1, side}
+use Rattle.bx_resolve.specs.Kept.{all_taken}
 use Rattle.bx_resolve.proofs.Run.{run, next_neutral}
 use Rattle.bx_resolve.proofs.Fused.{out_taken}
 use Rattle.bx_resolve.proofs.neutral.resolve_neutrals.Given as goal

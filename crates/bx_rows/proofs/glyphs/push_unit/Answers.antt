@@ -1,7 +1,8 @@
 use Rattle.std.proofs.Common.{◌≡◌, ◌<◌, ◌++◌, ◌∙◌, All, length, get_or, map, refl, sym, subst, ap}
 use Rattle.std.specs.Prelude.{OnOk}
 use Rattle.bx_cells.specs.declared.unit.Face.TheVariants.{Tab, Mark, Own}
-use Rattle.bx_cells.specs.Units.{HasFace, StandsIn, unit_text}
+use Rattle.bx_cells.specs.Units.{unit_text}
+use Rattle.bx_cells.specs.UnitFacts.{HasFace, StandsIn}
 use Rattle.bx_rows.specs.RowPicture.{text_glyphs}
 use Rattle.bx_rows.specs.Shown.{HasLetter, glyph_of}
 use Rattle.bx_rows.proofs.FaceGlyphs.{letter-face}

@@ -1,5 +1,5 @@
 use Rattle.std.proofs.Common.{sym, ap, subst, ◌∙◌}
-use Rattle.bx_cells.specs.Units.{units_from}
+use Rattle.bx_cells.specs.UnitFacts.{units_from}
 use Rattle.bx_rows.specs.RowScan.{IsRead}
 use Rattle.bx_rows.proofs.start_search.read_unit.Goals as goal
 

@@ -2,7 +2,7 @@
 use Rattle.std.proofs.Common.{List, All, subst, sym}
 use Rattle.std.proofs.lemmas.List.Elements.{All-push}
 use Rattle.bx_cells.specs.declared.unit.Unit.{Unit}
-use Rattle.bx_cells.specs.Units.{StandsIn}
+use Rattle.bx_cells.specs.UnitFacts.{StandsIn}
 use Rattle.player_lines.proofs.characters.character_units.Goals as goal
 
 pub loop-start-preserved : goal.loop-start-preserved
