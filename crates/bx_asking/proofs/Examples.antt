@@ -2,10 +2,8 @@
 use Rattle.std.proofs.Common.{◌≡◌, ℕ, true, false, Bool, List, [], ◌∷◌, ◌++◌, map, replicate, Option, Some, None, refl, length}
 use Rattle.std.specs.Prelude.{codes}
 use Rattle.bx_asking.specs.declared.line.Target.{Target}
-use Rattle.bx_asking.specs.Answers.{lengthened, shortened}
-use Rattle.bx_asking.specs.Line.{asked, digit_of, is_line_letter}
-use Rattle.bx_asking.specs.Names.{named, closing, asks_code}
-use Rattle.bx_asking.specs.Codes.{coded, is_code_letter}
+use Rattle.bx_asking.specs.Answers.{lengthened, shortened, asked, digit_of, is_line_letter}
+use Rattle.bx_asking.specs.Names.{named, closing, asks_code, coded, is_code_letter}
 use Rattle.std.specs.Str.{chars}
 use Rattle.std.specs.Char.{encode_utf8}
 

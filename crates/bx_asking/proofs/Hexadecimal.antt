@@ -5,7 +5,7 @@ use Rattle.std.specs.List.{list_all}
 use Rattle.std.specs.Str.Parse.{AllDigits, IsNumeral, digits_value, without_leading_plus}
 use Rattle.std.proofs.lemmas.Bool.{and_parts, ltb-true, lt-leb}
 use Rattle.std.proofs.lemmas.Bool.Decides.{leb_tells, eqb_tells}
-use Rattle.bx_asking.specs.Codes.{is_code_letter, is_code, is_scalar, coded}
+use Rattle.bx_asking.specs.Names.{is_code_letter, is_code, is_scalar, coded}
 
 all-digits : (ds : List ℕ) → list_all is_code_letter ds ≡ true → AllDigits 16 ds
 all-digits [] h = tt

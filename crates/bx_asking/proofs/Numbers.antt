@@ -3,7 +3,7 @@ use Rattle.std.proofs.Common.{◌≡◌, ℕ, zero, suc, ◌+◌, ◌-◌, ◌*�
 use Rattle.std.specs.Prelude.{IfSome, unwrap_or}
 use Rattle.std.specs.List.{after_first, before_first, position_or_len}
 use Rattle.std.proofs.lemmas.Bool.Decides.{nat_tests}
-use Rattle.bx_asking.specs.Line.{digit_of, is_divider, with_digit}
+use Rattle.bx_asking.specs.Answers.{digit_of, is_divider, with_digit}
 
 -- ---- how large a number of i digits is
 

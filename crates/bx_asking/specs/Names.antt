@@ -1,6 +1,11 @@
--- The answer to the question for a character by a letter that names it.
-use Rattle.std.specs.Prelude.{ℕ, ◌==◌, ◌||◌, Bool, List, [], ◌∷◌, find, Option}
+-- The answer to the question for a character: a letter that names it, or its code.
+use Rattle.std.specs.Prelude.{ℕ, ◌==◌, ◌||◌, Bool, List, [], ◌∷◌, find, Option, ◌&&◌, not, nat_le, nat_lt, length, Some, None}
 use Rattle.std.specs.Option.{option_map}
+use Rattle.std.specs.Prelude.{if◌then◌else◌}
+use Rattle.std.specs.List.{list_all}
+use Rattle.std.specs.Char.{is_digit}
+use Rattle.std.specs.Str.Parse.{digits_value}
+use Rattle.bx_terms.specs.Characters.{is_surrogate}
 
 -- the second of the first pair that has a letter as its first; None if no pair has
 abbrev pub beside : ℕ → List (ℕ × ℕ) → Option ℕ
@@ -29,3 +34,21 @@ closing letter = beside letter closings
 -- u or +, which asks for a code
 abbrev pub asks_code : ℕ → Bool
 asks_code letter = (letter == 0x75) || (letter == 0x2B)
+
+-- ---- by its code
+
+-- a hexadecimal digit of either case
+abbrev pub is_code_letter : ℕ → Bool
+is_code_letter c = is_digit c 16
+
+-- Unicode's scalar values: the codes up to 10FFFF but for surrogates
+abbrev pub is_scalar : ℕ → Bool
+is_scalar code = nat_le code 0x10FFFF && not (is_surrogate code)
+
+-- hexadecimal digits, one at least
+abbrev pub is_code : List ℕ → Bool
+is_code answer = nat_lt 0 (length answer) && list_all is_code_letter answer
+
+-- the character whose code an answer writes; None if there is none
+abbrev pub coded : List ℕ → Option ℕ
+coded answer = if is_code answer && is_scalar (digits_value 16 answer) then Some (digits_value 16 answer) else None

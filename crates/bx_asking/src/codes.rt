@@ -1,7 +1,7 @@
 //! The answer to the question for a character by its code.
 ghost use Rattle.std.specs.Prelude.{◌≡◌};
 ghost use Rattle.std.specs.List.{list_all};
-ghost use Rattle.bx_asking.specs.Codes.{coded, is_code_letter};
+ghost use Rattle.bx_asking.specs.Names.{coded, is_code_letter};
 
 /// Whether a character may stand in a code: a hexadecimal digit of ASCII, of either case.
 pub fn is_code_letter(c: char) -> bool

@@ -2,7 +2,7 @@
 ghost use Rattle.std.specs.Prelude.{◌≡◌, ◌≤◌, ◌<◌, ◌^◌, None, max, chars, fold, length, unwrap_or};
 ghost use Rattle.std.specs.List.{after_first, before_first, list_any};
 ghost use Rattle.std.specs.Option.{option_map};
-ghost use Rattle.bx_asking.specs.Line.{asked, digit_of, has_digit, is_digit, is_divider, is_line_letter, with_digit};
+ghost use Rattle.bx_asking.specs.Answers.{asked, digit_of, has_digit, is_digit, is_divider, is_line_letter, with_digit};
 
 use bx_terms::first_char;
 

@@ -1,7 +1,8 @@
 -- Bytes are removed, and others inserted where they stood: the text and the place are those after one edit.
 use Rattle.std.proofs.Common.{◌≡◌, ℕ, ◌<◌, ◌≤◌, List, [], ◌∷◌, ◌++◌, ◌+◌, length, take, drop, append-nil, sym, ap, ap₂, ◌∙◌, arith}
 use Rattle.std.proofs.lemmas.List.{drop_at, length-take-le, take_at}
-use Rattle.bx_text.specs.Edits.{Edited, exchanged, splice}
+use Rattle.bx_text.specs.Edits.{Edited, splice}
+use Rattle.bx_text.specs.Changes.{exchanged}
 use Rattle.bx_ucd.specs.Data.{Data}
 use Rattle.bx_view.specs.Moves.{place_from}
 use Rattle.bx_document.specs.Document.{Document, DocumentState, after_exchange, place_after, rows_of}

@@ -7,11 +7,11 @@ use Rattle.std.proofs.lemmas.Bool.Decides.{nat_tests}
 use Rattle.std.proofs.lemmas.List.{drop_at, get_or-map, get_or-take, get_or_append_left}
 use Rattle.std.proofs.lemmas.Option.{same_Some}
 use Rattle.bx_ucd.specs.Data.{Data}
-use Rattle.bx_text.specs.Edits.{IsRange}
+use Rattle.bx_text.specs.Changes.{IsRange}
 use Rattle.bx_index.specs.declared.lengths.Lengths.{Lengths}
 use Rattle.bx_index.specs.Laws.{EachEnds, IsSeparator}
-use Rattle.bx_index.specs.Paragraphs.{Paragraph, bare, lengths, lengths_of, paragraphs}
-use Rattle.bx_index.specs.Positions.{separators, spans}
+use Rattle.bx_index.specs.Paragraphs.{Paragraph, bare, lengths, lengths_of, paragraphs, spans}
+use Rattle.bx_index.specs.Walk.{separators}
 use Rattle.bx_index.proofs.Asked.{separator_at}
 use Rattle.bx_index.proofs.Bodies.{end_with_separators}
 use Rattle.bx_view.specs.Standing.{body_at, count, paragraph_at}

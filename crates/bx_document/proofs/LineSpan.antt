@@ -1,10 +1,9 @@
 -- The line of an offset, from the paragraph index.
 use Rattle.std.proofs.Common.{◌≡◌, ℕ, List, Some, IsUtf8, IsCharBoundary, refl, sym, ap₂, subst, slice_get, arith}
 use Rattle.bx_ucd.specs.Data.{Data}
-use Rattle.bx_text.specs.Edits.{IsRange}
+use Rattle.bx_text.specs.Changes.{IsRange}
 use Rattle.bx_index.specs.declared.lengths.Lengths.{Lengths}
-use Rattle.bx_index.specs.Paragraphs.{lengths}
-use Rattle.bx_index.specs.Positions.{paragraph_of, spans}
+use Rattle.bx_index.specs.Paragraphs.{lengths, paragraph_of, spans}
 use Rattle.bx_view.specs.Standing.{start_at}
 use Rattle.bx_view.proofs.Begins.{begin_at}
 use Rattle.bx_view.proofs.Numbers.{falls-at}

@@ -2,7 +2,8 @@
 use Rattle.std.proofs.Common.{◌≡◌, ℕ, ◌+◌, ◌-◌, ◌<◌, ◌≤◌, true, List, length, IsUtf8, IsCharBoundary, sym, ap, subst, ◌∙◌, arith}
 use Rattle.bx_terms.specs.Characters.{is_side}
 use Rattle.bx_ucd.specs.Data.{Data}
-use Rattle.bx_text.specs.Edits.{IsRange, splice}
+use Rattle.bx_text.specs.Edits.{splice}
+use Rattle.bx_text.specs.Changes.{IsRange}
 use Rattle.bx_view.specs.Moves.{place_at}
 use Rattle.bx_view.specs.Places.{IsTextPlace}
 use Rattle.bx_view.specs.FoundRow.{rows_by}

@@ -11,8 +11,7 @@ use Rattle.bx_terms.specs.declared.base.Base.{Base}
 use Rattle.unicode_segmentation.specs.Grapheme.{graphemes, is_grapheme_break}
 use Rattle.unicode_segmentation.proofs.SegmentsLemmas.{concat-segments}
 use Rattle.bx_index.specs.declared.lengths.Lengths.{Lengths}
-use Rattle.bx_index.specs.Paragraphs.{bare, lengths, lengths_of, paragraphs}
-use Rattle.bx_index.specs.Positions.{bytes_of, paragraph_of, total}
+use Rattle.bx_index.specs.Paragraphs.{bare, lengths, lengths_of, paragraphs, bytes_of, paragraph_of, total}
 use Rattle.bx_index.proofs.Totals.{total_more}
 use Rattle.bx_resolve.specs.Levels.{levels_under}
 use Rattle.bx_rows.specs.RowLevels.{first_level}

@@ -8,9 +8,10 @@ use Rattle.std.proofs.lemmas.List.Elements.{All-cons, All-head, All-nil, All-tai
 use Rattle.std.proofs.lemmas.Option.{none-some, same_Some}
 use Rattle.bx_ucd.specs.Data.{Data}
 use Rattle.bx_text.specs.declared.change.Change.{Change}
-use Rattle.bx_text.specs.Edits.{Edit, Edited, change_back, change_of, edit_of, first_again, first_back}
-use Rattle.bx_text.specs.Edits.{exchanged, inserted, redone, redone_in, removed, replaced, splice, undone, undone_in, wrapped}
-use Rattle.bx_text.specs.Times.{merged, next_redos, next_undos, redone_times, undone_times}
+use Rattle.bx_text.specs.Edits.{Edit, Edited, change_back, change_of, edit_of, inserted, redone}
+use Rattle.bx_text.specs.Changes.{first_again, first_back, exchanged}
+use Rattle.bx_text.specs.Edits.{redone_in, removed, replaced, splice, undone, undone_in, wrapped, merged, next_redos, next_undos}
+use Rattle.bx_text.specs.Edits.{redone_times, undone_times}
 use Rattle.bx_text.proofs.UndoneTimes.{no_redo, no_undo, nothing_redone, nothing_undone}
 use Rattle.bx_view.specs.Places.{IsTextPlace}
 use Rattle.bx_document.specs.declared.history.HistoryStep.{HistoryStep}

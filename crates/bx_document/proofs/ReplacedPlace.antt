@@ -6,7 +6,8 @@ use Rattle.std.proofs.lemmas.Str.{IsUtf8-nil}
 use Rattle.std.proofs.lemmas.List.{drop-drop, drop_at, length-take-le, take-append-drop, take_at}
 use Rattle.bx_terms.specs.Characters.{is_side}
 use Rattle.bx_terms.specs.declared.base.Base.{Base}
-use Rattle.bx_text.specs.Edits.{IsRange, fits, largest_text, splice}
+use Rattle.bx_text.specs.Edits.{fits, largest_text, splice}
+use Rattle.bx_text.specs.Changes.{IsRange}
 use Rattle.bx_text.proofs.Without.{behind as bound_behind}
 use Rattle.bx_ucd.specs.Data.{Data}
 use Rattle.bx_view.specs.Moves.{place_from}

@@ -3,11 +3,10 @@ use Rattle.std.proofs.Common.{◌≡◌, ℕ, ◌+◌, ◌-◌, ◌<◌, ◌≤�
 use Rattle.std.proofs.Common.{sym, ap, subst, ◌∙◌, arith}
 use Rattle.std.proofs.lemmas.Option.{same_Some, some_pair_parts}
 use Rattle.bx_ucd.specs.Data.{Data}
-use Rattle.bx_text.specs.Edits.{IsRange}
+use Rattle.bx_text.specs.Changes.{IsRange}
 use Rattle.bx_index.specs.declared.lengths.Lengths.{Lengths}
-use Rattle.bx_index.specs.Paragraphs.{lengths}
-use Rattle.bx_index.specs.Positions.{paragraph_of, separators, spans, total}
-use Rattle.bx_index.specs.Walk.{WalkState}
+use Rattle.bx_index.specs.Paragraphs.{lengths, paragraph_of, spans, total}
+use Rattle.bx_index.specs.Walk.{separators, WalkState}
 use Rattle.bx_index.proofs.Asked.{separator_at, span_at}
 use Rattle.bx_index.proofs.Totals.{total_more}
 use Rattle.bx_view.specs.Standing.{start_at}

@@ -2,8 +2,8 @@
 -- follow.
 use Rattle.std.specs.Prelude.{ℕ, Option}
 use Rattle.bx_text.specs.declared.change.Change.{Change}
-use Rattle.bx_text.specs.Edits.{Edited, next_redo, next_undo, redone, undone}
-use Rattle.bx_text.specs.Times.{next_redos, next_undos, redone_times, undone_times}
+use Rattle.bx_text.specs.Edits.{Edited, redone, undone, next_redos, next_undos, redone_times, undone_times}
+use Rattle.bx_text.specs.Changes.{next_redo, next_undo}
 use Rattle.bx_document.specs.declared.history.HistoryStep.{HistoryStep}
 use Rattle.bx_document.specs.declared.history.HistoryStep.TheVariants.{Undo, Redo}
 

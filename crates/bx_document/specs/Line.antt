@@ -2,8 +2,7 @@
 -- tables say.
 use Rattle.std.specs.Prelude.{ℕ, ◌+◌, List, take}
 use Rattle.bx_ucd.specs.Data.{Data}
-use Rattle.bx_index.specs.Paragraphs.{lengths}
-use Rattle.bx_index.specs.Positions.{paragraph_of, total}
+use Rattle.bx_index.specs.Paragraphs.{lengths, paragraph_of, total}
 
 -- the offset at which paragraph `number`, from 0, begins; for a number past the last paragraph, the text's end
 abbrev pub begin_of : Data → List ℕ → ℕ → ℕ

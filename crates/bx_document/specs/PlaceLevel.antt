@@ -5,8 +5,7 @@ use Rattle.std.specs.List.{concat}
 use Rattle.bx_ucd.specs.Data.{Data}
 use Rattle.bx_terms.specs.declared.base.Base.{Base}
 use Rattle.unicode_segmentation.specs.Grapheme.{graphemes}
-use Rattle.bx_index.specs.Paragraphs.{lengths}
-use Rattle.bx_index.specs.Positions.{paragraph_of}
+use Rattle.bx_index.specs.Paragraphs.{lengths, paragraph_of}
 use Rattle.bx_resolve.specs.Levels.{levels_under}
 use Rattle.bx_rows.specs.RowLevels.{first_level}
 use Rattle.bx_view.specs.Standing.{body_at, count, start_at}

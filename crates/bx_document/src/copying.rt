@@ -1,6 +1,6 @@
 //! Copies of parts of the text, and the line of a place.
 ghost use Rattle.std.specs.Prelude.{◌≡◌, IfOk, IsCharBoundary, slice_range, string_bytes};
-ghost use Rattle.bx_text.specs.Edits.{IsRange};
+ghost use Rattle.bx_text.specs.Changes.{IsRange};
 ghost use Rattle.bx_view.specs.Places.{IsTextPlace};
 ghost use Rattle.bx_view.specs.Source.{bytes};
 ghost use Rattle.bx_document.specs.Line.{line_of};

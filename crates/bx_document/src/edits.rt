@@ -1,7 +1,8 @@
 //! Insertions and removals, each with the cursor's place after it. Each allocates first and then changes the text.
 ghost use Rattle.std.specs.Prelude.{◌≡◌, ℕ, List, [], ◌++◌, ◌+◌, ◌-◌, ◌≤◌, IsCharBoundary, length, slice_range, string_bytes, Some, true, false};
 ghost use Rattle.std.specs.Prelude.{IfOk, IfSome, IsErrOf, IsUtf8, MatchOption, OnErr, OnOk};
-ghost use Rattle.bx_text.specs.Edits.{IsRange, fits, fits_both, largest_text, splice};
+ghost use Rattle.bx_text.specs.Edits.{fits, fits_both, largest_text, splice};
+ghost use Rattle.bx_text.specs.Changes.{IsRange};
 ghost use Rattle.bx_view.specs.Moves.{place_at};
 ghost use Rattle.bx_view.specs.Places.{IsTextPlace};
 ghost use Rattle.bx_document.specs.Document.{after_exchange, after_insertion, after_removal, after_replacement, after_wrap, place_after};

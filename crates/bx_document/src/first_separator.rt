@@ -1,6 +1,7 @@
 //! Whether the text's first separator is CR LF, also where a part of the text is left out.
 ghost use Rattle.std.specs.Prelude.{◌≡◌, ◌++◌, ◌∷◌, [], ℕ, List, chars, slice_range};
-ghost use Rattle.bx_text.specs.Edits.{IsRange, splice};
+ghost use Rattle.bx_text.specs.Edits.{splice};
+ghost use Rattle.bx_text.specs.Changes.{IsRange};
 ghost use Rattle.bx_document.specs.FirstSeparator.{has_crlf_first};
 ghost use Rattle.bx_ucd.specs.Data.{Data};
 ghost use Rattle.bx_document.specs.SeparatorReads.{crlf_from};

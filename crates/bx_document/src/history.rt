@@ -1,6 +1,6 @@
 //! Undo and redo: text and index change first, then the view follows in the paragraph that it has cached.
 ghost use Rattle.std.specs.Prelude.{◌≡◌, IfOk, IfSome, OnErr, OnOk, length, option_map};
-ghost use Rattle.bx_text.specs.Edits.{IsChange};
+ghost use Rattle.bx_text.specs.Changes.{IsChange};
 ghost use Rattle.bx_view.specs.Caching.{IsViewBy, Keeps};
 ghost use Rattle.bx_view.specs.Places.{IsTextPlace};
 ghost use Rattle.bx_document.specs.History.{next_change, next_changes, stepped, stepped_times};

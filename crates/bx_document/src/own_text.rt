@@ -4,7 +4,8 @@ ghost use Rattle.std.specs.Iterator.{Drains};
 ghost use Rattle.std.specs.Prelude.{◌≡◌, ◌+◌, ◌-◌, ◌<◌, ◌≤◌, ◌↔◌, ℕ, List, Some, true, drop, length, slice_range, string_bytes, take};
 ghost use Rattle.std.specs.Prelude.{IfOk, IsErrOf, IsUtf8, OnErr, OnOk};
 ghost use Rattle.bx_index.specs.Paragraphs.{lengths};
-ghost use Rattle.bx_text.specs.Edits.{IsChange, IsRange, exchanged, fits_both, inserted, largest_text, opened, removed, wrapped};
+ghost use Rattle.bx_text.specs.Edits.{fits_both, inserted, largest_text, opened, removed, wrapped};
+ghost use Rattle.bx_text.specs.Changes.{IsChange, IsRange, exchanged};
 ghost use Rattle.bx_text.specs.Slices.{joined, lends};
 ghost use Rattle.bx_document.specs.History.{next_changes, stepped_times};
 

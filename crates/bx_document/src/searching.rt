@@ -1,9 +1,9 @@
 //! The search of the text for a query, and the place of an offset.
 ghost use Rattle.std.specs.Prelude.{◌≡◌, ◌≤◌, ◌<◌, ◌↔◌, ◌∷◌, [], None, chars, length, IfOk, IfSome, IsCharBoundary, IsNone, IsUtf8, MatchOption};
 ghost use Rattle.bx_find.specs.Letters.{letters};
-ghost use Rattle.bx_find.specs.Matches.{first_from, last_before};
-ghost use Rattle.bx_find.specs.Spans.{match_end, spans_from};
-ghost use Rattle.bx_text.specs.Edits.{IsRange, largest_text};
+ghost use Rattle.bx_find.specs.Matches.{first_from, last_before, match_end, spans_from};
+ghost use Rattle.bx_text.specs.Edits.{largest_text};
+ghost use Rattle.bx_text.specs.Changes.{IsRange};
 ghost use Rattle.bx_view.specs.Moves.{place_at};
 ghost use Rattle.bx_view.specs.Places.{IsTextPlace};
 ghost use Rattle.bx_document.specs.Document.{rows};

@@ -1,7 +1,8 @@
 //! All matches of a query from an offset on, with another text in place of each: the text that replaces them at once.
 ghost use Rattle.std.specs.Prelude.{◌≡◌, ◌-◌, ◌^◌, ◌++◌, ℕ, List, length, min, IfOk, IfSome, MatchOption, IsCharBoundary, slice_range, string_bytes, false, true};
-ghost use Rattle.bx_find.specs.Spans.{spans_from};
-ghost use Rattle.bx_text.specs.Edits.{IsRange, fits};
+ghost use Rattle.bx_find.specs.Matches.{spans_from};
+ghost use Rattle.bx_text.specs.Edits.{fits};
+ghost use Rattle.bx_text.specs.Changes.{IsRange};
 ghost use Rattle.bx_document.specs.Swapped.{last_stop, swapped};
 
 use crate::document::Document;

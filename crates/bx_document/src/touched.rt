@@ -2,7 +2,8 @@
 ghost use Rattle.std.specs.Prelude.{◌≡◌, ◌≤◌, ◌<◌, ◌+◌, true, IfOk, IsCharBoundary, OnOk, length, string_bytes};
 ghost use Rattle.bx_terms.specs.Characters.{is_side};
 ghost use Rattle.bx_index.specs.Paragraphs.{lengths};
-ghost use Rattle.bx_text.specs.Edits.{IsRange, fits, splice};
+ghost use Rattle.bx_text.specs.Edits.{fits, splice};
+ghost use Rattle.bx_text.specs.Changes.{IsRange};
 ghost use Rattle.bx_view.specs.FoundRow.{rows_by};
 ghost use Rattle.bx_view.specs.Caching.{IsViewBy, Keeps};
 ghost use Rattle.bx_view.specs.Moves.{place_at, place_from};

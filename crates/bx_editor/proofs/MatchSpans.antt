@@ -2,8 +2,7 @@
 use Rattle.std.proofs.Common.{◌≡◌, ◌≤◌, ◌+◌, ◌∙◌, ℕ, List, [], ◌∷◌, length, refl, ap, sym, arith, IsUtf8}
 use Rattle.std.specs.Prelude.{Option, Some, None}
 use Rattle.bx_ucd.specs.Data.{Data}
-use Rattle.bx_find.specs.Matches.{first_from}
-use Rattle.bx_find.specs.Spans.{match_end, spans_from}
+use Rattle.bx_find.specs.Matches.{first_from, match_end, spans_from}
 use Rattle.bx_find.specs.declared.letters.Reading.{Reading}
 use Rattle.bx_find.proofs.SpansOf.{none_found, span_found}
 use Rattle.bx_document.specs.Swapped.{last_stop}

@@ -6,7 +6,8 @@ use Rattle.bx_ucd.specs.Data.{Data}
 use Rattle.bx_find.specs.Matches.{is_match, matches, first_from}
 use Rattle.bx_find.specs.declared.letters.Reading.{Reading}
 use Rattle.bx_find.proofs.Offsets.{from_offset, matches-here, matches-not, matches-placed}
-use Rattle.bx_text.specs.Edits.{IsRange, splice}
+use Rattle.bx_text.specs.Edits.{splice}
+use Rattle.bx_text.specs.Changes.{IsRange}
 use Rattle.bx_text.proofs.Characters.{IsRange-splice}
 use Rattle.bx_text.proofs.Versions.{splice_after}
 use Rattle.bx_document.proofs.TouchedPlace.{splice_utf8}

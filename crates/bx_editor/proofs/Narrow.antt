@@ -12,9 +12,8 @@ use Rattle.bx_terms.specs.Glyphs.{is_one_glyph, run_width}
 use Rattle.bx_grid.proofs.Laid.{plain_run_width}
 use Rattle.bx_cells.proofs.Rest.{chars_encoded}
 use Rattle.bx_asking.proofs.OneMore.{one_more}
-use Rattle.bx_asking.specs.Answers.{lengthened, shortened}
-use Rattle.bx_asking.specs.Codes.{is_code_letter}
-use Rattle.bx_asking.specs.Line.{is_digit, is_divider, is_line_letter}
+use Rattle.bx_asking.specs.Answers.{lengthened, shortened, is_digit, is_divider, is_line_letter}
+use Rattle.bx_asking.specs.Names.{is_code_letter}
 use Rattle.bx_document.specs.QueryRow.{IsNarrow}
 
 -- ---- from SPACE to TILDE

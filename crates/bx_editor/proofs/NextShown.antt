@@ -3,7 +3,8 @@ use Rattle.std.proofs.Common.{◌≡◌, ◌≤◌, ◌+◌, ◌∙◌, ℕ, tru
 use Rattle.std.specs.Prelude.{Option, Some, None, option_map, IsUtf8, if◌then◌else◌}
 use Rattle.bx_ucd.specs.Data.{Data}
 use Rattle.bx_find.specs.Matches.{first_from}
-use Rattle.bx_text.specs.Edits.{IsRange, fits, splice}
+use Rattle.bx_text.specs.Edits.{fits, splice}
+use Rattle.bx_text.specs.Changes.{IsRange}
 use Rattle.bx_view.specs.Moves.{place_at}
 use Rattle.bx_view.specs.TextRows.{TextRow}
 use Rattle.bx_editor.specs.declared.seek.Seek.TheVariants.{Replacing}

@@ -5,15 +5,13 @@ use Rattle.bx_keys.specs.declared.key.Key.{Key}
 use Rattle.bx_store.specs.declared.store.StoreFault.{StoreFault}
 use Rattle.bx_text.specs.Edits.{fits, fits_both}
 use Rattle.bx_runs.specs.declared.typing.Typing.{Typing}
-use Rattle.bx_runs.specs.Typing.{after_insertion, kind_of}
+use Rattle.bx_runs.specs.Runs.{after_insertion, kind_of}
 use Rattle.bx_ucd.specs.Data.{Data}
 use Rattle.bx_asking.specs.declared.line.Target.{Target}
 use Rattle.bx_asking.specs.declared.answers.Ask.{Ask}
 use Rattle.bx_asking.specs.declared.answers.Ask.TheVariants.{Off, Line, Name, Code}
-use Rattle.bx_asking.specs.Answers.{lengthened, shortened}
-use Rattle.bx_asking.specs.Codes.{coded, is_code_letter}
-use Rattle.bx_asking.specs.Line.{asked, is_line_letter}
-use Rattle.bx_asking.specs.Names.{asks_code, closing, named}
+use Rattle.bx_asking.specs.Answers.{lengthened, shortened, asked, is_line_letter}
+use Rattle.bx_asking.specs.Names.{coded, is_code_letter, asks_code, closing, named}
 use Rattle.bx_editor.specs.declared.message.Message.{Message}
 use Rattle.bx_editor.specs.declared.message.Message.TheVariants.{MoreThanOneLine, NoSuchCharacter, TextFull}
 use Rattle.bx_editor.specs.Asking.{after_answer_letter, after_code, after_code_letter, after_going, after_line_letter, after_name_letter, after_named, after_shorter_answer}

@@ -3,7 +3,8 @@ use Rattle.std.proofs.Common.{◌≡◌, ℕ, List, [], ◌∷◌, length, refl,
 use Rattle.std.specs.Prelude.{Option, Some, None, is_some}
 use Rattle.std.specs.Option.{option_map}
 use Rattle.bx_text.specs.declared.change.Change.{Change}
-use Rattle.bx_text.specs.Edits.{Edit, Edited, first_again, first_back, redone_in, undone_in}
+use Rattle.bx_text.specs.Edits.{Edit, Edited, redone_in, undone_in}
+use Rattle.bx_text.specs.Changes.{first_again, first_back}
 use Rattle.bx_text.proofs.UndoneTimes.{nothing_redone, nothing_undone}
 use Rattle.bx_document.specs.History.{next_change, next_changes, stepped, stepped_times}
 use Rattle.bx_document.specs.declared.history.HistoryStep.{HistoryStep}

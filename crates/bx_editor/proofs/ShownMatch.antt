@@ -7,12 +7,12 @@ use Rattle.bx_terms.specs.Characters.{largest_text}
 use Rattle.bx_ucd.specs.Data.{Data}
 use Rattle.bx_find.specs.Nearest.{MatchesAt, IsFirst}
 use Rattle.bx_find.specs.Letters.{letters_of, letters}
-use Rattle.bx_find.specs.Matches.{is_match, is_some, first_from}
-use Rattle.bx_find.specs.Spans.{match_end, spans_from}
+use Rattle.bx_find.specs.Matches.{is_match, is_some, first_from, match_end, spans_from}
 use Rattle.bx_find.specs.declared.letters.Reading.{Reading}
 use Rattle.bx_find.proofs.Nearest.{first_is}
 use Rattle.bx_find.proofs.SpansOf.{span_found}
-use Rattle.bx_text.specs.Edits.{IsRange, splice}
+use Rattle.bx_text.specs.Edits.{splice}
+use Rattle.bx_text.specs.Changes.{IsRange}
 use Rattle.bx_view.specs.Places.{IsTextPlace}
 use Rattle.bx_document.specs.Swapped.{last_stop}
 use Rattle.bx_document.proofs.PlaceAfter.{splice_bytes}

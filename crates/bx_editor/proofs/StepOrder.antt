@@ -1,7 +1,7 @@
 -- A move back leads to no place after the one that it begins at, a move on to none before it.
 use Rattle.std.proofs.Common.{◌≡◌, ◌≤◌, ℕ, Bool, true, false, nat_lt, cond, List, [], ◌∷◌, Some, refl, sym, subst, arith, ltb-true}
 use Rattle.std.specs.Prelude.{find, reverse, unwrap_or, IsCharBoundary}
-use Rattle.bx_text.specs.Edits.{IsRange}
+use Rattle.bx_text.specs.Changes.{IsRange}
 use Rattle.bx_ucd.specs.Data.{Data}
 use Rattle.bx_view.specs.Moves.{moved}
 use Rattle.bx_view.specs.TextRows.{TextRow, places}

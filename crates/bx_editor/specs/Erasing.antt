@@ -4,7 +4,7 @@ use Rattle.bx_ucd.specs.Data.{Data}
 use Rattle.bx_document.specs.Points.{point_start}
 use Rattle.bx_runs.specs.declared.typing.Removal.{Removal}
 use Rattle.bx_runs.specs.declared.typing.Typing.{Typing}
-use Rattle.bx_runs.specs.Typing.{after_removal, goes_on_removing}
+use Rattle.bx_runs.specs.Runs.{after_removal, goes_on_removing}
 use Rattle.bx_view.specs.Moves.{step_logical}
 use Rattle.bx_view.specs.declared.moves.Logical.TheVariants.{Back, Forward}
 use Rattle.bx_view.specs.declared.moves.Move.{Move}

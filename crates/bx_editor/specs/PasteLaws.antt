@@ -4,7 +4,8 @@ use Rattle.bx_keys.specs.declared.key.Key.{Key}
 use Rattle.bx_keys.specs.declared.key.Key.TheVariants.{Copy, Cut, Insert, PasteEnd, PasteStart}
 use Rattle.bx_runs.specs.Runs.{edited}
 use Rattle.bx_store.specs.declared.store.StoreFault.{StoreFault}
-use Rattle.bx_text.specs.Edits.{exchanged, inserted, splice}
+use Rattle.bx_text.specs.Edits.{inserted, splice}
+use Rattle.bx_text.specs.Changes.{exchanged}
 use Rattle.bx_ucd.specs.Data.{Data}
 use Rattle.bx_asking.specs.declared.answers.Ask.TheVariants as asks
 use Rattle.bx_editor.specs.declared.message.Message.TheVariants.{TextFull, TooLongForClipboard}

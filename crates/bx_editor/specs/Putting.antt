@@ -8,7 +8,7 @@ use Rattle.bx_runs.specs.declared.typing.Kind.{Kind}
 use Rattle.bx_runs.specs.declared.typing.Kind.TheVariants.{Separator}
 use Rattle.bx_runs.specs.declared.typing.Typing.{Typing}
 use Rattle.bx_runs.specs.declared.typing.Typing.TheVariants.{Off, Paste}
-use Rattle.bx_runs.specs.Typing.{after_insertion, goes_on, kind_of}
+use Rattle.bx_runs.specs.Runs.{after_insertion, goes_on, kind_of}
 use Rattle.bx_editor.specs.declared.message.Message.TheVariants.{NothingToPut, TextFull}
 use Rattle.bx_editor.specs.Editor.{Editor, with_insertion, with_removal}
 use Rattle.bx_editor.specs.Region.{region}

@@ -2,8 +2,7 @@
 -- and places count bytes of the text. `d` is Unicode's data, `e` the editor, `at` the offset of a match, `c` a character.
 use Rattle.std.specs.Prelude.{ℕ, ◌+◌, ◌==◌, not, ◌&&◌, Bool, true, false, List, length, Option, Some, None, if◌then◌else◌}
 use Rattle.bx_ucd.specs.Data.{Data}
-use Rattle.bx_find.specs.Matches.{first_from}
-use Rattle.bx_find.specs.Spans.{match_end, spans_from}
+use Rattle.bx_find.specs.Matches.{first_from, match_end, spans_from}
 use Rattle.bx_document.specs.Swapped.{behind_character, last_stop, swapped}
 use Rattle.bx_runs.specs.declared.typing.Typing.{Typing}
 use Rattle.bx_text.specs.Edits.{fits, splice}

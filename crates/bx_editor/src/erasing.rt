@@ -1,6 +1,6 @@
 //! The keys that remove a unit, a word or a point, or the selection.
 ghost use Rattle.std.specs.Prelude.{◌≡◌, true, false, IfOk, OnErr, OnOk};
-ghost use Rattle.bx_text.specs.Edits.{IsRange};
+ghost use Rattle.bx_text.specs.Changes.{IsRange};
 ghost use Rattle.bx_view.specs.Moves.{moved, step_logical};
 ghost use Rattle.bx_view.specs.Words.{step_word};
 ghost use Rattle.bx_editor.specs.Editor.{cleared, rows, with_removal};

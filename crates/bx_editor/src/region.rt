@@ -1,6 +1,6 @@
 //! The mark, and the keys that copy and cut.
 ghost use Rattle.std.specs.Prelude.{◌≡◌, OnErr, OnOk, slice_range};
-ghost use Rattle.bx_text.specs.Edits.{IsRange};
+ghost use Rattle.bx_text.specs.Changes.{IsRange};
 ghost use Rattle.bx_editor.specs.Editor.{cleared};
 ghost use Rattle.bx_editor.specs.Region.{after_copy, after_cut, after_mark, held_message, is_at_mark, region, taken, with_held, without_mark};
 

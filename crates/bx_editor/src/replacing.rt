@@ -1,7 +1,8 @@
 //! A match that is shown: it is replaced or passed over, or it and all that follow are replaced.
 ghost use Rattle.std.specs.Prelude.{◌≡◌, ◌+◌, ◌≤◌, true, if◌then◌else◌, IfOk, IfSome, IsCharBoundary, IsUtf8, OnErr, OnOk};
 ghost use Rattle.bx_terms.specs.Characters.{largest_text};
-ghost use Rattle.bx_text.specs.Edits.{IsRange, fits, splice};
+ghost use Rattle.bx_text.specs.Edits.{fits, splice};
+ghost use Rattle.bx_text.specs.Changes.{IsRange};
 ghost use Rattle.bx_view.specs.Places.{IsTextPlace};
 ghost use Rattle.bx_editor.specs.Editor.{cleared};
 ghost use Rattle.bx_editor.specs.Replacing.{after_ending, after_passing_over, after_replacing, after_replacing_all};

@@ -4,15 +4,12 @@ use Rattle.std.specs.Prelude.{◌≢◌, ◌⊎◌, ◌==◌, chars, encode_utf8
 use Rattle.bx_asking.specs.declared.line.Target.{Target}
 use Rattle.bx_asking.specs.declared.answers.Ask.{Ask}
 use Rattle.bx_asking.specs.declared.answers.Ask.TheVariants.{Off, Line, Name, Code}
-use Rattle.bx_asking.specs.Answers.{lengthened}
-use Rattle.bx_asking.specs.Codes.{coded, is_code_letter}
-use Rattle.bx_asking.specs.Line.{asked, is_line_letter}
-use Rattle.bx_asking.specs.Names.{asks_code, closing, named}
+use Rattle.bx_asking.specs.Answers.{lengthened, asked, is_line_letter}
+use Rattle.bx_asking.specs.Names.{coded, is_code_letter, asks_code, closing, named}
 use Rattle.bx_keys.specs.declared.key.Key.{Key}
 use Rattle.bx_keys.specs.declared.key.Key.TheVariants as keys
 use Rattle.bx_text.specs.Edits.{fits, fits_both}
-use Rattle.bx_runs.specs.Runs.{edited, run_start}
-use Rattle.bx_runs.specs.Typing.{after_insertion, kind_of}
+use Rattle.bx_runs.specs.Runs.{edited, run_start, after_insertion, kind_of}
 use Rattle.bx_runs.specs.declared.typing.Typing.{Typing}
 use Rattle.bx_runs.proofs.RunLaws.{edit-is-of-its-run}
 use Rattle.bx_ucd.specs.Data.{Data}

@@ -10,7 +10,7 @@ use Rattle.bx_keys.specs.declared.key.Key.{Key}
 use Rattle.bx_keys.specs.declared.key.Key.TheVariants.{Insert, NewLine, Erase, Forward, TextEnd, Back, Mark, UndoRun, GoTo, Name, Tell}
 use Rattle.bx_resolve.specs.Laws.{level_at}
 use Rattle.bx_rows.specs.RowPicture.{letter_glyphs}
-use Rattle.bx_text.specs.Edits.{IsRange}
+use Rattle.bx_text.specs.Changes.{IsRange}
 use Rattle.bx_view.specs.Standing.{body_at}
 use Rattle.bx_document.specs.QueryRow.{typed_glyphs}
 use Rattle.bx_store.specs.declared.store.StoreFault.{StoreFault}

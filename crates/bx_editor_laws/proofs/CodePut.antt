@@ -11,11 +11,10 @@ use Rattle.bx_terms.specs.Characters.{largest_text}
 use Rattle.bx_terms.specs.declared.base.Base.{Base}
 use Rattle.bx_asking.specs.declared.answers.Ask.TheVariants.{Off, Code}
 use Rattle.bx_asking.specs.Answers.{lengthened}
-use Rattle.bx_asking.specs.Codes.{coded, is_code, is_code_letter, is_scalar}
-use Rattle.bx_asking.specs.Names.{asks_code, named}
+use Rattle.bx_asking.specs.Names.{coded, is_code, is_code_letter, is_scalar, asks_code, named}
 use Rattle.bx_keys.specs.declared.key.Key.{Key}
 use Rattle.bx_keys.specs.declared.key.Key.TheVariants as keys
-use Rattle.bx_runs.specs.Typing.{after_insertion, kind_of}
+use Rattle.bx_runs.specs.Runs.{after_insertion, kind_of}
 use Rattle.bx_runs.specs.declared.typing.Typing.TheVariants as typings
 use Rattle.bx_text.specs.Edits.{Edited}
 use Rattle.bx_ucd.specs.Data.{Data}

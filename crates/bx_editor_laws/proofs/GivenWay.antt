@@ -12,7 +12,7 @@ use Rattle.bx_keys.specs.declared.key.Key.TheVariants.{Find, FindBack, WordLeft,
 use Rattle.bx_keys.specs.declared.key.Key.TheVariants.{EraseWord, DeleteWord, ErasePoint, NewLine, FindNext, Cancel, LineUp, LineDown, PageBack, PageOn}
 use Rattle.bx_keys.specs.declared.key.Key.TheVariants.{Select, UndoRun, RedoRun, GoTo, Replace, Name, Tell, PasteStart, PasteEnd, Point}
 use Rattle.bx_text.specs.Edits.{fits, splice}
-use Rattle.bx_runs.specs.Typing.{goes_on, kind_of}
+use Rattle.bx_runs.specs.Runs.{goes_on, kind_of}
 use Rattle.bx_runs.specs.declared.typing.Kind.{Kind}
 use Rattle.bx_runs.specs.declared.typing.Kind.TheVariants.{Separator}
 use Rattle.bx_runs.specs.declared.typing.Typing.{Typing}

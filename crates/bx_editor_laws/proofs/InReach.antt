@@ -12,7 +12,7 @@ use Rattle.bx_text.specs.Edits.{Edit, splice}
 use Rattle.bx_document.specs.History.{next_changes}
 use Rattle.bx_document.specs.declared.history.HistoryStep.{HistoryStep}
 use Rattle.bx_document.specs.declared.history.HistoryStep.TheVariants as steps
-use Rattle.bx_runs.specs.Typing.{after_removal, goes_on, goes_on_removing, kind_of}
+use Rattle.bx_runs.specs.Runs.{after_removal, goes_on, goes_on_removing, kind_of}
 use Rattle.bx_runs.specs.declared.typing.Kind.{Kind}
 use Rattle.bx_runs.specs.declared.typing.Kind.TheVariants as kinds
 use Rattle.bx_runs.specs.declared.typing.Removal.{Removal}

@@ -5,7 +5,7 @@ use Rattle.std.proofs.lemmas.Bool.Decides.{nat_tests}
 use Rattle.bx_terms.specs.Characters.{largest_text}
 use Rattle.bx_asking.specs.Names.{closing, named}
 use Rattle.bx_keys.specs.declared.key.Key.TheVariants.{Insert, Name}
-use Rattle.bx_runs.specs.Typing.{after_insertion, kind_of}
+use Rattle.bx_runs.specs.Runs.{after_insertion, kind_of}
 use Rattle.bx_text.specs.Edits.{fits_both}
 use Rattle.bx_ucd.specs.Data.{Data}
 use Rattle.bx_document.specs.Document.{wrapped_end, wrapped_text}

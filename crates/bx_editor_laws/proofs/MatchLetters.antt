@@ -19,8 +19,7 @@ use Rattle.bx_find.specs.declared.letters.Reading.TheVariants.{Close}
 use Rattle.bx_find_laws.specs.Laws.{AreSpans}
 use Rattle.bx_find.specs.Nearest.{MatchesAt}
 use Rattle.bx_find.specs.Letters.{is_passed_over, letters, letters_of}
-use Rattle.bx_find.specs.Matches.{begins, begins_some, is_match, is_some}
-use Rattle.bx_find.specs.Spans.{behind_letters, is_attached, match_end}
+use Rattle.bx_find.specs.Matches.{begins, begins_some, is_match, is_some, behind_letters, is_attached, match_end}
 use Rattle.bx_ucd.specs.Class.{is_nsm}
 use Rattle.bx_find.proofs.Offsets.{widths, width-some, widths-more}
 use Rattle.bx_find.proofs.SpansOf.{end_bound, ends_here, goes_on}

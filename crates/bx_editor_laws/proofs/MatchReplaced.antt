@@ -14,8 +14,7 @@ use Rattle.bx_ucd.specs.Data.{Data}
 use Rattle.bx_asking.specs.declared.answers.Ask.TheVariants as asks
 use Rattle.bx_find_laws.specs.Laws.{AreSpans}
 use Rattle.bx_find.specs.Nearest.{IsFirst, MatchesAt}
-use Rattle.bx_find.specs.Matches.{first_from}
-use Rattle.bx_find.specs.Spans.{match_end}
+use Rattle.bx_find.specs.Matches.{first_from, match_end}
 use Rattle.bx_find.specs.declared.letters.Reading.{Reading}
 use Rattle.bx_find.specs.declared.letters.Reading.TheVariants.{Close}
 use Rattle.bx_find.proofs.Nearest.{first_is}

@@ -7,7 +7,7 @@ use Rattle.bx_ucd.specs.Data.{Data}
 use Rattle.bx_find.specs.declared.letters.Reading.TheVariants.{Close}
 use Rattle.bx_find_laws.specs.Laws.{AreSpans}
 use Rattle.bx_find.specs.Nearest.{MatchesAt}
-use Rattle.bx_find.specs.Spans.{match_end}
+use Rattle.bx_find.specs.Matches.{match_end}
 use Rattle.bx_document.specs.Swapped.{last_stop}
 use Rattle.bx_editor_laws.specs.ReplaceLaws.{AreApart, LiesIn}
 use Rattle.bx_editor_laws.proofs.MatchLetters.{match-bound, match-letters, match-some, spelt}

@@ -3,8 +3,7 @@ use Rattle.std.proofs.Common.{◌≡◌, ℕ, suc, ◌+◌, ◌-◌, ◌≤◌, 
 use Rattle.std.specs.Prelude.{None}
 use Rattle.std.specs.Fn.{iterate}
 use Rattle.bx_keys.specs.declared.key.Key.TheVariants.{RedoRun, UndoRun}
-use Rattle.bx_text.specs.Edits.{Edit, Edited}
-use Rattle.bx_text.specs.Times.{redone_times, undone_times}
+use Rattle.bx_text.specs.Edits.{Edit, Edited, redone_times, undone_times}
 use Rattle.bx_document.specs.declared.history.HistoryStep.TheVariants as steps
 use Rattle.bx_runs.specs.Laws.{BeginsAt, EndsAt}
 use Rattle.bx_runs.specs.Runs.{run_end, run_start}

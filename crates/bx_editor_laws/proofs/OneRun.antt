@@ -11,8 +11,7 @@ use Rattle.bx_terms.specs.Characters.{largest_text}
 use Rattle.bx_keys.specs.declared.key.Key.TheVariants.{Insert, PasteEnd, UndoRun}
 use Rattle.bx_text.specs.Edits.{Edit, Edited, splice}
 use Rattle.bx_document.specs.declared.history.HistoryStep.TheVariants as steps
-use Rattle.bx_runs.specs.Runs.{edited, run_start}
-use Rattle.bx_runs.specs.Typing.{after_insertion, goes_on, kind_of}
+use Rattle.bx_runs.specs.Runs.{edited, run_start, after_insertion, goes_on, kind_of}
 use Rattle.bx_runs.specs.declared.typing.Kind.{Kind}
 use Rattle.bx_runs.specs.declared.typing.Kind.TheVariants.{Blank, Letter}
 use Rattle.bx_runs.specs.declared.typing.Typing.{Typing}

@@ -11,7 +11,7 @@ use Rattle.unicode_segmentation.proofs.TextLemmas.{encode_utf8_nonempty}
 use Rattle.bx_terms.specs.Characters.{largest_text}
 use Rattle.bx_keys.specs.declared.key.Key.TheVariants.{Insert, PasteEnd}
 use Rattle.bx_text.specs.Edits.{Edited, fits, splice}
-use Rattle.bx_runs.specs.Typing.{after_insertion, goes_on, kind_of}
+use Rattle.bx_runs.specs.Runs.{after_insertion, goes_on, kind_of}
 use Rattle.bx_runs.specs.declared.typing.Kind.{Kind}
 use Rattle.bx_runs.specs.declared.typing.Typing.TheVariants as typings
 use Rattle.bx_terms.specs.declared.base.Base.{Base}

@@ -14,7 +14,7 @@ use Rattle.bx_keys.specs.declared.key.Key.TheVariants.{Find, Insert, Replace, Un
 use Rattle.bx_store.specs.declared.store.StoreFault.{StoreFault}
 use Rattle.bx_find.specs.Nearest.{MatchesAt}
 use Rattle.bx_find.specs.Letters.{letters}
-use Rattle.bx_find.specs.Spans.{is_attached, match_end}
+use Rattle.bx_find.specs.Matches.{is_attached, match_end}
 use Rattle.bx_find.specs.declared.letters.Reading.TheVariants.{Close}
 use Rattle.bx_view.specs.Moves.{place_at}
 use Rattle.bx_editor.specs.Editor.{Editor, rows}

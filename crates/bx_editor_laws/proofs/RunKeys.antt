@@ -6,8 +6,7 @@ use Rattle.std.specs.Fn.{iterate}
 use Rattle.std.specs.List.{fold}
 use Rattle.bx_keys.specs.declared.key.Key.{Key}
 use Rattle.bx_keys.specs.declared.key.Key.TheVariants.{Redo, RedoRun, Undo, UndoRun}
-use Rattle.bx_text.specs.Edits.{Edit, Edited, change_back, change_of}
-use Rattle.bx_text.specs.Times.{merged, next_redos, next_undos, redone_times, undone_times}
+use Rattle.bx_text.specs.Edits.{Edit, Edited, change_back, change_of, merged, next_redos, next_undos, redone_times, undone_times}
 use Rattle.bx_document.specs.History.{next_changes, stepped_times}
 use Rattle.bx_document.specs.declared.history.HistoryStep.TheVariants as steps
 use Rattle.bx_runs.specs.Runs.{run_end, run_start}

@@ -15,7 +15,7 @@ use Rattle.bx_keys.specs.declared.key.Key.TheVariants.{TextStart}
 use Rattle.bx_keys.specs.declared.key.Key.TheVariants.{Repaint, UndoRun, RedoRun, PasteStart, PasteEnd}
 use Rattle.bx_store.specs.declared.store.StoreFault.{StoreFault}
 use Rattle.bx_text.specs.Edits.{Edited}
-use Rattle.bx_runs.specs.Typing.{kind_of}
+use Rattle.bx_runs.specs.Runs.{kind_of}
 use Rattle.bx_runs.specs.declared.typing.Kind.TheVariants.{Blank, Letter}
 use Rattle.bx_runs.specs.declared.typing.Typing.{Typing}
 use Rattle.bx_runs.specs.declared.typing.Typing.TheVariants.{Off, Word, Erasing, Deleting}

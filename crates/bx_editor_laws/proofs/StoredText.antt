@@ -12,7 +12,7 @@ use Rattle.bx_document.specs.Document.{wrapped_text}
 use Rattle.bx_document.specs.History.{next_changes, stepped_times}
 use Rattle.bx_document.specs.declared.history.HistoryStep.{HistoryStep}
 use Rattle.bx_document.specs.declared.history.HistoryStep.TheVariants as steps
-use Rattle.bx_runs.specs.Typing.{goes_on, goes_on_removing, after_removal, kind_of}
+use Rattle.bx_runs.specs.Runs.{goes_on, goes_on_removing, after_removal, kind_of}
 use Rattle.bx_runs.specs.declared.typing.Kind.{Kind}
 use Rattle.bx_runs.specs.declared.typing.Kind.TheVariants as kinds
 use Rattle.bx_runs.specs.declared.typing.Removal.{Removal}

@@ -6,8 +6,7 @@ use Rattle.bx_keys.specs.declared.key.Key.{Key}
 use Rattle.bx_keys.specs.declared.key.Key.TheVariants.{Undo, Redo}
 use Rattle.bx_store.specs.declared.store.StoreFault.{StoreFault}
 use Rattle.bx_text.specs.declared.change.Change.{Change}
-use Rattle.bx_text.specs.Edits.{Edit, Edited, redone, redone_in, undone, undone_in}
-use Rattle.bx_text.specs.Times.{redone_times, undone_times}
+use Rattle.bx_text.specs.Edits.{Edit, Edited, redone, redone_in, undone, undone_in, redone_times, undone_times}
 use Rattle.bx_document.specs.declared.history.HistoryStep.{HistoryStep}
 use Rattle.bx_document.specs.declared.history.HistoryStep.TheVariants as steps
 use Rattle.bx_document.specs.History.{next_changes, stepped_times}

@@ -7,8 +7,7 @@ use Rattle.std.proofs.lemmas.Str.{encode_ascii}
 use Rattle.bx_terms.specs.Characters.{largest_text}
 use Rattle.bx_terms.specs.declared.base.Base.TheVariants.{Auto}
 use Rattle.bx_asking.specs.declared.answers.Ask.TheVariants.{Off, Line}
-use Rattle.bx_asking.specs.Answers.{lengthened}
-use Rattle.bx_asking.specs.Line.{asked, is_line_letter}
+use Rattle.bx_asking.specs.Answers.{lengthened, asked, is_line_letter}
 use Rattle.bx_keys.specs.declared.key.Key.{Key}
 use Rattle.bx_keys.specs.declared.key.Key.TheVariants as keys
 use Rattle.bx_runs.specs.declared.typing.Typing.TheVariants as typings

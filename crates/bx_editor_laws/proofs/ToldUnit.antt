@@ -19,8 +19,7 @@ use Rattle.bx_resolve.specs.Kept.{max_level}
 use Rattle.bx_resolve.proofs.KeptLevels.{levels_stay_low}
 use Rattle.bx_rows.specs.RowLevels.{first_level}
 use Rattle.bx_paragraph.proofs.Starts.{side-some}
-use Rattle.bx_index.specs.Paragraphs.{lengths}
-use Rattle.bx_index.specs.Positions.{paragraph_of}
+use Rattle.bx_index.specs.Paragraphs.{lengths, paragraph_of}
 use Rattle.bx_view.specs.Moves.{step_logical}
 use Rattle.bx_view.specs.Standing.{body_at, start_at}
 use Rattle.bx_view.specs.declared.moves.Logical.TheVariants.{Forward}

@@ -9,8 +9,7 @@ use Rattle.unicode_segmentation.specs.Grapheme.{graphemes, is_grapheme_break}
 use Rattle.unicode_segmentation.proofs.SegmentsLemmas.{concat-segments}
 use Rattle.bx_ucd.specs.Data.{Data}
 use Rattle.bx_terms.specs.declared.base.Base.{Base}
-use Rattle.bx_index.specs.Paragraphs.{Paragraph, lengths_of}
-use Rattle.bx_index.specs.Positions.{bytes_of}
+use Rattle.bx_index.specs.Paragraphs.{Paragraph, lengths_of, bytes_of}
 use Rattle.bx_view.specs.Moves.{step_logical}
 use Rattle.bx_view.specs.Places.{IsTextPlace, boundaries}
 use Rattle.bx_view.specs.Standing.{body_at, count, start_at}

@@ -10,8 +10,7 @@ use Rattle.bx_cells.specs.Units.{units}
 use Rattle.bx_cells.proofs.Standing.{faces-units}
 use Rattle.bx_rows.specs.RowPicture.{unit_columns}
 use Rattle.bx_rows.specs.Wrapping.{is_break}
-use Rattle.bx_index.specs.Paragraphs.{Paragraph, lengths_of, paragraphs}
-use Rattle.bx_index.specs.Positions.{bytes_of}
+use Rattle.bx_index.specs.Paragraphs.{Paragraph, lengths_of, paragraphs, bytes_of}
 use Rattle.bx_paragraph.specs.BodyRows.{BodyRow, body_rows, row_with, rows_units, with_last}
 use Rattle.bx_view.specs.TextRows.{TextRow, text_row, text_rows}
 use Rattle.bx_view.proofs.CellColumns.{AllSome, EachSome, all-have, wrapped-some}

@@ -16,13 +16,12 @@ use Rattle.bx_resolve.specs.Levels.{levels_under, paragraph_level_under}
 use Rattle.bx_resolve.specs.Kept.{is_kept}
 use Rattle.unicode_segmentation.specs.Grapheme.{graphemes}
 use Rattle.bx_asking.specs.declared.answers.Ask.TheVariants.{Off}
-use Rattle.bx_asking.specs.Codes.{coded}
-use Rattle.bx_asking.specs.Names.{asks_code, closing, named}
+use Rattle.bx_asking.specs.Names.{coded, asks_code, closing, named}
 use Rattle.bx_asking.specs.Told.{character_text, others_text}
 use Rattle.bx_keys.specs.declared.key.Key.{Key}
 use Rattle.bx_keys.specs.declared.key.Key.TheVariants.{Insert, NewLine, Erase, ErasePoint, Delete, UndoRun, GoTo, Name, Tell}
 use Rattle.bx_store.specs.declared.store.StoreFault.{StoreFault}
-use Rattle.bx_text.specs.Edits.{IsRange}
+use Rattle.bx_text.specs.Changes.{IsRange}
 use Rattle.bx_rows.specs.RowPicture.{Glyph}
 use Rattle.bx_view.specs.Places.{IsTextPlace}
 use Rattle.bx_view.specs.Standing.{body_at, count, paragraph_at, start_at}

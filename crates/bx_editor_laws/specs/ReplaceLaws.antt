@@ -8,7 +8,7 @@ use Rattle.bx_ucd.specs.Data.{Data}
 use Rattle.bx_asking.specs.declared.answers.Ask.TheVariants as asks
 use Rattle.bx_find.specs.Nearest.{IsFirst, MatchesAt}
 use Rattle.bx_find.specs.Letters.{letters}
-use Rattle.bx_find.specs.Spans.{is_attached, match_end}
+use Rattle.bx_find.specs.Matches.{is_attached, match_end}
 use Rattle.bx_find.specs.declared.letters.Reading.TheVariants.{Close}
 use Rattle.bx_document.specs.Swapped.{behind_character, last_stop, swapped}
 use Rattle.bx_keys.specs.declared.key.Key.{Key}

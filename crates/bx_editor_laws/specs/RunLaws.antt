@@ -8,7 +8,7 @@ use Rattle.bx_keys.specs.declared.key.Key.TheVariants.{Insert, Redo, RedoRun, Un
 use Rattle.bx_store.specs.declared.store.StoreFault.{StoreFault}
 use Rattle.bx_text.specs.Edits.{Edit}
 use Rattle.bx_runs.specs.Laws.{BeginsAt, EndsAt, redone, undone}
-use Rattle.bx_runs.specs.Typing.{kind_of}
+use Rattle.bx_runs.specs.Runs.{kind_of}
 use Rattle.bx_runs.specs.declared.typing.Kind.{Kind}
 use Rattle.bx_runs.specs.declared.typing.Kind.TheVariants.{Blank, Letter}
 use Rattle.bx_runs.specs.declared.typing.Typing.TheVariants as typings

@@ -3,7 +3,8 @@ use Rattle.std.proofs.Common.{◌≡◌, ◌+◌, ℕ, Bool, true, false, List, 
 use Rattle.std.specs.Prelude.{find, nat_le, nat_lt, encode_utf8}
 use Rattle.std.proofs.lemmas.List.Elements.{All-nil, All-cons, All-head, All-tail}
 use Rattle.bx_ucd.specs.Data.{Data}
-use Rattle.bx_find.specs.Matches.{is_match, matches, first_from, first_before, last_below, last_before, last_above, last_from}
+use Rattle.bx_find.specs.Matches.{is_match, matches, first_from, last_below, last_before}
+use Rattle.bx_find.specs.Parts.{first_before, last_above, last_from}
 use Rattle.bx_find.specs.declared.letters.Reading.{Reading}
 use Rattle.bx_find.proofs.Offsets.{widths, widths-more}
 use Rattle.bx_find.proofs.Nearest.{bound_at}

@@ -9,7 +9,8 @@ use Rattle.std.proofs.lemmas.Str.{chars-append, chars-nil, encodes-chars, IsUtf8
 use Rattle.bx_ucd.specs.Data.{Data}
 use Rattle.bx_find.specs.Letters.{is_passed_over, letters_of, letters}
 use Rattle.bx_find.specs.Short.{is_simple, simple_letter}
-use Rattle.bx_find.specs.Matches.{begins, begins_some, is_some, is_match, matches, first_from, first_below, first_before, last_below, last_before, last_above, last_from}
+use Rattle.bx_find.specs.Matches.{begins, begins_some, is_some, is_match, matches, first_from, last_below, last_before}
+use Rattle.bx_find.specs.Parts.{first_below, first_before, last_above, last_from}
 use Rattle.bx_find.specs.Prefix.{Placed, placed_first, placed, found, with_letters, offsets_of, to_come}
 use Rattle.bx_find.specs.declared.letters.Reading.{Reading}
 use Rattle.bx_find.proofs.LettersOf.{simple}

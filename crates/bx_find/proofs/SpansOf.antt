@@ -7,8 +7,8 @@ use Rattle.std.proofs.lemmas.Bool.Decides.{nat_tests}
 use Rattle.std.proofs.lemmas.Str.{IsUtf8-drop, IsCharBoundary-from_rest}
 use Rattle.bx_ucd.specs.Data.{Data}
 use Rattle.bx_find.specs.Letters.{letters_of, letters}
-use Rattle.bx_find.specs.Matches.{begins_some, is_some, is_match, matches, first_from}
-use Rattle.bx_find.specs.Spans.{is_attached, behind_attached, behind_letters, match_end, spans_of, spans_from}
+use Rattle.bx_find.specs.Matches.{begins_some, is_some, is_match, matches, first_from, is_attached, behind_attached, behind_letters}
+use Rattle.bx_find.specs.Matches.{match_end, spans_of, spans_from}
 use Rattle.bx_find.specs.Nearest.{MatchesAt, IsFirst}
 use Rattle.bx_find.specs.declared.letters.Reading.{Reading}
 use Rattle.bx_find.proofs.Offsets.{widths, width-some, widths-more, matches-here, matches-not, cond-here, cond-not}

@@ -1,6 +1,6 @@
 //! Where a match ends, and the matches that follow one another with no part in common.
 ghost use Rattle.std.specs.Prelude.{◌≡◌, ℕ, ◌+◌, ◌≤◌, ◌<◌, ◌^◌, ◌++◌, ◌∷◌, [], List, length, chars, IfSome, MatchOption, IsCharBoundary};
-ghost use Rattle.bx_find.specs.Spans.{is_attached, behind_letters, match_end, spans_from};
+ghost use Rattle.bx_find.specs.Matches.{behind_letters, is_attached, match_end, spans_from};
 
 use crate::haystack::Haystack;
 use crate::letters::Reading;

@@ -4,7 +4,8 @@ use Rattle.std.specs.Prelude.{Option, Some, None, MatchOption, find, nat_lt, enc
 use Rattle.std.proofs.lemmas.Bool.{cases_lt}
 use Rattle.std.proofs.lemmas.Bool.Decides.{nat_tests}
 use Rattle.bx_ucd.specs.Data.{Data}
-use Rattle.bx_find.specs.Matches.{is_match, matches, first_below, first_before}
+use Rattle.bx_find.specs.Matches.{is_match, matches}
+use Rattle.bx_find.specs.Parts.{first_below, first_before}
 use Rattle.bx_find.specs.Nearest.{MatchesAt}
 use Rattle.bx_find_laws.specs.Laws.{IsFirstBefore}
 use Rattle.bx_find.specs.declared.letters.Reading.{Reading}

@@ -1,8 +1,8 @@
 -- A search answers with the nearest matches of the query. `says` is Unicode's data.
 use Rattle.std.specs.Prelude.{◌≡◌, ℕ, ◌≤◌, ◌<◌, List, [], ◌∷◌, MatchOption, IsUtf8}
 use Rattle.bx_ucd.specs.Data.{Data}
-use Rattle.bx_find.specs.Matches.{is_match, first_from, first_before, last_before}
-use Rattle.bx_find.specs.Spans.{match_end, spans_from}
+use Rattle.bx_find.specs.Matches.{is_match, first_from, last_before, match_end, spans_from}
+use Rattle.bx_find.specs.Parts.{first_before}
 use Rattle.bx_find.specs.declared.letters.Reading.{Reading}
 use Rattle.bx_find.specs.Nearest.{IsFirst, IsLast, MatchesAt}
 

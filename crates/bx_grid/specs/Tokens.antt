@@ -3,7 +3,7 @@ use Rattle.std.specs.Prelude.{ℕ, Bool, true, false, ◌&&◌, nat_le, ◌==◌
 use Rattle.std.specs.Str.{all_ascii_digits}
 use Rattle.bx_terms.specs.Characters.{is_ascii_printable}
 use Rattle.bx_grid.specs.Clip.{is_clip}
-use Rattle.bx_bytes.specs.Fate.{fate_in}
+use Rattle.bx_bytes.specs.Pattern.{fate_in}
 use Rattle.bx_bytes.specs.Utf8.{characters}
 use Rattle.bx_bytes.specs.declared.fate.Fate.{Fate}
 use Rattle.bx_bytes.specs.declared.fate.Fate.TheVariants.{Waits, Ends, Breaks}

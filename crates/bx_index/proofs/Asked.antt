@@ -7,7 +7,8 @@ use Rattle.std.proofs.lemmas.List.Sums.{sum_by-cons}
 use Rattle.std.proofs.Math.Seq.{get_or-append_seam, take-append_seam}
 use Rattle.bx_index.specs.declared.lengths.Lengths.{Lengths}
 use Rattle.bx_index.specs.declared.paragraph_span.ParagraphSpan.{ParagraphSpan}
-use Rattle.bx_index.specs.Positions.{bytes_of, total, spans_from, spans, separators, paragraph_of}
+use Rattle.bx_index.specs.Paragraphs.{bytes_of, total, spans_from, spans, paragraph_of}
+use Rattle.bx_index.specs.Walk.{separators}
 use Rattle.bx_index.specs.Flat.{IsSpanAround}
 use Rattle.bx_index.proofs.Followed.{has_end, no_end}
 use Rattle.bx_index.proofs.Totals.{total_more}

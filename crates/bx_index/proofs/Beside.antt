@@ -5,8 +5,7 @@ use Rattle.std.proofs.lemmas.Bool.Decides.{nat_tests}
 use Rattle.bx_ucd.specs.Data.{Data}
 use Rattle.bx_text.specs.declared.change.Change.{Change}
 use Rattle.bx_index.specs.declared.lengths.Lengths.{Lengths}
-use Rattle.bx_index.specs.Paragraphs.{lengths}
-use Rattle.bx_index.specs.Positions.{bytes_of, total}
+use Rattle.bx_index.specs.Paragraphs.{lengths, bytes_of, total}
 use Rattle.bx_index.specs.Ended.{first, further}
 use Rattle.bx_index.specs.Scan.{HasNone}
 use Rattle.bx_index.specs.ScanRanges.{rest_of}

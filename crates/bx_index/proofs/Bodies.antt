@@ -8,8 +8,7 @@ use Rattle.std.proofs.lemmas.Str.{chars-nil, chars-append, chars-encodes, encode
 use Rattle.std.proofs.Math.Seq.{drop-append_seam, take-append_seam}
 use Rattle.bx_ucd.specs.Data.{Data}
 use lib.Utf8.{encode, scalars}
-use Rattle.bx_index.specs.Paragraphs.{Paragraph, after_character, after_cr, bare, begins_with_lf, cut, paragraphs, lengths_of}
-use Rattle.bx_index.specs.Positions.{spans_from}
+use Rattle.bx_index.specs.Paragraphs.{Paragraph, after_character, after_cr, bare, begins_with_lf, cut, paragraphs, lengths_of, spans_from}
 use Rattle.bx_index.specs.Scan.{HasNone}
 use Rattle.bx_index.specs.Laws.{joined, between, IsSeparator, EachEnds, JoinToText, MatchSpans, BodiesHaveNone, EndWithSeparators, KeepCrLf, KeepEachCrLf}
 use Rattle.bx_index.proofs.Changes.{scalars_back}

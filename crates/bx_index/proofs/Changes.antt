@@ -8,7 +8,7 @@ use Rattle.std.proofs.lemmas.Str.{IsCharBoundary-at_seam}
 use Rattle.std.proofs.Math.Seq.{drop-append_seam}
 use lib.Utf8.{scalars}
 use Rattle.bx_text.specs.declared.change.Change.{Change}
-use Rattle.bx_text.specs.Edits.{IsChange}
+use Rattle.bx_text.specs.Changes.{IsChange}
 use Rattle.bx_index.proofs.Cuts.{widths}
 
 -- ---- a text cut between its characters

@@ -5,7 +5,7 @@ use Rattle.std.proofs.lemmas.List.Sums.{sum_by-cons}
 use Rattle.std.proofs.lemmas.Bool.Decides.{nat_tests}
 use Rattle.bx_ucd.specs.Data.{Data}
 use Rattle.bx_index.specs.declared.lengths.Lengths.{Lengths}
-use Rattle.bx_index.specs.Positions.{total}
+use Rattle.bx_index.specs.Paragraphs.{total}
 use Rattle.bx_index.proofs.Cuts.{width, width_is_some, widths, widths_more, unended, grown, joined, lens, ends, is_paired, lens_plain, lens_paired, lens_ended}
 
 length_grown : (w : ℕ) (ls : List Lengths) → length (grown w ls) ≡ length ls

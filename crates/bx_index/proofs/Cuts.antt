@@ -5,8 +5,7 @@ use Rattle.std.proofs.lemmas.Bool.Decides.{nat_tests}
 use Rattle.std.proofs.lemmas.Str.{length-encode, len_utf8_bounds, encodes-append}
 use Rattle.bx_ucd.specs.Data.{Data}
 use Rattle.bx_index.specs.declared.lengths.Lengths.{Lengths}
-use Rattle.bx_index.specs.Paragraphs.{Paragraph, is_separator, begins_with_lf, after_character, after_cr, cut, lengths_of}
-use Rattle.bx_index.specs.Positions.{bytes_of}
+use Rattle.bx_index.specs.Paragraphs.{Paragraph, is_separator, begins_with_lf, after_character, after_cr, cut, lengths_of, bytes_of}
 
 -- ---- lengths, character by character
 

@@ -5,7 +5,7 @@ use Rattle.std.proofs.lemmas.Bool.Decides.{nat_tests}
 use Rattle.std.proofs.lemmas.List.{append_cancel_right}
 use Rattle.bx_ucd.specs.Data.{Data}
 use Rattle.bx_index.specs.declared.lengths.Lengths.{Lengths}
-use Rattle.bx_index.specs.Positions.{bytes_of, total}
+use Rattle.bx_index.specs.Paragraphs.{bytes_of, total}
 use Rattle.bx_index.specs.Ended.{ended_within}
 use Rattle.bx_index.proofs.Cuts.{width, width_is_some, widths, widths_more, widths_append, unended, lens, parts, parts_same, parts_append, IsFirst, beginning}
 use Rattle.bx_index.proofs.Seams.{before_last, seam, lens_append, lens_before, front_of_seam}

@@ -8,8 +8,8 @@ use Rattle.bx_ucd.specs.declared.class.Class.{Class}
 use Rattle.bx_ucd.specs.declared.class.Class.TheVariants.{B, L}
 use Rattle.bx_ucd.specs.declared.joining.Joining.TheVariants.{U}
 use Rattle.bx_index.specs.Laws.{BodiesHaveNone, EachEnds, EndWithSeparators, IsSeparator, JoinToText, KeepCrLf, KeepEachCrLf, MatchSpans, joined}
-use Rattle.bx_index.specs.Paragraphs.{Paragraph, paragraphs, lengths}
-use Rattle.bx_index.specs.Positions.{spans, separators, paragraph_of}
+use Rattle.bx_index.specs.Paragraphs.{Paragraph, paragraphs, lengths, spans, paragraph_of}
+use Rattle.bx_index.specs.Walk.{separators}
 use Rattle.bx_index.specs.Scan.{HasNone}
 
 abbrev class : ℕ → Class

@@ -5,7 +5,7 @@ use Rattle.std.proofs.lemmas.Bool.Decides.{nat_tests}
 use Rattle.std.proofs.lemmas.List.{take-append-drop, take_more, drop_more, take-take, take-append-le, drop-append-le, get_or_append_left, get_or-append-add}
 use Rattle.std.proofs.lemmas.List.{get_or_default}
 use Rattle.bx_index.specs.declared.lengths.Lengths.{Lengths}
-use Rattle.bx_index.specs.Positions.{total}
+use Rattle.bx_index.specs.Paragraphs.{total}
 use Rattle.std.proofs.Math.Seq.{take-append-add, drop-append-add, take-append_seam, drop-append_seam}
 use Rattle.bx_index.specs.declared.paragraph_span.ParagraphSpan.{ParagraphSpan}
 use Rattle.bx_index.specs.Flat.{flat, separator_of, IsSpanAround}

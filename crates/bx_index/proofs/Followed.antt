@@ -7,15 +7,16 @@ use Rattle.std.proofs.Common.{chars}
 use Rattle.std.proofs.lemmas.List.{length-take-le, take-append-drop, take-take, take_at, drop_at, drop_more, take_all, drop_all}
 use Rattle.bx_ucd.specs.Data.{Data}
 use Rattle.bx_text.specs.declared.change.Change.{Change}
-use Rattle.bx_text.specs.Edits.{IsChange, largest_text, splice}
+use Rattle.bx_text.specs.Edits.{largest_text, splice}
+use Rattle.bx_text.specs.Changes.{IsChange}
 use Rattle.bx_index.specs.declared.lengths.Lengths.{Lengths}
 use Rattle.bx_index.specs.declared.paragraph_span.ParagraphSpan.{ParagraphSpan}
-use Rattle.bx_index.specs.Paragraphs.{lengths, separating, separator_count}
+use Rattle.bx_index.specs.Paragraphs.{lengths, bytes_of, total}
+use Rattle.bx_index.specs.Scan.{separating}
+use Rattle.bx_index.specs.Index.{separator_count, CoversBytes, HasSpares}
 use Rattle.bx_index.specs.Capacity.{block_capacity}
-use Rattle.bx_index.specs.Positions.{bytes_of, total}
 use Rattle.bx_index.specs.Ended.{ended_within}
 use Rattle.bx_text.specs.Text.{HasRoomFor}
-use Rattle.bx_index.specs.Index.{CoversBytes, HasSpares}
 use Rattle.bx_index.specs.Flat.{IsSpanAround}
 use Rattle.bx_index.specs.Touched.{IsTouched}
 use Rattle.bx_index.proofs.Counts.{count_separating}

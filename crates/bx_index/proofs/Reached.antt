@@ -7,8 +7,7 @@ use Rattle.bx_text.specs.declared.change.Change.{Change}
 use Rattle.bx_index.specs.declared.lengths.Lengths.{Lengths}
 use Rattle.bx_index.specs.declared.paragraph_span.ParagraphSpan.{ParagraphSpan}
 use Rattle.bx_index.specs.declared.scan_range.ScanRange.{ScanRange}
-use Rattle.bx_index.specs.Paragraphs.{lengths}
-use Rattle.bx_index.specs.Positions.{bytes_of, total}
+use Rattle.bx_index.specs.Paragraphs.{lengths, bytes_of, total}
 use Rattle.bx_index.specs.Ended.{first}
 use Rattle.bx_index.specs.Touched.{IsTouched}
 use Rattle.bx_index.specs.ScanRanges.{rest_of, IsScanRange}

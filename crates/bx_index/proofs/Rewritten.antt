@@ -4,10 +4,10 @@ use Rattle.std.proofs.Common.{arith, length-append, append_assoc, append-nil}
 use Rattle.std.proofs.lemmas.Str.{length-le-encodes}
 use Rattle.bx_ucd.specs.Data.{Data}
 use Rattle.bx_text.specs.declared.change.Change.{Change}
-use Rattle.bx_text.specs.Edits.{IsChange}
+use Rattle.bx_text.specs.Changes.{IsChange}
 use Rattle.bx_index.specs.declared.lengths.Lengths.{Lengths}
-use Rattle.bx_index.specs.Paragraphs.{lengths, separator_count}
-use Rattle.bx_index.specs.Positions.{bytes_of, total}
+use Rattle.bx_index.specs.Paragraphs.{lengths, bytes_of, total}
+use Rattle.bx_index.specs.Index.{separator_count}
 use Rattle.bx_index.specs.Ended.{ended_within}
 use Rattle.bx_index.proofs.Cuts.{widths, widths_append, unended, lens, parts}
 use Rattle.bx_index.proofs.Totals.{total_append}

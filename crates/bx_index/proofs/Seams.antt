@@ -5,7 +5,7 @@ use Rattle.std.proofs.lemmas.Bool.Decides.{nat_tests}
 use Rattle.std.proofs.lemmas.List.{append_cancel_right}
 use Rattle.bx_ucd.specs.Data.{Data}
 use Rattle.bx_index.specs.declared.lengths.Lengths.{Lengths}
-use Rattle.bx_index.specs.Positions.{bytes_of, total}
+use Rattle.bx_index.specs.Paragraphs.{bytes_of, total}
 use Rattle.bx_index.proofs.Cuts.{width, widths, widths_append, unended, grown, joined, lens, ends, is_paired, lens_plain, lens_paired, lens_ended, parts}
 use Rattle.bx_index.proofs.Cuts.{parts_append, IsFirst, beginning}
 

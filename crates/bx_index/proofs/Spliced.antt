@@ -4,7 +4,7 @@ use Rattle.std.proofs.Common.{ap, sym, subst, arith, length-append, append_assoc
 use Rattle.std.proofs.lemmas.List.{take-append-drop, take-append-le, take-take, drop_at, length-take-le, length-take, length-drop, get_or_default}
 use Rattle.std.proofs.Math.Seq.{take-append_seam}
 use Rattle.bx_index.specs.declared.lengths.Lengths.{Lengths}
-use Rattle.bx_index.specs.Positions.{bytes_of, total}
+use Rattle.bx_index.specs.Paragraphs.{bytes_of, total}
 use Rattle.bx_index.specs.Flat.{flat}
 use Rattle.bx_index.proofs.Totals.{total_append, total_push, total_cut, total_front}
 use Rattle.bx_index.proofs.Flats.{flat_append, flat_one, flat_cut, flat_more, total_flat_more, total_flat_front, length_flat_front, length_flat_front_of}

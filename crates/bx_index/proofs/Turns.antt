@@ -6,8 +6,7 @@ use Rattle.std.proofs.lemmas.List.{take-append-drop, drop_all, length-drop}
 use Rattle.std.proofs.lemmas.Str.{chars-append, chars-nil, length-le-encodes, IsUtf8-take, IsUtf8-drop}
 use Rattle.bx_ucd.specs.Data.{Data}
 use Rattle.bx_index.specs.declared.lengths.Lengths.{Lengths}
-use Rattle.bx_index.specs.Paragraphs.{lengths}
-use Rattle.bx_index.specs.Positions.{bytes_of, total}
+use Rattle.bx_index.specs.Paragraphs.{lengths, bytes_of, total}
 use Rattle.bx_index.specs.Ended.{ended_within, first, further}
 use Rattle.bx_index.specs.ScanRanges.{IsScanRange}
 use Rattle.bx_index.specs.declared.scan_range.ScanRange.{ScanRange}

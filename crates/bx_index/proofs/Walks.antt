@@ -6,7 +6,8 @@ use Rattle.std.proofs.lemmas.List.{get_or_append_left}
 use Rattle.bx_index.specs.declared.lengths.Lengths.{Lengths}
 use Rattle.bx_index.specs.declared.spot.Spot.{Spot}
 use Rattle.bx_index.specs.Flat.{flat}
-use Rattle.bx_index.specs.Positions.{bytes_of, total, spans, separators}
+use Rattle.bx_index.specs.Paragraphs.{bytes_of, total, spans}
+use Rattle.bx_index.specs.Walk.{separators}
 use Rattle.bx_index.specs.Spots.{IsSpot, closed}
 use Rattle.bx_index.proofs.Asked.{span_at, separator_at}
 use Rattle.bx_index.proofs.Cuts.{unended}

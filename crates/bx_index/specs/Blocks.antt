@@ -1,7 +1,7 @@
 -- What always holds of a text's blocks.
 use Rattle.std.specs.Prelude.{◌<◌, ◌≤◌, ◌^◌, ◌+◌, length, vec_len, vec_capacity}
 use Rattle.bx_index.specs.declared.blocks.Blocks.TheInside.{Inside}
-use Rattle.bx_index.specs.Positions.{total}
+use Rattle.bx_index.specs.Paragraphs.{total}
 use Rattle.bx_index.specs.Flat.{flat, BlocksState}
 
 -- the value of a `Blocks` of the code

@@ -1,6 +1,6 @@
 -- The value of an `Index` of the code: the lengths of each paragraph in bytes, and the room made for the next edit.
 -- `says` is Unicode's data.
-use Rattle.std.specs.Prelude.{ℕ, ◌+◌, ◌*◌, ◌≤◌, min, List, [], ◌∷◌, ◌++◌, length, Option, IfSome, IsUtf8}
+use Rattle.std.specs.Prelude.{ℕ, ◌+◌, ◌*◌, ◌≤◌, min, List, [], ◌∷◌, ◌++◌, length, Option, IfSome, IsUtf8, ◌-◌}
 use Rattle.bx_ucd.specs.Data.{Data}
 use Rattle.bx_text.specs.Edits.{largest_text}
 use Rattle.bx_text.specs.Text.{HasRoomFor}
@@ -8,8 +8,7 @@ use Rattle.bx_index.specs.declared.lengths.Lengths.{Lengths}
 use Rattle.bx_index.specs.declared.index.Index.TheInside.{Inside}
 use Rattle.bx_index.specs.Capacity.{block_capacity}
 use Rattle.bx_index.specs.Flat.{flat}
-use Rattle.bx_index.specs.Paragraphs.{separator_count}
-use Rattle.bx_index.specs.Positions.{total}
+use Rattle.bx_index.specs.Paragraphs.{total, lengths}
 
 pub record IndexState : Type 0 where
   pub paragraphs : List Lengths
@@ -30,6 +29,10 @@ pub record IsIndex (i : Inside) : Type 0 where
   pub short : total (flat i.front.blocks ++ record { body = i.last; separator = 0 } ∷ []) ≤ largest_text
   pub few : length (flat i.front.blocks) ≤ largest_text
   pub has_room : IfSome i.room (HasSpares i.front.spares)
+
+-- the number of paragraphs of a text that end with a separator: all but the last
+abbrev pub separator_count : Data → List ℕ → ℕ
+separator_count says text = length (lengths says text) - 1
 
 -- a room covers the separators of each text of at most `bytes` bytes
 abbrev pub CoversBytes : Option ℕ → ℕ → Type 0

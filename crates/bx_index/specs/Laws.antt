@@ -1,8 +1,7 @@
 -- Laws of the paragraphs of any text. `says` is Unicode's data.
 use Rattle.std.specs.Prelude.{◌≡◌, ◌-◌, ◌⊎◌, ℕ, true, List, [], ◌∷◌, ◌++◌, All, map, take, drop, chars, encode_utf8, IsUtf8}
 use Rattle.bx_ucd.specs.Data.{Data}
-use Rattle.bx_index.specs.Paragraphs.{Paragraph, is_separator, paragraphs, lengths}
-use Rattle.bx_index.specs.Positions.{spans}
+use Rattle.bx_index.specs.Paragraphs.{Paragraph, is_separator, paragraphs, lengths, spans}
 use Rattle.bx_index.specs.Scan.{HasNone}
 
 -- paragraphs concatenated, each body with its separator after it

@@ -1,5 +1,4 @@
 pub mod Paragraphs
-pub mod Positions
 pub mod Ended
 pub mod Scan
 pub mod LeadBytes

@@ -2,7 +2,7 @@
 use Rattle.std.specs.Prelude.{◌≡◌, ◌≤◌, vec_len, vec_capacity}
 use Rattle.bx_index.specs.declared.block.Block.TheInside.{Inside}
 use Rattle.bx_index.specs.Capacity.{block_capacity}
-use Rattle.bx_index.specs.Positions.{total}
+use Rattle.bx_index.specs.Paragraphs.{total}
 
 -- a block stores its length in bytes, and has memory for all paragraphs that it may have
 pub record IsBlock (b : Inside) : Type 0 where

@@ -1,6 +1,7 @@
--- The paragraphs of a text: the text cut at each paragraph separator (UAX #9, P1). CR LF, 13 and 10, is one separator.
--- `says` is Unicode's data.
-use Rattle.std.specs.Prelude.{ℕ, ◌-◌, ◌==◌, ◌&&◌, Bool, true, false, List, [], ◌∷◌, ◌++◌, map, length, chars, count_by, encode_utf8}
+-- The paragraphs of a text: the text cut at each paragraph separator (UAX #9, P1), and where they stand. CR LF, 13 and 10, is one
+-- separator. `says` is Unicode's data.
+use Rattle.std.specs.Prelude.{ℕ, ◌-◌, ◌==◌, ◌&&◌, Bool, true, false, List, [], ◌∷◌, ◌++◌, map, length, chars, count_by, encode_utf8, ◌+◌}
+use Rattle.std.specs.Prelude.{nat_le}
 use Rattle.bx_ucd.specs.Data.{Data}
 use Rattle.bx_ucd.specs.declared.class.Class.{Class}
 use Rattle.bx_ucd.specs.declared.class.Class.TheVariants.{B}
@@ -58,10 +59,26 @@ lengths_of p = record { body = length p.body; separator = length p.separator }
 abbrev pub lengths : Data → List ℕ → List Lengths
 lengths says text = map lengths_of (paragraphs says text)
 
--- the number of paragraphs of a text that end with a separator: all but the last
-abbrev pub separator_count : Data → List ℕ → ℕ
-separator_count says text = length (lengths says text) - 1
+-- ---- positions, by the lengths of paragraphs; offsets count bytes
 
--- the number of characters of a text that are separators; CR and the LF after it are two
-abbrev pub separating : Data → List ℕ → ℕ
-separating says text = count_by (λ c. is_separator (says.class c)) (chars text)
+-- the length of a paragraph with its separator, in bytes
+abbrev pub bytes_of : Lengths → ℕ
+bytes_of p = p.body + p.separator
+
+-- the total length of some paragraphs, in bytes
+abbrev pub total : List Lengths → ℕ
+total [] = 0
+total (p ∷ ps) = bytes_of p + total ps
+
+-- the offsets of each body's start and end, where the first paragraph begins at the offset `at`
+abbrev pub spans_from : ℕ → List Lengths → List (ℕ × ℕ)
+spans_from at [] = []
+spans_from at (p ∷ ps) = (at, at + p.body) ∷ spans_from (at + bytes_of p) ps
+
+-- the offsets of each body's start and end in the text
+abbrev pub spans : List Lengths → List (ℕ × ℕ)
+spans ps = spans_from 0 ps
+
+-- the number of the paragraph that an offset falls in: the last that begins at or before it
+abbrev pub paragraph_of : List Lengths → ℕ → ℕ
+paragraph_of ps offset = count_by (λ s. nat_le s.0 offset) (spans ps) - 1

@@ -1,6 +1,7 @@
 -- The first separator of some characters, and that there is none: what a scan finds in a piece of a text.
 -- `says` is Unicode's data.
 use Rattle.std.specs.Prelude.{◌≡◌, ◌<◌, ℕ, true, false, List, [], ◌∷◌, ◌++◌, length, drop, chars, encode_utf8_all, IsCharBoundary}
+use Rattle.std.specs.Prelude.{count_by}
 use Rattle.bx_ucd.specs.Data.{Data}
 use Rattle.bx_index.specs.Paragraphs.{is_separator}
 
@@ -34,3 +35,7 @@ pub record BeginsAt (says : Data) (text : List ℕ) (at c : ℕ) : Type 0 where
   pub rest : List ℕ
   pub begins : chars (drop at text) ≡ c ∷ rest
   pub separates : is_separator (says.class c) ≡ true
+
+-- the number of characters of a text that are separators; CR and the LF after it are two
+abbrev pub separating : Data → List ℕ → ℕ
+separating says text = count_by (λ c. is_separator (says.class c)) (chars text)

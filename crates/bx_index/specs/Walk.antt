@@ -1,9 +1,9 @@
 -- The value of a walk over the paragraphs of a text: the paragraphs, and the number of the one that it is at.
-use Rattle.std.specs.Prelude.{◌≡◌, ℕ, ◌≤◌, List, take, get_or}
+use Rattle.std.specs.Prelude.{◌≡◌, ℕ, ◌≤◌, List, take, get_or, map}
 use Rattle.bx_text.specs.Edits.{largest_text}
 use Rattle.bx_index.specs.declared.lengths.Lengths.{Lengths}
 use Rattle.bx_index.specs.declared.walk.ParagraphWalk.TheInside.{Inside}
-use Rattle.bx_index.specs.Positions.{total}
+use Rattle.bx_index.specs.Paragraphs.{total}
 use Rattle.bx_index.specs.Spots.{IsSpot, closed}
 
 pub record WalkState : Type 0 where
@@ -25,3 +25,7 @@ pub record IsWalk (w : Inside) : Type 0 where
   pub begins : w.start ≡ total (take w.spot.number (all_of w))
   pub is : w.here ≡ get_or (all_of w) w.spot.number w.here
   pub short : total (all_of w) ≤ largest_text
+
+-- the length of each separator
+abbrev pub separators : List Lengths → List ℕ
+separators ps = map (λ p. p.separator) ps

@@ -2,7 +2,7 @@
 
 ghost use Rattle.std.specs.Prelude.{◌≡◌, [], ◌∷◌, ◌++◌, ◌+◌, ◌<◌, ◌≤◌, ◌^◌, length, take, drop, nat_lt, IfOk};
 ghost use Rattle.bx_index.specs.Capacity.{block_capacity};
-ghost use Rattle.bx_index.specs.Positions.{bytes_of, total};
+ghost use Rattle.bx_index.specs.Paragraphs.{bytes_of, total};
 
 use crate::lengths::Lengths;
 use std::alloc::{AllocError, Global};

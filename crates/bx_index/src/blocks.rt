@@ -2,7 +2,7 @@
 //! blocks before it.
 
 ghost use Rattle.std.specs.Prelude.{◌≡◌, ℕ, [], ◌∷◌, ◌++◌, ◌+◌, ◌-◌, ◌<◌, ◌≤◌, ◌^◌, ◌⊎◌, length, take, drop, get_or, IfOk, OnOk, OnErr, MatchOption, vec_len};
-ghost use Rattle.bx_index.specs.Positions.{bytes_of, total};
+ghost use Rattle.bx_index.specs.Paragraphs.{bytes_of, total};
 ghost use Rattle.bx_index.specs.Flat.{flat, BlocksState, room_at, separator_of, IsSpanAround};
 
 use crate::block::{BLOCK_CAPACITY, Block, total};

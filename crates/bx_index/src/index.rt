@@ -2,14 +2,14 @@
 
 ghost use Rattle.std.specs.Prelude.{◌≡◌, ℕ, ◌+◌, ◌-◌, ◌<◌, ◌≤◌, ◌++◌, ◌∷◌, List, [], None, Some, length};
 ghost use Rattle.std.specs.Prelude.{take, drop, slice_get, min, IsUtf8, IfOk, OnOk, OnErr, MatchOption};
-ghost use Rattle.bx_text.specs.Edits.{IsChange, largest_text};
+ghost use Rattle.bx_text.specs.Edits.{largest_text};
+ghost use Rattle.bx_text.specs.Changes.{IsChange};
 ghost use Rattle.bx_text.specs.Text.{HasRoomFor};
-ghost use Rattle.bx_index.specs.Paragraphs.{lengths, separator_count};
-ghost use Rattle.bx_index.specs.Positions.{total, spans, paragraph_of};
+ghost use Rattle.bx_index.specs.Paragraphs.{lengths, paragraph_of, spans, total};
+ghost use Rattle.bx_index.specs.Index.{CoversBytes, IndexState, separator_count};
 ghost use Rattle.bx_index.specs.Flat.{flat};
 ghost use Rattle.bx_index.specs.Spots.{closed};
 ghost use Rattle.bx_index.specs.Touched.{IsTouched};
-ghost use Rattle.bx_index.specs.Index.{CoversBytes, IndexState};
 ghost use Rattle.bx_index.specs.ScanRanges.{IsScanRange};
 
 use crate::block::BLOCK_CAPACITY;
@@ -40,7 +40,7 @@ pub struct Index {
 }
 
 impl Model for Index {
-    ghost use Rattle.bx_index.specs.Index.{IndexState, index_of, IsIndex};
+    ghost use Rattle.bx_index.specs.Index.{IndexState, IsIndex, index_of};
 
     ghost Value = { IndexState };
 

@@ -1,7 +1,7 @@
 //! The lengths of a paragraph, all that the index keeps of it.
 
 ghost use Rattle.std.specs.Prelude.{◌≡◌};
-ghost use Rattle.bx_index.specs.Positions.{bytes_of};
+ghost use Rattle.bx_index.specs.Paragraphs.{bytes_of};
 
 /// The lengths of a paragraph, in bytes.
 #[derive(Clone, Copy)]

@@ -2,7 +2,7 @@
 
 ghost use Rattle.std.specs.Prelude.{◌≡◌, ◌++◌, ◌+◌, ◌*◌, ◌<◌, ◌≤◌, ◌^◌, length, take, drop, IsCharBoundary};
 ghost use Rattle.bx_index.specs.Capacity.{block_capacity};
-ghost use Rattle.bx_index.specs.Positions.{total};
+ghost use Rattle.bx_index.specs.Paragraphs.{total};
 ghost use Rattle.bx_index.specs.Ended.{ended_between};
 ghost use Rattle.bx_index.specs.Flat.{flat, room_at};
 ghost use Rattle.bx_index.specs.ScanRanges.{IsScanRange};

@@ -2,9 +2,9 @@
 
 ghost use Rattle.std.specs.Prelude.{◌≡◌, ℕ, ◌<◌, ◌≤◌, ◌+◌, ◌==◌, ◌&&◌, chars, take, drop, false};
 ghost use Rattle.std.specs.Prelude.{get_or, length, slice_get, encode_utf8, if◌then◌else◌, IsCharBoundary, IsUtf8, MatchOption};
-ghost use Rattle.bx_index.specs.Paragraphs.{is_separator, begins_with_lf, lengths, separating};
+ghost use Rattle.bx_index.specs.Paragraphs.{begins_with_lf, is_separator, lengths};
+ghost use Rattle.bx_index.specs.Scan.{BeginsAt, HasNone, IsAt, NoneAt, separating};
 ghost use Rattle.bx_index.specs.Ended.{first};
-ghost use Rattle.bx_index.specs.Scan.{HasNone, NoneAt, BeginsAt, IsAt};
 ghost use Rattle.bx_index.specs.LeadBytes.{CoversSeparators};
 ghost use Rattle.bx_index.specs.ScanRanges.{IsScanRange};
 

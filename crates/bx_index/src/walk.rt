@@ -3,7 +3,8 @@
 ghost use Rattle.std.specs.Prelude.{◌≡◌, ℕ, ◌+◌, ◌-◌, ◌<◌, ◌≤◌, Some, length, nat_lt, slice_get, take, if◌then◌else◌};
 ghost use Rattle.bx_text.specs.Edits.{largest_text};
 ghost use Rattle.bx_index.specs.Flat.{flat};
-ghost use Rattle.bx_index.specs.Positions.{total, spans, separators};
+ghost use Rattle.bx_index.specs.Paragraphs.{spans, total};
+ghost use Rattle.bx_index.specs.Walk.{separators};
 ghost use Rattle.bx_index.specs.Spots.{closed};
 
 use crate::blocks::Blocks;
@@ -27,7 +28,7 @@ pub struct ParagraphWalk<'a> {
 }
 
 impl<'a> Model for ParagraphWalk<'a> {
-    ghost use Rattle.bx_index.specs.Walk.{WalkState, walk_of, IsWalk};
+    ghost use Rattle.bx_index.specs.Walk.{IsWalk, WalkState, walk_of};
 
     ghost Value = { WalkState };
 

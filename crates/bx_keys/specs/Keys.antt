@@ -1,7 +1,7 @@
 -- The key of each item, and the keys of input: what a decoder gives. `b` is a byte, `bs` are bytes, `rest` bytes that wait; of a
 -- size, `h` are the rows, `w` the columns; of a cell, `h` is the row, `w` the column.
-use Rattle.bx_terms.specs.Characters.{is_side, largest_side}
-use Rattle.std.specs.Prelude.{ℕ, zero, suc, ◌-◌, ◌≤◌, max, Bool, ◌&&◌, nat_le, ◌==◌, List, [], ◌∷◌, ◌++◌, length, slice_index, take, drop, Option, Some, None}
+use Rattle.bx_terms.specs.Characters.{is_side}
+use Rattle.std.specs.Prelude.{ℕ, zero, suc, ◌-◌, max, Bool, ◌&&◌, nat_le, ◌==◌, List, [], ◌∷◌, ◌++◌, length, slice_index, take, drop, Option, Some, None}
 use Rattle.std.specs.Prelude.{find, option_map, option_to_list, codes, if◌then◌else◌}
 use Rattle.std.specs.List.{slice_split}
 use Rattle.std.specs.Str.{chars, bytes_eq, all_ascii_digits}
@@ -123,16 +123,6 @@ key_of (b ∷ c ∷ rest) =
     if b == 0x1B then (if c == 0x5B then sequence_key rest else None)
     else character_key (chars (b ∷ c ∷ rest))
 
--- a row or a column, or their number, is from 1 to 500
-abbrev pub IsSide : ℕ → Type 0
-IsSide n = (1 ≤ n) × (n ≤ largest_side)
-
--- a size that a window may have, and a cell that may be in it
-abbrev pub HasSides : Key → Type 0
-HasSides (Size h w) = IsSide h × IsSide w
-HasSides (Point h w) = IsSide h × IsSide w
-HasSides _ = Unit {0}
-
 -- ---- the keys of input
 
 -- the length of the longest prefix that begins an item, at most n
@@ -186,8 +176,3 @@ rest_after rest b = (decoding (rest ++ b ∷ [])).rest
 -- the waiting bytes that a decoder keeps: the first twelve, since a sequence with more of them gives no key
 abbrev pub head_of : List ℕ → List ℕ
 head_of rest = take 12 rest
-
--- the keys of bytes read one by one by a decoder that keeps only the first twelve waiting bytes
-abbrev pub keys_from : List ℕ → List ℕ → List Key
-keys_from rest [] = []
-keys_from rest (b ∷ bs) = option_to_list (key_after rest b) ++ keys_from (head_of (rest_after rest b)) bs

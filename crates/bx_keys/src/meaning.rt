@@ -3,7 +3,7 @@
 ghost use Rattle.std.specs.Prelude.{◌≡◌, ◌<◌, ◌==◌, ◌∷◌, [], ◌++◌, IfSome};
 ghost use Rattle.std.specs.List.{slice_split};
 ghost use Rattle.bx_keys.specs.Keys as spec;
-ghost use Rattle.bx_keys.specs.Keys.{HasSides, IsSide};
+ghost use Rattle.bx_keys.specs.Decoder.{HasSides, IsSide};
 ghost use Rattle.bx_keys.specs.Waiting.{fate};
 
 use crate::key::Key;

@@ -6,8 +6,7 @@ use Rattle.std.proofs.lemmas.List.Concat.{flat_map-append}
 use Rattle.std.proofs.lemmas.List.Folds.{flat_map-map}
 use Rattle.bx_ucd.specs.Data.{Data}
 use Rattle.bx_terms.specs.declared.base.Base.{Base}
-use Rattle.bx_index.specs.Paragraphs.{Paragraph, lengths_of, paragraphs}
-use Rattle.bx_index.specs.Positions.{bytes_of}
+use Rattle.bx_index.specs.Paragraphs.{Paragraph, lengths_of, paragraphs, bytes_of}
 use Rattle.bx_paragraph.specs.BodyRows.{body_rows}
 use Rattle.bx_view.specs.TextRows.{TextRow, rows_from, text_row, text_row_glyphs}
 use Rattle.bx_print.specs.declared.style.Marks.{Marks}

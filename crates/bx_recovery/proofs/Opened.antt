@@ -2,7 +2,7 @@
 use Rattle.std.proofs.Common.{◌≡◌, ℕ, Bool, true, false, List, [], Option, None, Some, Result, Ok, Err, refl, sym, ap, subst, ◌∙◌, length}
 use Rattle.std.specs.Prelude.{IfOk, vec_items, unwrap_or}
 use Rattle.std.specs.Global.{Vec}
-use Rattle.bx_keys.specs.Keys.{keys_from}
+use Rattle.bx_keys.specs.Waiting.{keys_from}
 use Rattle.bx_ucd.specs.Data.{Data}
 use Rattle.bx_cli.specs.declared.unicode.UnicodeFiles.{UnicodeFiles}
 use Rattle.bx_session.specs.Session.{Session, SessionState, at_opening}

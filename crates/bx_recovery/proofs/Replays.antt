@@ -3,8 +3,8 @@ use Rattle.std.proofs.Common.{◌≡◌, ◌≢◌, ◌≤◌, ◌+◌, ℕ, Boo
 use Rattle.std.proofs.Common.{Contains, ◌⊎◌, ⊎_elim, inl, inr, ◌↔◌, IsTrue, IsFalse, refl, sym, ap, subst, ◌∙◌, zero-add, add_assoc, length-append, if◌then◌else◌, arith}
 use Rattle.std.specs.Prelude.{option_to_list}
 use Rattle.bx_keys.specs.declared.key.Key.{Key}
-use Rattle.bx_keys.specs.Keys.{key_after, keys_from, rest_after}
-use Rattle.bx_keys.specs.Waiting.{head_of}
+use Rattle.bx_keys.specs.Keys.{key_after, rest_after}
+use Rattle.bx_keys.specs.Waiting.{keys_from, head_of}
 use Rattle.bx_ucd.specs.Data.{Data}
 use Rattle.bx_session.specs.Session.{Session, SessionState, after_journal, after_replay, after_replaying, at_replay_end, key_of_byte}
 use Rattle.bx_session.specs.Saving.{is_save_byte, is_save_key}

@@ -6,7 +6,8 @@ use Rattle.std.specs.List.{filter, AllWithin}
 use Rattle.std.specs.List.Sorted.{IsPartitionPoint, IsNonDecreasingBy}
 use Rattle.std.proofs.lemmas.List.Kept.{AllPairs-filter}
 use Rattle.std.proofs.lemmas.List.Quantifiers.{all_pairs_push}
-use Rattle.bx_runs.specs.Runs.{Rise, below, greatest, least}
+use Rattle.bx_runs.specs.Runs.{below, greatest, least}
+use Rattle.bx_runs.specs.Model.{Rise}
 
 -- numbers that rise do not fall
 pub not-falling : (xs : List ℕ) → Rise xs → IsNonDecreasingBy (λ r. r) xs

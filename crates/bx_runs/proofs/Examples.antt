@@ -8,8 +8,7 @@ use Rattle.bx_runs.specs.declared.typing.Removal.{Removal}
 use Rattle.bx_runs.specs.declared.typing.Removal.TheVariants.{Erase, Delete}
 use Rattle.bx_runs.specs.declared.typing.Typing.{Typing}
 use Rattle.bx_runs.specs.declared.typing.Typing.TheVariants.{Off, Word, Blanks, Erasing}
-use Rattle.bx_runs.specs.Typing.{kind_of, goes_on, after_insertion, goes_on_removing, after_removal}
-use Rattle.bx_runs.specs.Runs.{edited, run_start, run_end}
+use Rattle.bx_runs.specs.Runs.{kind_of, goes_on, after_insertion, goes_on_removing, after_removal, edited, run_start, run_end}
 use Rattle.bx_runs.specs.Laws.{undone, redone}
 
 -- blanks and separators have kinds of their own; whatever else there is, is of a word

@@ -1,7 +1,6 @@
 -- The value of `Runs` of the code: the numbers, and whether room was made for one more.
-use Rattle.std.specs.Prelude.{◌≡◌, ℕ, ◌<◌, Bool, true, List, vec_len, vec_capacity}
+use Rattle.std.specs.Prelude.{◌≡◌, ℕ, ◌<◌, Bool, true, List, vec_len, vec_capacity, AllPairs}
 use Rattle.bx_runs.specs.declared.runs.Runs.TheInside.{Inside}
-use Rattle.bx_runs.specs.Runs.{Rise}
 
 pub record RunsState : Type 0 where
   -- the lengths of the past, in edits, at which runs begin
@@ -12,6 +11,10 @@ pub record RunsState : Type 0 where
 -- the value of the code's `Runs`
 abbrev pub runs_of : Inside → RunsState
 runs_of r = record { numbers = r.numbers.items; room = r.room }
+
+-- each number is below all later ones
+abbrev pub Rise : List ℕ → Type 0
+Rise numbers = AllPairs (λ r s. r < s) numbers
 
 -- what always holds of `Runs`
 pub record AreRuns (r : Inside) : Type 0 where

@@ -1,7 +1,8 @@
 //! The lengths of the past at which runs of edits begin: an undo or a redo of a run ends at one, or where no edit is left.
 
 ghost use Rattle.std.specs.Prelude.{◌≡◌, ◌+◌, ◌-◌, ◌≤◌, [], true, false, take, drop, length, IfOk, OnOk, OnErr};
-ghost use Rattle.bx_runs.specs.Runs.{above, below, edited, run_end, run_start, Rise};
+ghost use Rattle.bx_runs.specs.Runs.{above, below, edited, run_end, run_start};
+ghost use Rattle.bx_runs.specs.Model.{Rise};
 
 use bx_terms::OutOfMemory;
 use std::alloc::Global;
@@ -39,7 +40,7 @@ impl Model for Runs {
 
     ghost Value = { RunsState };
 
-    ghost use Rattle.bx_runs.specs.Model.{runs_of, AreRuns};
+    ghost use Rattle.bx_runs.specs.Model.{AreRuns, runs_of};
 
     ghost view = { runs_of };
 

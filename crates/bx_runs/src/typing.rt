@@ -1,7 +1,7 @@
 //! What the next edit may go on with, so that both are of one run.
 
 ghost use Rattle.std.specs.Prelude.{◌≡◌};
-ghost use Rattle.bx_runs.specs.Typing.{after_insertion, after_removal, goes_on, goes_on_removing, kind_of};
+ghost use Rattle.bx_runs.specs.Runs.{after_insertion, after_removal, goes_on, goes_on_removing, kind_of};
 
 use bx_ucd::Class;
 

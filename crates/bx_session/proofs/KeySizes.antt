@@ -18,7 +18,7 @@ use Rattle.bx_runs.specs.declared.typing.Kind.{Kind}
 use Rattle.bx_runs.specs.declared.typing.Kind.TheVariants.{Separator}
 use Rattle.bx_runs.specs.declared.typing.Removal.{Removal}
 use Rattle.bx_runs.specs.declared.typing.Typing.{Typing}
-use Rattle.bx_runs.specs.Typing.{goes_on, kind_of}
+use Rattle.bx_runs.specs.Runs.{goes_on, kind_of}
 use Rattle.bx_editor.specs.declared.seek.Aim.TheVariants.{Replace}
 use Rattle.bx_editor.specs.declared.seek.Seek.{Seek}
 use Rattle.bx_editor.specs.declared.seek.Seek.TheVariants.{Off, Begun, Typed, WithBegun, WithTyped, Replacing}

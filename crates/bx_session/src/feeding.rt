@@ -2,7 +2,7 @@
 
 ghost use Rattle.std.specs.Prelude.{◌≡◌, ◌&&◌, ◌||◌, Option, None, true, false, IfOk, IfSome, IsOk, OnErr, OnOk};
 ghost use Rattle.bx_grid.specs.Picture.{is_size};
-ghost use Rattle.bx_keys.specs.Keys.{HasSides};
+ghost use Rattle.bx_keys.specs.Decoder.{HasSides};
 ghost use Rattle.bx_editor.specs.Keys as keys;
 ghost use Rattle.bx_store.specs.declared.store.StoreFault.{StoreFault};
 ghost use Rattle.bx_session.specs.Painting.{FeedAppends, FeedPaints, ToldPaints};

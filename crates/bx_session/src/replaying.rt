@@ -2,7 +2,7 @@
 
 ghost use Rattle.std.specs.Prelude.{◌≡◌, ◌↔◌, ◌⊎◌, IsErrOf, IsOk, IsTrue, true, None, Some, is_some, IfErr, IfSome, OnErr, OnOk};
 ghost use Rattle.bx_session.specs.Saving.{may_refuse_key, store_state, with_text};
-ghost use Rattle.bx_keys.specs.Keys.{HasSides};
+ghost use Rattle.bx_keys.specs.Decoder.{HasSides};
 ghost use Rattle.bx_editor.specs.Keys.{may_refuse};
 ghost use Rattle.bx_editor.specs.Pasting.{paste_ended};
 ghost use Rattle.bx_session.specs.Session.{after_replay, after_replayed_key, after_spending, at_replay_end, at_unscrolled_end, key_of_byte};

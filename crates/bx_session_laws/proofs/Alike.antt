@@ -14,8 +14,7 @@ use Rattle.bx_runs.specs.declared.typing.Kind.{Kind}
 use Rattle.bx_runs.specs.declared.typing.Kind.TheVariants.{Separator}
 use Rattle.bx_runs.specs.declared.typing.Removal.{Removal}
 use Rattle.bx_runs.specs.declared.typing.Typing.{Typing}
-use Rattle.bx_runs.specs.Runs.{edited, run_end, run_start}
-use Rattle.bx_runs.specs.Typing.{after_insertion, after_removal, goes_on, goes_on_removing, kind_of}
+use Rattle.bx_runs.specs.Runs.{edited, run_end, run_start, after_insertion, after_removal, goes_on, goes_on_removing, kind_of}
 use Rattle.bx_editor.specs.declared.seek.Aim.TheVariants as aims
 use Rattle.bx_editor.specs.declared.message.Message.TheVariants.{TextFull, Copied, LineCopied, MarkOff, MarkSet, NothingToCopy, NothingToPut}
 use Rattle.bx_editor.specs.declared.seek.Seek.TheVariants as seeks

@@ -7,7 +7,7 @@ use Rattle.unicode_width.proofs.Computing.{unicode_width}
 use Rattle.bx_terms.specs.declared.base.Base.TheVariants.{Auto}
 use Rattle.bx_keys.specs.declared.key.Key.{Key}
 use Rattle.bx_keys.specs.declared.key.Key.TheVariants.{Insert, PasteStart, UndoRun}
-use Rattle.bx_keys.specs.Keys.{keys_from}
+use Rattle.bx_keys.specs.Waiting.{keys_from}
 use Rattle.bx_text.specs.Edits.{Edit, edit_of}
 use Rattle.bx_runs.specs.declared.typing.Typing.{Typing}
 use Rattle.bx_runs.specs.declared.typing.Typing.TheVariants as typings

@@ -2,7 +2,8 @@
 -- one that replays its bytes. `d` is Unicode's data, `e` an editor, `s` a session, `b` what a session starts with.
 use Rattle.std.specs.Prelude.{◌≡◌, ◌≢◌, ◌⊎◌, ℕ, Bool, true, false, List, [], ◌∷◌, All, Err, Option, Some, None, IfSome}
 use Rattle.bx_terms.specs.declared.base.Base.{Base}
-use Rattle.bx_keys.specs.Keys.{decoding, keys_from}
+use Rattle.bx_keys.specs.Keys.{decoding}
+use Rattle.bx_keys.specs.Waiting.{keys_from}
 use Rattle.bx_keys.specs.declared.key.Key.{Key}
 use Rattle.bx_keys.specs.declared.key.Key.TheVariants.{Point, Save}
 use Rattle.bx_ucd.specs.Data.{Data}

@@ -4,8 +4,7 @@ use Rattle.std.proofs.Common.{subst, ◌∙◌, arith}
 use Rattle.std.proofs.lemmas.Bool.{cases_eq, cases_Bool, cond-true, cond-false, both_ways}
 use Rattle.std.proofs.lemmas.Bool.Decides.{nat_tests}
 use Rattle.std.proofs.lemmas.List.{append-nil}
-use Rattle.bx_bytes.specs.Fate.{fate_in}
-use Rattle.bx_bytes.specs.Pattern.{past, One}
+use Rattle.bx_bytes.specs.Pattern.{fate_in, past, One}
 use Rattle.bx_bytes.specs.Grammar.{is_grammar}
 use Rattle.bx_bytes.specs.declared.fate.Fate.{Fate}
 use Rattle.bx_bytes.specs.declared.fate.Fate.TheVariants.{Waits, Ends, Breaks}

@@ -3,7 +3,7 @@
 ghost use Rattle.std.specs.Prelude.{◌≡◌, ℕ, ◌*◌, ◌<◌, ◌≤◌, List, [], ◌∷◌, ◌++◌, length, replicate, nat_eq, drop, true, IsTrue, ◌↔◌, IfOk, OnOk};
 ghost use Rattle.bx_grid.specs.Columns as spec;
 ghost use Rattle.bx_grid.specs.Picture.{Shows};
-ghost use Rattle.bx_bytes.specs.Fate.{fate_in};
+ghost use Rattle.bx_bytes.specs.Pattern.{fate_in};
 ghost use Rattle.bx_bytes.specs.Utf8.{characters};
 ghost use Rattle.bx_grid.specs.Columns.{run_columns};
 ghost use Rattle.bx_grid.specs.Tokens.{fate};

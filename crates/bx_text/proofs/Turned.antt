@@ -5,7 +5,8 @@ use Rattle.bx_pieces.specs.declared.piece.Piece.{Piece}
 use Rattle.bx_pieces.specs.Pieces.{total, front, back}
 use Rattle.bx_text.specs.declared.step.Step.{Step}
 use Rattle.bx_text.specs.Buffers.{Buffers, bytes_of, AreInBuffers}
-use Rattle.bx_text.specs.Edits.{Edit, IsRange, IsChange, splice, undone, redone, next_undo, next_redo, largest_text}
+use Rattle.bx_text.specs.Edits.{Edit, splice, undone, redone, largest_text}
+use Rattle.bx_text.specs.Changes.{IsRange, IsChange, next_undo, next_redo}
 use Rattle.bx_text.specs.Steps.{after_swap, past_of, future_of, AreSteps, turned_pieces, turned_step, Turns}
 use Rattle.bx_text.proofs.Characters.{IsRange-splice}
 use Rattle.bx_text.proofs.Bytes.{length-bytes_of, IsUtf8-bytes_of}

@@ -8,7 +8,8 @@ use Rattle.bx_pieces.specs.Pieces.{total, front, back}
 use Rattle.bx_text.specs.declared.step.Step.{Step}
 use Rattle.std.specs.Str.{IsUtf8, IsCharBoundary}
 use Rattle.bx_text.specs.Buffers.{Buffers, buffer_bytes, piece_bytes, bytes_of, IsInBuffer, AreInBuffers}
-use Rattle.bx_text.specs.Edits.{Edit, IsRange, IsChange, splice}
+use Rattle.bx_text.specs.Edits.{Edit, splice}
+use Rattle.bx_text.specs.Changes.{IsRange, IsChange}
 use Rattle.bx_text.proofs.Characters.{IsCharBoundary-drop, IsRange-splice}
 use Rattle.bx_text.specs.Steps.{after_swap, past_of, AreSteps}
 use Rattle.bx_text.proofs.Bytes.{bytes_of-append, bytes_of-front, bytes_of-back, AreInBuffers-append, AreInBuffers-front, AreInBuffers-back}

@@ -9,8 +9,8 @@ use Rattle.bx_text.specs.declared.step.Step.{Step}
 use Rattle.bx_text.specs.declared.step.Way.{Way}
 use Rattle.bx_text.specs.declared.step.Way.TheVariants.{Back, Again}
 use Rattle.bx_text.specs.Buffers.{Buffers, bytes_of, AreInBuffers}
-use Rattle.bx_text.specs.Edits.{Edit, Edited, IsRange, splice, largest_text}
-use Rattle.bx_text.specs.Times.{redone_times, undone_times}
+use Rattle.bx_text.specs.Edits.{Edit, Edited, splice, largest_text, redone_times, undone_times}
+use Rattle.bx_text.specs.Changes.{IsRange}
 
 -- the text with the step's bytes replaced by its pieces
 abbrev pub after_swap : Buffers → List ℕ → Step → List ℕ

@@ -4,9 +4,9 @@ ghost use Rattle.std.specs.Prelude.{◌≡◌, [], ◌∷◌, ◌++◌, ◌+◌,
 ghost use Rattle.std.specs.Str.{IsCharBoundary, IsUtf8};
 ghost use Rattle.bx_pieces.specs.Pieces.{total, front, back, IsAddressable};
 ghost use Rattle.bx_text.specs.Buffers.{with_added};
-ghost use Rattle.bx_text.specs.Edits.{exchanged, fits, fits_both, largest_text, splice, wrapped, IsChange, IsRange};
+ghost use Rattle.bx_text.specs.Edits.{fits, fits_both, largest_text, merged, splice, wrapped};
+ghost use Rattle.bx_text.specs.Changes.{IsChange, IsRange, exchanged};
 ghost use Rattle.bx_text.specs.Replacements.{change_inserted, change_made, change_removed, made, text_after};
-ghost use Rattle.bx_text.specs.Times.{merged};
 
 use crate::change::Change;
 use crate::error::TextError;

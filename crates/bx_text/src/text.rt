@@ -3,7 +3,8 @@
 ghost use Rattle.std.specs.Prelude.{◌≡◌, ℕ, List, slice_range, ◌+◌, ◌-◌, IsSome, ◌<◌, ◌≤◌, ◌^◌, ◌↔◌, [], None, Some, true, false, IfSome, take, drop, length};
 ghost use Rattle.std.specs.Prelude.{IsOk, string_bytes, IsTrue, IsCharBoundary, IfOk, OnOk, OnErr, IsErrOf};
 ghost use Rattle.std.specs.Str.{IsUtf8};
-ghost use Rattle.bx_text.specs.Edits.{opened, largest_text, next_undo, next_redo, replaced, inserted, removed, undone, redone, fits, IsRange, IsChange};
+ghost use Rattle.bx_text.specs.Edits.{fits, inserted, largest_text, opened, redone, removed, replaced, undone};
+ghost use Rattle.bx_text.specs.Changes.{IsChange, IsRange, next_redo, next_undo};
 ghost use Rattle.bx_text.specs.Text.{TextState, HasRoomFor};
 ghost use Rattle.bx_text.specs.Slices.{lends, joined};
 ghost use Rattle.std.specs.Iterator.{Drains};

@@ -2,9 +2,8 @@
 
 ghost use Rattle.std.specs.List.{reduce};
 ghost use Rattle.std.specs.Prelude.{◌≡◌, ◌+◌, ◌*◌, ◌<◌, ◌≤◌, ◌^◌, OnErr, OnOk, length, map, reverse, take, vec_len, vec_capacity};
-ghost use Rattle.bx_text.specs.Edits.{largest_text};
+ghost use Rattle.bx_text.specs.Edits.{largest_text, merged};
 ghost use Rattle.bx_text.specs.Steps.{Apply, CanTurn, HaveTurned, step_change};
-ghost use Rattle.bx_text.specs.Times.{merged};
 
 use crate::change::Change;
 use crate::step::{Step, Way};

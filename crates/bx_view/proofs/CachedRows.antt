@@ -4,9 +4,8 @@ use Rattle.std.proofs.Common.{get_or, IsUtf8, IsCharBoundary}
 use Rattle.std.proofs.Common.{refl, sym, ap, ap₂, subst, ◌∙◌, arith}
 use Rattle.bx_ucd.specs.Data.{Data}
 use Rattle.bx_terms.specs.Characters.{is_side}
-use Rattle.bx_text.specs.Edits.{IsRange}
-use Rattle.bx_index.specs.Paragraphs.{lengths}
-use Rattle.bx_index.specs.Positions.{paragraph_of}
+use Rattle.bx_text.specs.Changes.{IsRange}
+use Rattle.bx_index.specs.Paragraphs.{lengths, paragraph_of}
 use Rattle.bx_paragraph.specs.BodyRows.{body_rows, first_of}
 use Rattle.bx_paragraph.specs.BodyRows.{row_at as row_at_body}
 use Rattle.bx_paragraph.specs.Layout.{row_of as row_of_body, LayoutState, row_by, rows_by}

@@ -10,10 +10,10 @@ use lib.Utf8.{scalars}
 use Rattle.bx_terms.specs.Characters.{is_side}
 use Rattle.bx_terms.specs.declared.base.Base.{Base}
 use Rattle.bx_cells.specs.Units.{units}
-use Rattle.bx_text.specs.Edits.{IsRange, splice}
+use Rattle.bx_text.specs.Edits.{splice}
+use Rattle.bx_text.specs.Changes.{IsRange}
 use Rattle.bx_index.specs.declared.lengths.Lengths.{Lengths}
-use Rattle.bx_index.specs.Paragraphs.{Paragraph, bare, cut, lengths_of, paragraphs}
-use Rattle.bx_index.specs.Positions.{bytes_of}
+use Rattle.bx_index.specs.Paragraphs.{Paragraph, bare, cut, lengths_of, paragraphs, bytes_of}
 use Rattle.bx_index.specs.Scan.{HasNone}
 use Rattle.bx_index.proofs.Changes.{scalars_back}
 use Rattle.bx_index.proofs.Cuts.{parts}

@@ -27,8 +27,7 @@ use Rattle.bx_rows.proofs.FaceGlyphs.{face-sum, tells-face}
 use Rattle.bx_rows.proofs.NumbersBelow.{below_if_visual}
 use Rattle.bx_rows.proofs.PictureLaws.{columns_of_glyphs, faces-row}
 use Rattle.bx_rows.proofs.PictureSums.{columns-length}
-use Rattle.bx_index.specs.Paragraphs.{Paragraph, lengths_of, paragraphs}
-use Rattle.bx_index.specs.Positions.{bytes_of}
+use Rattle.bx_index.specs.Paragraphs.{Paragraph, lengths_of, paragraphs, bytes_of}
 use Rattle.bx_paragraph.specs.declared.slots.Slot.{Slot}
 use Rattle.bx_paragraph.specs.BodyRows.{BodyRow, body_rows, offsets_of, row_with, rows_units, with_last}
 use Rattle.bx_paragraph.specs.Slots.{column_in, column_of, end_slot, extent_of, left_column, row_slots, side_by_side, slot, slot_offsets, unit_slots}

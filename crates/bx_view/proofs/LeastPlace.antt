@@ -10,8 +10,7 @@ use Rattle.std.proofs.lemmas.List.Concat.{flat_map-cons}
 use Rattle.std.proofs.lemmas.Str.{chars-append, IsUtf8-append, IsUtf8-nil}
 use Rattle.bx_ucd.specs.Data.{Data}
 use Rattle.bx_terms.specs.declared.base.Base.{Base}
-use Rattle.bx_index.specs.Paragraphs.{Paragraph, bare, cut, lengths_of, paragraphs}
-use Rattle.bx_index.specs.Positions.{bytes_of, total}
+use Rattle.bx_index.specs.Paragraphs.{Paragraph, bare, cut, lengths_of, paragraphs, bytes_of, total}
 use Rattle.bx_index.proofs.Cuts.{parts}
 use Rattle.bx_index.proofs.Totals.{total_push}
 use Rattle.bx_index.proofs.Turns.{total_lengths}

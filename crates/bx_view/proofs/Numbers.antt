@@ -8,10 +8,9 @@ use Rattle.std.proofs.lemmas.List.{length-map, length-take-le, take-append-drop,
 use Rattle.std.proofs.lemmas.List.Sums.{sum_by-cons}
 use Rattle.std.proofs.lemmas.Str.{IsCharBoundary-at_seam, IsUtf8-append, IsUtf8-nil}
 use Rattle.bx_ucd.specs.Data.{Data}
-use Rattle.bx_text.specs.Edits.{IsRange}
+use Rattle.bx_text.specs.Changes.{IsRange}
 use Rattle.bx_index.specs.declared.lengths.Lengths.{Lengths}
-use Rattle.bx_index.specs.Paragraphs.{Paragraph, bare, lengths, lengths_of, paragraphs}
-use Rattle.bx_index.specs.Positions.{bytes_of, paragraph_of, spans, spans_from, total}
+use Rattle.bx_index.specs.Paragraphs.{Paragraph, bare, lengths, lengths_of, paragraphs, bytes_of, paragraph_of, spans, spans_from, total}
 use Rattle.bx_index.proofs.Asked.{span_at}
 use Rattle.bx_index.proofs.Totals.{total_more}
 use Rattle.bx_view.specs.Standing.{IsSpan, body_at, count, paragraph_at, start_at}

@@ -12,8 +12,7 @@ use Rattle.bx_resolve.specs.Levels.{paragraph_level_under, levels_under}
 use Rattle.bx_cells.specs.declared.unit.Unit.{Unit}
 use Rattle.bx_cells.specs.Units.{units}
 use Rattle.bx_rows.specs.Wrapping.{is_break, row_len, row_units, rows_from as wrap_from, rows_of}
-use Rattle.bx_index.specs.Paragraphs.{Paragraph, lengths_of, paragraphs}
-use Rattle.bx_index.specs.Positions.{bytes_of, total}
+use Rattle.bx_index.specs.Paragraphs.{Paragraph, lengths_of, paragraphs, bytes_of, total}
 use Rattle.bx_paragraph.specs.BodyRows.{BodyRow, body_rows, first_of, offsets_of, row_with, rows_units, with_last}
 use Rattle.bx_paragraph.proofs.Starts.{AllFit, some-unit, units-fit}
 use Rattle.bx_view.specs.TextRows.{TextRow, first, places, places_of, text_row, text_rows}

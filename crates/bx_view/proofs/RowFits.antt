@@ -11,8 +11,7 @@ use Rattle.bx_rows.specs.RowPicture.{columns_used}
 use Rattle.bx_rows.specs.Wrapping.{row_units, wrap}
 use Rattle.bx_rows.proofs.PictureLaws.{columns_of_glyphs, draw-sum}
 use Rattle.bx_rows.proofs.RowsFit.{fit_if_wrapped}
-use Rattle.bx_index.specs.Paragraphs.{Paragraph, lengths_of, paragraphs}
-use Rattle.bx_index.specs.Positions.{bytes_of}
+use Rattle.bx_index.specs.Paragraphs.{Paragraph, lengths_of, paragraphs, bytes_of}
 use Rattle.bx_paragraph.specs.BodyRows.{BodyRow, body_rows, row_with, rows_units, with_last}
 use Rattle.bx_view.specs.TextRows.{TextRow, text_row, text_row_glyphs, text_rows}
 use Rattle.bx_view.proofs.RowsAround.{from, own}

@@ -6,8 +6,7 @@ use Rattle.std.proofs.lemmas.List.{map-append, length-map, get_or-map, get_or_ap
 use Rattle.std.proofs.lemmas.List.Sums.{sum_by-cons}
 use Rattle.bx_ucd.specs.Data.{Data}
 use Rattle.bx_terms.specs.declared.base.Base.{Base}
-use Rattle.bx_index.specs.Paragraphs.{Paragraph, lengths_of, paragraphs}
-use Rattle.bx_index.specs.Positions.{bytes_of, total}
+use Rattle.bx_index.specs.Paragraphs.{Paragraph, lengths_of, paragraphs, bytes_of, total}
 use Rattle.bx_paragraph.specs.BodyRows.{BodyRow, body_rows, first_of, no_row}
 use Rattle.bx_paragraph.specs.BodyRows.{row_at as row_at_body}
 use Rattle.bx_paragraph.specs.Layout.{row_of as row_of_body}

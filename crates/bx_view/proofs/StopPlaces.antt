@@ -6,8 +6,7 @@ use Rattle.unicode_segmentation.specs.Segments.{with_offsets}
 use Rattle.bx_terms.specs.declared.base.Base.{Base}
 use Rattle.bx_cells.specs.declared.unit.Unit.{Unit}
 use Rattle.bx_cells.specs.Units.{unit_at, units}
-use Rattle.bx_index.specs.Paragraphs.{Paragraph, lengths_of, paragraphs}
-use Rattle.bx_index.specs.Positions.{bytes_of}
+use Rattle.bx_index.specs.Paragraphs.{Paragraph, lengths_of, paragraphs, bytes_of}
 use Rattle.bx_rows.specs.RowStarts.{first_offset}
 use Rattle.bx_view.specs.declared.moves.Logical.{Logical}
 use Rattle.bx_view.specs.declared.moves.Logical.TheVariants.{Back, Forward}

@@ -15,8 +15,8 @@ use Rattle.unicode_segmentation.proofs.SegmentsLemmas.{concat-segments}
 use Rattle.bx_terms.specs.declared.base.Base.{Base}
 use Rattle.bx_terms.specs.declared.base.Base.TheVariants.{Auto}
 use Rattle.bx_cells.specs.Units.{unit_at, units}
-use Rattle.bx_index.specs.Paragraphs.{Paragraph, after_character, after_cr, bare, begins_with_lf, cut, is_separator, lengths_of, paragraphs}
-use Rattle.bx_index.specs.Positions.{bytes_of}
+use Rattle.bx_index.specs.Paragraphs.{Paragraph, after_character, after_cr, bare, begins_with_lf, cut, is_separator, lengths_of}
+use Rattle.bx_index.specs.Paragraphs.{paragraphs, bytes_of}
 use Rattle.bx_index.proofs.Cuts.{width_is_some}
 use Rattle.bx_view.specs.Laws.{SpansText}
 use Rattle.bx_view.specs.Places.{IsTextPlace, boundaries, one_piece, pieces, pieces_of, text_places}

@@ -4,9 +4,8 @@ use Rattle.std.proofs.Common.{IsUtf8, IsCharBoundary, refl, sym, ap, subst, â—Œâ
 use Rattle.std.proofs.lemmas.List.{get_or-map, length-map, take_more, take_all}
 use Rattle.bx_ucd.specs.Data.{Data}
 use Rattle.bx_terms.specs.declared.base.Base.{Base}
-use Rattle.bx_text.specs.Edits.{IsRange}
-use Rattle.bx_index.specs.Paragraphs.{Paragraph, bare, lengths, lengths_of, paragraphs}
-use Rattle.bx_index.specs.Positions.{bytes_of, paragraph_of, total}
+use Rattle.bx_text.specs.Changes.{IsRange}
+use Rattle.bx_index.specs.Paragraphs.{Paragraph, bare, lengths, lengths_of, paragraphs, bytes_of, paragraph_of, total}
 use Rattle.bx_paragraph.specs.BodyRows.{BodyRow, body_rows, no_row}
 use Rattle.bx_paragraph.specs.BodyRows.{row_at as row_at_body, first_of as first_of_body}
 use Rattle.bx_paragraph.specs.Layout.{row_of as row_of_body}

@@ -5,8 +5,7 @@ use Rattle.std.proofs.lemmas.Bool.{cases_lt}
 use Rattle.std.proofs.lemmas.Bool.Decides.{nat_tests}
 use Rattle.std.proofs.lemmas.List.{drop_all}
 use Rattle.bx_ucd.specs.Data.{Data}
-use Rattle.bx_index.specs.Paragraphs.{Paragraph, lengths, lengths_of, paragraphs}
-use Rattle.bx_index.specs.Positions.{paragraph_of, total}
+use Rattle.bx_index.specs.Paragraphs.{Paragraph, lengths, lengths_of, paragraphs, paragraph_of, total}
 use Rattle.bx_view.specs.declared.moves.Logical.{Logical}
 use Rattle.bx_view.specs.declared.moves.Logical.TheVariants.{Back, Forward}
 use Rattle.bx_view.specs.Laws.{IsGreatestBefore, IsLeastBehind, WordsGoOn}

@@ -3,8 +3,7 @@ use Rattle.std.specs.Prelude.{ℕ, ◌+◌, nat_lt, true, List, [], count_by, ma
 use Rattle.unicode_segmentation.specs.Grapheme.{graphemes}
 use Rattle.unicode_segmentation.specs.Segments.{with_offsets}
 use Rattle.bx_ucd.specs.Data.{Data}
-use Rattle.bx_index.specs.Paragraphs.{lengths_of, paragraphs}
-use Rattle.bx_index.specs.Positions.{paragraph_of, spans}
+use Rattle.bx_index.specs.Paragraphs.{lengths_of, paragraphs, paragraph_of, spans}
 
 -- the number of the paragraph, from 0, that an offset of a text falls in
 abbrev pub paragraph_number : Data → List ℕ → ℕ → ℕ

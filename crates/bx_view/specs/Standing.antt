@@ -3,9 +3,8 @@
 use Rattle.std.specs.Prelude.{◌≡◌, ℕ, ◌+◌, ◌<◌, ◌≤◌, List, [], length, take, slice_index_or, slice_range}
 use Rattle.bx_ucd.specs.Data.{Data}
 use Rattle.bx_terms.specs.declared.base.Base.{Base}
-use Rattle.bx_text.specs.Edits.{IsRange}
-use Rattle.bx_index.specs.Paragraphs.{Paragraph, bare, lengths, paragraphs}
-use Rattle.bx_index.specs.Positions.{total}
+use Rattle.bx_text.specs.Changes.{IsRange}
+use Rattle.bx_index.specs.Paragraphs.{Paragraph, bare, lengths, paragraphs, total}
 use Rattle.bx_paragraph.specs.BodyRows.{BodyRow, body_rows}
 use Rattle.bx_view.specs.TextRows.{rows_from}
 

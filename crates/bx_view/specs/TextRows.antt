@@ -3,8 +3,7 @@
 use Rattle.std.specs.Prelude.{ℕ, ◌+◌, ◌-◌, List, [], ◌∷◌, ◌++◌, map, flat_map, slice_index_or, Contains}
 use Rattle.bx_ucd.specs.Data.{Data}
 use Rattle.bx_terms.specs.declared.base.Base.{Base}
-use Rattle.bx_index.specs.Paragraphs.{Paragraph, paragraphs, lengths_of}
-use Rattle.bx_index.specs.Positions.{bytes_of}
+use Rattle.bx_index.specs.Paragraphs.{Paragraph, paragraphs, lengths_of, bytes_of}
 use Rattle.bx_rows.specs.RowPicture.{Glyph}
 use Rattle.bx_paragraph.specs.BodyRows.{BodyRow, body_rows, first_of, falls_in, no_row, offsets_of, row_glyphs}
 use Rattle.bx_paragraph.specs.Slots.{column_of, slot_offsets}

@@ -2,7 +2,7 @@
 ghost use Rattle.std.specs.Prelude.{◌≡◌, ◌≤◌, ◌<◌, ◌+◌, ◌⊎◌, ◌↔◌, ℕ, List, [], true, IfOk, IfSome, IsTrue, MatchOption, OnOk, length, slice_range};
 ghost use Rattle.std.specs.List.{splice};
 ghost use Rattle.bx_terms.specs.Characters.{is_side};
-ghost use Rattle.bx_text.specs.Edits.{IsRange};
+ghost use Rattle.bx_text.specs.Changes.{IsRange};
 ghost use Rattle.bx_view.specs.Caching.{AreCached, FitsLimit, HasBody, Caches, IsCached, cached_bytes, most_cached};
 
 use crate::span::TextSpan;

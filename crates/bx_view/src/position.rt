@@ -1,7 +1,6 @@
 //! The position of a place in its row and its paragraph.
 ghost use Rattle.std.specs.Prelude.{◌≡◌, ◌≤◌, IfOk};
-ghost use Rattle.bx_index.specs.Paragraphs.{lengths};
-ghost use Rattle.bx_index.specs.Positions.{paragraph_of};
+ghost use Rattle.bx_index.specs.Paragraphs.{lengths, paragraph_of};
 ghost use Rattle.bx_view.specs.Position.{IsPosition};
 ghost use Rattle.bx_view.specs.Source.{IsViewBy, Keeps, StandsOn, bytes, rows};
 ghost use Rattle.bx_view.specs.TextRows.{cell_of, row_of};

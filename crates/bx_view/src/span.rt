@@ -1,7 +1,6 @@
 //! The spans of paragraph bodies in a text.
 ghost use Rattle.std.specs.Prelude.{◌≡◌, ◌<◌, ◌≤◌};
-ghost use Rattle.bx_index.specs.Paragraphs.{lengths};
-ghost use Rattle.bx_index.specs.Positions.{paragraph_of};
+ghost use Rattle.bx_index.specs.Paragraphs.{lengths, paragraph_of};
 ghost use Rattle.bx_view.specs.Source.{IsSpan, bytes, count};
 
 use crate::source::Source;

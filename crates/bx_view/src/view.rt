@@ -1,8 +1,7 @@
 //! The view of a text in a width.
 ghost use Rattle.std.specs.Prelude.{◌≡◌, ℕ, ◌+◌, ◌-◌, ◌^◌, ◌<◌, ◌≤◌, [], true, IfOk, IfSome};
 ghost use Rattle.bx_terms.specs.Characters.{is_side};
-ghost use Rattle.bx_index.specs.Paragraphs.{lengths};
-ghost use Rattle.bx_index.specs.Positions.{paragraph_of};
+ghost use Rattle.bx_index.specs.Paragraphs.{lengths, paragraph_of};
 ghost use Rattle.bx_view.specs.FoundRow.{IsSameAtEnd};
 ghost use Rattle.bx_view.specs.Caching.{Caches};
 ghost use Rattle.bx_view.specs.Source.{IsAlong, IsBefore, IsNext, IsOfText, IsSpan, IsViewBy, Keeps, Stands, StandsOn, body_at, bytes, rows};

@@ -9,8 +9,7 @@ use Rattle.bx_ucd.specs.Data.{Data}
 use Rattle.bx_terms.specs.declared.base.Base.{Base}
 use Rattle.bx_rows.specs.declared.start_search.RowStart.{RowStart}
 use Rattle.bx_rows.specs.RowStarts.{row_starts}
-use Rattle.bx_index.specs.Paragraphs.{lengths_of, paragraphs}
-use Rattle.bx_index.specs.Positions.{total}
+use Rattle.bx_index.specs.Paragraphs.{lengths_of, paragraphs, total}
 use Rattle.bx_paragraph.specs.BodyRows.{first_of, no_row}
 use Rattle.bx_paragraph.proofs.Starts.{firsts}
 use Rattle.bx_view.specs.Standing.{IsRow, body_at, count, rows_ahead, rows_in, start_at}

@@ -4,7 +4,8 @@ ghost use Rattle.std.specs.Prelude.{◌≡◌, ℕ, ◌+◌, ◌^◌, ◌<◌, �
 ghost use Rattle.std.specs.Str.{IsCharBoundary};
 ghost use Rattle.bx_terms.specs.Characters.{is_side};
 ghost use Rattle.bx_terms.specs.declared.base.Base.{Base};
-ghost use Rattle.bx_text.specs.Edits.{IsRange, largest_text};
+ghost use Rattle.bx_text.specs.Edits.{largest_text};
+ghost use Rattle.bx_text.specs.Changes.{IsRange};
 ghost use Rattle.bx_index.specs.Paragraphs.{lengths};
 ghost use Rattle.bx_rows.specs.RowStarts.{row_starts};
 ghost use Rattle.bx_view.specs.Places.{IsTextPlace};

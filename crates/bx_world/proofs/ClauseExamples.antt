@@ -8,7 +8,8 @@ use Rattle.unicode_width.proofs.Computing.{unicode_width}
 use Rattle.bx_terms.specs.declared.base.Base.TheVariants.{Auto}
 use Rattle.bx_keys.specs.declared.key.Key.{Key}
 use Rattle.bx_keys.specs.declared.key.Key.TheVariants.{Insert, Save}
-use Rattle.bx_keys.specs.Keys.{decoding, keys_from}
+use Rattle.bx_keys.specs.Keys.{decoding}
+use Rattle.bx_keys.specs.Waiting.{keys_from}
 use Rattle.bx_grid.specs.Picture.{Shows}
 use Rattle.bx_grid.specs.Terminal.{Terminal}
 use Rattle.bx_view.specs.TextRows.{cell_of}

@@ -2,7 +2,7 @@
 -- `d` is Unicode's data.
 use Rattle.std.specs.Prelude.{◌≡◌, ℕ, ◌+◌, ◌<◌, Bool, true, false, List, [], Result, IfSome, IsSome}
 use Rattle.bx_terms.specs.declared.base.Base.{Base}
-use Rattle.bx_keys.specs.Keys.{keys_from}
+use Rattle.bx_keys.specs.Waiting.{keys_from}
 use Rattle.bx_grid.specs.Picture.{Shows}
 use Rattle.bx_store.specs.Stores.{greatest}
 use Rattle.bx_ucd.specs.Data.{Data}

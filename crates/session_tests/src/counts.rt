@@ -2,7 +2,7 @@
 
 ghost use Rattle.std.specs.Prelude.{◌≡◌, ℕ, List, Some, IsUtf8};
 ghost use Rattle.bx_index.specs.Paragraphs.{lengths};
-ghost use Rattle.bx_text.specs.Edits.{IsChange};
+ghost use Rattle.bx_text.specs.Changes.{IsChange};
 
 use crate::counting::Counting;
 use bx_document::Document;

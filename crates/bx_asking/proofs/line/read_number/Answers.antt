@@ -2,7 +2,7 @@ use Rattle.std.proofs.Common.{◌≡◌, ◌<◌, ◌≤◌, ◌-◌, ◌∙◌,
 use Rattle.std.specs.Prelude.{fold, unwrap_or}
 use Rattle.std.specs.List.{after_first, before_first}
 use Rattle.std.proofs.lemmas.Str.{IsUtf8-past_char}
-use Rattle.bx_asking.specs.Line.{is_divider, with_digit}
+use Rattle.bx_asking.specs.Answers.{is_divider, with_digit}
 use Rattle.bx_asking.proofs.Numbers.{values, some-values, few-values, with-digit-small, before-here, after-here, before-more, after-more}
 use Rattle.bx_asking.proofs.OneMore.{no-chars}
 use Rattle.bx_asking.proofs.line.read_number.Goals as goal

@@ -4,7 +4,7 @@ use Rattle.std.specs.Prelude.{fold, unwrap_or}
 use Rattle.std.specs.List.{after_first, before_first}
 use denote.Text.{Utf8}
 use denote.Shadow.{shadow}
-use Rattle.bx_asking.specs.Line.{is_divider, with_digit}
+use Rattle.bx_asking.specs.Answers.{is_divider, with_digit}
 use Rattle.bx_asking.proofs.Numbers.{values}
 use Rattle.bx_asking.proofs.line.read_number.Given as goal
 

@@ -1,7 +1,7 @@
 -- What is left tells the same from here on.
 use Rattle.std.proofs.Common.{◌≡◌, ℕ, ◌-◌, ◌++◌, List, chars}
 use Rattle.std.specs.Prelude.{slice_range}
-use Rattle.bx_text.specs.Edits.{IsRange}
+use Rattle.bx_text.specs.Changes.{IsRange}
 use Rattle.bx_document.specs.SeparatorReads.{crlf_from}
 use Rattle.bx_document.proofs.first_separator.after_range.Given as goal
 

@@ -1,7 +1,7 @@
 use Rattle.std.proofs.Common.{ℕ, List, ◌≡◌, ◌≤◌, ◌+◌, ◌∙◌, length, chars, drop, ap, sym, arith}
 use Rattle.std.specs.Prelude.{Option, Some, slice_get}
 use Rattle.std.proofs.lemmas.Str.{IsCharBoundary-start}
-use Rattle.bx_find.specs.Matches.{first_before}
+use Rattle.bx_find.specs.Parts.{first_before}
 use Rattle.bx_find.specs.Prefix.{to_come}
 use Rattle.bx_find.proofs.Fronts.{front_of, front_ends}
 use Rattle.bx_find.proofs.Offsets.{if_below, below_yes, below_no, before_by_first, none_first, piece_read, none_behind, none_to_come}

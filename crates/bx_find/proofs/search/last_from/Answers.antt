@@ -1,7 +1,8 @@
 use Rattle.std.proofs.Common.{ℕ, List, ◌≡◌, ◌≤◌, ◌+◌, ◌∙◌, ◌++◌, length, chars, drop, ap, sym, arith}
 use Rattle.std.specs.Prelude.{Option, None}
 use Rattle.bx_find.specs.Prefix.{to_come}
-use Rattle.bx_find.specs.Matches.{last_below, last_from}
+use Rattle.bx_find.specs.Matches.{last_below}
+use Rattle.bx_find.specs.Parts.{last_from}
 use Rattle.bx_find.proofs.Offsets.{last_around, last_from_offset, piece_read, none_behind, none_to_come}
 use Rattle.bx_find.proofs.Boundaries.{last_from_bound}
 use Rattle.bx_find.proofs.search.last_from.Goals as goal

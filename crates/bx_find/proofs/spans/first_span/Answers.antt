@@ -1,5 +1,5 @@
 use Rattle.std.proofs.Common.{ℕ, ◌∷◌, ◌∙◌, ap, sym, arith}
-use Rattle.bx_find.specs.Spans.{spans_from}
+use Rattle.bx_find.specs.Matches.{spans_from}
 use Rattle.bx_find.proofs.SpansOf.{span_found, none_found}
 use Rattle.bx_find.proofs.spans.first_span.Goals as goal
 

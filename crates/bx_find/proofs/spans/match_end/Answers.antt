@@ -1,5 +1,5 @@
 use Rattle.std.proofs.Common.{ℕ, List, ◌≡◌, ◌≤◌, ◌+◌, ◌∙◌, length, chars, drop, ap, sym, subst, arith, IsCharBoundary}
-use Rattle.bx_find.specs.Spans.{match_end, behind_letters}
+use Rattle.bx_find.specs.Matches.{match_end, behind_letters}
 use Rattle.bx_find.proofs.Offsets.{piece_read, none_behind}
 use Rattle.bx_find.proofs.SpansOf.{ends_with, not_before, end_bound}
 use Rattle.bx_find.proofs.spans.match_end.Goals as goal

@@ -1,6 +1,6 @@
 -- The paragraphs before this one, which end at the offset or before it.
 use Rattle.std.proofs.Common.{◌≡◌, ◌≤◌, take}
-use Rattle.bx_index.specs.Positions.{total}
+use Rattle.bx_index.specs.Paragraphs.{total}
 use Rattle.bx_index.proofs.blocks.position_within.Given as goal
 
 abbrev pub invariant-loop-paragraph : goal.invariant-loop-paragraph

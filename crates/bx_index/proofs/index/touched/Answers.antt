@@ -1,5 +1,5 @@
 use Rattle.std.proofs.Common.{◌≤◌, ◌+◌, length, ap, subst, arith}
-use Rattle.bx_index.specs.Positions.{total}
+use Rattle.bx_index.specs.Paragraphs.{total}
 use Rattle.bx_index.specs.Flat.{flat, IsSpanAround}
 use Rattle.bx_index.proofs.Turns.{total_lengths}
 use Rattle.bx_index.proofs.index.touched.Goals as goal

@@ -1,6 +1,6 @@
 use Rattle.std.proofs.Common.{◌∙◌, length, ap, arith}
 use Rattle.bx_index.specs.declared.lengths.Lengths.{Lengths}
-use Rattle.bx_index.specs.Positions.{total}
+use Rattle.bx_index.specs.Paragraphs.{total}
 use Rattle.bx_index.proofs.Spliced.{pushed_from}
 use Rattle.bx_index.proofs.Turns.{step, moved, none_left, still_all, now_all}
 use Rattle.bx_index.proofs.rescan.insert_scanned.Goals as goal

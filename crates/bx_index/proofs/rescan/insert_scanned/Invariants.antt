@@ -1,7 +1,6 @@
 -- The paragraphs before the offset are inserted, and those after it are still to come.
 use Rattle.std.proofs.Common.{◌≡◌, ◌≤◌, ◌<◌, ◌^◌, ◌+◌, ◌-◌, ◌++◌, IsCharBoundary, take, drop, length}
-use Rattle.bx_index.specs.Paragraphs.{lengths}
-use Rattle.bx_index.specs.Positions.{total}
+use Rattle.bx_index.specs.Paragraphs.{lengths, total}
 use Rattle.bx_index.specs.Ended.{ended_within}
 use Rattle.bx_index.specs.Flat.{flat, room_at}
 use Rattle.bx_index.specs.ScanRanges.{IsScanRange}

@@ -1,6 +1,7 @@
 use Rattle.std.proofs.Common.{◌∙◌, [], ap, arith, sym, subst}
 use Rattle.std.proofs.lemmas.Str.{IsCharBoundary-start}
-use Rattle.bx_text.specs.Edits.{IsRange, splice}
+use Rattle.bx_text.specs.Edits.{splice}
+use Rattle.bx_text.specs.Changes.{IsRange}
 use Rattle.bx_document.specs.FirstSeparator.{has_crlf_first}
 use Rattle.bx_document.proofs.SeparatorsRead.{told}
 use Rattle.bx_document.proofs.SameState.{lent}

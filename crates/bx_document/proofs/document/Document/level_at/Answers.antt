@@ -1,7 +1,7 @@
 use Rattle.std.proofs.Common.{◌∙◌, ap, chars, subst, sym}
 use Rattle.std.specs.Prelude.{slice_range}
-use Rattle.bx_text.specs.Edits.{IsRange}
-use Rattle.bx_index.specs.Positions.{paragraph_of}
+use Rattle.bx_text.specs.Changes.{IsRange}
+use Rattle.bx_index.specs.Paragraphs.{paragraph_of}
 use Rattle.bx_resolve.specs.Levels.{levels_under}
 use Rattle.bx_view.specs.Places.{IsTextPlace}
 use Rattle.bx_view.proofs.Numbers.{IsUnder, paragraph-under}

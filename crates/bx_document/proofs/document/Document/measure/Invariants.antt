@@ -1,7 +1,7 @@
 -- The matches from the stop on are still to come.
 use Rattle.std.proofs.Common.{◌≡◌, ◌≤◌, ◌+◌, ◌-◌, ◌^◌, length, min}
-use Rattle.bx_find.specs.Spans.{spans_from}
-use Rattle.bx_text.specs.Edits.{IsRange}
+use Rattle.bx_find.specs.Matches.{spans_from}
+use Rattle.bx_text.specs.Changes.{IsRange}
 use Rattle.bx_document.specs.Swapped.{last_stop, swapped}
 use Rattle.bx_document.proofs.document.Document.measure.Given as goal
 

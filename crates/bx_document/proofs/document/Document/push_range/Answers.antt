@@ -1,5 +1,5 @@
 use Rattle.std.proofs.Common.{◌≡◌, ◌+◌, ◌++◌, ◌∙◌, append_assoc, ap, drop, length, slice_range, string_bytes, subst, sym, take}
-use Rattle.bx_text.specs.Edits.{IsRange}
+use Rattle.bx_text.specs.Changes.{IsRange}
 use Rattle.bx_text.proofs.Lent.{range_split}
 use Rattle.bx_document.proofs.document.Document.push_range.Goals as goal
 

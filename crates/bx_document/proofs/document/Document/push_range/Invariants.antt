@@ -1,6 +1,6 @@
 -- What is left is to be copied.
 use Rattle.std.proofs.Common.{◌≡◌, ◌-◌, ◌++◌, slice_range, string_bytes}
-use Rattle.bx_text.specs.Edits.{IsRange}
+use Rattle.bx_text.specs.Changes.{IsRange}
 use Rattle.bx_document.proofs.document.Document.push_range.Given as goal
 
 abbrev pub invariant-loop-at : goal.invariant-loop-at

@@ -1,7 +1,8 @@
 use Rattle.std.proofs.Common.{rules, ◌≡◌, ◌+◌, ◌-◌, ◌∙◌, [], length, true, IsUtf8, arith, subst, sym, refl}
 use Rattle.std.proofs.lemmas.Bool.{leb-true}
 use Rattle.std.proofs.lemmas.Bool.Decides.{nat_tests}
-use Rattle.bx_text.specs.Edits.{IsRange, fits, largest_text, splice}
+use Rattle.bx_text.specs.Edits.{fits, largest_text, splice}
+use Rattle.bx_text.specs.Changes.{IsRange}
 use Rattle.bx_view.specs.Places.{IsTextPlace}
 use Rattle.bx_document.specs.Document.{place_after, replaced_text}
 use Rattle.bx_document.proofs.PlaceAfter.{splice_bytes}

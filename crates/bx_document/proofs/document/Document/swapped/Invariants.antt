@@ -1,6 +1,6 @@
 -- The matches from here on are still to come.
 use Rattle.std.proofs.Common.{◌≡◌, ◌-◌, ◌++◌, length, string_bytes, IsCharBoundary}
-use Rattle.bx_find.specs.Spans.{spans_from}
+use Rattle.bx_find.specs.Matches.{spans_from}
 use Rattle.bx_document.specs.Swapped.{swapped}
 use Rattle.bx_document.proofs.document.Document.swapped.Given as goal
 

@@ -1,5 +1,5 @@
 use Rattle.std.proofs.Common.{ℕ, IsCharBoundary, refl, subst}
-use Rattle.bx_text.specs.Edits.{IsRange}
+use Rattle.bx_text.specs.Changes.{IsRange}
 use Rattle.bx_view.specs.Places.{IsTextPlace}
 use Rattle.bx_view.specs.TextRows.{text_rows}
 use Rattle.bx_view.proofs.TextPlaces.{place-between}

@@ -1,5 +1,5 @@
 use Rattle.std.proofs.Common.{ap, arith}
-use Rattle.bx_index.specs.Positions.{total}
+use Rattle.bx_index.specs.Paragraphs.{total}
 use Rattle.bx_index.proofs.Totals.{total_rest}
 use Rattle.bx_index.proofs.block.Block.cut.Goals as goal
 

@@ -1,5 +1,5 @@
 use Rattle.std.proofs.Common.{◌∙◌, length, ap, sym, arith}
-use Rattle.bx_index.specs.Positions.{total}
+use Rattle.bx_index.specs.Paragraphs.{total}
 use Rattle.bx_index.specs.Flat.{flat, BlocksState}
 use Rattle.bx_index.proofs.Flats.{whole_front, whole_back}
 use Rattle.bx_index.proofs.Spliced.{cut_is}

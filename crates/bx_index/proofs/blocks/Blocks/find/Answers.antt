@@ -1,5 +1,5 @@
 use Rattle.std.proofs.Common.{◌≡◌, ◌∙◌, ◌+◌, length, take, ap, arith}
-use Rattle.bx_index.specs.Positions.{total}
+use Rattle.bx_index.specs.Paragraphs.{total}
 use Rattle.bx_index.specs.Flat.{flat, separator_of, BlocksState}
 use Rattle.bx_index.proofs.Flats.{position_at, IsSpanAround-same, total_flat_more, total_flat_front}
 use Rattle.bx_index.proofs.Totals.{total_front}

@@ -1,6 +1,6 @@
 -- The blocks before this one, which end at the offset or before it.
 use Rattle.std.proofs.Common.{◌≡◌, ◌≤◌, take, length}
-use Rattle.bx_index.specs.Positions.{total}
+use Rattle.bx_index.specs.Paragraphs.{total}
 use Rattle.bx_index.specs.Flat.{flat}
 use Rattle.bx_index.proofs.blocks.Blocks.find.Given as goal
 

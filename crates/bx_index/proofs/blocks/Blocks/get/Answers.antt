@@ -1,5 +1,5 @@
 use Rattle.std.proofs.Common.{◌∙◌, ◌+◌, ap, arith}
-use Rattle.bx_index.specs.Positions.{total}
+use Rattle.bx_index.specs.Paragraphs.{total}
 use Rattle.bx_index.specs.Flat.{flat, BlocksState}
 use Rattle.bx_index.proofs.Flats.{entry_at, total_flat_more, total_flat_front}
 use Rattle.bx_index.proofs.Totals.{total_front}

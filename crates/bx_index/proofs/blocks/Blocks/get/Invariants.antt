@@ -1,6 +1,6 @@
 -- The blocks before this one stand before the paragraph.
 use Rattle.std.proofs.Common.{◌≡◌, ◌+◌, take, length}
-use Rattle.bx_index.specs.Positions.{total}
+use Rattle.bx_index.specs.Paragraphs.{total}
 use Rattle.bx_index.specs.Flat.{flat}
 use Rattle.bx_index.proofs.blocks.Blocks.get.Given as goal
 

@@ -1,5 +1,5 @@
 use Rattle.std.proofs.Common.{◌∙◌, ◌-◌, length, ap, arith}
-use Rattle.bx_index.specs.Positions.{total}
+use Rattle.bx_index.specs.Paragraphs.{total}
 use Rattle.bx_index.specs.Flat.{flat, BlocksState}
 use Rattle.bx_index.proofs.Spliced.{joined_is, two_blocks}
 use Rattle.bx_index.proofs.blocks.Blocks.join.Goals as goal

@@ -1,5 +1,5 @@
 use Rattle.std.proofs.Common.{◌+◌, ◌-◌, [], length, is_ok, vec_len, if◌then◌else◌, ap, arith}
-use Rattle.bx_index.specs.Positions.{total}
+use Rattle.bx_index.specs.Paragraphs.{total}
 use Rattle.bx_index.specs.Flat.{flat, BlocksState}
 use Rattle.bx_index.proofs.Flats.{total_flat_more, total_flat_front}
 use Rattle.bx_index.proofs.Spliced.{pushed_in_block, pushed_alone, alone_in}

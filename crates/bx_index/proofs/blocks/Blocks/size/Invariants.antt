@@ -1,6 +1,6 @@
 -- The blocks counted so far.
 use Rattle.std.proofs.Common.{◌≡◌, take, length}
-use Rattle.bx_index.specs.Positions.{total}
+use Rattle.bx_index.specs.Paragraphs.{total}
 use Rattle.bx_index.specs.Flat.{flat}
 use Rattle.bx_index.proofs.blocks.Blocks.size.Given as goal
 

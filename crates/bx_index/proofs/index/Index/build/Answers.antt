@@ -1,8 +1,7 @@
 use Rattle.std.proofs.Common.{◌≡◌, ◌∙◌, ◌++◌, [], ◌∷◌, None, length, drop, ap, sym, arith, length-append}
 use Rattle.std.proofs.lemmas.Str.{IsCharBoundary-start}
 use Rattle.bx_index.specs.declared.lengths.Lengths.{Lengths}
-use Rattle.bx_index.specs.Paragraphs.{lengths}
-use Rattle.bx_index.specs.Positions.{total}
+use Rattle.bx_index.specs.Paragraphs.{lengths, total}
 use Rattle.bx_index.specs.Flat.{flat, BlocksState}
 use Rattle.bx_index.proofs.Cuts.{unended}
 use Rattle.bx_index.proofs.Spliced.{pushed_behind}

@@ -1,7 +1,6 @@
 -- The paragraphs before the offset are in the blocks, and the others follow.
 use Rattle.std.proofs.Common.{◌≡◌, ◌≤◌, ◌-◌, ◌++◌, [], IsCharBoundary, drop, length}
-use Rattle.bx_index.specs.Paragraphs.{lengths}
-use Rattle.bx_index.specs.Positions.{total}
+use Rattle.bx_index.specs.Paragraphs.{lengths, total}
 use Rattle.bx_index.specs.Flat.{flat}
 use Rattle.bx_index.specs.ScanRanges.{IsScanRange}
 use Rattle.bx_index.proofs.index.Index.build.Given as goal

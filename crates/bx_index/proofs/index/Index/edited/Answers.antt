@@ -1,7 +1,7 @@
 use Rattle.std.proofs.Common.{◌≡◌, ◌≤◌, ◌∙◌, ◌+◌, ◌-◌, [], ◌∷◌, None, ap, sym, subst, arith}
 use Rattle.bx_text.specs.Edits.{largest_text}
 use Rattle.bx_text.specs.Text.{HasRoomFor}
-use Rattle.bx_index.specs.Positions.{total}
+use Rattle.bx_index.specs.Paragraphs.{total}
 use Rattle.bx_index.specs.Flat.{flat}
 use Rattle.bx_index.specs.Index.{IndexState}
 use Rattle.bx_index.proofs.Cuts.{unended}

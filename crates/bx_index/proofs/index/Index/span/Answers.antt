@@ -1,6 +1,6 @@
 use Rattle.std.proofs.Common.{◌≡◌, ◌∙◌, ◌+◌, ◌∷◌, [], length, slice_get, ap, sym, arith, length-append}
 use Rattle.bx_index.specs.Flat.{flat}
-use Rattle.bx_index.specs.Positions.{bytes_of, spans}
+use Rattle.bx_index.specs.Paragraphs.{bytes_of, spans}
 use Rattle.bx_index.specs.Index.{IndexState}
 use Rattle.bx_index.proofs.Cuts.{unended}
 use Rattle.bx_index.proofs.Totals.{total_push, total_more, total_front}

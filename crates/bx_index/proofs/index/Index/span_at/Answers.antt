@@ -1,6 +1,6 @@
 use Rattle.std.proofs.Common.{◌≡◌, ◌∙◌, ap, slice_get, sym, take, arith}
 use Rattle.bx_index.specs.Flat.{flat}
-use Rattle.bx_index.specs.Positions.{paragraph_of, spans, total}
+use Rattle.bx_index.specs.Paragraphs.{paragraph_of, spans, total}
 use Rattle.bx_index.specs.Index.{IndexState}
 use Rattle.bx_index.proofs.Cuts.{unended}
 use Rattle.bx_index.proofs.Totals.{total_front, total_push}

@@ -1,6 +1,6 @@
 use Rattle.std.proofs.Common.{◌∙◌, ap}
 use Rattle.bx_index.specs.Flat.{flat}
-use Rattle.bx_index.specs.Positions.{paragraph_of}
+use Rattle.bx_index.specs.Paragraphs.{paragraph_of}
 use Rattle.bx_index.specs.Index.{IndexState}
 use Rattle.bx_index.specs.Spots.{closed}
 use Rattle.bx_index.proofs.Cuts.{unended}

@@ -1,7 +1,6 @@
 use Rattle.std.proofs.Common.{◌∙◌, slice_get, ap, sym}
-use Rattle.bx_index.specs.Positions.{separators}
+use Rattle.bx_index.specs.Walk.{separators, WalkState}
 use Rattle.bx_index.specs.Spots.{closed}
-use Rattle.bx_index.specs.Walk.{WalkState}
 use Rattle.bx_index.proofs.Walks.{number_inside, separator_is}
 use Rattle.bx_index.proofs.walk.ParagraphWalk.separator.Goals as goal
 

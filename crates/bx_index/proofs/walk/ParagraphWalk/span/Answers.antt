@@ -1,5 +1,5 @@
 use Rattle.std.proofs.Common.{◌∙◌, slice_get, ap, sym, arith}
-use Rattle.bx_index.specs.Positions.{spans}
+use Rattle.bx_index.specs.Paragraphs.{spans}
 use Rattle.bx_index.specs.Spots.{closed}
 use Rattle.bx_index.specs.Walk.{WalkState}
 use Rattle.bx_index.proofs.Walks.{number_inside, span_is, behind_is}

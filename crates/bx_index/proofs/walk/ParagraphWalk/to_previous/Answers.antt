@@ -1,5 +1,5 @@
 use Rattle.std.proofs.Common.{take, refl, sym, arith}
-use Rattle.bx_index.specs.Positions.{total}
+use Rattle.bx_index.specs.Paragraphs.{total}
 use Rattle.bx_index.specs.Spots.{closed}
 use Rattle.bx_index.proofs.Walks.{number_inside, begins_next}
 use Rattle.bx_index.proofs.walk.ParagraphWalk.to_previous.Goals as goal

@@ -1,6 +1,7 @@
 use Rattle.std.proofs.Common.{◌≡◌, ◌∙◌, ◌++◌, [], ◌∷◌, ap, subst, sym, rules, List, ℕ}
 use Rattle.std.specs.Prelude.{IsOk, if◌then◌else◌}
-use Rattle.bx_runs.specs.Runs.{Rise, below}
+use Rattle.bx_runs.specs.Runs.{below}
+use Rattle.bx_runs.specs.Model.{Rise}
 use Rattle.bx_runs.proofs.Bisected.{rise-more}
 use Rattle.bx_runs.proofs.runs.Runs.edited.Goals as goal
 

@@ -5,7 +5,8 @@ use Rattle.bx_pieces.specs.declared.piece.Piece.{Piece}
 use Rattle.bx_pieces.specs.Pieces.{front, back}
 use Rattle.bx_text.specs.declared.step.Step.{Step}
 use Rattle.bx_text.specs.Buffers.{Buffers, bytes_of, with_added}
-use Rattle.bx_text.specs.Edits.{Edited, IsRange, IsChange, replaced}
+use Rattle.bx_text.specs.Edits.{Edited, replaced}
+use Rattle.bx_text.specs.Changes.{IsRange, IsChange}
 use Rattle.bx_text.specs.Steps.{future_of}
 use Rattle.std.specs.Str.{IsUtf8}
 use Rattle.bx_text.proofs.Versions.{grown, splice_leads}

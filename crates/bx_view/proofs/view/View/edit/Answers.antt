@@ -1,7 +1,7 @@
 use Rattle.std.proofs.Common.{◌≡◌, ℕ, List, ◌≤◌, ◌<◌, ◌+◌, ◌-◌, ◌∙◌, ap, arith, chars, length, refl, rules, subst, sym, true}
 use Rattle.std.specs.List.{splice as list_splice}
 use Rattle.bx_terms.specs.Characters.{is_side}
-use Rattle.bx_text.specs.Edits.{IsRange}
+use Rattle.bx_text.specs.Changes.{IsRange}
 use Rattle.bx_ucd.specs.Data.{Data}
 use Rattle.bx_paragraph.specs.Layout.{LayoutState}
 use Rattle.bx_view.specs.Caching.{Caches, HasBody, IsCached}
