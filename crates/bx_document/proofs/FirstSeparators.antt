@@ -14,7 +14,7 @@ use Rattle.bx_index.specs.Paragraphs.{Paragraph, bare, lengths, lengths_of, para
 use Rattle.bx_index.specs.Walk.{separators}
 use Rattle.bx_index.proofs.Asked.{separator_at}
 use Rattle.bx_index.proofs.Bodies.{end_with_separators}
-use Rattle.bx_view.specs.Standing.{body_at, count, paragraph_at}
+use Rattle.bx_view.specs.Numbers.{body_at, count, paragraph_at}
 use Rattle.bx_view.proofs.Numbers.{behind, body-range, lengths-count, parts-at, some-paragraph, span-is}
 use Rattle.bx_view.proofs.Parts.{bytes, text-bytes}
 use Rattle.bx_document.specs.FirstSeparator.{has_crlf_first, is_cr_lf}

@@ -14,7 +14,8 @@ use Rattle.bx_terms.specs.declared.base.Base.{Base}
 use Rattle.bx_index.specs.Paragraphs.{bare, cut, paragraphs}
 use Rattle.bx_index.proofs.Cuts.{parts}
 use Rattle.bx_view.specs.Moves.{place_at}
-use Rattle.bx_view.specs.Places.{boundaries, pieces, pieces_of, text_places}
+use Rattle.bx_view.specs.Places.{pieces, pieces_of, text_places}
+use Rattle.bx_view.specs.Numbers.{boundaries}
 use Rattle.bx_view.specs.TextRows.{TextRow, places, text_rows}
 use Rattle.bx_view.proofs.Cutting.{joins}
 use Rattle.bx_view.proofs.TextPlaces.{pieces-bytes, places-are, places-span}

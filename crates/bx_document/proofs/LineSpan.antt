@@ -4,7 +4,7 @@ use Rattle.bx_ucd.specs.Data.{Data}
 use Rattle.bx_text.specs.Changes.{IsRange}
 use Rattle.bx_index.specs.declared.lengths.Lengths.{Lengths}
 use Rattle.bx_index.specs.Paragraphs.{lengths, paragraph_of, spans}
-use Rattle.bx_view.specs.Standing.{start_at}
+use Rattle.bx_view.specs.Numbers.{start_at}
 use Rattle.bx_view.proofs.Begins.{begin_at}
 use Rattle.bx_view.proofs.Numbers.{falls-at}
 use Rattle.bx_document.specs.Line.{line_of}

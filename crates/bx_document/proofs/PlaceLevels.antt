@@ -15,8 +15,8 @@ use Rattle.bx_index.specs.Paragraphs.{bare, lengths, lengths_of, paragraphs, byt
 use Rattle.bx_index.proofs.Totals.{total_more}
 use Rattle.bx_resolve.specs.Levels.{levels_under}
 use Rattle.bx_rows.specs.RowLevels.{first_level}
-use Rattle.bx_view.specs.Places.{IsTextPlace, boundaries}
-use Rattle.bx_view.specs.Standing.{body_at, count, paragraph_at, start_at}
+use Rattle.bx_view.specs.Places.{IsTextPlace}
+use Rattle.bx_view.specs.Numbers.{boundaries, body_at, count, paragraph_at, start_at}
 use Rattle.bx_view.proofs.Numbered.{place-in-body}
 use Rattle.bx_view.proofs.Numbers.{body-utf8, falls-at, holds-of, lengths-count}
 use Rattle.bx_document.specs.PlaceLevel.{IsFirstLevel, UnitsHaveLevels, place_level, unit_level}

@@ -19,7 +19,8 @@ use Rattle.bx_rows.proofs.PictureLaws.{columns_of_glyphs}
 use Rattle.bx_paragraph.specs.declared.slots.Slot.{Slot}
 use Rattle.bx_paragraph.specs.Slots.{covering_in, covers, end_slot, extent_of, left_column, side_by_side as slots_beside, slot, unit_slots}
 use Rattle.bx_ucd.specs.Data.{Data}
-use Rattle.bx_view.specs.TextParts.{is_covered, is_in, is_some_in, slots_in}
+use Rattle.bx_view.specs.TextParts.{slots_in}
+use Rattle.bx_view.specs.Top.{is_covered, is_in, is_some_in}
 use Rattle.bx_view.specs.TextRows.{TextRow, text_row_glyphs}
 use Rattle.bx_view.proofs.GlyphCells.{HasFaces}
 use Rattle.bx_view.proofs.KeptPlaces.{HasLevels}

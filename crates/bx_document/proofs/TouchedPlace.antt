@@ -15,7 +15,7 @@ use Rattle.bx_index.specs.Paragraphs.{lengths, paragraph_of, total}
 use Rattle.bx_index.proofs.Cuts.{parts}
 use Rattle.bx_index.proofs.Turns.{total_lengths}
 use Rattle.bx_view.specs.Moves.{place_at, place_from}
-use Rattle.bx_view.specs.Standing.{count, start_at}
+use Rattle.bx_view.specs.Numbers.{count, start_at}
 use Rattle.bx_view.specs.TextRows.{TextRow, text_rows}
 use Rattle.bx_view.proofs.Begins.{begin_at, drop_parts, no_chars, some_chars, take_parts}
 use Rattle.bx_view.proofs.Cutting.{parts_ahead, parts_behind}

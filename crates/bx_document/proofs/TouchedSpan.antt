@@ -9,7 +9,7 @@ use Rattle.bx_index.specs.Paragraphs.{lengths, paragraph_of, spans, total}
 use Rattle.bx_index.specs.Walk.{separators, WalkState}
 use Rattle.bx_index.proofs.Asked.{separator_at, span_at}
 use Rattle.bx_index.proofs.Totals.{total_more}
-use Rattle.bx_view.specs.Standing.{start_at}
+use Rattle.bx_view.specs.Numbers.{start_at}
 use Rattle.bx_view.proofs.Numbers.{falls-at, lengths-count}
 use Rattle.bx_document.specs.Touched.{touched_start, touched_stop}
 use Rattle.bx_document.proofs.TouchedPlace.{back_is, front_is}

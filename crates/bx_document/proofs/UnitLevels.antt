@@ -10,7 +10,7 @@ use Rattle.std.proofs.lemmas.Str.{IsCharBoundary-from_drop, IsCharBoundary-start
 use Rattle.unicode_segmentation.specs.Grapheme.{graphemes}
 use Rattle.bx_rows.specs.RowLevels.{first_level}
 use Rattle.bx_cells.proofs.Rest.{cluster-grows, first-cluster}
-use Rattle.bx_view.specs.Places.{boundaries}
+use Rattle.bx_view.specs.Numbers.{boundaries}
 use Rattle.bx_document.specs.PlaceLevel.{IsFirstLevel, level_from, unit_level}
 
 -- ---- boundaries

@@ -1,7 +1,7 @@
 -- Whether a text's lines end with CR LF, by its first separator: Enter types what they end with. `says` is what the tables say.
 use Rattle.std.specs.Prelude.{ℕ, ◌==◌, Bool, false, ◌&&◌, List, [], ◌∷◌}
 use Rattle.bx_ucd.specs.Data.{Data}
-use Rattle.bx_view.specs.Standing.{paragraph_at}
+use Rattle.bx_view.specs.Numbers.{paragraph_at}
 
 -- a separator's bytes are CR (13) and LF (10)
 abbrev pub is_cr_lf : List ℕ → Bool

@@ -8,7 +8,7 @@ use Rattle.unicode_segmentation.specs.Grapheme.{graphemes}
 use Rattle.bx_index.specs.Paragraphs.{lengths, paragraph_of}
 use Rattle.bx_resolve.specs.Levels.{levels_under}
 use Rattle.bx_rows.specs.RowLevels.{first_level}
-use Rattle.bx_view.specs.Standing.{body_at, count, start_at}
+use Rattle.bx_view.specs.Numbers.{body_at, count, start_at}
 
 -- The level of the unit that begins at the offset `at`, among units of which the first begins at the offset `start`; `each` has
 -- the level of each of their characters. The unit's level is the one of its first character that X9 keeps: None if X9 keeps none,

@@ -4,7 +4,7 @@ use Rattle.std.specs.Prelude.{ℕ, ◌+◌, ◌-◌, ◌*◌, Bool, List, [], �
 use Rattle.bx_grid.specs.Columns.{Col, blank}
 use Rattle.bx_grid.specs.Turned.{turned}
 use Rattle.bx_ucd.specs.Data.{Data}
-use Rattle.bx_view.specs.TextParts.{is_covered}
+use Rattle.bx_view.specs.Top.{is_covered}
 use Rattle.bx_view.specs.TextRows.{TextRow}
 use Rattle.bx_document.specs.Drawing.{row_columns}
 

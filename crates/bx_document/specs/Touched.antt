@@ -3,7 +3,7 @@
 use Rattle.std.specs.Prelude.{ℕ, ◌+◌, ◌-◌, List, ◌++◌, slice_range}
 use Rattle.bx_ucd.specs.Data.{Data}
 use Rattle.bx_index.specs.Paragraphs.{lengths, paragraph_of}
-use Rattle.bx_view.specs.Standing.{start_at}
+use Rattle.bx_view.specs.Numbers.{start_at}
 
 -- the start of the paragraph with the byte before an offset (its separator may be a CR that the edit makes CR LF); 0 for offset 0
 abbrev pub touched_start : Data → List ℕ → ℕ → ℕ

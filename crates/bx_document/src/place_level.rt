@@ -2,7 +2,8 @@
 ghost use Rattle.std.specs.Prelude.{◌≡◌, true, Contains, IfOk, IsCharBoundary};
 ghost use Rattle.unicode_segmentation.specs.Grapheme.{graphemes};
 ghost use Rattle.bx_rows.specs.RowLevels.{first_level};
-ghost use Rattle.bx_view.specs.Places.{IsTextPlace, boundaries};
+ghost use Rattle.bx_view.specs.Places.{IsTextPlace};
+ghost use Rattle.bx_view.specs.Numbers.{boundaries};
 ghost use Rattle.bx_document.specs.PlaceLevel.{place_level, unit_level};
 
 use crate::document::Document;

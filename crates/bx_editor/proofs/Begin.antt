@@ -3,7 +3,8 @@ use Rattle.std.proofs.Common.{◌≡◌, ◌≤◌, ℕ, List, [], ◌∷◌, le
 use Rattle.std.proofs.lemmas.Str.{chars-nil}
 use Rattle.std.specs.Prelude.{Contains}
 use Rattle.bx_ucd.specs.Data.{Data}
-use Rattle.bx_view.specs.Places.{IsTextPlace, boundaries, pieces}
+use Rattle.bx_view.specs.Places.{IsTextPlace, pieces}
+use Rattle.bx_view.specs.Numbers.{boundaries}
 
 begin-in : (gs : List (List ℕ)) → Contains (boundaries 0 gs) 0
 begin-in [] = (0, omega arith, refl)

@@ -3,7 +3,7 @@ use Rattle.std.proofs.Common.{◌≡◌, ◌≤◌, ℕ, Bool, true, false, nat_
 use Rattle.std.specs.Prelude.{find, reverse, unwrap_or, IsCharBoundary}
 use Rattle.bx_text.specs.Changes.{IsRange}
 use Rattle.bx_ucd.specs.Data.{Data}
-use Rattle.bx_view.specs.Moves.{moved}
+use Rattle.bx_view.specs.Moved.{moved}
 use Rattle.bx_view.specs.TextRows.{TextRow, places}
 use Rattle.bx_view.specs.Words.{text_stops}
 use Rattle.bx_view.specs.declared.moves.Logical.TheVariants.{Back, Forward}

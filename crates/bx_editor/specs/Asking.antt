@@ -10,8 +10,7 @@ use Rattle.bx_asking.specs.Names.{coded, is_code_letter, asks_code, closing, nam
 use Rattle.bx_runs.specs.declared.typing.Typing.{Typing}
 use Rattle.bx_runs.specs.Runs.{after_insertion, kind_of}
 use Rattle.bx_text.specs.Edits.{fits}
-use Rattle.bx_view.specs.Going.{place_of}
-use Rattle.bx_view.specs.Numbers.{paragraph_number}
+use Rattle.bx_view.specs.Numbers.{place_of, paragraph_number}
 use Rattle.bx_editor.specs.declared.message.Message.TheVariants.{NoSuchCharacter, TextFull}
 use Rattle.bx_editor.specs.Editor.{Editor, with_insertion, with_place, with_typing}
 use Rattle.bx_editor.specs.Putting.{is_paste, only_paste}

@@ -1,7 +1,8 @@
 //! The keys that remove a unit, a word or a point, or the selection.
 ghost use Rattle.std.specs.Prelude.{◌≡◌, true, false, IfOk, OnErr, OnOk};
 ghost use Rattle.bx_text.specs.Changes.{IsRange};
-ghost use Rattle.bx_view.specs.Moves.{moved, step_logical};
+ghost use Rattle.bx_view.specs.Moves.{step_logical};
+ghost use Rattle.bx_view.specs.Moved.{moved};
 ghost use Rattle.bx_view.specs.Words.{step_word};
 ghost use Rattle.bx_editor.specs.Editor.{cleared, rows, with_removal};
 ghost use Rattle.bx_editor.specs.Erasing.{after_erasing, after_erasing_word, after_removing, goes_back, goes_on, point_before, removed_on};

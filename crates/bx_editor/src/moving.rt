@@ -1,6 +1,7 @@
 //! The keys that move the cursor, and the call that moves it to an offset.
 ghost use Rattle.std.specs.Prelude.{◌≡◌, IfOk, OnErr, OnOk};
-ghost use Rattle.bx_view.specs.Moves.{moved, place_from};
+ghost use Rattle.bx_view.specs.Moves.{place_from};
+ghost use Rattle.bx_view.specs.Moved.{moved};
 ghost use Rattle.bx_view.specs.Places.{IsTextPlace};
 ghost use Rattle.bx_editor.specs.Editor.{rows, text_height, with_place, cleared};
 ghost use Rattle.bx_editor.specs.Goal.{after_row_move, goal_behind, goal_column};

@@ -8,8 +8,7 @@ use Rattle.unicode_segmentation.specs.Segments.{with_offsets}
 use Rattle.unicode_segmentation.proofs.SegmentsLemmas.{AllPieces, concat-segments, segments_nonempty}
 use Rattle.bx_ucd.specs.Data.{Data}
 use Rattle.bx_index.specs.Paragraphs.{Paragraph, bare, lengths, lengths_of, paragraphs, paragraph_of, spans, total}
-use Rattle.bx_view.specs.Numbers.{paragraph_number, unit_number, units_before}
-use Rattle.bx_view.specs.Standing.{body_at, count, start_at}
+use Rattle.bx_view.specs.Numbers.{paragraph_number, unit_number, units_before, body_at, count, start_at}
 use Rattle.bx_view.proofs.Numbers.{ahead, behind, body-range, body-utf8, falls-at, here, parts-at, start-is}
 use Rattle.bx_view.proofs.Parts.{AreEnded, text-parts}
 use Rattle.bx_view.proofs.RowsAround.{AllEnded, ahead-ended}

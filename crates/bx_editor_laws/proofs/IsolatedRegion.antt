@@ -18,7 +18,7 @@ use Rattle.bx_resolve.specs.Laws.{level_at}
 use Rattle.bx_asking.specs.Names.{beside, closing, closings, named, names}
 use Rattle.bx_keys.specs.declared.key.Key.TheVariants.{Insert, Name}
 use Rattle.bx_index.specs.Paragraphs.{Paragraph, bare, cut, is_separator, paragraphs}
-use Rattle.bx_view.specs.Standing.{body_at, count}
+use Rattle.bx_view.specs.Numbers.{body_at, count}
 use Rattle.bx_view.proofs.Numbers.{body-utf8}
 use Rattle.bx_view.proofs.Parts.{text-parts}
 use Rattle.bx_editor_laws.specs.AskingLaws.{CanIsolate, IsAbove, Isolates, IsWhole, LetterIsolates, embedding_at, region_chars}

@@ -9,9 +9,8 @@ use Rattle.bx_asking.specs.declared.answers.Ask.{Ask}
 use Rattle.bx_asking.specs.declared.answers.Ask.TheVariants as asks
 use Rattle.bx_runs.specs.declared.typing.Typing.TheVariants as typings
 use Rattle.bx_paragraph.proofs.Starts.{side-some}
-use Rattle.bx_view.specs.Pointing.{pointed_at}
+use Rattle.bx_view.specs.Top.{pointed_at, follow}
 use Rattle.bx_view.specs.TextRows.{TextRow, cell_of, first, row_at, row_of}
-use Rattle.bx_view.specs.Top.{follow}
 use Rattle.bx_view.proofs.CellColumns.{cell-inside}
 use Rattle.bx_view.proofs.LeastMove.{falls-own}
 use Rattle.bx_view.proofs.TextPlaces.{place-in-window}

@@ -13,8 +13,7 @@ use Rattle.bx_keys.specs.declared.key.Key.TheVariants as keys
 use Rattle.bx_runs.specs.declared.typing.Typing.TheVariants as typings
 use Rattle.bx_text.specs.Edits.{Edited}
 use Rattle.bx_ucd.specs.Data.{Data}
-use Rattle.bx_view.specs.Going.{place_of}
-use Rattle.bx_view.specs.Numbers.{paragraph_number, unit_number}
+use Rattle.bx_view.specs.Numbers.{place_of, paragraph_number, unit_number}
 use Rattle.bx_view.specs.Places.{IsTextPlace}
 use Rattle.bx_view.specs.TextRows.{cell_of, text_rows}
 use Rattle.bx_view.specs.declared.position.Position.{Position}

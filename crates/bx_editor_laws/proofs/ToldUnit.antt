@@ -21,7 +21,7 @@ use Rattle.bx_rows.specs.RowLevels.{first_level}
 use Rattle.bx_paragraph.proofs.Starts.{side-some}
 use Rattle.bx_index.specs.Paragraphs.{lengths, paragraph_of}
 use Rattle.bx_view.specs.Moves.{step_logical}
-use Rattle.bx_view.specs.Standing.{body_at, start_at}
+use Rattle.bx_view.specs.Numbers.{body_at, start_at}
 use Rattle.bx_view.specs.declared.moves.Logical.TheVariants.{Forward}
 use Rattle.bx_document.specs.PlaceLevel.{level_from, place_level}
 use Rattle.bx_document.proofs.PlaceLevels.{units_have}

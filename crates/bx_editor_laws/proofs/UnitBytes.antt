@@ -11,8 +11,8 @@ use Rattle.bx_ucd.specs.Data.{Data}
 use Rattle.bx_terms.specs.declared.base.Base.{Base}
 use Rattle.bx_index.specs.Paragraphs.{Paragraph, lengths_of, bytes_of}
 use Rattle.bx_view.specs.Moves.{step_logical}
-use Rattle.bx_view.specs.Places.{IsTextPlace, boundaries}
-use Rattle.bx_view.specs.Standing.{body_at, count, start_at}
+use Rattle.bx_view.specs.Places.{IsTextPlace}
+use Rattle.bx_view.specs.Numbers.{boundaries, body_at, count, start_at}
 use Rattle.bx_view.specs.TextRows.{text_rows}
 use Rattle.bx_view.specs.declared.moves.Logical.TheVariants.{Forward}
 use Rattle.bx_view.proofs.Numbered.{body-place, place-in-body}

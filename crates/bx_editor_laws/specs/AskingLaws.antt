@@ -24,7 +24,7 @@ use Rattle.bx_store.specs.declared.store.StoreFault.{StoreFault}
 use Rattle.bx_text.specs.Changes.{IsRange}
 use Rattle.bx_rows.specs.RowPicture.{Glyph}
 use Rattle.bx_view.specs.Places.{IsTextPlace}
-use Rattle.bx_view.specs.Standing.{body_at, count, paragraph_at, start_at}
+use Rattle.bx_view.specs.Numbers.{body_at, count, paragraph_at, start_at}
 use Rattle.bx_document.specs.Document.{wrapped_end}
 use Rattle.bx_document.specs.PlaceLevel.{IsFirstLevel}
 use Rattle.bx_editor.specs.declared.message.Message.{Message}

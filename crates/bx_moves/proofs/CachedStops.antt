@@ -6,7 +6,7 @@ use Rattle.bx_ucd.specs.Data.{Data}
 use Rattle.bx_text.specs.Changes.{IsRange}
 use Rattle.bx_index.specs.Paragraphs.{lengths, paragraph_of}
 use Rattle.bx_view.specs.declared.moves.Logical.TheVariants.{Back, Forward}
-use Rattle.bx_view.specs.Standing.{body_at, count, start_at}
+use Rattle.bx_view.specs.Numbers.{body_at, count, start_at}
 use Rattle.bx_view.specs.Words.{body_words, step_word}
 use Rattle.bx_view.proofs.Numbers.{body-range, body-utf8, falls-at}
 use Rattle.bx_view.proofs.Within.{Within, within-reverse}

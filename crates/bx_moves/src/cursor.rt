@@ -1,7 +1,7 @@
 //! The one public call, which makes any of the cursor's moves.
 ghost use Rattle.std.specs.Prelude.{◌≡◌, true, IfOk};
 ghost use Rattle.std.specs.Str.{IsCharBoundary};
-ghost use Rattle.bx_view.specs.Moves.{is_to_row_end, moved};
+ghost use Rattle.bx_view.specs.Moved.{is_to_row_end, moved};
 ghost use Rattle.bx_view.specs.Places.{IsTextPlace};
 ghost use Rattle.bx_view.specs.Source.{IsViewBy, Keeps, bytes, rows};
 

@@ -2,7 +2,7 @@
 ghost use Rattle.std.specs.Prelude.{◌≡◌, IfOk};
 ghost use Rattle.std.specs.Str.{IsCharBoundary};
 ghost use Rattle.bx_view.specs.Places.{IsTextPlace};
-ghost use Rattle.bx_view.specs.Pointing.{pointed_at};
+ghost use Rattle.bx_view.specs.Top.{pointed_at};
 ghost use Rattle.bx_view.specs.Source.{IsViewBy, Keeps, bytes, rows};
 
 use crate::placed::entry;

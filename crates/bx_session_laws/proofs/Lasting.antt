@@ -11,7 +11,7 @@ use Rattle.bx_runs.specs.declared.typing.Typing.{Typing}
 use Rattle.bx_editor.specs.declared.seek.Aim.{Aim}
 use Rattle.bx_editor.specs.declared.seek.Seek.{Seek}
 use Rattle.bx_editor.specs.declared.cursor.Soft.{Soft}
-use Rattle.bx_view.specs.Pointing.{pointed_at}
+use Rattle.bx_view.specs.Top.{pointed_at}
 use Rattle.bx_editor.specs.Editor.{Editor, rows, text_height}
 use Rattle.bx_editor.specs.Effects.{Goes}
 use Rattle.bx_editor.specs.Keys.{effect_of}

@@ -10,7 +10,7 @@ use Rattle.bx_index.specs.Paragraphs.{lengths_of}
 use Rattle.bx_index.proofs.Changes.{scalars_back}
 use Rattle.bx_index.proofs.Cuts.{lens, parts, widths}
 use Rattle.bx_index.proofs.Seams.{seam}
-use Rattle.bx_view.specs.Standing.{count, start_at}
+use Rattle.bx_view.specs.Numbers.{count, start_at}
 use Rattle.bx_view.proofs.Numbers.{ahead, behind, here, parts-at, start-is}
 
 -- ---- bytes

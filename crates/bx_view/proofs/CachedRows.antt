@@ -14,7 +14,8 @@ use Rattle.bx_view.specs.declared.in_row.RowAt.{RowAt}
 use Rattle.bx_view.specs.FoundRow.{StandsOn}
 use Rattle.bx_view.specs.Caching.{Caches, IsCached, IsOfText, IsViewBy, Keeps, ViewState}
 use Rattle.bx_view.specs.Moves.{row_home}
-use Rattle.bx_view.specs.Standing.{IsRow, body_at, count, rows_in, start_at}
+use Rattle.bx_view.specs.Standing.{IsRow, rows_in}
+use Rattle.bx_view.specs.Numbers.{body_at, count, start_at}
 use Rattle.bx_view.specs.TextRows.{TextRow, first, row_at, row_of, text_row, text_rows}
 use Rattle.bx_view.proofs.Numbers.{body-range}
 use Rattle.bx_view.proofs.Walking.{before-over, before-some, first-short, next-none, next-over, row-is, row-under}

@@ -35,7 +35,7 @@ use Rattle.bx_paragraph.specs.Slots.{column_in, end_slot, extent_of, left_column
 use Rattle.bx_paragraph.proofs.LayoutRows.{last-at}
 use Rattle.bx_paragraph.proofs.RowSlots.{columns-in-order, extent-is}
 use Rattle.bx_index.specs.Paragraphs.{lengths, paragraph_of}
-use Rattle.bx_view.specs.Standing.{body_at, start_at}
+use Rattle.bx_view.specs.Numbers.{body_at, start_at}
 use Rattle.bx_view.specs.TextRows.{cell_of, text_rows}
 use Rattle.bx_view.proofs.Numbers.{body-utf8}
 use Rattle.bx_view.proofs.Walking.{cell-is, row-under}

@@ -24,7 +24,7 @@ use Rattle.bx_view.specs.Caching.{AreCached, Caches, IsCached, ViewState}
 use Rattle.bx_view.specs.FoundRow.{rows_by as rows_of_text}
 use Rattle.bx_view.specs.Moves.{place_from}
 use Rattle.bx_view.specs.Places.{IsTextPlace}
-use Rattle.bx_view.specs.Standing.{body_at, count, start_at}
+use Rattle.bx_view.specs.Numbers.{body_at, count, start_at}
 use Rattle.bx_view.specs.TextRows.{places, rows_from, text_rows}
 use Rattle.bx_view.proofs.Begins.{IsBegin, begin_at, no_chars, some_chars, take_parts}
 use Rattle.bx_view.proofs.BodyFirsts.{starts_of}

@@ -12,7 +12,8 @@ use Rattle.bx_paragraph.specs.BodyRows.{offsets_of}
 use Rattle.bx_paragraph.specs.Slots.{covering, entry, first_in, opposite, or_else, reading_end}
 use Rattle.bx_paragraph.specs.Slots.{reading_side, row_slots, slot_offsets, toward}
 use Rattle.bx_paragraph.proofs.OnceEach.{once-contains, once-summed}
-use Rattle.bx_view.specs.Cells.{IsEntered, times}
+use Rattle.bx_view.specs.Cells.{times}
+use Rattle.bx_view.specs.Laws.{IsEntered}
 use Rattle.bx_view.specs.Moves.{place_in}
 use Rattle.bx_view.specs.TextRows.{TextRow, no_text_row, places_of, row_at, text_rows}
 use Rattle.bx_view.proofs.FindPlaces.{head-some, heads-at}

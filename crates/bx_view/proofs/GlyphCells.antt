@@ -33,7 +33,8 @@ use Rattle.bx_paragraph.specs.BodyRows.{BodyRow, body_rows, offsets_of, row_with
 use Rattle.bx_paragraph.specs.Slots.{column_in, column_of, end_slot, extent_of, left_column, row_slots, side_by_side, slot, slot_offsets, unit_slots}
 use Rattle.bx_paragraph.proofs.OnceEach.{once-summed}
 use Rattle.bx_paragraph.proofs.RowSlots.{extent-is}
-use Rattle.bx_view.specs.Cells.{HasCell, HasCells, IsEndCell, IsUnitCell, glyphs_of, times, with_looks}
+use Rattle.bx_view.specs.Cells.{HasCell, IsEndCell, IsUnitCell, glyphs_of, times, with_looks}
+use Rattle.bx_view.specs.Laws.{HasCells}
 use Rattle.bx_view.specs.TextRows.{IsPlace, TextRow, no_text_row, row_at, row_of, text_row, text_rows}
 use Rattle.bx_view.proofs.RowsAround.{from, own}
 use Rattle.bx_view.proofs.KeptPlaces.{HasLevels, one-at, counted-contains, rows-leveled}

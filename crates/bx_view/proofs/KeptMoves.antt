@@ -16,12 +16,12 @@ use Rattle.bx_view.specs.declared.moves.Move.{Move}
 use Rattle.bx_view.specs.declared.moves.Move.TheVariants as moves
 use Rattle.bx_view.specs.declared.moves.Vertical.{Vertical}
 use Rattle.bx_view.specs.declared.moves.Vertical.TheVariants.{Down}
-use Rattle.bx_view.specs.Moves.{end_of, entry_in, is_to_row_end, moved, past, place_at, place_from, place_in, row_after, row_away}
+use Rattle.bx_view.specs.Moves.{end_of, entry_in, past, place_at, place_from, place_in, row_after, row_away}
+use Rattle.bx_view.specs.Moved.{is_to_row_end, moved}
 use Rattle.bx_view.specs.Moves.{row_before, row_end, row_home, rows_away, start_of, step_logical, step_visual, word_way}
 use Rattle.bx_view.specs.Laws.{MovesKeep}
-use Rattle.bx_view.specs.Pointing.{pointed_at, pointed_row}
+use Rattle.bx_view.specs.Top.{pointed_at, pointed_row, follow, nearest_top}
 use Rattle.bx_view.specs.TextRows.{TextRow, cell_of, first, no_text_row, places, row_at, row_of}
-use Rattle.bx_view.specs.Top.{follow, nearest_top}
 use Rattle.bx_view.specs.Words.{step_word, text_stops}
 use Rattle.bx_view.proofs.KeptRows.{away-within}
 use Rattle.bx_view.proofs.Nearest.{falls-within}

@@ -18,10 +18,9 @@ use Rattle.unicode_segmentation.proofs.SegmentsLemmas.{AllPieces, concat-segment
 use Rattle.bx_terms.specs.declared.base.Base.{Base}
 use Rattle.bx_index.specs.Paragraphs.{Paragraph, bare, lengths, lengths_of, paragraphs, bytes_of, paragraph_of, spans}
 use Rattle.bx_index.proofs.Asked.{span_at}
-use Rattle.bx_view.specs.Going.{LeadBack, LeadToPlaces, unit_place}
-use Rattle.bx_view.specs.Numbers.{unit_number, units_before}
-use Rattle.bx_view.specs.Places.{IsTextPlace, boundaries, one_piece, pieces_of, text_places}
-use Rattle.bx_view.specs.Standing.{body_at, count, start_at}
+use Rattle.bx_view.specs.Laws.{LeadBack, LeadToPlaces}
+use Rattle.bx_view.specs.Numbers.{unit_place, unit_number, units_before, body_at, count, start_at, boundaries}
+use Rattle.bx_view.specs.Places.{IsTextPlace, one_piece, pieces_of, text_places}
 use Rattle.bx_view.specs.TextRows.{text_rows}
 use Rattle.bx_view.proofs.Numbers.{ahead, behind, bytes-length, body-utf8, falls-at, here, lengths-count, parts-at, some-paragraph, start-is}
 use Rattle.bx_view.proofs.Parts.{AreUtf8, text-parts}

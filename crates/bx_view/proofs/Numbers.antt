@@ -13,7 +13,8 @@ use Rattle.bx_index.specs.declared.lengths.Lengths.{Lengths}
 use Rattle.bx_index.specs.Paragraphs.{Paragraph, bare, lengths, lengths_of, paragraphs, bytes_of, paragraph_of, spans, spans_from, total}
 use Rattle.bx_index.proofs.Asked.{span_at}
 use Rattle.bx_index.proofs.Totals.{total_more}
-use Rattle.bx_view.specs.Standing.{IsSpan, body_at, count, paragraph_at, start_at}
+use Rattle.bx_view.specs.Standing.{IsSpan}
+use Rattle.bx_view.specs.Numbers.{body_at, count, paragraph_at, start_at}
 use Rattle.bx_view.proofs.RowsAround.{EndsBefore, IsAmong, behind-utf8}
 use Rattle.bx_view.proofs.Parts.{AreUtf8, bytes, text-bytes, text-parts}
 

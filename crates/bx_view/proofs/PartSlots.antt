@@ -10,7 +10,8 @@ use Rattle.bx_paragraph.specs.LentRow.{row}
 use Rattle.bx_paragraph.specs.Slots.{row_slots}
 use Rattle.bx_paragraph.specs.declared.lent_row.LentRow.{LentRow}
 use Rattle.bx_view.specs.Placed.{columns, placed}
-use Rattle.bx_view.specs.TextParts.{is_in, slots_in}
+use Rattle.bx_view.specs.TextParts.{slots_in}
+use Rattle.bx_view.specs.Top.{is_in}
 use Rattle.bx_view.proofs.PlacedRows.{Low, lies}
 use Rattle.bx_view.proofs.Within.{Within}
 

@@ -19,7 +19,8 @@ use Rattle.bx_index.specs.Paragraphs.{Paragraph, after_character, after_cr, bare
 use Rattle.bx_index.specs.Paragraphs.{paragraphs, bytes_of}
 use Rattle.bx_index.proofs.Cuts.{width_is_some}
 use Rattle.bx_view.specs.Laws.{SpansText}
-use Rattle.bx_view.specs.Places.{IsTextPlace, boundaries, one_piece, pieces, pieces_of, text_places}
+use Rattle.bx_view.specs.Places.{IsTextPlace, one_piece, pieces, pieces_of, text_places}
+use Rattle.bx_view.specs.Numbers.{boundaries}
 use Rattle.bx_view.specs.TextRows.{IsPlace, TextRow, places, text_row, text_rows}
 use Rattle.bx_view.proofs.RowsAround.{from, own}
 use Rattle.bx_view.proofs.BodyFirsts.{starts_of}

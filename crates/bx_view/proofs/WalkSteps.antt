@@ -5,7 +5,7 @@ use Rattle.bx_index.specs.declared.lengths.Lengths.{Lengths}
 use Rattle.bx_index.specs.Paragraphs.{lengths, total}
 use Rattle.bx_index.specs.Walk.{WalkState}
 use Rattle.bx_ucd.specs.Data.{Data}
-use Rattle.bx_view.specs.Standing.{count, start_at}
+use Rattle.bx_view.specs.Numbers.{count, start_at}
 use Rattle.bx_view.specs.declared.in_row.RowAt.{RowAt}
 use Rattle.bx_view.proofs.Numbers.{lengths-count}
 

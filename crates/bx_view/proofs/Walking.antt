@@ -10,7 +10,8 @@ use Rattle.bx_paragraph.specs.BodyRows.{BodyRow, body_rows, no_row}
 use Rattle.bx_paragraph.specs.BodyRows.{row_at as row_at_body, first_of as first_of_body}
 use Rattle.bx_paragraph.specs.Layout.{row_of as row_of_body}
 use Rattle.bx_paragraph.specs.Slots.{column_of}
-use Rattle.bx_view.specs.Standing.{IsRow, body_at, count, paragraph_at, rows_ahead, rows_in, start_at}
+use Rattle.bx_view.specs.Standing.{IsRow, rows_ahead, rows_in}
+use Rattle.bx_view.specs.Numbers.{body_at, count, paragraph_at, start_at}
 use Rattle.bx_view.specs.TextRows.{TextRow, cell_of, first, no_text_row, row_at, row_of, text_row, text_rows}
 use Rattle.bx_view.proofs.RowsAround.{BodyFirsts, all-rise, rank-around, count-around, from, from-append, own, own-rank, own-some, own-within, row-falls}
 use Rattle.bx_view.proofs.RowsAround.{row-there}

@@ -14,7 +14,7 @@ use Rattle.bx_index.specs.Paragraphs.{Paragraph, bare, lengths, lengths_of, para
 use Rattle.bx_index.proofs.Totals.{total_more}
 use Rattle.bx_view.specs.declared.moves.Logical.{Logical}
 use Rattle.bx_view.specs.declared.moves.Logical.TheVariants.{Back, Forward}
-use Rattle.bx_view.specs.Standing.{body_at, count, paragraph_at, start_at}
+use Rattle.bx_view.specs.Numbers.{body_at, count, paragraph_at, start_at}
 use Rattle.bx_view.specs.Words.{body_stops, body_words, step_word, stops_from, text_stops}
 use Rattle.bx_view.proofs.RowsAround.{AllEnded, EndsBefore, ahead-ended, ahead-utf8}
 use Rattle.bx_view.proofs.FindPlaces.{moved-before, moved-behind}

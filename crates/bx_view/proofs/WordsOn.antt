@@ -9,7 +9,7 @@ use Rattle.bx_index.specs.Paragraphs.{Paragraph, lengths, lengths_of, paragraphs
 use Rattle.bx_view.specs.declared.moves.Logical.{Logical}
 use Rattle.bx_view.specs.declared.moves.Logical.TheVariants.{Back, Forward}
 use Rattle.bx_view.specs.Laws.{IsGreatestBefore, IsLeastBehind, WordsGoOn}
-use Rattle.bx_view.specs.Standing.{body_at, count, paragraph_at, start_at}
+use Rattle.bx_view.specs.Numbers.{body_at, count, paragraph_at, start_at}
 use Rattle.bx_view.specs.Words.{body_words, step_word, text_stops}
 use Rattle.bx_view.proofs.Numbers.{bytes-append, bytes-length, falls-at, parts-at, start-is}
 use Rattle.bx_view.proofs.Parts.{bytes, text-bytes, text-parts}

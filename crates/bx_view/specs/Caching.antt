@@ -5,7 +5,8 @@ use Rattle.bx_ucd.specs.Data.{Data}
 use Rattle.bx_terms.specs.Characters.{is_side}
 use Rattle.bx_terms.specs.declared.base.Base.{Base}
 use Rattle.bx_paragraph.specs.Layout.{IsLayoutBy, LayoutState, rows_by}
-use Rattle.bx_view.specs.Standing.{body_at, rows_in}
+use Rattle.bx_view.specs.Standing.{rows_in}
+use Rattle.bx_view.specs.Numbers.{body_at}
 
 -- a view: the base direction, the window's columns (`w`), and the cached paragraphs, the oldest first
 pub record ViewState : Type 0 where

@@ -1,7 +1,7 @@
 -- The cell of a place: one slot of one row, in the column at which the glyphs of its unit begin. `says` is what the tables say,
 -- `w` the window's columns; columns count from 1, the numbers of units and of rows (`k`) from 0.
 use Rattle.std.specs.Prelude.{◌≡◌, ◌≢◌, ◌⊎◌, ℕ, zero, suc, ◌+◌, ◌-◌, ◌%◌, ◌<◌, ◌==◌, true, List, [], ◌∷◌, ◌++◌, length, count_by, sum_by, flat_map}
-use Rattle.std.specs.Prelude.{replicate, slice_index_or, Contains, HoldsAt, IsPermutation, MatchOption, Option}
+use Rattle.std.specs.Prelude.{replicate, slice_index_or, HoldsAt, Option}
 use Rattle.bx_ucd.specs.Data.{Data}
 use Rattle.bx_ucd.specs.declared.joining.Form.{Form}
 use Rattle.bx_ucd.specs.declared.joining.Joining.{Joining}
@@ -9,8 +9,7 @@ use Rattle.bx_rows.specs.RowPicture.{Glyph, blank, columns_used, unit_columns, u
 use Rattle.bx_rows.specs.RowLevels.{visual}
 use Rattle.bx_paragraph.specs.BodyRows.{BodyRow}
 use Rattle.bx_paragraph.specs.Slots.{end_column}
-use Rattle.bx_view.specs.Moves.{entry_in}
-use Rattle.bx_view.specs.TextRows.{IsPlace, TextRow, cell_of, places_of, row_at, row_of, slots, text_row_glyphs}
+use Rattle.bx_view.specs.TextRows.{TextRow, cell_of, row_at, row_of, slots, text_row_glyphs}
 
 -- how often an offset occurs in a list
 abbrev pub times : ℕ → List ℕ → ℕ
@@ -62,14 +61,3 @@ HasCell says w rows place =
     let column = cell_of w rows place in
     (mirror : ℕ → Option ℕ) (joining : ℕ → Joining) (form : ℕ → Form → Option ℕ)
     → IsUnitCell (with_looks says mirror joining form) w r place column ⊎ IsEndCell w r place column
-
--- a row is entered at one of its places, in every column
-abbrev pub IsEntered : ℕ → TextRow → Type 0
-IsEntered w r = (column : ℕ) → MatchOption (entry_in w r column) ⊥ (Contains (places_of r))
-
--- the slots of each row are its places reordered, each row is entered at a place, and each place has one slot and its cell
-pub record HasCells (says : Data) (w : ℕ) (rows : List TextRow) : Type 0 where
-  pub slots : (k : ℕ) → k < length rows → IsPermutation (places_of (row_at rows k)) (slots w (row_at rows k))
-  pub entered : (k : ℕ) → k < length rows → IsEntered w (row_at rows k)
-  pub one : (place : ℕ) → IsPlace rows place → HasOneSlot w rows place
-  pub cell : (place : ℕ) → IsPlace rows place → HasCell says w rows place

@@ -4,7 +4,8 @@ use Rattle.bx_ucd.specs.Data.{Data}
 use Rattle.bx_terms.specs.Characters.{is_side}
 use Rattle.bx_view.specs.declared.in_row.RowAt.{RowAt}
 use Rattle.bx_view.specs.Caching.{Caches, IsViewBy, ViewState}
-use Rattle.bx_view.specs.Standing.{IsRow, body_at, start_at}
+use Rattle.bx_view.specs.Standing.{IsRow}
+use Rattle.bx_view.specs.Numbers.{body_at, start_at}
 use Rattle.bx_view.specs.TextRows.{TextRow, row_at, text_rows}
 
 -- `at` is row `n` of the text, and its paragraph is cached, in the view's width; this is within its limits, and all cached

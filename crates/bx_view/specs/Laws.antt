@@ -3,18 +3,23 @@ use Rattle.std.specs.Prelude.{◌≡◌, ℕ, ◌+◌, ◌-◌, ◌<◌, ◌≤�
 use Rattle.std.specs.Int.{abs_diff}
 use Rattle.std.specs.List.{concat}
 use Rattle.std.specs.List.Sorted.{IsStrictlyIncreasing}
+use Rattle.std.specs.Prelude.{IsPermutation, MatchOption}
 use Rattle.bx_ucd.specs.Data.{Data}
 use Rattle.bx_paragraph.specs.declared.moves.Visual.{Visual}
 use Rattle.bx_view.specs.declared.moves.Logical.{Logical}
 use Rattle.bx_view.specs.declared.moves.Logical.TheVariants.{Back, Forward}
 use Rattle.bx_view.specs.declared.moves.Move.{Move}
 use Rattle.bx_view.specs.declared.moves.Vertical.{Vertical}
-use Rattle.bx_view.specs.Moves.{entry_in, moved, page, place_at, place_from, row_end, row_home, step_logical, step_visual, vertical}
-use Rattle.bx_view.specs.Pointing.{pointed_at}
+use Rattle.bx_view.specs.Moves.{entry_in, page, place_at, place_from, row_end, row_home, step_logical, step_visual, vertical}
+use Rattle.bx_view.specs.Moved.{moved}
+use Rattle.bx_view.specs.Top.{pointed_at, follow}
 use Rattle.bx_view.specs.Places.{pieces, text_places, IsTextPlace}
-use Rattle.bx_view.specs.TextRows.{TextRow, row_at, row_of}
-use Rattle.bx_view.specs.Top.{follow}
+use Rattle.bx_view.specs.TextRows.{TextRow, row_at, row_of, IsPlace, places_of, slots}
 use Rattle.bx_view.specs.Words.{step_word, text_stops}
+use Rattle.bx_view.specs.declared.position.Position.{Position}
+use Rattle.bx_view.specs.Numbers.{place_of}
+use Rattle.bx_view.specs.Position.{IsPosition}
+use Rattle.bx_view.specs.Cells.{HasCell, HasOneSlot}
 
 -- The pieces of a text joined are the text. Its places are character boundaries and strictly increase from the text's
 -- start to its end.
@@ -92,3 +97,23 @@ pub record MovesLeast (rows : List TextRow) : Type 0 where
   pub nearest : (top place t k : ℕ) → 0 < t → IsShownFrom rows place t k
       → abs_diff (row_of rows top) (row_of rows (follow rows top place t)) ≤ abs_diff (row_of rows top) k
   pub stays : (top place t : ℕ) → 0 < t → follow rows (follow rows top place t) place t ≡ follow rows top place t
+
+-- in rows of `w` columns: the numbers that the position of a place has lead back to the place
+abbrev pub LeadBack : Data → List ℕ → ℕ → List TextRow → Type 0
+LeadBack says text w rows = (place : ℕ) (p : Position) → IsTextPlace says text place → IsPosition says w text rows place p
+    → place_of says text p.paragraph p.unit ≡ place
+
+-- any two numbers lead to a place
+abbrev pub LeadToPlaces : Data → List ℕ → Type 0
+LeadToPlaces says text = (paragraph unit : ℕ) → IsTextPlace says text (place_of says text paragraph unit)
+
+-- a row is entered at one of its places, in every column
+abbrev pub IsEntered : ℕ → TextRow → Type 0
+IsEntered w r = (column : ℕ) → MatchOption (entry_in w r column) ⊥ (Contains (places_of r))
+
+-- the slots of each row are its places reordered, each row is entered at a place, and each place has one slot and its cell
+pub record HasCells (says : Data) (w : ℕ) (rows : List TextRow) : Type 0 where
+  pub slots : (k : ℕ) → k < length rows → IsPermutation (places_of (row_at rows k)) (slots w (row_at rows k))
+  pub entered : (k : ℕ) → k < length rows → IsEntered w (row_at rows k)
+  pub one : (place : ℕ) → IsPlace rows place → HasOneSlot w rows place
+  pub cell : (place : ℕ) → IsPlace rows place → HasCell says w rows place

@@ -1,9 +1,10 @@
 -- The places of a text, from its paragraphs and clusters alone: without window, direction and rows. `says` is what the tables
 -- say, a text its bytes.
-use Rattle.std.specs.Prelude.{ℕ, ◌+◌, true, List, [], ◌∷◌, ◌++◌, length, flat_map, Contains}
+use Rattle.std.specs.Prelude.{ℕ, true, List, [], ◌∷◌, ◌++◌, flat_map, Contains}
 use Rattle.bx_ucd.specs.Data.{Data}
 use Rattle.unicode_segmentation.specs.Grapheme.{graphemes}
 use Rattle.bx_index.specs.Paragraphs.{Paragraph, paragraphs}
+use Rattle.bx_view.specs.Numbers.{boundaries}
 
 -- bytes as one piece; no piece, if there are none
 abbrev pub one_piece : List ℕ → List (List ℕ)
@@ -17,11 +18,6 @@ pieces_of p = graphemes true p.body ++ one_piece p.separator
 -- a text in pieces
 abbrev pub pieces : Data → List ℕ → List (List ℕ)
 pieces says text = flat_map pieces_of (paragraphs says text)
-
--- the start of each piece and the end of the last; the first begins at the offset `start`
-abbrev pub boundaries : ℕ → List (List ℕ) → List ℕ
-boundaries start [] = start ∷ []
-boundaries start (p ∷ ps) = start ∷ boundaries (start + length p) ps
 
 -- the places of a text: the boundaries of its clusters and its separators
 abbrev pub text_places : Data → List ℕ → List ℕ

@@ -1,28 +1,13 @@
 -- A paragraph of a text by its number, and the numbers of its rows in the text, all from 0. `says` is what the tables say, `w`
 -- the window's columns.
-use Rattle.std.specs.Prelude.{◌≡◌, ℕ, ◌+◌, ◌<◌, ◌≤◌, List, [], length, take, slice_index_or, slice_range}
+use Rattle.std.specs.Prelude.{◌≡◌, ℕ, ◌+◌, ◌<◌, ◌≤◌, List, length, take, slice_range}
 use Rattle.bx_ucd.specs.Data.{Data}
 use Rattle.bx_terms.specs.declared.base.Base.{Base}
 use Rattle.bx_text.specs.Changes.{IsRange}
-use Rattle.bx_index.specs.Paragraphs.{Paragraph, bare, lengths, paragraphs, total}
+use Rattle.bx_index.specs.Paragraphs.{paragraphs}
 use Rattle.bx_paragraph.specs.BodyRows.{BodyRow, body_rows}
 use Rattle.bx_view.specs.TextRows.{rows_from}
-
--- the number of paragraphs of a text
-abbrev pub count : Data → List ℕ → ℕ
-count says text = length (paragraphs says text)
-
--- paragraph `number`; an empty one if there is none
-abbrev pub paragraph_at : Data → List ℕ → ℕ → Paragraph
-paragraph_at says text number = slice_index_or (paragraphs says text) number (bare [])
-
--- the body of paragraph `number`
-abbrev pub body_at : Data → List ℕ → ℕ → List ℕ
-body_at says text number = (paragraph_at says text number).body
-
--- the offset at which the body of paragraph `number` begins
-abbrev pub start_at : Data → List ℕ → ℕ → ℕ
-start_at says text number = total (take number (lengths says text))
+use Rattle.bx_view.specs.Numbers.{body_at, count, start_at}
 
 -- the body of paragraph `number` is the text's bytes from `a` to `b`
 pub record IsSpan (says : Data) (text : List ℕ) (number a b : ℕ) : Type 0 where

@@ -2,8 +2,8 @@
 ghost use Rattle.std.specs.Prelude.{◌≡◌, ◌-◌, ◌<◌, ◌≤◌, ◌∷◌, IfOk, drop, length, min, true};
 ghost use Rattle.std.specs.Str.{IsCharBoundary};
 ghost use Rattle.unicode_segmentation.specs.Grapheme.{graphemes};
-ghost use Rattle.bx_view.specs.Going.{place_of, unit_place};
-ghost use Rattle.bx_view.specs.Places.{IsTextPlace, boundaries};
+ghost use Rattle.bx_view.specs.Numbers.{boundaries, place_of, unit_place};
+ghost use Rattle.bx_view.specs.Places.{IsTextPlace};
 ghost use Rattle.bx_view.specs.Source.{IsViewBy, Keeps, bytes, count};
 
 use crate::source::Source;

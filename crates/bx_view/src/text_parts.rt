@@ -1,7 +1,8 @@
 //! The units of a row that begin in a part of the text.
 ghost use Rattle.std.specs.Prelude.{◌≡◌, ◌&&◌, nat_lt, filter, IfOk};
 ghost use Rattle.bx_view.specs.Source.{OfRow, Stands};
-ghost use Rattle.bx_view.specs.TextParts.{is_in, slots_in};
+ghost use Rattle.bx_view.specs.TextParts.{slots_in};
+ghost use Rattle.bx_view.specs.Top.{is_in};
 
 use crate::in_row::RowAt;
 use crate::source::Source;

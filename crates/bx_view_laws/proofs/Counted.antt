@@ -12,7 +12,8 @@ use Rattle.bx_rows.specs.RowStarts.{row_starts}
 use Rattle.bx_index.specs.Paragraphs.{lengths_of, paragraphs, total}
 use Rattle.bx_paragraph.specs.BodyRows.{first_of, no_row}
 use Rattle.bx_paragraph.proofs.Starts.{firsts}
-use Rattle.bx_view.specs.Standing.{IsRow, body_at, count, rows_ahead, rows_in, start_at}
+use Rattle.bx_view.specs.Standing.{IsRow, rows_ahead, rows_in}
+use Rattle.bx_view.specs.Numbers.{body_at, count, start_at}
 use Rattle.bx_view.specs.TextRows.{TextRow, first, no_text_row, text_rows}
 use Rattle.bx_view.proofs.RowsAround.{from, from-append}
 use Rattle.bx_view.proofs.PlacesRise.{firsts-rise-in}

@@ -14,10 +14,11 @@ use Rattle.bx_terms.specs.declared.base.Base.{Base}
 use Rattle.bx_view.specs.declared.moves.Logical.{Logical}
 use Rattle.bx_view.specs.declared.moves.Logical.TheVariants.{Back, Forward}
 use Rattle.bx_view.specs.declared.moves.Move.{Move}
-use Rattle.bx_view.specs.Cells.{HasCells, HasOneSlot, times}
-use Rattle.bx_view.specs.Laws.{FindsLeastPlace, IsGreatestBefore, IsLeastBehind, IsShownFrom, MovesKeep, MovesLeast, PlacesGoOn, SpansText, WordsGoOn}
+use Rattle.bx_view.specs.Cells.{HasOneSlot, times}
+use Rattle.bx_view.specs.Laws.{HasCells, FindsLeastPlace, IsGreatestBefore, IsLeastBehind, IsShownFrom, MovesKeep, MovesLeast, PlacesGoOn}
+use Rattle.bx_view.specs.Laws.{SpansText, WordsGoOn}
 use Rattle.bx_view_laws.specs.Laws.{InEachWindow}
-use Rattle.bx_view.specs.Moves.{moved}
+use Rattle.bx_view.specs.Moved.{moved}
 use Rattle.bx_view.specs.Places.{IsTextPlace, text_places}
 use Rattle.bx_view.specs.TextRows.{TextRow, places, row_at, row_of, slots, text_rows}
 use Rattle.bx_view.specs.Top.{follow}

@@ -5,9 +5,8 @@ use Rattle.std.proofs.lemmas.List.{length-map}
 use Rattle.bx_ucd.specs.Data.{Data}
 use Rattle.bx_terms.specs.declared.base.Base.{Base}
 use Rattle.bx_view.specs.Moves.{entry_in}
-use Rattle.bx_view.specs.Pointing.{pointed_at, pointed_row}
+use Rattle.bx_view.specs.Top.{pointed_at, pointed_row, follow, nearest_top}
 use Rattle.bx_view.specs.TextRows.{TextRow, first, places_of, row_at, row_of, text_rows}
-use Rattle.bx_view.specs.Top.{follow, nearest_top}
 use Rattle.bx_view.proofs.Entered.{row-entered}
 use Rattle.bx_view.proofs.LeastMove.{falls-own}
 use Rattle.bx_view.proofs.Nearest.{falls-within}

@@ -23,7 +23,7 @@ use Rattle.bx_paragraph.proofs.OnceEach.{once-contains, once-summed}
 use Rattle.bx_paragraph.proofs.RowSlots.{columns-in-order, extent-is}
 use Rattle.bx_view.specs.Cells.{IsUnitCell, glyphs_of, times}
 use Rattle.bx_view.specs.Moves.{entry_in}
-use Rattle.bx_view.specs.Pointing.{pointed_at, pointed_row}
+use Rattle.bx_view.specs.Top.{pointed_at, pointed_row}
 use Rattle.bx_view.specs.TextRows.{IsPlace, TextRow, no_text_row, places_of, row_at, row_of, text_rows}
 use Rattle.bx_view.proofs.CellColumns.{cell-inside, extents-total, extents-wide, left-by, left_of, total}
 use Rattle.bx_view.proofs.GlyphCells.{HasFaces, either-slot, found, padded-columns, rows-faced, sums, unmoved}

@@ -4,9 +4,8 @@ use Rattle.std.specs.Prelude.{◌≡◌, ◌⊎◌, ℕ, ◌+◌, ◌-◌, ◌<�
 use Rattle.bx_ucd.specs.Data.{Data}
 use Rattle.bx_rows.specs.RowPicture.{columns_used}
 use Rattle.bx_view.specs.Cells.{IsUnitCell, glyphs_of}
-use Rattle.bx_view.specs.Pointing.{pointed_at}
+use Rattle.bx_view.specs.Top.{pointed_at, follow}
 use Rattle.bx_view.specs.TextRows.{IsPlace, TextRow, cell_of, first, row_at, row_of}
-use Rattle.bx_view.specs.Top.{follow}
 
 -- the picture's row that shows row `k` of the text, which is the top one or below it
 abbrev pub picture_row : List TextRow → ℕ → ℕ → ℕ

@@ -3,10 +3,8 @@
 ghost use Rattle.std.specs.Prelude.{◌≡◌, ℕ, ◌<◌, List, IsUtf8};
 ghost use Rattle.bx_ucd.specs.Data.{Data};
 ghost use Rattle.bx_ucd.specs.declared.class.Class.{Class};
-ghost use Rattle.bx_view.specs.Cells.{HasCells};
+ghost use Rattle.bx_view.specs.Laws.{FindsLeastPlace, HasCells, LeadBack, LeadToPlaces, MovesKeep, MovesLeast, PlacesGoOn, SpansText, WordsGoOn};
 ghost use Rattle.bx_view_laws.specs.Entry.{RowsGoOn};
-ghost use Rattle.bx_view.specs.Going.{LeadBack, LeadToPlaces};
-ghost use Rattle.bx_view.specs.Laws.{FindsLeastPlace, MovesKeep, MovesLeast, PlacesGoOn, SpansText, WordsGoOn};
 ghost use Rattle.bx_view_laws.specs.Laws.{InEachWindow, IsGreatestPlace};
 ghost use Rattle.bx_view_laws.specs.Pointed.{OwnCellsStay, TopStays, UnitsAreTaken};
 ghost use Rattle.bx_view.specs.Moves.{place_at, place_from, step_logical};

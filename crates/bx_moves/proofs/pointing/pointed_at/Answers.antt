@@ -3,7 +3,7 @@ use Rattle.bx_paragraph.proofs.Starts.{side-some}
 use Rattle.bx_view.specs.FoundRow.{StandsOn, rows_by}
 use Rattle.bx_view.specs.Moves.{entry_in}
 use Rattle.bx_view.specs.Places.{IsTextPlace}
-use Rattle.bx_view.specs.Pointing.{pointed_row}
+use Rattle.bx_view.specs.Top.{pointed_row}
 use Rattle.bx_view.specs.TextRows.{row_at, row_of}
 use Rattle.bx_view.proofs.Beyond.{keeps-then}
 use Rattle.bx_view.proofs.Boundaries.{bounds-kept}

@@ -1,5 +1,5 @@
 use Rattle.std.proofs.Common.{◌+◌, ◌<◌, ◌≤◌, ◌∙◌, ap, length, nat_le, sym, arith}
-use Rattle.bx_view.specs.Standing.{count, start_at}
+use Rattle.bx_view.specs.Numbers.{count, start_at}
 use Rattle.bx_view.proofs.Numbers.{lengths-count}
 use Rattle.bx_moves.proofs.CachedStops.{stop-short}
 use Rattle.bx_moves.proofs.word_moves.stop_below.Goals as goal

@@ -1,5 +1,5 @@
 use Rattle.std.proofs.Common.{◌+◌, ◌-◌, ◌≤◌, ◌∙◌, length, refl, arith}
-use Rattle.bx_view.specs.Standing.{body_at}
+use Rattle.bx_view.specs.Numbers.{body_at}
 use Rattle.bx_moves.proofs.CachedStops.{stop-above, back-stop, start-short}
 use Rattle.bx_moves.proofs.word_moves.word_back.Goals as goal
 

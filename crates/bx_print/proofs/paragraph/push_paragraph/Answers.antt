@@ -1,7 +1,7 @@
 use Rattle.std.proofs.Common.{◌≡◌, ◌++◌, ◌∙◌, OnOk, ap, subst}
 use Rattle.bx_print.specs.BodyLines.{body_lines}
 use Rattle.bx_view.proofs.Numbers.{paragraph-span}
-use Rattle.bx_view.specs.Standing.{body_at}
+use Rattle.bx_view.specs.Numbers.{body_at}
 use Rattle.bx_print.proofs.paragraph.push_paragraph.Goals as goal
 
 pub returns-clause-lines : goal.returns-clause-lines

@@ -2,8 +2,7 @@
 use Rattle.std.proofs.Common.{◌≡◌, ◌+◌, true, drop, get_or, length}
 use Rattle.std.specs.Str.{IsCharBoundary}
 use Rattle.unicode_segmentation.specs.Grapheme.{graphemes}
-use Rattle.bx_view.specs.Going.{unit_place}
-use Rattle.bx_view.specs.Places.{boundaries}
+use Rattle.bx_view.specs.Numbers.{unit_place, boundaries}
 use Rattle.bx_view.proofs.going.unit_start.Given as goal
 
 abbrev pub invariant-loop-left : goal.invariant-loop-left

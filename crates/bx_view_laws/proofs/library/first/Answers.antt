@@ -1,7 +1,8 @@
 use Rattle.std.proofs.Common.{◌≡◌, ◌+◌, ◌<◌, ◌≤◌, ◌∙◌, Some, refl, ap, arith, get_or, length, option_map, slice_get}
 use Rattle.bx_terms.specs.Characters.{is_side}
 use Rattle.bx_rows.specs.RowStarts.{row_starts}
-use Rattle.bx_view.specs.Standing.{body_at, count, rows_ahead, start_at}
+use Rattle.bx_view.specs.Standing.{rows_ahead}
+use Rattle.bx_view.specs.Numbers.{body_at, count, start_at}
 use Rattle.bx_view.specs.TextRows.{first, text_rows}
 use Rattle.bx_view_laws.proofs.Counted.{ahead-more, first-counted, none-counted, start-fits, walked-on}
 use Rattle.bx_view.proofs.Numbers.{lengths-count}

@@ -1,7 +1,7 @@
 use Rattle.std.proofs.Common.{◌≡◌, ◌+◌, ◌<◌, ◌∙◌, ap, arith, length}
 use Rattle.bx_terms.specs.declared.base.Base.TheVariants.{Auto}
 use Rattle.bx_rows.specs.RowStarts.{row_starts}
-use Rattle.bx_view.specs.Standing.{body_at, count}
+use Rattle.bx_view.specs.Numbers.{body_at, count}
 use Rattle.bx_view_laws.proofs.Counted.{ahead-more, few-ahead, walked-on}
 use Rattle.bx_view.proofs.Numbers.{lengths-count, some-paragraph}
 use Rattle.bx_paragraph.proofs.Starts.{side-some}

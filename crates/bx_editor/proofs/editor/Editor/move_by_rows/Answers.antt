@@ -1,5 +1,5 @@
 use Rattle.std.proofs.Common.{◌∙◌, ap, ℕ, Some}
-use Rattle.bx_view.specs.Moves.{moved}
+use Rattle.bx_view.specs.Moved.{moved}
 use Rattle.bx_view.specs.declared.moves.Move.TheVariants.{RowsIn}
 use Rattle.bx_editor.specs.Editor.{EditorState, cleared, rows, with_place}
 use Rattle.bx_editor.specs.Selecting.{unselected}

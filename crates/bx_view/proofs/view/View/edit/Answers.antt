@@ -5,7 +5,7 @@ use Rattle.bx_text.specs.Changes.{IsRange}
 use Rattle.bx_ucd.specs.Data.{Data}
 use Rattle.bx_paragraph.specs.Layout.{LayoutState}
 use Rattle.bx_view.specs.Caching.{Caches, HasBody, IsCached}
-use Rattle.bx_view.specs.Standing.{body_at}
+use Rattle.bx_view.specs.Numbers.{body_at}
 use Rattle.bx_view.proofs.Cutting.{none_found}
 use Rattle.bx_view.proofs.EditedPlace.{IsPlaceAfter, cached_at, edited_place, inner_of, splice_most}
 use Rattle.bx_view.proofs.view.View.edit.Goals as goal

@@ -1,7 +1,6 @@
 use Rattle.std.proofs.Common.{◌+◌, ◌-◌, ◌∙◌, ap, ap₂, subst, sym}
-use Rattle.bx_view.specs.Going.{unit_place}
+use Rattle.bx_view.specs.Numbers.{unit_place, body_at, start_at}
 use Rattle.bx_view.specs.Places.{IsTextPlace}
-use Rattle.bx_view.specs.Standing.{body_at, start_at}
 use Rattle.bx_view.proofs.Numbered.{lead-to-places}
 use Rattle.bx_view.proofs.UnitSteps.{placed-in}
 use Rattle.bx_view.proofs.view.View.place_of.Goals as goal
