@@ -2,7 +2,7 @@
 use Rattle.std.proofs.Common.{◌≡◌, ℕ, List, [], length, get_or, sym, ap, subst, ◌∙◌}
 use Rattle.std.specs.Prelude.{HoldsAt}
 use Rattle.bx_terms.specs.declared.base.Base.{Base}
-use Rattle.bx_grid.specs.Picture.{GridState}
+use Rattle.bx_grid.specs.Grid.{GridState}
 use Rattle.bx_paragraph.specs.BodyRows.{BodyRow, body_rows, row_at}
 use Rattle.bx_document.specs.Cache.{AreDrawnBy, EntryState, HoldsRow, IsDrawnBy, IsRowOf, numbered_row_columns}
 use Rattle.bx_ucd.specs.Data.{Data}

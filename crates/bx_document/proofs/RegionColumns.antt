@@ -10,7 +10,7 @@ use Rattle.std.proofs.lemmas.List.Concat.{flat_map-cons}
 use Rattle.std.proofs.lemmas.List.Elements.{All-filter, All-head, All-rest, filter-append}
 use Rattle.std.proofs.lemmas.List.Sums.{sum_by-append, sum_by-cons}
 use Rattle.bx_grid.specs.Columns.{Col, blank, columns_before, glyph_columns}
-use Rattle.bx_grid.specs.Turned.{IsBorder, turned_in}
+use Rattle.bx_grid.specs.Grid.{IsBorder, turned_in}
 use Rattle.bx_grid.proofs.Puts.{length-glyph}
 use Rattle.bx_grid.proofs.TurnedWhole.{border-turned, length-turned}
 use Rattle.bx_rows.specs.RowPicture.{Glyph, unit_columns}

@@ -5,8 +5,8 @@ use Rattle.std.specs.Prelude.{if◌then◌else◌}
 use Rattle.std.proofs.lemmas.Bool.{and_parts}
 use Rattle.std.proofs.lemmas.Bool.Decides.{nat_tests}
 use Rattle.std.proofs.lemmas.List.{length-drop, length-take-le}
-use Rattle.bx_grid.specs.Columns.{Col, Unknown, Glyph}
-use Rattle.bx_grid.specs.Turned.{turned, turned_in}
+use Rattle.bx_grid.specs.Columns.{Col, Unknown, Glyph, turned}
+use Rattle.bx_grid.specs.Grid.{turned_in}
 use Rattle.bx_grid.proofs.Pasted.{three_parts}
 use Rattle.bx_grid.proofs.TurnedWhole.{length-inside}
 use Rattle.bx_paragraph.specs.declared.slots.Slot.{Slot}

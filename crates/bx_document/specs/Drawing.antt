@@ -1,8 +1,8 @@
 -- The columns that show a row of text, and a grid that has them in its rows. `d` is the data of Unicode's tables, `width` the
 -- window's columns.
 use Rattle.std.specs.Prelude.{ℕ, ◌+◌, ◌*◌, ◌≤◌, ◌<◌, List, flat_map}
-use Rattle.bx_grid.specs.Columns.{Col, glyph_columns, paste}
-use Rattle.bx_grid.specs.Picture.{GridState}
+use Rattle.bx_grid.specs.Columns.{Col, glyph_columns}
+use Rattle.bx_grid.specs.Grid.{paste, GridState}
 use Rattle.bx_paragraph.specs.BodyRows.{BodyRow, row_glyphs}
 use Rattle.bx_rows.specs.RowPicture.{Glyph}
 use Rattle.bx_view.specs.TextRows.{TextRow, row_of}

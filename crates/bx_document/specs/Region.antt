@@ -1,8 +1,7 @@
 -- A region is a part of the text, from one offset up to another: a pair. Drawn rows show its columns in the other rendition:
 -- negative, or plain if they were negative. `d` is the data of Unicode's tables, `w` the window's columns.
 use Rattle.std.specs.Prelude.{ℕ, ◌+◌, ◌-◌, ◌*◌, Bool, List, [], ◌∷◌, ◌++◌, flat_map, length, replicate, if◌then◌else◌}
-use Rattle.bx_grid.specs.Columns.{Col, blank}
-use Rattle.bx_grid.specs.Turned.{turned}
+use Rattle.bx_grid.specs.Columns.{Col, blank, turned}
 use Rattle.bx_ucd.specs.Data.{Data}
 use Rattle.bx_view.specs.Top.{is_covered}
 use Rattle.bx_view.specs.TextRows.{TextRow}

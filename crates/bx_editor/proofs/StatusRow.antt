@@ -14,7 +14,7 @@ use Rattle.bx_store.specs.declared.cause.SaveCause.{SaveCause}
 use Rattle.bx_store.specs.declared.cause.SaveCause.TheVariants as causes
 use Rattle.bx_ucd.specs.Data.{Data}
 use Rattle.bx_grid.specs.Columns.{Col}
-use Rattle.bx_grid.specs.Picture.{GridState}
+use Rattle.bx_grid.specs.Grid.{GridState}
 use Rattle.bx_rows.specs.RowPicture.{Glyph, glyph}
 use Rattle.bx_asking.specs.declared.answers.Ask.{Ask}
 use Rattle.bx_asking.specs.declared.answers.Ask.TheVariants as asks

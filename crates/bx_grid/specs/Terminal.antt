@@ -27,17 +27,21 @@ pub record Terminal : Type 0 where
   -- the bytes of a character, a sequence or a string that is half read
   pub half_read : List ℕ
 
--- nothing is known of the terminal, and nothing is half read
-abbrev pub all_unknown : Terminal → Terminal
-all_unknown t = record {
-  height = t.height;
-  width = t.width;
-  columns = replicate (t.height * t.width) Unknown;
+-- a terminal of this size, in rows and columns, with unknown content
+abbrev pub unknown_terminal : ℕ → ℕ → Terminal
+unknown_terminal height width = record {
+  height = height;
+  width = width;
+  columns = replicate (height * width) Unknown;
   position = None;
   negative = None;
   run = [];
   half_read = [];
 }
+
+-- nothing is known of the terminal, and nothing is half read
+abbrev pub all_unknown : Terminal → Terminal
+all_unknown t = unknown_terminal t.height t.width
 
 -- ---- sequences and strings: where the model does not say what a terminal does, all becomes unknown
 
@@ -142,12 +146,4 @@ reads t (b ∷ bs) = reads (byte_read t b) bs
 
 -- a window of another size, whose content is unknown; half-read bytes stay
 abbrev pub after_resize : Terminal → ℕ → ℕ → Terminal
-after_resize t height width = record {
-  height = height;
-  width = width;
-  columns = replicate (height * width) Unknown;
-  position = None;
-  negative = None;
-  run = t.run;
-  half_read = t.half_read;
-}
+after_resize t height width = record (unknown_terminal height width) { run = t.run; half_read = t.half_read }

@@ -2,9 +2,11 @@
 
 ghost use Rattle.std.specs.Prelude.{◌≡◌, ℕ, ◌*◌, ◌+◌, ◌-◌, ◌<◌, ◌≤◌, ◌↔◌, List, ◌++◌, length, replicate, take, drop, IfOk, OnOk, OnErr, IfErr, IsErrOf, IsOk};
 ghost use Rattle.std.specs.Prelude.{IsTrue, true, false};
-ghost use Rattle.bx_grid.specs.Columns.{blank, is_one_glyph, paste, run_columns, run_width};
+ghost use Rattle.bx_grid.specs.Columns.{blank, run_columns};
+ghost use Rattle.bx_terms.specs.Glyphs.{is_one_glyph, run_width};
+ghost use Rattle.bx_grid.specs.Grid.{GridState, HasRoom, IsGrid, IsWithin, paste};
 ghost use Rattle.bx_grid.specs.Seen.{seen, all_seen};
-ghost use Rattle.bx_grid.specs.Picture.{GridState, HasRoom, IsGrid, IsWithin, is_size};
+ghost use Rattle.bx_grid.specs.Picture.{is_size};
 ghost use Rattle.bx_terms.specs.Characters.{largest_side};
 
 use crate::borrowed_row::BorrowedRow;
@@ -42,7 +44,7 @@ pub struct Grid {
 
 impl Model for Grid {
     ghost use Rattle.std.specs.Prelude.{◌≡◌, ◌*◌, ◌≤◌, length};
-    ghost use Rattle.bx_grid.specs.Picture.{GridState, IsGrid};
+    ghost use Rattle.bx_grid.specs.Grid.{GridState, IsGrid};
     ghost use Rattle.bx_grid.specs.Codes.{codes_of};
     ghost use Rattle.bx_grid.specs.Seen.{all_seen};
 

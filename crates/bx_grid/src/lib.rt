@@ -4,10 +4,14 @@
 
 ghost use Rattle.std.specs.Prelude.{◌≡◌, ℕ, List, [], ◌++◌, Ok};
 ghost use Rattle.base64.specs.Engines.{standard};
-ghost use Rattle.bx_grid.specs.Clip.{AreBase64, IsBytes, clip_bytes, decode_of, encode_of};
+ghost use Rattle.base64.specs.GeneralPurpose.{decode_of};
+ghost use Rattle.base64.specs.GeneralPurpose.{encode_of};
+ghost use Rattle.base64.specs.GeneralPurpose.{IsBytes};
+ghost use Rattle.bx_grid.specs.Tokens.{AreBase64, clip_bytes};
 ghost use Rattle.bx_grid.specs.Effects.{effects};
 ghost use Rattle.bx_grid.specs.Glyphs.{ShareWholeGlyphs, DifferInWholeGlyphs};
-ghost use Rattle.bx_grid.specs.Picture.{AreWholeTokens, IsIdle, IsPicture, PictureState};
+ghost use Rattle.bx_grid.specs.Picture.{IsIdle, PictureState};
+ghost use Rattle.bx_grid.specs.Grid.{AreWholeTokens, IsPicture};
 ghost use Rattle.bx_grid.specs.Terminal.{Terminal, reads, run_ended};
 
 mod borrowed_row;

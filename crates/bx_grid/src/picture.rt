@@ -1,7 +1,8 @@
 //! A picture: a grid and a cursor in it, which the painter shows.
 
 ghost use Rattle.std.specs.Prelude.{◌≡◌, ◌+◌, ◌-◌, ◌*◌, ◌≤◌, ◌<◌, length};
-ghost use Rattle.bx_grid.specs.Picture.{GridState, PictureState, IsPicture, IsWithin};
+ghost use Rattle.bx_grid.specs.Picture.{PictureState};
+ghost use Rattle.bx_grid.specs.Grid.{GridState, IsPicture, IsWithin};
 
 use crate::grid::{Cell, Grid};
 use std::marker::Model;
@@ -17,7 +18,8 @@ pub struct Picture {
 
 impl Model for Picture {
     ghost use Rattle.std.specs.Prelude.{◌-◌, ◌≤◌};
-    ghost use Rattle.bx_grid.specs.Picture.{PictureState, IsWithin};
+    ghost use Rattle.bx_grid.specs.Picture.{PictureState};
+    ghost use Rattle.bx_grid.specs.Grid.{IsWithin};
 
     ghost Value = { PictureState };
 

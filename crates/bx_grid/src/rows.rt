@@ -2,7 +2,8 @@
 //! one.
 
 ghost use Rattle.std.specs.Prelude.{List, ◌≡◌, ◌+◌, ◌-◌, ◌*◌, ◌≤◌, ◌<◌, ◌++◌, length, take, drop, replicate, OnOk, OnErr};
-ghost use Rattle.bx_grid.specs.Columns.{Col, blank, paste, AreSameAround};
+ghost use Rattle.bx_grid.specs.Columns.{Col, blank};
+ghost use Rattle.bx_grid.specs.Grid.{AreSameAround, paste};
 ghost use Rattle.bx_grid.specs.Seen.{all_seen};
 
 use crate::borrowed_row::BorrowedRow;

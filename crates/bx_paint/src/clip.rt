@@ -2,9 +2,12 @@
 
 ghost use Rattle.std.specs.Prelude.{◌≡◌, ℕ, List, [], ◌++◌, OnErr, OnOk, Ok};
 ghost use Rattle.base64.specs.Engines.{standard};
-ghost use Rattle.bx_grid.specs.Clip.{clip_bytes, decode_of, encode_of};
+ghost use Rattle.base64.specs.GeneralPurpose.{decode_of};
+ghost use Rattle.base64.specs.GeneralPurpose.{encode_of};
+ghost use Rattle.bx_grid.specs.Tokens.{clip_bytes};
 ghost use Rattle.bx_grid.specs.Effects.{effects};
-ghost use Rattle.bx_grid.specs.Picture.{AreWholeTokens, IsIdle, PictureState, Shows};
+ghost use Rattle.bx_grid.specs.Picture.{IsIdle, PictureState, Shows};
+ghost use Rattle.bx_grid.specs.Grid.{AreWholeTokens};
 ghost use Rattle.bx_grid.specs.Terminal.{Terminal, reads};
 
 use crate::output::Output;

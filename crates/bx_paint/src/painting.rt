@@ -2,7 +2,8 @@
 
 ghost use Rattle.std.specs.Prelude.{◌≡◌, ◌+◌, ◌-◌, ◌≤◌, ◌<◌, ◌++◌, [], length, false, IfOk, OnOk, OnErr};
 ghost use Rattle.bx_grid.specs.Effects.{effects};
-ghost use Rattle.bx_grid.specs.Picture.{AreWholeTokens, PictureState, IsGrid, IsIdle, IsPicture, Shows};
+ghost use Rattle.bx_grid.specs.Picture.{IsIdle, PictureState, Shows};
+ghost use Rattle.bx_grid.specs.Grid.{AreWholeTokens, IsGrid, IsPicture};
 ghost use Rattle.bx_grid.specs.Terminal.{Terminal, reads};
 ghost use Rattle.bx_terms.specs.Characters.{largest_side};
 ghost use Rattle.bx_paint.specs.Changed.{changed, differing};

@@ -4,8 +4,11 @@ use Rattle.std.proofs.Common.{◌∙◌, append_assoc, arith, if◌then◌else�
 use Rattle.std.specs.Prelude.{IfSome}
 use Rattle.std.proofs.lemmas.List.{append-nil, drop-append-le, length-append}
 use Rattle.base64.specs.Engines.{standard}
-use Rattle.bx_grid.specs.Clip.{clip_bytes, decode_of, encode_of}
-use Rattle.bx_grid.specs.Picture.{PictureState, AreWholeTokens, IsIdle, IsPicture, Shows}
+use Rattle.base64.specs.GeneralPurpose.{decode_of}
+use Rattle.base64.specs.GeneralPurpose.{encode_of}
+use Rattle.bx_grid.specs.Tokens.{clip_bytes}
+use Rattle.bx_grid.specs.Picture.{PictureState, IsIdle, Shows}
+use Rattle.bx_grid.specs.Grid.{AreWholeTokens, IsPicture}
 use Rattle.bx_grid.specs.Terminal.{Terminal, reads}
 use Rattle.bx_keys.specs.declared.key.Key.{Key}
 use Rattle.bx_ucd.specs.Data.{Data}

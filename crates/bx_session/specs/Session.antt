@@ -5,7 +5,7 @@ use Rattle.bx_terms.specs.declared.base.Base.{Base}
 use Rattle.bx_keys.specs.declared.key.Key.{Key}
 use Rattle.bx_keys.specs.declared.key.Key.TheVariants.{Quit, Save}
 use Rattle.bx_keys.specs.Keys.{head_of, key_after, rest_after}
-use Rattle.bx_grid.specs.Clip.{clip_bytes}
+use Rattle.bx_grid.specs.Tokens.{clip_bytes}
 use Rattle.bx_grid.specs.Picture.{PictureState}
 use Rattle.bx_paint.specs.Painting.{whole_bytes, changes_bytes}
 use Rattle.bx_store.specs.declared.store.StoreFault.{StoreFault}

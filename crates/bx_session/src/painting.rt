@@ -2,8 +2,10 @@
 
 ghost use Rattle.std.specs.Prelude.{◌≡◌, ◌++◌, ℕ, List, true, IfOk, IfSome, Ok, OnErr, OnOk};
 ghost use Rattle.base64.specs.Engines.{standard};
-ghost use Rattle.bx_grid.specs.Clip.{decode_of, encode_of};
-ghost use Rattle.bx_grid.specs.Picture.{AreWholeTokens, IsPicture, PictureState, Shows, is_size};
+ghost use Rattle.base64.specs.GeneralPurpose.{decode_of};
+ghost use Rattle.base64.specs.GeneralPurpose.{encode_of};
+ghost use Rattle.bx_grid.specs.Picture.{PictureState, Shows, is_size};
+ghost use Rattle.bx_grid.specs.Grid.{AreWholeTokens, IsPicture};
 ghost use Rattle.bx_grid.specs.Terminal.{Terminal, reads};
 ghost use Rattle.bx_session.specs.Painting.{AppendsPainting, QueuesPicture, Updates, text_in};
 ghost use Rattle.bx_session.specs.Session.{clip_after, known_if, painted_after, painting, then_clip, with_painting, with_painting_owed};

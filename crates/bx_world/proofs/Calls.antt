@@ -7,7 +7,7 @@ use Rattle.bx_keys.specs.Keys.{rest_after}
 use Rattle.bx_keys.specs.Waiting.{head_of}
 use Rattle.bx_grid.specs.declared.error.GridError.TheVariants as grid
 use Rattle.bx_grid.specs.Picture.{PictureState}
-use Rattle.bx_grid.specs.Terminal.{Terminal, reads, after_resize}
+use Rattle.bx_grid.specs.Terminal.{Terminal, reads, after_resize, unknown_terminal}
 use Rattle.bx_store.specs.declared.store.StoreFault.{StoreFault}
 use Rattle.bx_ucd.specs.Data.{Data}
 use Rattle.bx_editor.specs.Editor.{Editor}
@@ -27,7 +27,7 @@ use Rattle.bx_world.specs.declared.step.StepFault.TheVariants as faults
 use Rattle.bx_world.specs.Answers.{answer_of, is_applied, mark_after}
 use Rattle.bx_world.specs.Steps.{AfterByteStep, AfterToldStep, AfterReadStep}
 use Rattle.bx_world.specs.declared.world.World.TheInside.{Inside}
-use Rattle.bx_world.specs.World.{World, unknown_terminal, with_byte, with_told_size, told_after_key, is_window, after_send}
+use Rattle.bx_world.specs.World.{World, with_byte, with_told_size, told_after_key, is_window, after_send}
 use Rattle.bx_world.specs.Showing.{CursorStands, IsInStep}
 use Rattle.bx_world.proofs.Keys.{spent, byte_keeps, byte_pending, both, same_number}
 use Rattle.bx_world.proofs.Steps.{opened, kept, painted, resized, sent, received, failed}

@@ -11,7 +11,7 @@ use Rattle.bx_keys.specs.declared.key.Key.TheVariants.{Insert, Save}
 use Rattle.bx_keys.specs.Keys.{decoding}
 use Rattle.bx_keys.specs.Waiting.{keys_from}
 use Rattle.bx_grid.specs.Picture.{Shows}
-use Rattle.bx_grid.specs.Terminal.{Terminal}
+use Rattle.bx_grid.specs.Terminal.{Terminal, unknown_terminal}
 use Rattle.bx_view.specs.TextRows.{cell_of}
 use Rattle.bx_store.specs.Stores.{greatest, no_faults}
 use Rattle.bx_store.specs.declared.store.StoreFault.{StoreFault}
@@ -27,7 +27,7 @@ use Rattle.bx_world.specs.Headline.{Follows, HeadlineFromOpening}
 use Rattle.bx_world.specs.Reading.{PlaysReading, SeesPromised}
 use Rattle.bx_world.specs.Runs.{begins_at}
 use Rattle.bx_world.specs.Showing.{picture_of}
-use Rattle.bx_world.specs.World.{World, after_send, around, unknown_terminal, unread}
+use Rattle.bx_world.specs.World.{World, after_send, around, unread}
 use Rattle.bx_world.proofs.Woven.{ok}
 
 -- ---- the events of one byte

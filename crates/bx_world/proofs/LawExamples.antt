@@ -5,7 +5,7 @@ use Rattle.std.specs.Fmt.{digits}
 use Rattle.unicode_segmentation.proofs.Computing.{unicode_segmentation}
 use Rattle.unicode_width.proofs.Computing.{unicode_width}
 use Rattle.bx_terms.specs.declared.base.Base.TheVariants.{Auto}
-use Rattle.bx_grid.specs.Terminal.{Terminal, reads}
+use Rattle.bx_grid.specs.Terminal.{Terminal, reads, unknown_terminal}
 use Rattle.bx_store.specs.declared.store.StoreFault.{StoreFault}
 use Rattle.bx_editor.specs.Editor.{Editor}
 use Rattle.bx_editor.specs.Picture.{picture}
@@ -22,7 +22,7 @@ use Rattle.bx_world.specs.Events.{after_events}
 use Rattle.bx_world.specs.Laws.{BeginsWithKeys, HeadlineInChangingWindows, HeadlineOfRuns, RunsArePlays, TurnsArePlays}
 use Rattle.bx_world.specs.Runs.{IsAmong, Schedule, RunsInWindow, begins_at, steps_of_run, steps_of_turns}
 use Rattle.bx_world.specs.Steps.{PlaysTo, is_last_accepted}
-use Rattle.bx_world.specs.World.{World, after_read, after_send, unknown_terminal, with_byte}
+use Rattle.bx_world.specs.World.{World, after_read, after_send, with_byte}
 use Rattle.bx_world.proofs.Woven.{ok}
 
 -- ---- where a run begins

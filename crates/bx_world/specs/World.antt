@@ -1,10 +1,9 @@
 -- The world, which is a session, the line (the bytes in transit to the terminal), the window and the terminal, and its changes. `w`
 -- is the world before, `s` a session, `b` a byte of input.
-use Rattle.std.specs.Prelude.{ℕ, ◌*◌, Bool, true, false, ◌&&◌, ◌==◌, List, [], ◌++◌, take, drop, replicate, Option, Some, None, option_map}
+use Rattle.std.specs.Prelude.{ℕ, Bool, true, false, ◌&&◌, ◌==◌, List, [], ◌++◌, take, drop, Option, Some, None, option_map}
 use Rattle.bx_keys.specs.declared.key.Key.{Key}
 use Rattle.bx_keys.specs.declared.key.Key.TheVariants.{Size}
-use Rattle.bx_grid.specs.Columns.{Unknown}
-use Rattle.bx_grid.specs.Terminal.{Terminal, reads, after_resize}
+use Rattle.bx_grid.specs.Terminal.{Terminal, reads, after_resize, unknown_terminal}
 use Rattle.bx_session.specs.Session.{Session, key_of_byte, after_sending}
 
 pub record World : Type 0 where
@@ -23,18 +22,6 @@ pub record World : Type 0 where
 pub record WorldState (D : Type 0) : Type 0 where
   pub tables : D
   pub world : World
-
--- a terminal of this size, in rows and columns, with unknown content
-abbrev pub unknown_terminal : ℕ → ℕ → Terminal
-unknown_terminal height width = record {
-  height = height;
-  width = width;
-  columns = replicate (height * width) Unknown;
-  position = None;
-  negative = None;
-  run = [];
-  half_read = [];
-}
 
 -- the world of an opened session; opening tells the session the window's size
 abbrev pub around : Session → ℕ → ℕ → World

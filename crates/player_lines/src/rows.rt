@@ -1,7 +1,7 @@
 //! The picture of the rows in a scene.
 
 ghost use Rattle.std.specs.Prelude.{IsTrue};
-ghost use Rattle.bx_grid.specs.Picture.{IsWithin};
+ghost use Rattle.bx_grid.specs.Grid.{IsWithin};
 
 use bx_grid::{Cell, Grid, GridError, Picture};
 use bx_terms::{OutOfMemory, is_glyph, run_width};

@@ -1,7 +1,7 @@
 use Rattle.std.proofs.Common.{◌≡◌, ◌+◌, ◌-◌, ◌*◌, ◌≤◌, ◌∙◌, ◌++◌, List, IsUtf8, ap, ap₂, arith, replicate, string_bytes, subst, sym, take}
 use Rattle.std.specs.Prelude.{if◌then◌else◌}
 use Rattle.bx_grid.specs.Columns.{blank}
-use Rattle.bx_grid.specs.Picture.{GridState}
+use Rattle.bx_grid.specs.Grid.{GridState}
 use Rattle.bx_view.specs.Places.{IsTextPlace}
 use Rattle.bx_view.specs.Position.{IsPosition}
 use Rattle.bx_view.specs.TextRows.{TextRow, cell_of, row_of}
