@@ -14,11 +14,10 @@ use Rattle.bx_view.proofs.Computed.{rows}
 use Rattle.bx_document.specs.declared.edits.RegionEnd.TheVariants.{Start, Stop}
 use Rattle.bx_document.specs.declared.history.HistoryStep.TheVariants.{Undo, Redo}
 use Rattle.bx_document.specs.Document.{Document, after_replacement, after_wrap, at_opening, place_after}
-use Rattle.bx_document.specs.Drawing.{row_columns}
-use Rattle.bx_document.specs.History.{next_change, next_changes, stepped, stepped_times}
+use Rattle.bx_document.specs.Drawing.{row_columns, region_columns, region_rows, turned_where, glyph_row, query_glyphs}
+use Rattle.bx_document.specs.History.{next_changes, stepped_times}
+use Rattle.bx_document.specs.Past.{next_change, stepped}
 use Rattle.bx_document.specs.Line.{line_of}
-use Rattle.bx_document.specs.QueryRow.{glyph_row, query_glyphs}
-use Rattle.bx_document.specs.Region.{region_columns, region_rows, turned_where}
 use Rattle.bx_document.specs.Shown.{rows_above, shown_columns}
 use Rattle.bx_document.specs.Touched.{touched}
 

@@ -17,7 +17,7 @@ use Rattle.bx_index.proofs.Bodies.{end_with_separators}
 use Rattle.bx_view.specs.Numbers.{body_at, count, paragraph_at}
 use Rattle.bx_view.proofs.Numbers.{behind, body-range, lengths-count, parts-at, some-paragraph, span-is}
 use Rattle.bx_view.proofs.Parts.{bytes, text-bytes}
-use Rattle.bx_document.specs.FirstSeparator.{has_crlf_first, is_cr_lf}
+use Rattle.bx_document.specs.Line.{has_crlf_first, is_cr_lf}
 
 -- two bytes, of which the first is CR
 abbrev pub is_cr_first : List ℕ → Bool

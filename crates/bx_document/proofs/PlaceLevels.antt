@@ -19,7 +19,8 @@ use Rattle.bx_view.specs.Places.{IsTextPlace}
 use Rattle.bx_view.specs.Numbers.{boundaries, body_at, count, paragraph_at, start_at}
 use Rattle.bx_view.proofs.Numbered.{place-in-body}
 use Rattle.bx_view.proofs.Numbers.{body-utf8, falls-at, holds-of, lengths-count}
-use Rattle.bx_document.specs.PlaceLevel.{IsFirstLevel, UnitsHaveLevels, place_level, unit_level}
+use Rattle.bx_document.specs.PlaceLevel.{place_level, unit_level}
+use Rattle.bx_document.specs.UnitLevels.{IsFirstLevel, UnitsHaveLevels}
 use Rattle.bx_document.proofs.UnitLevels.{bound-at, bounds-in-body, first-in, unit-behind}
 
 module _ (says : Data) (text : List ℕ) (utf8 : IsUtf8 text) (place n a : ℕ) (body : List ℕ)

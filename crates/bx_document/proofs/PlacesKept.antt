@@ -16,9 +16,10 @@ use Rattle.bx_text.proofs.UndoneTimes.{no_redo, no_undo, nothing_redone, nothing
 use Rattle.bx_view.specs.Places.{IsTextPlace}
 use Rattle.bx_document.specs.declared.history.HistoryStep.{HistoryStep}
 use Rattle.bx_document.specs.declared.history.HistoryStep.TheVariants.{Undo, Redo}
-use Rattle.bx_document.specs.Document.{DocumentState, wrapped_text}
-use Rattle.bx_document.specs.History.{next_change, next_changes, stepped, stepped_times}
-use Rattle.bx_document.specs.Past.{HasPlaces, KeepsPlaces}
+use Rattle.bx_document.specs.Document.{DocumentState}
+use Rattle.bx_document.specs.Swapped.{wrapped_text}
+use Rattle.bx_document.specs.History.{next_changes, stepped_times}
+use Rattle.bx_document.specs.Past.{next_change, stepped, HasPlaces, KeepsPlaces}
 
 module _ (says : Data) where
   abbrev Is : Edit → Type 0

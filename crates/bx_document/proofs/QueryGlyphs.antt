@@ -9,7 +9,8 @@ use Rattle.bx_rows.specs.declared.drawn.Drawn.{Drawn}
 use Rattle.bx_rows.specs.Shown.{glyph_of}
 use Rattle.bx_paragraph.specs.BodyRows.{body_rows, row_at, row_own_glyphs}
 use Rattle.bx_paragraph.specs.Layout.{LayoutState, row_by}
-use Rattle.bx_document.specs.QueryRow.{letter_glyphs, query_glyphs}
+use Rattle.bx_rows.specs.RowPicture.{letter_glyphs}
+use Rattle.bx_document.specs.Drawing.{query_glyphs}
 
 pub text-then-query : (d : Data) (l : LayoutState) (text : List ℕ) (letters found all : List Drawn) → l.base ≡ Auto → l.w ≡ 500
     → map glyph_of letters ≡ letter_glyphs text → map glyph_of found ≡ row_own_glyphs d l.w (row_by d l 0) → all ≡ letters ++ found

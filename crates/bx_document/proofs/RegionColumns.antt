@@ -25,8 +25,7 @@ use Rattle.bx_view.specs.TextRows.{TextRow, text_row_glyphs}
 use Rattle.bx_view.proofs.GlyphCells.{HasFaces}
 use Rattle.bx_view.proofs.KeptPlaces.{HasLevels}
 use Rattle.bx_view.proofs.SlotGlyphs.{HasGlyphs, slots-between}
-use Rattle.bx_document.specs.Drawing.{row_columns, side_by_side}
-use Rattle.bx_document.specs.Region.{region_columns, turned_where}
+use Rattle.bx_document.specs.Drawing.{row_columns, side_by_side, region_columns, turned_where}
 use Rattle.bx_document.specs.RegionSlots.{IsSpan, turned_slots}
 use Rattle.bx_document.proofs.TurnedWhere.{differ, in-slot, low-slot, no-columns, slot-turned, where-twice}
 

@@ -13,8 +13,7 @@ use Rattle.bx_view.proofs.GlyphCells.{HasFaces, rows-faced}
 use Rattle.bx_view.proofs.KeptPlaces.{HasLevels, rows-leveled}
 use Rattle.bx_paragraph.proofs.Starts.{side-some}
 use Rattle.bx_view.proofs.Walking.{row-within}
-use Rattle.bx_document.specs.Drawing.{row_columns}
-use Rattle.bx_document.specs.Region.{region_columns}
+use Rattle.bx_document.specs.Drawing.{row_columns, region_columns}
 use Rattle.bx_document.specs.RegionSlots.{IsSpan, turned_slots}
 use Rattle.bx_document.proofs.RegionColumns.{spans, turned-are}
 

@@ -16,8 +16,8 @@ use Rattle.bx_paragraph.proofs.Starts.{side-some}
 use Rattle.bx_view.proofs.CachedRows.{rows-kept}
 use Rattle.bx_view.proofs.Walking.{row-within}
 use Rattle.bx_ucd.specs.Data.{Data}
-use Rattle.bx_document.specs.Drawing.{row_columns, with_rows}
-use Rattle.bx_document.specs.Region.{region_columns, region_rows}
+use Rattle.bx_document.specs.Drawing.{row_columns, region_columns, region_rows}
+use Rattle.bx_document.specs.Shown.{with_rows}
 use Rattle.bx_document.proofs.TurnedSlots.{put-over}
 use Rattle.bx_document.proofs.TurnedWhere.{length-where}
 

@@ -11,7 +11,7 @@ use Rattle.bx_text.specs.Edits.{splice}
 use Rattle.bx_index.specs.Paragraphs.{Paragraph, after_character, after_cr, bare, begins_with_lf, cut, is_separator}
 use Rattle.bx_document.specs.declared.first_separator.Seen.{Seen}
 use Rattle.bx_document.specs.declared.first_separator.Seen.TheVariants.{Nothing}
-use Rattle.bx_document.specs.FirstSeparator.{has_crlf_first, is_cr_lf}
+use Rattle.bx_document.specs.Line.{has_crlf_first, is_cr_lf}
 use Rattle.bx_document.specs.SeparatorReads.{crlf_first, crlf_from}
 use Rattle.bx_document.proofs.FirstSeparators.{no-cr}
 

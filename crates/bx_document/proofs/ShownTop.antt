@@ -11,8 +11,7 @@ use Rattle.bx_paragraph.proofs.Starts.{side-some}
 use Rattle.bx_view.proofs.CachedRows.{rows-kept}
 use Rattle.bx_view.proofs.Walking.{row-within, rows-rise}
 use Rattle.bx_ucd.specs.Data.{Data}
-use Rattle.bx_document.specs.Drawing.{IsAmong}
-use Rattle.bx_document.specs.Region.{region_rows}
+use Rattle.bx_document.specs.Drawing.{IsAmong, region_rows}
 
 module _ (says : Data) (old v : ViewState) (text : List ℕ) (utf8 : IsUtf8 text)
     (keeps : Keeps says old v) (at : RowAt) (top place t begin above : ℕ)

@@ -9,7 +9,7 @@ use Rattle.bx_grid.proofs.Pasted.{paste_around, pasted_around}
 use Rattle.bx_grid.proofs.RowsPut.{put_same}
 use Rattle.bx_grid.proofs.TurnedWhole.{length-turned}
 use Rattle.bx_paragraph.specs.declared.slots.Slot.{Slot}
-use Rattle.bx_document.specs.Drawing.{with_rows}
+use Rattle.bx_document.specs.Shown.{with_rows}
 use Rattle.bx_document.specs.RegionSlots.{IsSpan, row_in, turned_slots}
 use Rattle.bx_document.proofs.RegionColumns.{span-turned}
 

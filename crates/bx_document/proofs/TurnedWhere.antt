@@ -11,7 +11,7 @@ use Rattle.bx_grid.proofs.Pasted.{three_parts}
 use Rattle.bx_grid.proofs.TurnedWhole.{length-inside}
 use Rattle.bx_paragraph.specs.declared.slots.Slot.{Slot}
 use Rattle.bx_paragraph.specs.Slots.{covers}
-use Rattle.bx_document.specs.Region.{turned_where}
+use Rattle.bx_document.specs.Drawing.{turned_where}
 
 pub length-where : (p : ℕ → Bool) (k : ℕ) (cs : List Col) → length (turned_where p k cs) ≡ length cs
 length-where p k [] = refl

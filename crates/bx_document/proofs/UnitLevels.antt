@@ -11,7 +11,8 @@ use Rattle.unicode_segmentation.specs.Grapheme.{graphemes}
 use Rattle.bx_rows.specs.RowLevels.{first_level}
 use Rattle.bx_cells.proofs.Rest.{cluster-grows, first-cluster}
 use Rattle.bx_view.specs.Numbers.{boundaries}
-use Rattle.bx_document.specs.PlaceLevel.{IsFirstLevel, level_from, unit_level}
+use Rattle.bx_document.specs.PlaceLevel.{level_from, unit_level}
+use Rattle.bx_document.specs.UnitLevels.{IsFirstLevel}
 
 -- ---- boundaries
 

@@ -10,7 +10,8 @@ use Rattle.bx_view.specs.Places.{IsTextPlace}
 use Rattle.bx_view.specs.TextRows.{text_rows}
 use Rattle.bx_document.specs.declared.edits.RegionEnd.{RegionEnd}
 use Rattle.bx_document.specs.declared.edits.RegionEnd.TheVariants.{Start, Stop}
-use Rattle.bx_document.specs.Document.{Document, place_after_wrap, wrapped_end, wrapped_text}
+use Rattle.bx_document.specs.Document.{Document, place_after_wrap}
+use Rattle.bx_document.specs.Swapped.{wrapped_end, wrapped_text}
 use Rattle.bx_document.proofs.PlacesKept.{wrapped_is}
 
 module _ (text : List ℕ) (start stop : ℕ) (front back whole : List ℕ) (range : IsRange text start stop)

@@ -2,7 +2,7 @@
 ghost use Rattle.std.specs.Prelude.{◌≡◌, ℕ, ◌<◌, ◌≤◌, ◌++◌, ◌*◌, OnOk, drop, take};
 ghost use Rattle.bx_view.specs.Source.{Keeps, Stands, StandsOn, rows};
 ghost use Rattle.bx_document.specs.Cache.{AreDrawnBy};
-ghost use Rattle.bx_document.specs.Region.{region_rows};
+ghost use Rattle.bx_document.specs.Drawing.{region_rows};
 
 use crate::region::turn_row;
 use crate::row_cache::RowCache;

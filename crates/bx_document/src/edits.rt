@@ -6,7 +6,8 @@ ghost use Rattle.bx_text.specs.Changes.{IsRange};
 ghost use Rattle.bx_view.specs.Moves.{place_at};
 ghost use Rattle.bx_view.specs.Places.{IsTextPlace};
 ghost use Rattle.bx_document.specs.Document.{after_exchange, after_insertion, after_removal, after_replacement, after_wrap, place_after};
-ghost use Rattle.bx_document.specs.Document.{place_after_replacement, place_after_wrap, replaced_text, rows_of, wrapped_end, wrapped_text};
+ghost use Rattle.bx_document.specs.Document.{place_after_replacement, place_after_wrap, replaced_text, rows_of};
+ghost use Rattle.bx_document.specs.Swapped.{wrapped_end, wrapped_text};
 
 use crate::document::Document;
 use crate::touched::{place_after, place_at_inside, place_inside, stop_after};

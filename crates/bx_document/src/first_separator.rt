@@ -2,7 +2,7 @@
 ghost use Rattle.std.specs.Prelude.{◌≡◌, ◌++◌, ◌∷◌, [], ℕ, List, chars, slice_range};
 ghost use Rattle.bx_text.specs.Edits.{splice};
 ghost use Rattle.bx_text.specs.Changes.{IsRange};
-ghost use Rattle.bx_document.specs.FirstSeparator.{has_crlf_first};
+ghost use Rattle.bx_document.specs.Line.{has_crlf_first};
 ghost use Rattle.bx_ucd.specs.Data.{Data};
 ghost use Rattle.bx_document.specs.SeparatorReads.{crlf_from};
 

@@ -3,7 +3,8 @@ ghost use Rattle.std.specs.Prelude.{◌≡◌, IfOk, IfSome, OnErr, OnOk, length
 ghost use Rattle.bx_text.specs.Changes.{IsChange};
 ghost use Rattle.bx_view.specs.Caching.{IsViewBy, Keeps};
 ghost use Rattle.bx_view.specs.Places.{IsTextPlace};
-ghost use Rattle.bx_document.specs.History.{next_change, next_changes, stepped, stepped_times};
+ghost use Rattle.bx_document.specs.History.{next_changes, stepped_times};
+ghost use Rattle.bx_document.specs.Past.{next_change, stepped};
 
 use crate::document::Document;
 use bx_terms::OutOfMemory;

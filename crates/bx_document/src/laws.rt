@@ -2,7 +2,7 @@
 ghost use Rattle.std.specs.Prelude.{ℕ, List, IsUtf8};
 ghost use Rattle.bx_terms.specs.declared.base.Base.{Base};
 ghost use Rattle.bx_ucd.specs.Data.{Data};
-ghost use Rattle.bx_document.specs.PlaceLevel.{UnitsHaveLevels};
+ghost use Rattle.bx_document.specs.UnitLevels.{UnitsHaveLevels};
 
 /// The place before a unit has the level of the unit's first character with a level, if there is one.
 pub fn units_have_levels()

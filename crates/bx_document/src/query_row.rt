@@ -6,7 +6,9 @@ ghost use Rattle.bx_terms.specs.Glyphs.{is_one_glyph, run_width};
 ghost use Rattle.bx_terms.specs.declared.base.Base.TheVariants.{Auto};
 ghost use Rattle.bx_rows.specs.Shown.{glyph_of};
 ghost use Rattle.bx_paragraph.specs.Layout.{IsLayoutBy};
-ghost use Rattle.bx_document.specs.QueryRow.{fitting, glyph_row, letter_glyphs, query_glyphs, typed_glyph, typed_glyphs, IsNarrow, IsWellDrawn};
+ghost use Rattle.bx_rows.specs.RowPicture.{letter_glyphs};
+ghost use Rattle.bx_document.specs.Drawing.{fitting, glyph_row, query_glyphs, typed_glyph, typed_glyphs};
+ghost use Rattle.bx_document.specs.Narrow.{IsNarrow, IsWellDrawn};
 
 use crate::document::Document;
 use crate::drawing::draw_glyphs;

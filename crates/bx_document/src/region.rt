@@ -1,8 +1,8 @@
 //! Shows a region in a drawn row: turns the columns of its units to the other rendition.
 ghost use Rattle.std.specs.Prelude.{◌≡◌, ◌<◌, All, OnOk};
 ghost use Rattle.bx_view.specs.Source.{OfRow, Stands};
-ghost use Rattle.bx_document.specs.Drawing.{row_columns, with_rows};
-ghost use Rattle.bx_document.specs.Region.{region_columns};
+ghost use Rattle.bx_document.specs.Drawing.{region_columns, row_columns};
+ghost use Rattle.bx_document.specs.Shown.{with_rows};
 ghost use Rattle.bx_document.specs.RegionSlots.{IsSpan, row_in, turned_slots};
 
 use bx_grid::Grid;

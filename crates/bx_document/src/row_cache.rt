@@ -3,7 +3,8 @@ ghost use Rattle.std.specs.Prelude.{◌≡◌, ◌*◌, ◌<◌, [], length, Hol
 ghost use Rattle.bx_ucd.specs.Data.{Data};
 ghost use Rattle.bx_view.specs.Source.{OfRow, Stands};
 ghost use Rattle.bx_document.specs.Cache.{AreDrawnBy, HoldsRow, IsDrawnBy, IsRowOf};
-ghost use Rattle.bx_document.specs.Drawing.{row_columns, with_rows};
+ghost use Rattle.bx_document.specs.Drawing.{row_columns};
+ghost use Rattle.bx_document.specs.Shown.{with_rows};
 
 use crate::drawing::draw_row;
 use bx_grid::Grid;

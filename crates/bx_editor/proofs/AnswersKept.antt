@@ -4,7 +4,7 @@ use Rattle.std.proofs.lemmas.Str.{chars-nil}
 use Rattle.bx_asking.specs.declared.answers.Ask.{Ask}
 use Rattle.bx_asking.specs.declared.answers.Ask.TheVariants.{Off, Line, Name, Code}
 use Rattle.bx_asking.specs.Answers.{lengthened, shortened}
-use Rattle.bx_document.specs.QueryRow.{IsNarrow}
+use Rattle.bx_document.specs.Narrow.{IsNarrow}
 use Rattle.bx_editor.specs.Answers.{IsAnswer, limit_of}
 use Rattle.bx_editor.proofs.Narrow.{narrow-longer, narrow-shorter}
 

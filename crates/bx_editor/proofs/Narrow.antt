@@ -14,7 +14,7 @@ use Rattle.bx_cells.proofs.Rest.{chars_encoded}
 use Rattle.bx_asking.proofs.OneMore.{one_more}
 use Rattle.bx_asking.specs.Answers.{lengthened, shortened, is_digit, is_divider, is_line_letter}
 use Rattle.bx_asking.specs.Names.{is_code_letter}
-use Rattle.bx_document.specs.QueryRow.{IsNarrow}
+use Rattle.bx_document.specs.Narrow.{IsNarrow}
 
 -- ---- from SPACE to TILDE
 

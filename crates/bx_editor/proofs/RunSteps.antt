@@ -6,7 +6,8 @@ use Rattle.bx_text.specs.declared.change.Change.{Change}
 use Rattle.bx_text.specs.Edits.{Edit, Edited, redone_in, undone_in}
 use Rattle.bx_text.specs.Changes.{first_again, first_back}
 use Rattle.bx_text.proofs.UndoneTimes.{nothing_redone, nothing_undone}
-use Rattle.bx_document.specs.History.{next_change, next_changes, stepped, stepped_times}
+use Rattle.bx_document.specs.History.{next_changes, stepped_times}
+use Rattle.bx_document.specs.Past.{next_change, stepped}
 use Rattle.bx_document.specs.declared.history.HistoryStep.{HistoryStep}
 use Rattle.bx_document.specs.declared.history.HistoryStep.TheVariants.{Undo, Redo}
 use Rattle.bx_editor.specs.Editor.{Editor, cleared, nothing_left, with_step}

@@ -18,7 +18,7 @@ use Rattle.bx_grid.specs.Grid.{GridState}
 use Rattle.bx_rows.specs.RowPicture.{Glyph, glyph}
 use Rattle.bx_asking.specs.declared.answers.Ask.{Ask}
 use Rattle.bx_asking.specs.declared.answers.Ask.TheVariants as asks
-use Rattle.bx_document.specs.Drawing.{with_rows}
+use Rattle.bx_document.specs.Shown.{with_rows}
 use Rattle.bx_editor.specs.declared.message.Message.{Message}
 use Rattle.bx_editor.specs.declared.message.Message.TheVariants.{Saved, SaveFailed, TextFull, NothingToUndo, NothingToRedo, Unsaved, Direction, MarkSet, MarkOff}
 use Rattle.bx_editor.specs.declared.message.Message.TheVariants.{Copied, LineCopied, NothingToCopy, NothingToPut, FromStart, FromEnd, NotFound, Help}

@@ -2,7 +2,7 @@
 use Rattle.std.specs.Prelude.{ℕ, ◌≤◌, List, All, length, chars}
 use Rattle.bx_asking.specs.declared.answers.Ask.{Ask}
 use Rattle.bx_asking.specs.declared.answers.Ask.TheVariants.{Name, Code}
-use Rattle.bx_document.specs.QueryRow.{IsNarrow}
+use Rattle.bx_document.specs.Narrow.{IsNarrow}
 use Rattle.bx_editor.specs.Asking.{longest_code, longest_line}
 
 -- the most characters of the answer to a question. A name has none, since its one letter answers. Without a question (`Off`) the

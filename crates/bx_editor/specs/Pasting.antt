@@ -3,7 +3,7 @@
 use Rattle.std.specs.Prelude.{ℕ, ◌==◌, ◌&&◌, ◌||◌, nat_lt, Bool, false, List, [], ◌∷◌, ◌++◌, length, Option, Some, None, encode_utf8, if◌then◌else◌}
 use Rattle.bx_terms.specs.Characters.{largest_text}
 use Rattle.bx_ucd.specs.Data.{Data}
-use Rattle.bx_document.specs.FirstSeparator.{has_crlf_first}
+use Rattle.bx_document.specs.Line.{has_crlf_first}
 use Rattle.bx_asking.specs.declared.answers.Ask.{Ask}
 use Rattle.bx_asking.specs.declared.answers.Ask.TheVariants as asks
 use Rattle.bx_runs.specs.declared.typing.Typing.TheVariants.{Off, Paste}

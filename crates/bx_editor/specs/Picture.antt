@@ -5,8 +5,7 @@ use Rattle.bx_view.specs.Cells.{HasCell, HasOneSlot}
 use Rattle.bx_view.specs.TextRows.{IsPlace, TextRow, row_of, cell_of}
 use Rattle.bx_view.specs.Top.{follow, shown_rows}
 use Rattle.bx_document.specs.Drawing.{IsAmong}
-pub use Rattle.bx_document.specs.Drawing.{row_columns, side_by_side}
-pub use Rattle.bx_document.specs.Region.{region_columns, region_rows}
+pub use Rattle.bx_document.specs.Drawing.{row_columns, side_by_side, region_columns, region_rows}
 use Rattle.bx_grid.specs.Columns.{blank}
 use Rattle.bx_grid.specs.Picture.{PictureState}
 use Rattle.bx_ucd.specs.Data.{Data}

@@ -3,7 +3,7 @@
 use Rattle.std.specs.Prelude.{ℕ, ◌∷◌, [], ◌==◌, Bool, true, false, List, length, encode_utf8, Some, if◌then◌else◌}
 use Rattle.bx_text.specs.Edits.{fits, splice}
 use Rattle.bx_ucd.specs.Data.{Data}
-use Rattle.bx_document.specs.FirstSeparator.{has_crlf_first}
+use Rattle.bx_document.specs.Line.{has_crlf_first}
 use Rattle.bx_runs.specs.declared.typing.Kind.{Kind}
 use Rattle.bx_runs.specs.declared.typing.Kind.TheVariants.{Separator}
 use Rattle.bx_runs.specs.declared.typing.Typing.{Typing}

@@ -9,7 +9,8 @@ use Rattle.bx_store.specs.Causes.{cause_text}
 pub use Rattle.bx_view.specs.Numbers.{paragraph_number, unit_number}
 use Rattle.bx_grid.specs.Columns.{Col}
 use Rattle.bx_rows.specs.RowPicture.{Glyph}
-pub use Rattle.bx_document.specs.QueryRow.{glyph_row, letter_glyphs, query_glyphs, typed_glyphs}
+pub use Rattle.bx_rows.specs.RowPicture.{letter_glyphs}
+pub use Rattle.bx_document.specs.Drawing.{glyph_row, query_glyphs, typed_glyphs}
 use Rattle.bx_editor.specs.declared.seek.Aim.{Aim}
 use Rattle.bx_editor.specs.declared.seek.Aim.TheVariants.{Find, Replace}
 use Rattle.bx_editor.specs.declared.message.Message.{Message}

@@ -3,7 +3,7 @@ ghost use Rattle.std.specs.Prelude.{◌≡◌, IfOk, OnErr, OnOk};
 ghost use Rattle.bx_view.specs.Places.{IsTextPlace};
 ghost use Rattle.bx_asking.specs.Answers.{lengthened};
 ghost use Rattle.bx_asking.specs.Names.{closing, coded, named};
-ghost use Rattle.bx_document.specs.QueryRow.{IsNarrow};
+ghost use Rattle.bx_document.specs.Narrow.{IsNarrow};
 ghost use Rattle.bx_editor.specs.Answers.{limit_of};
 ghost use Rattle.bx_editor.specs.Asking.{after_answer_letter, after_code, after_code_letter, after_going, after_line_letter, after_name_letter};
 ghost use Rattle.bx_editor.specs.Asking.{after_named, after_shorter_answer, asking, target_place, with_answer, with_character, without_ask};

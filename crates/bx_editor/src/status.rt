@@ -1,7 +1,7 @@
 //! The status row.
 ghost use Rattle.std.specs.Prelude.{◌≡◌, ◌++◌, true, All, IfOk, chars, length, string_bytes};
 ghost use Rattle.bx_terms.specs.Characters.{are_ascii_printable};
-ghost use Rattle.bx_document.specs.QueryRow.{IsNarrow};
+ghost use Rattle.bx_document.specs.Narrow.{IsNarrow};
 ghost use Rattle.bx_editor.specs.Status.{glyph_row, letter_glyphs, prompt_glyphs, prompt_text, query_prompt, search_glyphs, search_prompt, status_line, typed_glyphs};
 
 use crate::editor::Editor;

@@ -23,7 +23,8 @@ use Rattle.bx_runs.specs.Runs.{after_insertion, kind_of}
 use Rattle.bx_runs.specs.declared.typing.Typing.{Typing}
 use Rattle.bx_text.specs.Edits.{fits, fits_both}
 use Rattle.bx_ucd.specs.Data.{Data}
-use Rattle.bx_document.specs.QueryRow.{IsNarrow, typed_glyph, typed_glyphs}
+use Rattle.bx_document.specs.Drawing.{typed_glyph, typed_glyphs}
+use Rattle.bx_document.specs.Narrow.{IsNarrow}
 use Rattle.bx_editor.specs.Answers.{IsAnswer, limit_of}
 use Rattle.bx_editor.specs.declared.message.Message.TheVariants as messages
 use Rattle.bx_editor.specs.declared.seek.Seek.{Seek}

@@ -12,7 +12,7 @@ use Rattle.bx_resolve.specs.Laws.{level_at}
 use Rattle.bx_rows.specs.RowPicture.{letter_glyphs}
 use Rattle.bx_text.specs.Changes.{IsRange}
 use Rattle.bx_view.specs.Numbers.{body_at}
-use Rattle.bx_document.specs.QueryRow.{typed_glyphs}
+use Rattle.bx_document.specs.Drawing.{typed_glyphs}
 use Rattle.bx_store.specs.declared.store.StoreFault.{StoreFault}
 use Rattle.bx_editor_laws.specs.AskingLaws.{AnswerIsARun, CodePutsIn, IsAbove, IsShown, PromptsAreShown, IsolatesRaise, LetterIsolates, LetterPutsIn}
 use Rattle.bx_editor_laws.specs.AskingLaws.{LetterWraps, QuestionsChangeThemselves, TellShows, TellsWhatStands, ToldNumbersLeadBack}

@@ -8,7 +8,7 @@ use Rattle.std.proofs.lemmas.Bool.Decides.{nat_tests}
 use Rattle.std.proofs.lemmas.List.{take-append-drop}
 use Rattle.bx_terms.specs.Characters.{largest_text}
 use Rattle.bx_keys.specs.declared.key.Key.TheVariants.{NewLine}
-use Rattle.bx_document.specs.FirstSeparator.{is_cr_lf}
+use Rattle.bx_document.specs.Line.{is_cr_lf}
 use Rattle.bx_runs.specs.Runs.{after_insertion, goes_on}
 use Rattle.bx_runs.specs.declared.typing.Kind.TheVariants.{Separator}
 use Rattle.bx_text.specs.Edits.{fits, splice}

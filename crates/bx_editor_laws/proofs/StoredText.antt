@@ -8,7 +8,7 @@ use Rattle.bx_keys.specs.declared.key.Key.TheVariants.{Insert, Repaint, Save}
 use Rattle.bx_store.specs.declared.store.StoreFault.{StoreFault}
 use Rattle.bx_text.specs.declared.change.Change.{Change}
 use Rattle.bx_text.specs.Edits.{Edit, Edited}
-use Rattle.bx_document.specs.Document.{wrapped_text}
+use Rattle.bx_document.specs.Swapped.{wrapped_text}
 use Rattle.bx_document.specs.History.{next_changes, stepped_times}
 use Rattle.bx_document.specs.declared.history.HistoryStep.{HistoryStep}
 use Rattle.bx_document.specs.declared.history.HistoryStep.TheVariants as steps

@@ -25,8 +25,8 @@ use Rattle.bx_text.specs.Changes.{IsRange}
 use Rattle.bx_rows.specs.RowPicture.{Glyph}
 use Rattle.bx_view.specs.Places.{IsTextPlace}
 use Rattle.bx_view.specs.Numbers.{body_at, count, paragraph_at, start_at}
-use Rattle.bx_document.specs.Document.{wrapped_end}
-use Rattle.bx_document.specs.PlaceLevel.{IsFirstLevel}
+use Rattle.bx_document.specs.Swapped.{wrapped_end}
+use Rattle.bx_document.specs.UnitLevels.{IsFirstLevel}
 use Rattle.bx_editor.specs.declared.message.Message.{Message}
 use Rattle.bx_editor.specs.declared.message.Message.TheVariants.{MoreThanOneLine, TextFull}
 use Rattle.bx_editor.specs.declared.cursor.Soft.TheVariants as softness

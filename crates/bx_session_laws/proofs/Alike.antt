@@ -7,7 +7,8 @@ use Rattle.bx_store.specs.declared.store.StoreFault.{StoreFault}
 use Rattle.bx_text.specs.declared.change.Change.{Change}
 use Rattle.bx_text.specs.Edits.{Edit, Edited, replaced, splice}
 use Rattle.bx_ucd.specs.Data.{Data}
-use Rattle.bx_document.specs.History.{next_changes, stepped, stepped_times}
+use Rattle.bx_document.specs.History.{next_changes, stepped_times}
+use Rattle.bx_document.specs.Past.{stepped}
 use Rattle.bx_document.specs.declared.history.HistoryStep.{HistoryStep}
 use Rattle.bx_document.specs.declared.history.HistoryStep.TheVariants as history
 use Rattle.bx_runs.specs.declared.typing.Kind.{Kind}

@@ -10,7 +10,7 @@ use Rattle.bx_asking.specs.declared.answers.Ask.{Ask}
 use Rattle.bx_asking.specs.declared.answers.Ask.TheVariants as asks
 use Rattle.bx_asking.specs.Names.{coded, is_code_letter, asks_code, closing, named}
 use Rattle.bx_asking.specs.Answers.{asked, is_line_letter}
-use Rattle.bx_document.specs.Document.{wrapped_text}
+use Rattle.bx_document.specs.Swapped.{wrapped_text}
 use Rattle.bx_runs.specs.declared.typing.Typing.{Typing}
 use Rattle.bx_runs.specs.Runs.{after_insertion, kind_of}
 use Rattle.bx_editor.specs.declared.message.Message.TheVariants.{TextFull, MoreThanOneLine}

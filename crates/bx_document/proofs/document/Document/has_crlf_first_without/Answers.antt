@@ -2,7 +2,7 @@ use Rattle.std.proofs.Common.{◌∙◌, [], ap, arith, sym, subst}
 use Rattle.std.proofs.lemmas.Str.{IsCharBoundary-start}
 use Rattle.bx_text.specs.Edits.{splice}
 use Rattle.bx_text.specs.Changes.{IsRange}
-use Rattle.bx_document.specs.FirstSeparator.{has_crlf_first}
+use Rattle.bx_document.specs.Line.{has_crlf_first}
 use Rattle.bx_document.proofs.SeparatorsRead.{told}
 use Rattle.bx_document.proofs.SameState.{lent}
 use Rattle.bx_document.proofs.document.Document.has_crlf_first_without.Goals as goal

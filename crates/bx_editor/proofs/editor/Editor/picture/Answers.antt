@@ -6,9 +6,8 @@ use Rattle.bx_view.specs.Places.{IsTextPlace}
 use Rattle.bx_view.specs.Position.{IsPosition}
 use Rattle.bx_view.specs.TextRows.{TextRow, cell_of, row_of}
 use Rattle.bx_view.specs.Top.{follow, shown_rows}
-use Rattle.bx_document.specs.Drawing.{IsAmong, with_rows}
-use Rattle.bx_document.specs.Region.{region_rows}
-use Rattle.bx_document.specs.Shown.{shown_columns}
+use Rattle.bx_document.specs.Drawing.{IsAmong, region_rows}
+use Rattle.bx_document.specs.Shown.{with_rows, shown_columns}
 use Rattle.bx_document.specs.Document.{rows as document_rows}
 use Rattle.bx_ucd.specs.Data.{Data}
 use Rattle.bx_editor.specs.Editor.{Editor, rows, text_height}
