@@ -1,6 +1,6 @@
 -- The start and the end of a run, from the contracts of the calls within.
 use Rattle.std.proofs.Common.{◌≡◌, ℕ, Bool, true, false, List, None, Result, Ok, Err, IsErrAnd, sym, ap, subst, ◌∙◌}
-use Rattle.bx_editor.specs.Pasting.{has_changes}
+use Rattle.bx_editor.specs.Functions.{has_changes}
 use Rattle.bx_ucd.specs.Data.{Data}
 use Rattle.bx_cli.specs.declared.unicode.UnicodeFiles.{UnicodeFiles}
 use Rattle.bx_session.specs.declared.action.Action.{Action}

@@ -1,7 +1,7 @@
 -- Worked examples: how a run's end is reported, and what follows from the clause of a run alone.
 use Rattle.std.proofs.Common.{◌≡◌, ◌≢◌, ◌++◌, ℕ, Bool, true, false, List, [], ◌∷◌, length, Option, Some, None, Result, Ok, Err, IsOk, refl, sym, ap, subst, ◌∙◌, if◌then◌else◌}
 use Rattle.std.specs.Prelude.{◌&&◌, codes}
-use Rattle.bx_editor.specs.Pasting.{has_changes}
+use Rattle.bx_editor.specs.Functions.{has_changes}
 use Rattle.bx_store.specs.declared.faults.Faults.{Faults}
 use Rattle.bx_ucd.specs.Data.{Data}
 use Rattle.bx_keys.specs.Keys.{key_after}

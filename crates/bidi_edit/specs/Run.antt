@@ -1,7 +1,7 @@
 -- The start, the end and the result of a run of the program. Names without a prime are of before a run, those with one of after
 -- it. `d` is Unicode's data, `b` what the session starts with.
 use Rattle.std.specs.Prelude.{◌≡◌, ℕ, Bool, true, false, List, None, Result, Ok, Err}
-use Rattle.bx_editor.specs.Pasting.{has_changes}
+use Rattle.bx_editor.specs.Functions.{has_changes}
 use Rattle.bx_ucd.specs.Data.{Data}
 use Rattle.bx_cli.specs.declared.unicode.UnicodeFiles.{UnicodeFiles}
 use Rattle.bx_session.specs.declared.action.Action.{Action}

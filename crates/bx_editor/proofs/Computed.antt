@@ -9,7 +9,7 @@ use Rattle.bx_grid.specs.Columns.{Col, Glyph}
 use Rattle.bx_grid.specs.Picture.{PictureState}
 use Rattle.bx_ucd.specs.Data.{Data}
 use Rattle.bx_editor.specs.Editor.{Editor, at_start}
-use Rattle.bx_editor.specs.Keys.{after_keys}
+use Rattle.bx_editor.specs.Functions.{after_keys}
 use Rattle.bx_editor.specs.Picture.{picture, next_top}
 
 abbrev pub tables : Data

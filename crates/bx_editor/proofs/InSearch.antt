@@ -16,11 +16,12 @@ use Rattle.bx_editor.specs.declared.seek.Seek.{Seek}
 use Rattle.bx_editor.specs.declared.seek.Seek.TheVariants.{Off, Begun, Typed, WithBegun, WithTyped, Replacing}
 use Rattle.bx_editor.specs.Editor.{Editor, after_save, cleared, with_notice, with_size}
 use Rattle.bx_editor.specs.Effects.{Before, before}
-use Rattle.bx_editor.specs.Keys.{after_any, after_in_paste, after_key, after_press, after_user, is_told_key}
-use Rattle.bx_editor.specs.Pasting.{after_paste_end, after_paste_start, after_pasted_letter, paste_ended}
+use Rattle.bx_editor.specs.Keys.{after_any, after_in_paste, after_key, after_press, after_user}
+use Rattle.bx_editor.specs.Functions.{is_told_key}
+use Rattle.bx_editor.specs.Putting.{after_paste_end, after_paste_start, after_pasted_letter, paste_ended}
 use Rattle.bx_editor.specs.Prompts.{HasOnePrompt}
 use Rattle.bx_editor.specs.Search.{without_search}
-use Rattle.bx_editor.specs.Selecting.{aged}
+use Rattle.bx_editor.specs.Region.{aged}
 
 -- what a key leaves that keeps no column, and ages a selection
 abbrev pub behind : Editor → Editor

@@ -10,8 +10,9 @@ use Rattle.bx_view.specs.TextRows.{TextRow}
 use Rattle.bx_editor.specs.declared.seek.Seek.TheVariants.{Replacing}
 use Rattle.bx_editor.specs.declared.message.Message.TheVariants.{TextFull}
 use Rattle.bx_editor.specs.Editor.{Editor, cleared, rows, rows_of}
-use Rattle.bx_editor.specs.Replacing.{after_ending, after_replacing, at_match, match_stop, next_behind, next_match, on_from}
-use Rattle.bx_editor.specs.Replacing.{placed_in, with_matches_replaced}
+use Rattle.bx_editor.specs.Replacing.{after_ending, after_replacing, at_match, match_stop, next_match, on_from}
+use Rattle.bx_editor.specs.Functions.{next_behind, placed_in}
+use Rattle.bx_editor.specs.Replacing.{with_matches_replaced}
 use Rattle.bx_editor.specs.Search.{reading, sought}
 use Rattle.bx_editor.proofs.Exchanged.{cleared-replaced, out-and-in}
 use Rattle.bx_editor.proofs.MovedMatches.{first-behind-new, moved}

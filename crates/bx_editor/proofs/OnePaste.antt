@@ -15,12 +15,11 @@ use Rattle.bx_editor.specs.declared.seek.Seek.TheVariants as seeks
 use Rattle.bx_editor.specs.declared.cursor.Soft.{Soft}
 use Rattle.bx_editor.specs.declared.cursor.Soft.TheVariants.{Off, Fresh, Old}
 use Rattle.bx_editor.specs.Editor.{Editor, place_after, with_insertion, with_typing}
-use Rattle.bx_editor.specs.Keys.{after_keys}
+use Rattle.bx_editor.specs.Functions.{after_keys}
 use Rattle.bx_editor.specs.PasteLaws.{HasAll, IsOneEdit, IsPaste, PasteIsOneEdit, brought, place_between, written}
-use Rattle.bx_editor.specs.Pasting.{after_paste_end, after_paste_start, longer, paste_begun, pasted_bytes, pastes_crlf}
-use Rattle.bx_editor.specs.Putting.{has_room, put_in, with_selection_replaced, yielding}
-use Rattle.bx_editor.specs.Region.{is_empty, region}
-use Rattle.bx_editor.specs.Selecting.{aged, is_selection, is_soft}
+use Rattle.bx_editor.specs.Putting.{after_paste_end, after_paste_start, longer, paste_begun, pasted_bytes, pastes_crlf, has_room, put_in}
+use Rattle.bx_editor.specs.Putting.{with_selection_replaced, yielding}
+use Rattle.bx_editor.specs.Region.{is_empty, region, aged, is_selection, is_soft}
 use Rattle.bx_editor.proofs.TwoEdits.{runs-of-two}
 
 -- the editor while a paste is under way

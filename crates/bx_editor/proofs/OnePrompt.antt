@@ -14,11 +14,10 @@ use Rattle.bx_editor.specs.Editor.{Editor, cleared, with_exchange, with_insertio
 use Rattle.bx_editor.specs.Effects.{Effect, AsksLine, AsksName, Before, before, by}
 use Rattle.bx_editor.specs.Keys.{Answer, Letter, Shortens, GoesBack, Next, Previous, Replaces, Stays, Ends, after_any, after_asking, after_key, after_user, answer_of}
 use Rattle.bx_editor.specs.Keys.{answered, answered_match, answered_other, answered_question, effect_of}
-use Rattle.bx_editor.specs.Pasting.{ended_with, paste_ended, without_paste}
+use Rattle.bx_editor.specs.Putting.{ended_with, paste_ended, without_paste, has_room, put_in, with_selection_replaced}
 use Rattle.bx_editor.specs.Prompts.{HasOnePrompt}
-use Rattle.bx_editor.specs.Putting.{has_room, put_in, with_selection_replaced}
 use Rattle.bx_editor.specs.Search.{without_search}
-use Rattle.bx_editor.specs.Selecting.{is_selection}
+use Rattle.bx_editor.specs.Region.{is_selection}
 use Rattle.bx_editor.proofs.EffectsKept as kept
 use Rattle.bx_editor.proofs.InSearch.{each-key, press-keeps}
 use Rattle.bx_editor.proofs.QuestionKept.{effect-keeps}

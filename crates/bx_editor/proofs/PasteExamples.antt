@@ -17,9 +17,9 @@ use Rattle.bx_editor.specs.declared.seek.Seek.{Seek}
 use Rattle.bx_editor.specs.declared.seek.Seek.TheVariants.{Begun}
 use Rattle.bx_editor.specs.declared.cursor.Soft.{Soft}
 use Rattle.bx_editor.specs.declared.cursor.Soft.TheVariants.{Off, Fresh, Old}
-use Rattle.bx_editor.specs.Clipboard.{clip_of}
+use Rattle.bx_editor.specs.Region.{clip_of}
 use Rattle.bx_editor.specs.Editor.{Editor, with_clipboard}
-use Rattle.bx_editor.specs.Pasting.{has_changes}
+use Rattle.bx_editor.specs.Functions.{has_changes}
 use Rattle.bx_editor.proofs.Computed.{start, after, letters}
 
 abbrev edited : List ℕ → List Key → Editor

@@ -9,7 +9,7 @@ use Rattle.bx_editor.specs.declared.seek.Seek.TheVariants as seeks
 use Rattle.bx_editor.specs.Editor.{Editor, after_save}
 use Rattle.bx_editor.specs.Effects.{Effect, Seeks, SeeksNext, AsksLine, AsksName, Before, by}
 use Rattle.bx_editor.specs.Search.{after_beginning, next_or_start, search_from, sought}
-use Rattle.bx_editor.specs.Selecting.{unselected}
+use Rattle.bx_editor.specs.Region.{unselected}
 use Rattle.bx_editor.proofs.EffectsKept as kept
 
 -- this is asked, and this is the answer

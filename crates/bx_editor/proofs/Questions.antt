@@ -14,14 +14,14 @@ use Rattle.bx_asking.specs.Answers.{lengthened, shortened, asked, is_line_letter
 use Rattle.bx_asking.specs.Names.{coded, is_code_letter, asks_code, closing, named}
 use Rattle.bx_editor.specs.declared.message.Message.{Message}
 use Rattle.bx_editor.specs.declared.message.Message.TheVariants.{MoreThanOneLine, NoSuchCharacter, TextFull}
-use Rattle.bx_editor.specs.Asking.{after_answer_letter, after_code, after_code_letter, after_going, after_line_letter, after_name_letter, after_named, after_shorter_answer}
-use Rattle.bx_editor.specs.Asking.{gone_to, longest_code, longest_line, unless_paste, with_answer, with_character, without_ask}
+use Rattle.bx_editor.specs.Asking.{after_answer_letter, after_code, after_code_letter, after_going, after_line_letter, after_name_letter}
+use Rattle.bx_editor.specs.Asking.{after_named, after_shorter_answer, gone_to, longest_code, longest_line, unless_paste, with_answer}
+use Rattle.bx_editor.specs.Asking.{with_character, without_ask, after_wrapping, spans_lines, with_wrap}
 use Rattle.bx_editor.specs.Editor.{Editor, with_insertion, with_place, with_typing}
 use Rattle.bx_editor.specs.Effects.{Before}
 use Rattle.bx_editor.specs.Keys.{Answer, Letter, Shortens, GoesBack, Next, Previous, Replaces, Stays, Ends, after_pressing, answered_question}
 use Rattle.bx_editor.specs.Putting.{is_paste, only_paste}
 use Rattle.bx_editor.specs.Region.{is_empty, region}
-use Rattle.bx_editor.specs.Wrapping.{after_wrapping, spans_lines, with_wrap}
 
 -- edits, moves and what is told, asked and answered keep this property of editors
 pub record IsKept (d : Data) (P : Editor → Type 0) : Type 0 where

@@ -10,8 +10,7 @@ use Rattle.bx_document.specs.History.{next_changes, stepped_times}
 use Rattle.bx_document.specs.Past.{next_change, stepped}
 use Rattle.bx_document.specs.declared.history.HistoryStep.{HistoryStep}
 use Rattle.bx_document.specs.declared.history.HistoryStep.TheVariants.{Undo, Redo}
-use Rattle.bx_editor.specs.Editor.{Editor, cleared, nothing_left, with_step}
-use Rattle.bx_editor.specs.Runs.{by_run, is_changed_at, run_length, run_goal}
+use Rattle.bx_editor.specs.Editor.{Editor, cleared, nothing_left, with_step, by_run, is_changed_at, run_length, run_goal}
 use Rattle.bx_runs.specs.Runs.{run_end}
 use Rattle.bx_runs.proofs.Steps.{end-bound, end-last, end-same, start-bound}
 use Rattle.bx_editor.proofs.ManySteps.{past-again, past-back}

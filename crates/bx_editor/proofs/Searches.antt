@@ -19,15 +19,13 @@ use Rattle.bx_editor.specs.Editor.{Editor, rows, with_exchange, with_place, with
 use Rattle.bx_editor.specs.Effects.{Before, Seeks, by}
 use Rattle.bx_editor.specs.Keys.{Answer, Letter, Shortens, GoesBack, Next, Previous, Replaces, Stays, Ends, after_pressing}
 use Rattle.bx_editor.specs.Keys.{answered, answered_match, answered_other}
-use Rattle.bx_editor.specs.Pasting.{with_paste}
-use Rattle.bx_editor.specs.Putting.{is_paste, only_paste}
+use Rattle.bx_editor.specs.Putting.{with_paste, is_paste, only_paste}
 use Rattle.bx_editor.specs.Replacing.{after_asking_other, after_ending, after_match_letter, after_other_letter, after_replacing}
 use Rattle.bx_editor.specs.Replacing.{after_replacing_all, after_showing, after_sought_end, after_sought_letter, asked_at, at_match, is_replacing}
-use Rattle.bx_editor.specs.Replacing.{longest_other, match_stop, matches_on, next_match, on_from, other_typed, shown_at}
+use Rattle.bx_editor.specs.Replacing.{match_stop, matches_on, next_match, on_from, other_typed, shown_at}
 use Rattle.bx_editor.specs.Replacing.{with_matches_replaced, with_other}
 use Rattle.bx_editor.specs.Search.{after_letter, backward, is_no_letter, kept, landed, landing_from, lengthened, longest_query}
-use Rattle.bx_editor.specs.Search.{next_or_start, reading, search_from, shortened, sought}
-use Rattle.bx_editor.specs.Search.{with_query, without_search}
+use Rattle.bx_editor.specs.Search.{next_or_start, reading, search_from, shortened, sought, with_query, without_search}
 
 -- matches that give way, moves, the beginning of a paste, and what is told, sought and typed keep this property of editors
 pub record IsKeptSeeking (d : Data) (P : Editor → Type 0) : Type 0 where
@@ -125,10 +123,10 @@ module _ (d : Data) (P : Editor → Type 0) (keeps : IsKeptSeeking d P) where
 
   other-letter : (typing : Typing) (e : Editor) (c : ℕ) → P e → P (after_other_letter d typing e c)
   other-letter typing e c h =
-      let longer = with_other e (lengthened longest_other (kept e.seek e.other) c) in
+      let longer = with_other e (lengthened longest_query (kept e.seek e.other) c) in
       either (c == 0xA) (if is_paste typing then e else after_showing d e) (other_typed d e c)
       (either (is_paste typing) e (after_showing d e) h (showing e h))
-      (either (is_no_letter d c) e longer h (othered e (lengthened longest_other (kept e.seek e.other) c) h))
+      (either (is_no_letter d c) e longer h (othered e (lengthened longest_query (kept e.seek e.other) c) h))
 
   -- `begun`: another search begins; `pressed`: a key that ends the search
   pub other-keeps : (fault : Option StoreFault) (was : Before) (e : Editor) (key : Key) (answer : Answer) → P e

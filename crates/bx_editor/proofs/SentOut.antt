@@ -13,15 +13,13 @@ use Rattle.bx_editor.specs.declared.message.Message.TheVariants.{Copied, LineCop
 use Rattle.bx_editor.specs.declared.seek.Seek.{Seek}
 use Rattle.bx_editor.specs.declared.seek.Seek.TheVariants as seeks
 use Rattle.bx_editor.specs.declared.cursor.Soft.TheVariants.{Off}
-use Rattle.bx_editor.specs.Clipboard.{clip_of, is_clip}
+use Rattle.bx_editor.specs.Region.{clip_of, is_clip, after_copy, after_cut, bytes_in, held_message, is_empty, largest_clip, line, region}
+use Rattle.bx_editor.specs.Region.{taken, with_held, is_selection}
 use Rattle.bx_editor.specs.Editor.{Editor, cleared, with_insertion, with_removal}
 use Rattle.bx_editor.specs.Effects.{before}
 use Rattle.bx_editor.specs.Keys.{after_any, after_key, after_press, after_user, as_left}
 use Rattle.bx_editor.specs.PasteLaws.{CopiesGoOut, SendsCopies, SendsHeld, SendsNothing}
-use Rattle.bx_editor.specs.Pasting.{ended_with, paste_ended, without_paste}
-use Rattle.bx_editor.specs.Putting.{has_room, put_in, with_selection_replaced}
-use Rattle.bx_editor.specs.Region.{after_copy, after_cut, bytes_in, held_message, is_empty, largest_clip, line, region, taken, with_held}
-use Rattle.bx_editor.specs.Selecting.{is_selection}
+use Rattle.bx_editor.specs.Putting.{ended_with, paste_ended, without_paste, has_room, put_in, with_selection_replaced}
 
 short : (n limit : ℕ) → n ≤ limit → nat_lt limit n ≡ false
 short n limit few = grind (arith, nat_tests, few)

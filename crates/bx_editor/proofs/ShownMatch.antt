@@ -19,7 +19,7 @@ use Rattle.bx_document.proofs.PlaceAfter.{splice_bytes}
 use Rattle.bx_editor.specs.declared.seek.Aim.{Aim}
 use Rattle.bx_editor.specs.declared.seek.Seek.{Seek}
 use Rattle.bx_editor.specs.declared.seek.Seek.TheVariants.{Off, Begun, Typed, WithBegun, WithTyped, Replacing}
-use Rattle.bx_editor.specs.Editor.{EditorState}
+use Rattle.bx_editor.specs.Functions.{EditorState}
 use Rattle.bx_editor.specs.Origin.{BeganAt, IsAsked, IsAtMatch, StandsAt, asks_other}
 use Rattle.bx_editor.specs.Search.{reading}
 use Rattle.bx_editor.proofs.MatchSpans.{no-more-than-bytes}

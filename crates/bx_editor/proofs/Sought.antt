@@ -14,8 +14,7 @@ use Rattle.bx_editor.specs.declared.seek.Seek.TheVariants.{Off, Begun, Typed, Wi
 use Rattle.bx_editor.specs.Origin.{BeganAt}
 use Rattle.bx_editor.specs.Editor.{Editor}
 use Rattle.bx_editor.specs.Search.{after_beginning, after_find_next, after_letter, backward, forward, is_no_letter, kept}
-use Rattle.bx_editor.specs.Search.{lengthened, longest_query, match_or, next_or_start}
-use Rattle.bx_editor.specs.Search.{not_found, search_from, sought, with_query}
+use Rattle.bx_editor.specs.Search.{lengthened, longest_query, match_or, next_or_start, not_found, search_from, sought, with_query}
 
 pub began : (d : Data) (text : List ℕ) (seek : Seek) (origin : ℕ) → IsTextPlace d text origin → BeganAt d text seek origin
 began d text Off origin is = tt

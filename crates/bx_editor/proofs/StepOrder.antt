@@ -9,7 +9,7 @@ use Rattle.bx_view.specs.Words.{text_stops}
 use Rattle.bx_view.specs.declared.moves.Logical.TheVariants.{Back, Forward}
 use Rattle.bx_view.specs.declared.moves.Move.{Move}
 use Rattle.bx_view.specs.declared.moves.Move.TheVariants.{Logical, Visual, Rows, RowsIn, RowHome, RowEnd, Word, WordTowards, TextStart, TextEnd}
-use Rattle.bx_editor.specs.Erasing.{goes_back, goes_on}
+use Rattle.bx_editor.specs.Functions.{goes_back, goes_on}
 
 low : (place p : ℕ) (ps : List ℕ) (b : Bool) → nat_lt p place ≡ b → unwrap_or (find (λ q. nat_lt q place) ps) place ≤ place
     → unwrap_or (cond b (Some p) (find (λ q. nat_lt q place) ps)) place ≤ place

@@ -9,7 +9,7 @@ use Rattle.bx_document.specs.PlaceLevel.{place_level}
 use Rattle.bx_view.specs.Moves.{step_logical}
 use Rattle.bx_view.specs.declared.moves.Logical.TheVariants.{Forward}
 use Rattle.bx_editor.specs.Editor.{Editor, rows}
-use Rattle.bx_editor.specs.Telling.{told_at_place}
+use Rattle.bx_editor.specs.Status.{told_at_place}
 
 pub told-is : (d : Data) (e : Editor) (unit : List ℕ) (level : Option ℕ) → (e.place ≡ length e.content.text → ⊥)
     → unit ≡ slice_range e.content.text e.place (step_logical (rows d e) Forward e.place)

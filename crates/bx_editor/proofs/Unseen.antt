@@ -16,11 +16,11 @@ use Rattle.bx_editor.specs.declared.cursor.Soft.{Soft}
 use Rattle.bx_editor.specs.Editor.{Editor, rows, text_height}
 use Rattle.bx_keys.specs.declared.key.Key.TheVariants.{Insert, PasteStart}
 use Rattle.bx_editor.specs.Keys.{after_press}
-use Rattle.bx_editor.specs.PasteLaws.{PasteIsUnseen}
-use Rattle.bx_editor.specs.Pasting.{after_paste_start, after_pasted_letter, paste_begun, pasted_with, pastes_crlf}
-use Rattle.bx_editor.specs.Picture.{LooksAs, blank_picture, region_rows}
+use Rattle.bx_editor.specs.PasteLaws.{PasteIsUnseen, LooksAs}
+use Rattle.bx_editor.specs.Putting.{after_paste_start, after_pasted_letter, paste_begun, pasted_with, pastes_crlf}
+use Rattle.bx_editor.specs.Picture.{blank_picture, region_rows}
 use Rattle.bx_editor.specs.Replacing.{seen_in}
-use Rattle.bx_editor.specs.Selecting.{aged}
+use Rattle.bx_editor.specs.Region.{aged}
 use Rattle.bx_editor.specs.Status.{glyph_row, letter_glyphs, prompt_glyphs, status_text}
 
 -- an editor with other values of what is not seen

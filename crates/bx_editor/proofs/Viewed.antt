@@ -6,7 +6,7 @@ use Rattle.bx_document.specs.Document.{DocumentState}
 use Rattle.bx_view.specs.Places.{IsTextPlace}
 use Rattle.bx_editor.specs.Answers.{IsAnswer}
 use Rattle.bx_editor.specs.Origin.{BeganAt, StandsAt}
-use Rattle.bx_editor.specs.Editor.{EditorState}
+use Rattle.bx_editor.specs.Functions.{EditorState}
 use Rattle.bx_editor.specs.declared.editor.Editor.TheInside.{Inside}
 use Rattle.bx_editor.specs.declared.editor.Editor.TheView.{view, invariant}
 

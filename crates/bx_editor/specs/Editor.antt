@@ -1,16 +1,21 @@
 -- The editor's state, and its changes. Offsets and places count bytes of the text. `d` is Unicode's data, `e` the editor.
-use Rattle.std.specs.Prelude.{ℕ, ◌+◌, ◌-◌, Bool, true, false, not, ◌||◌, nat_le, nat_lt, List, [], ◌∷◌, length, Option, Some, None, if◌then◌else◌, ◌≡◌, IsUtf8}
+use Rattle.std.specs.Prelude.{ℕ, ◌+◌, ◌-◌, Bool, true, false, not, ◌||◌, nat_le, nat_lt, List, [], ◌∷◌, length, Option, Some, None, if◌then◌else◌}
+use Rattle.std.specs.Prelude.{◌==◌, ◌≡◌, ◌<◌, ◌≤◌, take, IsUtf8}
 use Rattle.bx_terms.specs.declared.base.Base.{Base}
 use Rattle.bx_terms.specs.declared.base.Base.TheVariants.{Auto, Ltr, Rtl}
+use Rattle.bx_terms.specs.Characters.{largest_text}
 use Rattle.bx_asking.specs.declared.answers.Ask.{Ask}
 use Rattle.bx_asking.specs.declared.answers.Ask.TheVariants as asks
 use Rattle.bx_keys.specs.declared.notice.Notice.{Notice}
 use Rattle.bx_store.specs.declared.store.StoreFault.{StoreFault}
 use Rattle.bx_text.specs.Edits.{Edited, Edit, opened, inserted, removed, splice, undone, redone}
+use Rattle.bx_text.specs.declared.change.Change.{Change}
 use Rattle.bx_view.specs.TextRows.{TextRow, text_rows}
 use Rattle.bx_view.specs.Moves.{place_from}
 use Rattle.bx_document.specs.declared.history.HistoryStep.{HistoryStep}
 use Rattle.bx_document.specs.declared.history.HistoryStep.TheVariants as steps
+use Rattle.bx_document.specs.History.{next_changes, stepped_times}
+use Rattle.bx_document.specs.declared.history.HistoryStep.TheVariants.{Undo, Redo}
 use Rattle.bx_editor.specs.declared.seek.Aim.{Aim}
 use Rattle.bx_editor.specs.declared.seek.Aim.TheVariants as aims
 use Rattle.bx_editor.specs.declared.message.Message.{Message}
@@ -19,11 +24,13 @@ use Rattle.bx_editor.specs.declared.seek.Seek.{Seek}
 use Rattle.bx_editor.specs.declared.seek.Seek.TheVariants as seeks
 use Rattle.bx_editor.specs.declared.cursor.Soft.{Soft}
 use Rattle.bx_editor.specs.declared.cursor.Soft.TheVariants as softness
+use Rattle.bx_editor.specs.declared.opening.OpenError.{OpenError}
+use Rattle.bx_editor.specs.declared.opening.OpenError.TheVariants.{NotUtf8, OutOfMemory, SizeOutOfRange, TooLong}
 use Rattle.bx_runs.specs.declared.typing.Typing.{Typing}
 use Rattle.bx_runs.specs.declared.typing.Typing.TheVariants as typings
-use Rattle.bx_runs.specs.Runs.{edited}
+use Rattle.bx_runs.specs.Runs.{edited, run_end, run_start}
 use Rattle.bx_ucd.specs.Data.{Data}
-use Rattle.bx_terms.specs.Characters.{is_side}
+use Rattle.bx_grid.specs.Picture.{is_size}
 
 -- an editor's state, without Unicode's tables
 pub record Editor : Type 0 where
@@ -78,11 +85,6 @@ pub record Editor : Type 0 where
   pub top : ℕ
   -- text that is copied or cut goes out to a clipboard
   pub clipboard : Bool
-
--- an editor and its tables
-pub record EditorState (D : Type 0) : Type 0 where
-  pub tables : D
-  pub editor : Editor
 
 -- at opening
 abbrev pub at_start : List ℕ → ℕ → ℕ → Base → Editor
@@ -265,7 +267,43 @@ with_notice e notice = record e { message = Some (messages.Notice notice) }
 abbrev pub cleared : Editor → Editor
 cleared e = record e { message = None; quit_before = false; typing = typings.Off }
 
--- the text is UTF-8 and the window has from 1 to 500 columns, as in every editor of the code
-pub record HasRows (e : Editor) : Type 0 where
-  pub text : IsUtf8 e.content.text
-  pub columns : is_side e.width ≡ true
+-- ---- undo and redo by runs of edits; `n` is a length of the past: its number of edits
+
+-- the length of the past to which a run is undone, or redone
+abbrev pub run_goal : HistoryStep → Editor → ℕ
+run_goal Undo e = run_start e.runs (length e.content.past)
+run_goal Redo e = run_end e.runs (length e.content.past) (length e.content.past + length e.content.future)
+
+-- how many edits are undone, or redone, for that
+abbrev pub run_length : HistoryStep → Editor → ℕ
+run_length Undo e = length e.content.past - run_goal Undo e
+run_length Redo e = run_goal Redo e - length e.content.past
+
+-- whether the text with a past of this length is not the one that was stored
+abbrev pub is_changed_at : ℕ → Option ℕ → Bool
+is_changed_at n None = true
+is_changed_at n (Some stored) = not (n == stored)
+
+-- the text after the one change that these edits make; a message where there are none
+abbrev pub by_run : HistoryStep → Editor → Option Change → Editor
+by_run step e None = record e { message = Some (nothing_left step) }
+by_run step e (Some change) =
+    with_step e (stepped_times step (run_length step e) e.content) change.place (is_changed_at (run_goal step e) e.stored)
+
+-- all edits since a run began are undone, or all up to the next run are redone; the text is changed unless it is the stored one
+abbrev pub after_run_step : HistoryStep → Editor → Editor
+after_run_step step e = by_run step e (next_changes step (run_length step e) e.content)
+
+-- ---- errors of opening a file
+
+-- the longest UTF-8 prefix has `n` bytes
+pub record IsLongestUtf8 (bytes : List ℕ) (n : ℕ) : Type 0 where
+  pub utf8 : IsUtf8 (take n bytes)
+  pub longest : (more : ℕ) → n < more → more ≤ length bytes → ¬ (IsUtf8 (take more bytes))
+
+-- the cause of each error, the earlier causes excluded
+abbrev pub Causes : List ℕ → ℕ → ℕ → OpenError → Type 0
+Causes bytes height width TooLong = largest_text < length bytes
+Causes bytes height width (NotUtf8 n) = (length bytes ≤ largest_text) × (n < length bytes) × IsLongestUtf8 bytes n
+Causes bytes height width SizeOutOfRange = (length bytes ≤ largest_text) × IsUtf8 bytes × (is_size height width ≡ false)
+Causes bytes height width OutOfMemory = (length bytes ≤ largest_text) × IsUtf8 bytes × (is_size height width ≡ true)

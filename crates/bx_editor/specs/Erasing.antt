@@ -1,17 +1,14 @@
 -- What the keys that erase and delete remove. `d` is Unicode's data, `e` the editor; offsets and places count bytes of the text.
-use Rattle.std.specs.Prelude.{ℕ, ◌+◌, ◌==◌, Bool, true, false, slice_range, if◌then◌else◌}
+use Rattle.std.specs.Prelude.{ℕ, ◌+◌, ◌==◌, Bool, false, slice_range, if◌then◌else◌}
 use Rattle.bx_ucd.specs.Data.{Data}
 use Rattle.bx_document.specs.Points.{point_start}
 use Rattle.bx_runs.specs.declared.typing.Removal.{Removal}
 use Rattle.bx_runs.specs.declared.typing.Typing.{Typing}
 use Rattle.bx_runs.specs.Runs.{after_removal, goes_on_removing}
 use Rattle.bx_view.specs.Moves.{step_logical}
-use Rattle.bx_view.specs.declared.moves.Logical.TheVariants.{Back, Forward}
-use Rattle.bx_view.specs.declared.moves.Move.{Move}
-use Rattle.bx_view.specs.declared.moves.Move.TheVariants.{Logical, Word}
+use Rattle.bx_view.specs.declared.moves.Logical.TheVariants.{Back}
 use Rattle.bx_editor.specs.Editor.{Editor, rows, with_removal}
-use Rattle.bx_editor.specs.Region.{region}
-use Rattle.bx_editor.specs.Selecting.{is_selection}
+use Rattle.bx_editor.specs.Region.{region, is_selection}
 
 -- the bytes from `start` to `stop` are removed, in the run before if `goes_on`; if there are none, nothing changes
 abbrev pub after_removing : Data → Editor → ℕ → ℕ → Bool → Editor
@@ -42,17 +39,3 @@ abbrev pub point_before : Data → Editor → ℕ
 point_before d e =
     let unit = step_logical (rows d e) Back e.place in
     unit + point_start d (slice_range e.content.text unit e.place)
-
--- ---- the moves by which the code removes: none leads past the place
-
--- by a unit or to a word's start, back
-abbrev pub goes_back : Move → Bool
-goes_back (Logical Back) = true
-goes_back (Word Back) = true
-goes_back _ = false
-
--- by a unit or to a word's start, forward
-abbrev pub goes_on : Move → Bool
-goes_on (Logical Forward) = true
-goes_on (Word Forward) = true
-goes_on _ = false

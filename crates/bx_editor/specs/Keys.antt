@@ -1,6 +1,6 @@
 -- The effect of each key on the editor's state. `d`: Unicode's data; `fault`: why a Save failed, None if it succeeded; `was`: what
 -- the key before left; `e`: the editor, from which `after_user` clears that.
-use Rattle.std.specs.Prelude.{ℕ, Bool, true, false, ◌&&◌, ◌||◌, is_some, List, [], ◌∷◌, length, Option, Some, None}
+use Rattle.std.specs.Prelude.{ℕ, Bool, true, false, ◌&&◌, ◌||◌, is_some, List, length, Option, Some, None}
 use Rattle.bx_keys.specs.declared.key.Key.{Key}
 use Rattle.bx_keys.specs.declared.key.Key.TheVariants.{Insert, Erase, Delete, Back, Forward, Up, Down, Right, Left, RowHome, RowEnd, PageUp, PageDown}
 use Rattle.bx_keys.specs.declared.key.Key.TheVariants.{Save, Quit, Undo, Redo, Repaint, Direction, Size, Mark, Copy, Cut, Put}
@@ -23,17 +23,15 @@ use Rattle.bx_asking.specs.declared.answers.Ask.{Ask}
 use Rattle.bx_asking.specs.declared.answers.Ask.TheVariants as asks
 use Rattle.bx_editor.specs.Asking.{after_answer_letter, after_shorter_answer, without_ask}
 use Rattle.bx_editor.specs.Editor.{Editor, cleared, rows, text_height, with_notice, with_size, with_typing}
-use Rattle.bx_editor.specs.Effects.{Effect, Types, BeginsLine, Puts, Removes, RemovesWord, Steps, StepsRun, Goes, GoesByRows, Marks, Selects}
-use Rattle.bx_editor.specs.Effects.{Unmarks, Copies, Cuts, Seeks, SeeksNext, Saves, Quits, Turns, Helps, AsksLine, AsksName, Tells, Rests, Before, before, by}
+use Rattle.bx_editor.specs.Effects.{Effect, Types, BeginsLine, Puts, Removes, RemovesWord, Steps, StepsRun, Goes, GoesByRows, Marks}
+use Rattle.bx_editor.specs.Effects.{Selects, Unmarks, Copies, Cuts, Seeks, SeeksNext, Saves, Quits, Turns, Helps, AsksLine, AsksName}
+use Rattle.bx_editor.specs.Effects.{Tells, Rests, Before, before, by, goal_behind, pointed_place}
 use Rattle.bx_editor.specs.Erasing.{point_before}
-use Rattle.bx_editor.specs.Goal.{goal_behind}
-use Rattle.bx_editor.specs.Pasting.{after_paste_end, after_paste_start, after_pasted_letter, paste_ended}
-use Rattle.bx_editor.specs.Pointing.{pointed_place}
-use Rattle.bx_editor.specs.Putting.{only_paste}
+use Rattle.bx_editor.specs.Putting.{after_paste_end, after_paste_start, after_pasted_letter, paste_ended, only_paste}
 use Rattle.bx_editor.specs.Replacing.{after_asking_other, after_ending, after_match_letter, after_other_letter, after_passing_over}
 use Rattle.bx_editor.specs.Replacing.{after_replacing_all, after_shorter_other, after_showing, after_sought_letter}
 use Rattle.bx_editor.specs.Search.{after_find, after_find_back, after_giving_up, after_shortening, without_search}
-use Rattle.bx_editor.specs.Selecting.{soft_behind}
+use Rattle.bx_editor.specs.Region.{soft_behind}
 
 -- ---- outside a search and a question
 
@@ -220,11 +218,6 @@ after_key d fault e PasteStart = after_paste_start e
 after_key d fault e PasteEnd = after_paste_end d e
 after_key d fault e key = after_press d fault e.pasted e key
 
--- keys in sequence; all Saves succeed, or all fail with this fault
-abbrev pub after_keys : Data → Option StoreFault → Editor → List Key → Editor
-after_keys d fault e [] = e
-after_keys d fault e (key ∷ keys) = after_keys d fault (after_key d fault e key) keys
-
 -- ---- kinds of keys
 
 -- a key that edits, undoes, redoes, moves, copies or finds
@@ -272,18 +265,6 @@ needs_no_painting e key = is_some e.pasted && is_of_paste key
 abbrev pub is_save : Key → Bool
 is_save Save = true
 is_save _ = false
-
-abbrev pub is_size_key : Key → Bool
-is_size_key (Size height width) = true
-is_size_key _ = false
-
--- a key by which the terminal or the host tells something, and which the user does not press
-abbrev pub is_told_key : Key → Bool
-is_told_key (Size height width) = true
-is_told_key (Notice notice) = true
-is_told_key PasteStart = true
-is_told_key PasteEnd = true
-is_told_key _ = false
 
 -- a key after which the screen's content counts as unknown, so that all of it is painted
 abbrev pub asks_for_whole : Key → Bool

@@ -10,14 +10,12 @@ use Rattle.bx_ucd.specs.Data.{Data}
 use Rattle.bx_asking.specs.declared.answers.Ask.TheVariants as asks
 use Rattle.bx_editor.specs.declared.message.Message.TheVariants.{TextFull, TooLongForClipboard}
 use Rattle.bx_editor.specs.declared.seek.Seek.TheVariants.{Off}
-use Rattle.bx_editor.specs.Clipboard.{clip_of}
+use Rattle.bx_editor.specs.Region.{clip_of, bytes_in, is_empty, largest_clip, region, taken, is_selection}
 use Rattle.bx_editor.specs.Editor.{Editor, place_after}
-use Rattle.bx_editor.specs.Keys.{after_key, after_keys, needs_no_painting}
-use Rattle.bx_editor.specs.Picture.{LooksAs}
-use Rattle.bx_editor.specs.Pasting.{longer, paste_ended, pasted_bytes, pastes_crlf}
-use Rattle.bx_editor.specs.Putting.{has_room}
-use Rattle.bx_editor.specs.Region.{bytes_in, is_empty, largest_clip, region, taken}
-use Rattle.bx_editor.specs.Selecting.{is_selection}
+use Rattle.bx_editor.specs.Keys.{after_key, needs_no_painting}
+use Rattle.bx_editor.specs.Functions.{after_keys}
+use Rattle.bx_editor.specs.Picture.{next_top, picture}
+use Rattle.bx_editor.specs.Putting.{longer, paste_ended, pasted_bytes, pastes_crlf, has_room}
 
 -- ---- a paste
 
@@ -71,6 +69,11 @@ abbrev pub PasteIsOneEdit : Type 0
 PasteIsOneEdit =
     (d : Data) (e : Editor) (cs : List ℕ) → e.ask ≡ asks.Off → e.seek ≡ Off → e.pasted ≡ None
     → IsPaste d e cs (brought d e.content.text [] cs) (after_paste d e cs)
+
+-- two editors have the same picture, from any row on
+pub record LooksAs (d : Data) (e new : Editor) : Type 0 where
+  pub top : (top : ℕ) → next_top d new top ≡ next_top d e top
+  pub same : (top : ℕ) → picture d new top ≡ picture d e top
 
 -- a character that goes into a paste, and PasteStart once more, leave the picture as it is
 abbrev pub PasteIsUnseen : Type 0

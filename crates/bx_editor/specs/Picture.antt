@@ -36,11 +36,6 @@ picture d e top = if e.ended then blank_picture e.height e.width else text_pictu
 abbrev pub next_top : Data → Editor → ℕ → ℕ
 next_top d e top = if e.ended then top else follow (rows d e) top e.place (text_height e.height)
 
--- two editors have the same picture, from any row on
-pub record LooksAs (d : Data) (e new : Editor) : Type 0 where
-  pub top : (top : ℕ) → next_top d new top ≡ next_top d e top
-  pub same : (top : ℕ) → picture d new top ≡ picture d e top
-
 -- The cursor of a picture, shown from the row of the offset `top` on, is on the cell of its place. The place is one of the
 -- rows' places, with one slot and one cell, in the row that it falls in. That row is visible, and the cursor is in it, in
 -- the column of the cell.

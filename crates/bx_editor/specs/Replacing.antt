@@ -5,18 +5,18 @@ use Rattle.bx_ucd.specs.Data.{Data}
 use Rattle.bx_find.specs.Matches.{first_from, match_end, spans_from}
 use Rattle.bx_document.specs.Swapped.{behind_character, last_stop, swapped}
 use Rattle.bx_runs.specs.declared.typing.Typing.{Typing}
-use Rattle.bx_text.specs.Edits.{fits, splice}
+use Rattle.bx_text.specs.Edits.{fits}
 use Rattle.bx_view.specs.Moves.{place_at}
 use Rattle.bx_editor.specs.declared.seek.Aim.{Aim}
 use Rattle.bx_editor.specs.declared.seek.Aim.TheVariants.{Find, Replace}
 use Rattle.bx_editor.specs.declared.message.Message.TheVariants.{Replaced, TextFull}
 use Rattle.bx_editor.specs.declared.seek.Seek.{Seek}
 use Rattle.bx_editor.specs.declared.seek.Seek.TheVariants.{Off, Typed, WithBegun, WithTyped, Replacing}
-use Rattle.bx_editor.specs.Editor.{Editor, rows, rows_of, with_exchange}
-use Rattle.bx_editor.specs.Pasting.{with_paste}
-use Rattle.bx_editor.specs.Putting.{is_paste}
+use Rattle.bx_editor.specs.Editor.{Editor, rows, with_exchange}
+use Rattle.bx_editor.specs.Putting.{with_paste, is_paste}
 use Rattle.bx_editor.specs.Region.{region}
 use Rattle.bx_editor.specs.Search.{after_letter, is_no_letter, kept, landed, landing_from, lengthened, reading, shortened, sought, without_search}
+use Rattle.bx_editor.specs.Search.{longest_query}
 
 -- ---- the question for the other text
 
@@ -51,10 +51,6 @@ after_sought_letter d typing e c = if c == 0xA then after_sought_end d typing e 
 
 -- ---- the other text
 
--- the most characters that it has: as many as the query has, by `LONGEST_QUERY` of the code
-abbrev pub longest_other : ℕ
-longest_other = 64
-
 -- the other text was typed
 abbrev pub with_other : Editor → List ℕ → Editor
 with_other e other = record e { other = other; seek = WithTyped }
@@ -74,7 +70,7 @@ after_showing d e = shown_at e (next_match d e e.place)
 
 -- a typed character is added to the other text, unless it is no letter
 abbrev pub other_typed : Data → Editor → ℕ → Editor
-other_typed d e c = if is_no_letter d c then e else with_other e (lengthened longest_other (kept e.seek e.other) c)
+other_typed d e c = if is_no_letter d c then e else with_other e (lengthened longest_query (kept e.seek e.other) c)
 
 -- a line end shows the match, but a pasted one does not
 abbrev pub after_other_letter : Data → Typing → Editor → ℕ → Editor
@@ -125,17 +121,6 @@ after_replacing d e =
     if fits e.content.text e.at (match_stop d e) e.other
     then on_from d (e.at + length e.other) (with_matches_replaced d e (match_stop d e) e.other 1)
     else record e { message = Some TextFull }
-
--- the offset of a match of `text`, and its place
-abbrev pub placed_in : Data → Editor → List ℕ → Option ℕ → Option (ℕ × ℕ)
-placed_in d e text None = None
-placed_in d e text (Some at) = Some (at, place_at (rows_of d e text) at)
-
--- the next match behind `new`, and its place, in the text in which the bytes from this match to `stop` have given way to `new`
-abbrev pub next_behind : Data → Editor → ℕ → List ℕ → Option (ℕ × ℕ)
-next_behind d e stop new =
-    let text = splice e.content.text e.at stop new in
-    placed_in d e text (first_from d (reading e.aim) (sought d e) text (e.at + length new))
 
 -- a typed character: a line end replaces the match, but a pasted one does not; all others do nothing
 abbrev pub after_match_letter : Data → Typing → Editor → ℕ → Editor

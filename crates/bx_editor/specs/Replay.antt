@@ -4,7 +4,7 @@ use Rattle.bx_runs.specs.declared.typing.Typing.TheVariants.{Off}
 use Rattle.bx_editor.specs.declared.seek.Seek.TheVariants as seeks
 use Rattle.bx_asking.specs.declared.answers.Ask.TheVariants as asks
 use Rattle.bx_editor.specs.Editor.{Editor}
-use Rattle.bx_editor.specs.Selecting.{aged}
+use Rattle.bx_editor.specs.Region.{aged}
 
 -- a Quit outside a search and a question ends what any key ends, and does nothing else
 abbrev pub after_passed_quit : Editor → Editor

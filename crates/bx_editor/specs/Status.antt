@@ -1,16 +1,20 @@
 -- The status row: whether there are unsaved changes, the cursor's position, a message, and the prompt of a search or of a
 -- question. `d` is Unicode's data, `e` the editor.
-use Rattle.std.specs.Prelude.{ℕ, ◌+◌, nat_le, Bool, List, [], ◌++◌, Option, Some, None, codes, decimal, if◌then◌else◌}
+use Rattle.std.specs.Prelude.{ℕ, ◌+◌, nat_le, Bool, List, [], ◌++◌, Option, Some, None, codes, decimal, if◌then◌else◌, ◌==◌, length, chars}
+use Rattle.std.specs.Prelude.{slice_range}
 use Rattle.bx_terms.specs.declared.base.Base.TheVariants.{Auto, Ltr, Rtl}
 use Rattle.bx_keys.specs.declared.notice.Notice as told
 use Rattle.bx_keys.specs.declared.notice.Notice.TheVariants as notices
 use Rattle.bx_store.specs.declared.cause.SaveCause.{SaveCause}
 use Rattle.bx_store.specs.Causes.{cause_text}
 pub use Rattle.bx_view.specs.Numbers.{paragraph_number, unit_number}
+use Rattle.bx_view.specs.Moves.{step_logical}
+use Rattle.bx_view.specs.declared.moves.Logical.TheVariants.{Forward}
 use Rattle.bx_grid.specs.Columns.{Col}
 use Rattle.bx_rows.specs.RowPicture.{Glyph}
 pub use Rattle.bx_rows.specs.RowPicture.{letter_glyphs}
 pub use Rattle.bx_document.specs.Drawing.{glyph_row, query_glyphs, typed_glyphs}
+use Rattle.bx_document.specs.PlaceLevel.{place_level}
 use Rattle.bx_editor.specs.declared.seek.Aim.{Aim}
 use Rattle.bx_editor.specs.declared.seek.Aim.TheVariants.{Find, Replace}
 use Rattle.bx_editor.specs.declared.message.Message.{Message}
@@ -22,8 +26,16 @@ use Rattle.bx_editor.specs.declared.seek.Seek.TheVariants.{Off, Begun, Typed, Wi
 use Rattle.bx_ucd.specs.Data.{Data}
 use Rattle.bx_asking.specs.declared.answers.Ask.{Ask}
 use Rattle.bx_asking.specs.declared.answers.Ask.TheVariants as asks
-use Rattle.bx_editor.specs.Editor.{Editor}
-use Rattle.bx_editor.specs.Telling.{told_at_place}
+use Rattle.bx_asking.specs.Told.{told_text}
+use Rattle.bx_editor.specs.Editor.{Editor, rows}
+
+-- the characters of the unit at the place with their classes, and its level; the text's end is told in words
+abbrev pub told_at_place : Data → Editor → List ℕ
+told_at_place d e =
+    if e.place == length e.content.text
+    then codes "end of text"
+    else
+    told_text d (chars (slice_range e.content.text e.place (step_logical (rows d e) Forward e.place))) (place_level d e.base e.content.text e.place)
 
 -- a failed save: the message has a colon and the cause, if the store tells one
 abbrev pub failed_text : Option SaveCause → List ℕ

@@ -52,7 +52,7 @@ impl<D: BidiData + Drop> Model for Editor<D> {
     ghost use Rattle.bx_terms.specs.Characters.{is_side};
     ghost use Rattle.bx_view.specs.Places.{IsTextPlace};
     ghost use Rattle.bx_editor.specs.Answers.{IsAnswer};
-    ghost use Rattle.bx_editor.specs.Editor.{EditorState};
+    ghost use Rattle.bx_editor.specs.Functions.{EditorState};
     ghost use Rattle.bx_editor.specs.Origin.{BeganAt, StandsAt};
 
     ghost Value = { EditorState D };

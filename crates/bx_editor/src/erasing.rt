@@ -5,7 +5,8 @@ ghost use Rattle.bx_view.specs.Moves.{step_logical};
 ghost use Rattle.bx_view.specs.Moved.{moved};
 ghost use Rattle.bx_view.specs.Words.{step_word};
 ghost use Rattle.bx_editor.specs.Editor.{cleared, rows, with_removal};
-ghost use Rattle.bx_editor.specs.Erasing.{after_erasing, after_erasing_word, after_removing, goes_back, goes_on, point_before, removed_on};
+ghost use Rattle.bx_editor.specs.Erasing.{after_erasing, after_erasing_word, after_removing, point_before, removed_on};
+ghost use Rattle.bx_editor.specs.Functions.{goes_back, goes_on};
 ghost use Rattle.bx_editor.specs.Region.{region};
 ghost use Rattle.bx_runs.specs.declared.typing.Removal.{Removal};
 

@@ -4,7 +4,8 @@ ghost use Rattle.bx_editor.specs.Asking.{without_ask};
 ghost use Rattle.bx_editor.specs.Editor.{after_help, after_quit, cleared, next_base, with_base, with_typing};
 ghost use Rattle.bx_editor.specs.Effects.{before};
 ghost use Rattle.bx_editor.specs.Keys.{after_any, after_asking, after_in_paste, after_key, after_pressing, after_user, is_edit_or_move, is_save};
-ghost use Rattle.bx_editor.specs.Keys.{is_size_key, is_told_key, may_refuse};
+ghost use Rattle.bx_editor.specs.Keys.{may_refuse};
+ghost use Rattle.bx_editor.specs.Functions.{is_size_key, is_told_key};
 
 use crate::editor::Editor;
 use crate::message::Message;

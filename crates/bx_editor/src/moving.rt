@@ -4,8 +4,8 @@ ghost use Rattle.bx_view.specs.Moves.{place_from};
 ghost use Rattle.bx_view.specs.Moved.{moved};
 ghost use Rattle.bx_view.specs.Places.{IsTextPlace};
 ghost use Rattle.bx_editor.specs.Editor.{rows, text_height, with_place, cleared};
-ghost use Rattle.bx_editor.specs.Goal.{after_row_move, goal_behind, goal_column};
-ghost use Rattle.bx_editor.specs.Selecting.{unselected};
+ghost use Rattle.bx_editor.specs.Effects.{after_row_move, goal_behind, goal_column};
+ghost use Rattle.bx_editor.specs.Region.{unselected};
 
 use crate::editor::Editor;
 use crate::picture::text_height;

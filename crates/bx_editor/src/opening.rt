@@ -2,8 +2,7 @@
 ghost use Rattle.std.specs.Prelude.{◌≡◌, ◌<◌, ◌≤◌, true, IfErr, IfOk, IsUtf8, OnOk, length, string_bytes};
 ghost use Rattle.bx_terms.specs.Characters.{largest_text};
 ghost use Rattle.bx_grid.specs.Picture.{is_size};
-ghost use Rattle.bx_editor.specs.Editor.{at_start};
-ghost use Rattle.bx_editor.specs.Opening.{Causes, IsLongestUtf8};
+ghost use Rattle.bx_editor.specs.Editor.{Causes, IsLongestUtf8, at_start};
 
 use crate::cursor::{Cursor, Soft};
 use crate::editor::Editor;

@@ -1,9 +1,8 @@
 //! A paste: what stands between PasteStart and PasteEnd goes into the text at once.
 ghost use Rattle.std.specs.Prelude.{◌≡◌, None, false, is_some, option_map, string_bytes, IsOk, OnErr, OnOk};
-ghost use Rattle.bx_editor.specs.Pasting.{after_paste_end, after_paste_start, after_pasted_letter, has_changes, has_pasted, longer};
-ghost use Rattle.bx_editor.specs.Pasting.{paste_begun, paste_ended, pasted_with, pastes_crlf, with_paste, with_pasted};
-ghost use Rattle.bx_editor.specs.Keys.{after_user, is_of_paste, is_save, is_told_key, needs_no_painting};
-ghost use Rattle.bx_editor.specs.Pasting.{as_before, without_paste};
+ghost use Rattle.bx_editor.specs.Putting.{after_paste_end, after_paste_start, after_pasted_letter, longer, paste_begun, paste_ended, pasted_with, pastes_crlf, with_paste, with_pasted, without_paste};
+ghost use Rattle.bx_editor.specs.Functions.{as_before, has_changes, has_pasted, is_told_key};
+ghost use Rattle.bx_editor.specs.Keys.{after_user, is_of_paste, is_save, needs_no_painting};
 
 use crate::editor::Editor;
 use crate::message::Message;

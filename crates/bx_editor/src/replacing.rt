@@ -6,7 +6,8 @@ ghost use Rattle.bx_text.specs.Changes.{IsRange};
 ghost use Rattle.bx_view.specs.Places.{IsTextPlace};
 ghost use Rattle.bx_editor.specs.Editor.{cleared};
 ghost use Rattle.bx_editor.specs.Replacing.{after_ending, after_passing_over, after_replacing, after_replacing_all};
-ghost use Rattle.bx_editor.specs.Replacing.{match_stop, next_behind, next_match, seen, with_matches_replaced};
+ghost use Rattle.bx_editor.specs.Replacing.{match_stop, next_match, seen, with_matches_replaced};
+ghost use Rattle.bx_editor.specs.Functions.{next_behind};
 ghost use Rattle.bx_editor.specs.Search.{sought};
 
 use crate::editor::Editor;

@@ -3,9 +3,8 @@
 ghost use Rattle.std.specs.Prelude.{◌≡◌, ◌==◌, not, length, IfOk, IfSome, OnErr, OnOk};
 ghost use Rattle.bx_view.specs.Places.{IsTextPlace};
 ghost use Rattle.bx_editor.specs.Editor.{cleared};
-ghost use Rattle.bx_editor.specs.Search.{after_beginning, after_find, after_find_back, after_find_next, after_giving_up, after_letter, after_shortening};
-ghost use Rattle.bx_editor.specs.Search.{landed, next_or_start, sought, without_search};
-ghost use Rattle.bx_editor.specs.Selecting.{unselected};
+ghost use Rattle.bx_editor.specs.Search.{after_beginning, after_find, after_find_back, after_find_next, after_giving_up, after_letter, after_shortening, landed, next_or_start, sought, without_search};
+ghost use Rattle.bx_editor.specs.Region.{unselected};
 
 use crate::editor::Editor;
 use crate::matches::{Landing, backward, forward, has_letters};

@@ -1,7 +1,7 @@
 //! Selections: the key that begins one or goes on with it, and what takes it off.
 ghost use Rattle.std.specs.Prelude.{◌≡◌};
 ghost use Rattle.bx_editor.specs.Editor.{cleared};
-ghost use Rattle.bx_editor.specs.Selecting.{after_select, aged, is_selection, is_soft, mark_left, soft_behind, soft_left, unselected};
+ghost use Rattle.bx_editor.specs.Region.{after_select, aged, is_selection, is_soft, mark_left, soft_behind, soft_left, unselected};
 
 use crate::cursor::Soft;
 use crate::editor::Editor;

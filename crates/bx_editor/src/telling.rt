@@ -1,8 +1,7 @@
 //! What stands at the cursor's place, and the message of the status row.
 ghost use Rattle.std.specs.Prelude.{◌≡◌, ◌++◌, [], true, IfOk, string_bytes};
 ghost use Rattle.bx_terms.specs.Characters.{are_ascii_printable};
-ghost use Rattle.bx_editor.specs.Status.{message_part, shown_text};
-ghost use Rattle.bx_editor.specs.Telling.{told_at_place};
+ghost use Rattle.bx_editor.specs.Status.{message_part, shown_text, told_at_place};
 
 use crate::editor::Editor;
 use crate::message::Message;

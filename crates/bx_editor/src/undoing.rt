@@ -1,7 +1,6 @@
 //! The keys that undo and redo: one edit, or a run of them.
 ghost use Rattle.std.specs.Prelude.{◌≡◌, true, OnErr, OnOk};
-ghost use Rattle.bx_editor.specs.Editor.{after_step, cleared, nothing_left};
-ghost use Rattle.bx_editor.specs.Runs.{after_run_step, is_changed_at, run_length};
+ghost use Rattle.bx_editor.specs.Editor.{after_run_step, after_step, cleared, is_changed_at, nothing_left, run_length};
 
 use crate::editor::Editor;
 use crate::message::Message;

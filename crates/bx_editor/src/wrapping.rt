@@ -1,7 +1,7 @@
 //! The region between two characters that isolate, embed or override it.
 ghost use Rattle.std.specs.Prelude.{◌≡◌, IfOk, OnErr, OnOk};
 ghost use Rattle.bx_editor.specs.Editor.{cleared};
-ghost use Rattle.bx_editor.specs.Wrapping.{after_wrapping, cursor_end, spans_lines};
+ghost use Rattle.bx_editor.specs.Asking.{after_wrapping, cursor_end, spans_lines};
 
 use crate::editor::Editor;
 use crate::message::Message;

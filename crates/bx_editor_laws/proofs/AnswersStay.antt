@@ -29,19 +29,18 @@ use Rattle.bx_editor.specs.Answers.{IsAnswer, limit_of}
 use Rattle.bx_editor.specs.declared.message.Message.TheVariants as messages
 use Rattle.bx_editor.specs.declared.seek.Seek.{Seek}
 use Rattle.bx_editor.specs.declared.seek.Seek.TheVariants as seeks
-use Rattle.bx_editor.specs.Asking.{after_answer_letter, after_code, after_code_letter, after_going, after_line_letter, after_name_letter, after_named, after_shorter_answer}
-use Rattle.bx_editor.specs.Asking.{gone_to, longest_code, longest_line, with_answer, with_character, without_ask}
+use Rattle.bx_editor.specs.Asking.{after_answer_letter, after_code, after_code_letter, after_going, after_line_letter, after_name_letter}
+use Rattle.bx_editor.specs.Asking.{after_named, after_shorter_answer, gone_to, longest_code, longest_line, with_answer, with_character}
+use Rattle.bx_editor.specs.Asking.{without_ask, after_wrapping, spans_lines, with_wrap}
 use Rattle.bx_editor_laws.specs.AskingLaws.{IsShown, PromptsAreShown}
 use Rattle.bx_editor.specs.Editor.{Editor, at_start, cleared, with_exchange, with_insertion, with_typing}
 use Rattle.bx_editor.specs.Effects.{Effect, AsksLine, AsksName, Before, before, by}
 use Rattle.bx_editor.specs.Keys.{Answer, Letter, Shortens, GoesBack, Stays, after_any, after_key, after_searching, answer_of, answered_question, effect_of}
 use Rattle.bx_editor_laws.specs.Laws.{after_typing}
-use Rattle.bx_editor.specs.Pasting.{paste_ended}
-use Rattle.bx_editor.specs.Putting.{is_paste}
+use Rattle.bx_editor.specs.Putting.{paste_ended, is_paste}
 use Rattle.bx_editor.specs.Region.{is_empty, region}
 use Rattle.bx_editor.specs.Search.{without_search}
 use Rattle.bx_editor.specs.Status.{prompt_glyphs, prompt_text}
-use Rattle.bx_editor.specs.Wrapping.{after_wrapping, spans_lines, with_wrap}
 use Rattle.bx_editor.proofs.EffectsKept.{IsKeptPasting, start-keeps}
 use Rattle.bx_editor.proofs.InSearch.{each-key, press-keeps}
 use Rattle.bx_editor_laws.proofs.PasteEnded.{ended-by}

@@ -10,7 +10,7 @@ use Rattle.bx_editor.specs.declared.seek.Seek.TheVariants.{Off, Begun, Typed, Wi
 use Rattle.bx_editor.specs.Editor.{Editor, cleared}
 use Rattle.bx_editor.specs.Effects.{Before, before}
 use Rattle.bx_editor.specs.Keys.{after_any, after_key, as_left}
-use Rattle.bx_editor.specs.Selecting.{aged, unselected}
+use Rattle.bx_editor.specs.Region.{aged, unselected}
 use Rattle.bx_editor.proofs.InSearch.{any-key}
 
 -- a character, or a line, is asked for

@@ -17,8 +17,7 @@ use Rattle.bx_store.specs.declared.store.StoreFault.{StoreFault}
 use Rattle.bx_editor_laws.specs.AskingLaws.{AnswerIsARun, CodePutsIn, IsAbove, IsShown, PromptsAreShown, IsolatesRaise, LetterIsolates, LetterPutsIn}
 use Rattle.bx_editor_laws.specs.AskingLaws.{LetterWraps, QuestionsChangeThemselves, TellShows, TellsWhatStands, ToldNumbersLeadBack}
 use Rattle.bx_editor.specs.Editor.{Editor}
-use Rattle.bx_editor.specs.Status.{status_text}
-use Rattle.bx_editor.specs.Telling.{told_at_place}
+use Rattle.bx_editor.specs.Status.{status_text, told_at_place}
 use Rattle.bx_editor.proofs.Computed.{tables, start, after, letters}
 
 abbrev typed : List Key → List (Key × Option StoreFault)

@@ -22,7 +22,8 @@ use Rattle.bx_editor.specs.declared.seek.Seek.{Seek}
 use Rattle.bx_editor.specs.Asking.{after_answer_letter, after_code, after_name_letter, longest_code, with_answer, without_ask}
 use Rattle.bx_editor_laws.specs.AskingLaws.{CodePutsIn, IsPutIn, is_enter}
 use Rattle.bx_editor.specs.Editor.{Editor, cleared, place_after, with_insertion, with_typing}
-use Rattle.bx_editor.specs.Keys.{after_key, after_keys, as_left}
+use Rattle.bx_editor.specs.Keys.{after_key, as_left}
+use Rattle.bx_editor.specs.Functions.{after_keys}
 use Rattle.bx_editor.proofs.InSearch.{any-key}
 use Rattle.bx_editor_laws.proofs.AskingKeys.{asked_name, name-is}
 use Rattle.bx_editor_laws.proofs.LettersPut.{character-in}

@@ -20,13 +20,12 @@ use Rattle.bx_editor.specs.Keys.{Answer, Letter, Shortens, GoesBack, Next, Previ
 use Rattle.bx_editor.specs.Keys.{answer_of, answered, answered_other, effect_of}
 use Rattle.bx_editor_laws.specs.Laws.{after_typing, begins_anew, finds, is_on}
 use Rattle.bx_editor_laws.specs.Laws.{BeginsSearch, GivesUp, GivingUpGoesBack, IsGivenUp, StaysOn}
-use Rattle.bx_editor.specs.Pasting.{paste_begun, paste_ended, with_paste}
-use Rattle.bx_editor.specs.Putting.{is_paste}
+use Rattle.bx_editor.specs.Putting.{paste_begun, paste_ended, with_paste, is_paste}
 use Rattle.bx_editor.specs.Replacing.{after_asking_other, after_other_letter, after_showing, after_sought_end, after_sought_letter, asked_at}
-use Rattle.bx_editor.specs.Replacing.{is_replacing, longest_other, next_match, other_typed, shown_at, with_other}
+use Rattle.bx_editor.specs.Replacing.{is_replacing, next_match, other_typed, shown_at, with_other}
 use Rattle.bx_editor.specs.Search.{after_beginning, after_giving_up, after_letter, is_no_letter, kept, landed, landing_from}
 use Rattle.bx_editor.specs.Search.{lengthened, longest_query, search_from, sought, with_query, without_search}
-use Rattle.bx_editor.specs.Selecting.{unselected}
+use Rattle.bx_editor.specs.Region.{unselected}
 use Rattle.bx_editor.proofs.InSearch.{any-key, behind, each-key}
 use Rattle.bx_editor.proofs.Searches.{is_end}
 use Rattle.bx_editor_laws.proofs.PasteEnded.{none-ended}
@@ -109,7 +108,7 @@ shown-keeps e (Some at) on = absurd (cc on)
 other-letter-keeps : (d : Data) (typing : Typing) (e : Editor) (c : ℕ) → is_on (after_other_letter d typing e c).seek ≡ true
     → KeepsSearch e (after_other_letter d typing e c)
 other-letter-keeps d typing e c =
-    let longer = with_other e (lengthened longest_other (kept e.seek e.other) c) in
+    let longer = with_other e (lengthened longest_query (kept e.seek e.other) c) in
     let same : KeepsSearch e longer = record { origin_is = refl; mark_is = refl; content_is = refl; ask_is = refl; pasted_is = refl } in
     either-on (c == 0xA) e (if is_paste typing then e else after_showing d e) (other_typed d e c)
     (either-on (is_paste typing) e e (after_showing d e) (λ on. keeps-all e) (shown-keeps e (next_match d e e.place)))

@@ -24,10 +24,10 @@ use Rattle.bx_editor.specs.Editor.{Editor, cleared, place_after, with_insertion,
 use Rattle.bx_editor.specs.Effects.{Effect, Types, BeginsLine, Puts, Removes, RemovesWord, Steps, StepsRun, Goes, GoesByRows, Marks, Selects}
 use Rattle.bx_editor.specs.Effects.{Unmarks, Copies, Cuts, Seeks, SeeksNext, Saves, Quits, Turns, Helps, AsksLine, AsksName, Tells, Rests, Before, before, by}
 use Rattle.bx_editor.specs.Erasing.{after_removing, or_selection, removed_on}
-use Rattle.bx_editor.specs.Keys.{after_any, after_key, as_left, effect_of, is_told_key}
+use Rattle.bx_editor.specs.Keys.{after_any, after_key, as_left, effect_of}
+use Rattle.bx_editor.specs.Functions.{is_told_key}
 use Rattle.bx_editor.specs.Putting.{after_character, after_new_line, has_room, line_end, put_in, typed, with_selection_replaced, yielding}
-use Rattle.bx_editor.specs.Region.{is_empty, region}
-use Rattle.bx_editor.specs.Selecting.{is_selection, is_soft}
+use Rattle.bx_editor.specs.Region.{is_empty, region, is_selection, is_soft}
 use Rattle.bx_editor_laws.specs.SelectionLaws.{bytes_put, is_removal, rest, rest_with, seam, HasSelection, IsRefused, IsReplacedBy, IsRest}
 use Rattle.bx_editor_laws.specs.SelectionLaws.{SelectionComesBack, SelectionGivesWay, SelectionIsRemoved}
 use Rattle.bx_editor.proofs.InSearch.{any-key}

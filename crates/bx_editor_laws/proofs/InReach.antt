@@ -26,9 +26,9 @@ use Rattle.bx_editor.specs.declared.seek.Seek.{Seek}
 use Rattle.bx_editor.specs.declared.seek.Seek.TheVariants as seeks
 use Rattle.bx_editor.specs.declared.cursor.Soft.{Soft}
 use Rattle.bx_editor.specs.declared.cursor.Soft.TheVariants as softness
-use Rattle.bx_editor.specs.Asking.{without_ask}
-use Rattle.bx_editor.specs.Editor.{Editor, after_redo, after_save, after_step, after_undo, cleared, stored_behind}
-use Rattle.bx_editor.specs.Editor.{with_exchange, with_insertion, with_insertion_at, with_removal}
+use Rattle.bx_editor.specs.Asking.{without_ask, with_wrap}
+use Rattle.bx_editor.specs.Editor.{Editor, after_redo, after_save, after_step, after_undo, cleared, stored_behind, with_exchange}
+use Rattle.bx_editor.specs.Editor.{with_insertion, with_insertion_at, with_removal, by_run, run_length}
 use Rattle.bx_editor.specs.Effects.{Effect, Types, BeginsLine, Puts, Removes, RemovesWord, Steps, StepsRun, Goes, GoesByRows, Marks}
 use Rattle.bx_editor.specs.Effects.{Selects}
 use Rattle.bx_editor.specs.Effects.{Unmarks, Copies, Cuts, Seeks, SeeksNext, Saves, Quits, Turns, Helps, AsksLine, AsksName, Tells, Rests}
@@ -37,16 +37,13 @@ use Rattle.bx_editor.specs.Erasing.{after_erasing, after_erasing_word, after_rem
 use Rattle.bx_editor.specs.Keys.{Answer, Letter, Shortens, GoesBack, Next, Previous, Replaces, Stays, Ends, after_any}
 use Rattle.bx_editor.specs.Keys.{after_in_paste, after_key, after_press}
 use Rattle.bx_editor.specs.Keys.{after_pressing, answer_of, answered, answered_match, answered_other, answered_question, effect_of, is_save}
-use Rattle.bx_editor.specs.Pasting.{paste_ended, without_paste}
-use Rattle.bx_editor.specs.Putting.{after_put, has_room, line_end, put_in, typed}
-use Rattle.bx_editor.specs.Putting.{with_selection_replaced, yielding}
+use Rattle.bx_editor.specs.Putting.{paste_ended, without_paste, after_put, has_room, line_end, put_in, typed, with_selection_replaced}
+use Rattle.bx_editor.specs.Putting.{yielding}
 use Rattle.bx_editor.specs.Region.{after_copy, after_cut, bytes_in, held_message, is_at_mark, is_empty, line, region, taken, with_held}
+use Rattle.bx_editor.specs.Region.{is_selection, selecting, unselected}
 use Rattle.bx_editor.specs.Replacing.{at_match, next_match}
 use Rattle.bx_document.specs.Swapped.{behind_character}
-use Rattle.bx_editor.specs.Runs.{by_run, run_length}
 use Rattle.bx_editor.specs.Search.{after_beginning, next_or_start, search_from, sought, without_search}
-use Rattle.bx_editor.specs.Selecting.{is_selection, selecting, unselected}
-use Rattle.bx_editor.specs.Wrapping.{with_wrap}
 use Rattle.bx_editor.proofs.EffectsKept.{IsKeptPasting, start-keeps}
 use Rattle.bx_editor.proofs.InSearch.{each-key}
 use Rattle.bx_editor.proofs.Questions.{IsKept, letter-keeps, shorter-keeps}

@@ -23,7 +23,7 @@ use Rattle.bx_view.proofs.Numbers.{body-utf8}
 use Rattle.bx_view.proofs.Parts.{text-parts}
 use Rattle.bx_editor_laws.specs.AskingLaws.{CanIsolate, IsAbove, Isolates, IsWhole, LetterIsolates, embedding_at, region_chars}
 use Rattle.bx_editor.specs.Editor.{Editor}
-use Rattle.bx_editor.specs.Keys.{after_keys}
+use Rattle.bx_editor.specs.Functions.{after_keys}
 use Rattle.bx_editor_laws.specs.Laws.{IsPart}
 use Rattle.bx_editor.specs.Region.{bytes_in, region}
 use Rattle.bx_editor_laws.proofs.IsolateLevels.{isolates-raise}

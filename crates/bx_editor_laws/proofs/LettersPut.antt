@@ -13,13 +13,14 @@ use Rattle.bx_document.proofs.PlacesKept.{wrapped_is}
 use Rattle.bx_editor.specs.declared.message.Message.{Message}
 use Rattle.bx_editor.specs.declared.message.Message.TheVariants.{MoreThanOneLine, TextFull}
 use Rattle.bx_editor.specs.declared.seek.Seek.{Seek}
-use Rattle.bx_editor.specs.Asking.{after_name_letter, after_named, with_character, without_ask}
+use Rattle.bx_editor.specs.Asking.{after_name_letter, after_named, with_character, without_ask, after_wrapping, cursor_end, spans_lines}
+use Rattle.bx_editor.specs.Asking.{with_wrap}
 use Rattle.bx_editor_laws.specs.AskingLaws.{IsPutIn, IsRefusedWith, IsWrapped, LetterPutsIn, LetterWraps, WrapsRegion, wrapped_region}
 use Rattle.bx_editor.specs.Editor.{Editor, cleared, place_after, with_insertion, with_typing}
-use Rattle.bx_editor.specs.Keys.{after_key, after_keys, as_left}
+use Rattle.bx_editor.specs.Keys.{after_key, as_left}
+use Rattle.bx_editor.specs.Functions.{after_keys}
 use Rattle.bx_editor_laws.specs.Laws.{IsPart}
 use Rattle.bx_editor.specs.Region.{is_empty, region}
-use Rattle.bx_editor.specs.Wrapping.{after_wrapping, cursor_end, spans_lines, with_wrap}
 use Rattle.bx_editor.proofs.InSearch.{any-key}
 use Rattle.bx_editor_laws.proofs.AskingKeys.{asked_name, name-is}
 

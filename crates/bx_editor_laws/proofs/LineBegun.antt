@@ -18,8 +18,7 @@ use Rattle.bx_editor.specs.Editor.{Editor, cleared, with_insertion}
 use Rattle.bx_editor.specs.Effects.{before}
 use Rattle.bx_editor.specs.Keys.{after_any, after_key}
 use Rattle.bx_editor.specs.Putting.{has_room, line_end, only_paste, typed, with_selection_replaced, yielding}
-use Rattle.bx_editor.specs.Region.{region}
-use Rattle.bx_editor.specs.Selecting.{is_selection}
+use Rattle.bx_editor.specs.Region.{region, is_selection}
 use Rattle.bx_editor.proofs.InSearch.{any-key, behind}
 use Rattle.bx_editor_laws.specs.LineLaws.{NewLinePutsSeparator, PutsIfRoom, PutsIn, cr_lf, first_separator}
 use Rattle.bx_editor_laws.specs.SelectionLaws.{IsRefused}

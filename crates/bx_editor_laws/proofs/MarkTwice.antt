@@ -15,11 +15,11 @@ use Rattle.bx_editor.specs.declared.cursor.Soft.TheVariants as softness
 use Rattle.bx_runs.specs.declared.typing.Typing.TheVariants as typings
 use Rattle.bx_editor.specs.Editor.{Editor, cleared, with_place}
 use Rattle.bx_editor.specs.Effects.{Before, before}
-use Rattle.bx_editor.specs.Keys.{after_any, after_key, after_keys}
+use Rattle.bx_editor.specs.Keys.{after_any, after_key}
+use Rattle.bx_editor.specs.Functions.{after_keys}
 use Rattle.bx_editor_laws.specs.Laws.{GoesToBothEnds, MarkTwiceIsNothing, hard_mark, only_at}
-use Rattle.bx_editor.specs.Region.{after_mark, is_at_mark}
+use Rattle.bx_editor.specs.Region.{after_mark, is_at_mark, aged, mark_left, soft_left, unselected}
 use Rattle.bx_editor.specs.Search.{without_search}
-use Rattle.bx_editor.specs.Selecting.{aged, mark_left, soft_left, unselected}
 use Rattle.bx_editor.proofs.InSearch.{any-key, behind}
 
 -- ---- Mark

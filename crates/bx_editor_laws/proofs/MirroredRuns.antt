@@ -10,11 +10,11 @@ use Rattle.bx_runs.specs.Runs.{run_end, run_start}
 use Rattle.bx_runs.proofs.RunLaws.{undo-then-redo}
 use Rattle.bx_runs.proofs.Steps.{end-last, start-bound}
 use Rattle.bx_ucd.specs.Data.{Data}
-use Rattle.bx_editor.specs.Editor.{Editor, at_start}
-use Rattle.bx_editor.specs.Keys.{after_key, after_keys}
+use Rattle.bx_editor.specs.Editor.{Editor, at_start, is_changed_at, run_goal, run_length}
+use Rattle.bx_editor.specs.Keys.{after_key}
+use Rattle.bx_editor.specs.Functions.{after_keys}
 use Rattle.bx_editor_laws.specs.Laws.{after_typing, IsUnmarkedAt}
 use Rattle.bx_editor_laws.specs.RunLaws.{RedoRunMirrorsUndoRun}
-use Rattle.bx_editor.specs.Runs.{is_changed_at, run_goal, run_length}
 use Rattle.bx_editor.proofs.ManySteps.{again, again-and-back, again-place, back, back-and-again, back-place, future-back, past-again, past-back}
 use Rattle.bx_editor.proofs.ManySteps.{version, IsFutureOf, IsPastOf}
 use Rattle.bx_editor_laws.proofs.RunKeys.{redo-length, redo-run, run_to, undo-length, undo-run}

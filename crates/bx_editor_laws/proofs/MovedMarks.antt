@@ -19,9 +19,10 @@ use Rattle.bx_editor.specs.Asking.{without_ask}
 use Rattle.bx_editor.specs.Editor.{Editor, cleared}
 use Rattle.bx_editor.specs.Effects.{Effect, Types, BeginsLine, Puts, Removes, RemovesWord, Steps, StepsRun, Goes, GoesByRows, Marks, Selects}
 use Rattle.bx_editor.specs.Effects.{Unmarks, Copies, Cuts, Seeks, SeeksNext, Saves, Quits, Turns, Helps, AsksLine, AsksName, Tells, Rests, Before, before, by}
-use Rattle.bx_editor.specs.Keys.{Ends, after_any, after_asking, after_key, after_pressing, answer_of, answered, answered_match, answered_other, answered_question, effect_of, is_told_key}
+use Rattle.bx_editor.specs.Keys.{Ends, after_any, after_asking, after_key, after_pressing, answer_of, answered, answered_match, answered_other, answered_question, effect_of}
+use Rattle.bx_editor.specs.Functions.{is_told_key}
 use Rattle.bx_editor.specs.Search.{after_beginning, after_find_next, next_or_start, search_from, sought, without_search}
-use Rattle.bx_editor.specs.Selecting.{mark_left, selecting, unselected}
+use Rattle.bx_editor.specs.Region.{mark_left, selecting, unselected}
 use Rattle.bx_editor_laws.specs.SelectionLaws.{is_move, seeks, LeavesMark, MoveTakesSelectionOff, SeekingTakesSelectionOff}
 use Rattle.bx_editor.proofs.InSearch.{any-key}
 

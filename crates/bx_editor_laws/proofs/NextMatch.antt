@@ -12,11 +12,12 @@ use Rattle.bx_asking.specs.declared.answers.Ask.TheVariants as asks
 use Rattle.bx_editor.specs.Asking.{without_ask}
 use Rattle.bx_editor.specs.Editor.{Editor, cleared}
 use Rattle.bx_editor.specs.Effects.{Before, before}
-use Rattle.bx_editor.specs.Keys.{after_any, after_key, after_keys}
+use Rattle.bx_editor.specs.Keys.{after_any, after_key}
+use Rattle.bx_editor.specs.Functions.{after_keys}
 use Rattle.bx_find.specs.Letters.{letters}
-use Rattle.bx_editor.specs.Pasting.{paste_ended}
+use Rattle.bx_editor.specs.Putting.{paste_ended}
 use Rattle.bx_editor.specs.Search.{after_beginning, after_find_next, next_or_start, reading, search_from, sought}
-use Rattle.bx_editor.specs.Selecting.{aged, soft_left, unselected}
+use Rattle.bx_editor.specs.Region.{aged, soft_left, unselected}
 use Rattle.bx_editor_laws.proofs.GivenUp.{find-begins}
 use Rattle.bx_editor.proofs.InSearch.{any-key, behind}
 use Rattle.bx_editor_laws.proofs.PasteEnded.{ended-by, ends-first, over}

@@ -22,17 +22,15 @@ use Rattle.bx_asking.specs.declared.answers.Ask.TheVariants as asks
 use Rattle.bx_editor.specs.declared.message.Message.TheVariants.{TextFull}
 use Rattle.bx_editor.specs.declared.seek.Seek.TheVariants as seeks
 use Rattle.bx_editor.specs.declared.cursor.Soft.TheVariants as softness
-use Rattle.bx_editor.specs.Editor.{Editor, cleared, with_insertion, with_removal, with_typing}
+use Rattle.bx_editor.specs.Editor.{Editor, cleared, with_insertion, with_removal, with_typing, run_length}
 use Rattle.bx_editor.specs.Effects.{before}
-use Rattle.bx_editor.specs.Keys.{after_any, after_key, after_keys, after_press, as_left}
+use Rattle.bx_editor.specs.Keys.{after_any, after_key, after_press, as_left}
+use Rattle.bx_editor.specs.Functions.{after_keys}
 use Rattle.bx_editor.specs.PasteLaws.{after_paste}
-use Rattle.bx_editor.specs.Pasting.{after_paste_start, ended_with, longer, paste_begun, pasted_with, pastes_crlf, with_pasted}
-use Rattle.bx_editor.specs.Pasting.{without_paste}
-use Rattle.bx_editor.specs.Putting.{after_character, has_room, only_paste, put_in, typed, with_selection_replaced, yielding}
-use Rattle.bx_editor.specs.Region.{is_empty, region}
+use Rattle.bx_editor.specs.Putting.{after_paste_start, ended_with, longer, paste_begun, pasted_with, pastes_crlf, with_pasted}
+use Rattle.bx_editor.specs.Putting.{without_paste, after_character, has_room, only_paste, put_in, typed, with_selection_replaced, yielding}
+use Rattle.bx_editor.specs.Region.{is_empty, region, is_selection, is_soft}
 use Rattle.bx_editor_laws.specs.RunLaws.{AreOfKind, IsBackBefore, WordIsARun}
-use Rattle.bx_editor.specs.Runs.{run_length}
-use Rattle.bx_editor.specs.Selecting.{is_selection, is_soft}
 use Rattle.bx_editor.proofs.InSearch.{any-key}
 use Rattle.bx_editor.proofs.ManySteps.{back, undone-back, version}
 use Rattle.bx_editor.proofs.Pasted.{ended-none}

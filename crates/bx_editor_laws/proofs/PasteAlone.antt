@@ -18,14 +18,13 @@ use Rattle.bx_editor.specs.Editor.{Editor, after_save, at_start, cleared}
 use Rattle.bx_editor.specs.Effects.{Effect, Seeks, SeeksNext, AsksLine, AsksName, Before, before, by}
 use Rattle.bx_editor.specs.Keys.{Answer, Letter, Shortens, GoesBack, Next, Previous, Replaces, Stays, Ends, after_any, after_asking, after_in_paste}
 use Rattle.bx_editor.specs.Keys.{after_key, after_press, after_user, answer_of, answered, answered_match, answered_other, effect_of}
-use Rattle.bx_editor.specs.Pasting.{paste_begun, paste_ended, with_paste}
-use Rattle.bx_editor.specs.Putting.{is_paste}
+use Rattle.bx_editor.specs.Putting.{paste_begun, paste_ended, with_paste, is_paste}
 use Rattle.bx_editor.specs.Replacing.{after_asking_other, after_match_letter, after_other_letter, after_replacing, after_showing, after_sought_end}
-use Rattle.bx_editor.specs.Replacing.{after_sought_letter, asked_at, is_replacing, longest_other, match_stop, matches_on, next_match, other_typed, shown_at}
+use Rattle.bx_editor.specs.Replacing.{after_sought_letter, asked_at, is_replacing, match_stop, matches_on, next_match, other_typed, shown_at}
 use Rattle.bx_editor.specs.Replacing.{with_other}
 use Rattle.bx_editor.specs.Search.{after_beginning, after_letter, is_no_letter, kept, landed, landing_from, lengthened, longest_query, next_or_start}
 use Rattle.bx_editor.specs.Search.{search_from, sought, with_query, without_search}
-use Rattle.bx_editor.specs.Selecting.{unselected}
+use Rattle.bx_editor.specs.Region.{unselected}
 use Rattle.bx_editor_laws.specs.Laws.{after_typing}
 use Rattle.bx_editor_laws.specs.PastingLaws.{PastesAreAlone}
 use Rattle.bx_editor.proofs.EffectsKept as kept_by
@@ -143,7 +142,7 @@ other-letter-settled : (d : Data) (typing : Typing) (e : Editor) (c : ℕ) → I
 other-letter-settled d typing e c h =
     either IsSettled (c == 0xA) (if is_paste typing then e else after_showing d e) (other_typed d e c)
     (either IsSettled (is_paste typing) e (after_showing d e) h (shown-settled e (next_match d e e.place) h))
-    (either IsSettled (is_no_letter d c) e (with_other e (lengthened longest_other (kept e.seek e.other) c)) h h)
+    (either IsSettled (is_no_letter d c) e (with_other e (lengthened longest_query (kept e.seek e.other) c)) h h)
 
 other-settled : (d : Data) (fault : Option StoreFault) (was : Before) (e : Editor) (key : Key) (answer : Answer) → IsSettled e
     → IsSettled (answered_other d fault was e key answer)

@@ -13,7 +13,7 @@ use Rattle.bx_keys.specs.declared.key.Key.TheVariants.{Find, Forward, PasteEnd, 
 use Rattle.bx_store.specs.declared.store.StoreFault.{StoreFault}
 use Rattle.bx_editor.specs.declared.seek.Seek.TheVariants.{Off}
 use Rattle.bx_editor.specs.Editor.{Editor}
-use Rattle.bx_editor.specs.Pasting.{pastes_crlf}
+use Rattle.bx_editor.specs.Putting.{pastes_crlf}
 use Rattle.bx_editor_laws.specs.PastingLaws.{KeysEndPastes, PasteComesBack, PasteIsTyping, PastesAreAlone}
 use Rattle.bx_editor.proofs.Computed.{tables, start, after, letters}
 

@@ -22,12 +22,12 @@ use Rattle.bx_editor.specs.declared.seek.Seek.TheVariants as seeks
 use Rattle.bx_editor.specs.declared.cursor.Soft.{Soft}
 use Rattle.bx_editor.specs.declared.cursor.Soft.TheVariants.{Off, Fresh, Old}
 use Rattle.bx_editor.specs.Editor.{Editor, cleared, place_after, with_insertion, with_typing}
-use Rattle.bx_editor.specs.Keys.{after_key, after_keys, as_left}
+use Rattle.bx_editor.specs.Keys.{after_key, as_left}
+use Rattle.bx_editor.specs.Functions.{after_keys}
 use Rattle.bx_editor.specs.PasteLaws.{after_paste, brought, place_between, written}
-use Rattle.bx_editor.specs.Pasting.{after_paste_end, after_paste_start, longer, paste_begun, pasted_bytes, pastes_crlf}
-use Rattle.bx_editor.specs.Putting.{has_room, only_paste, put_in, with_selection_replaced}
-use Rattle.bx_editor.specs.Region.{is_empty, region}
-use Rattle.bx_editor.specs.Selecting.{aged, is_selection, is_soft}
+use Rattle.bx_editor.specs.Putting.{after_paste_end, after_paste_start, longer, paste_begun, pasted_bytes, pastes_crlf, has_room}
+use Rattle.bx_editor.specs.Putting.{only_paste, put_in, with_selection_replaced}
+use Rattle.bx_editor.specs.Region.{is_empty, region, aged, is_selection, is_soft}
 use Rattle.bx_editor_laws.specs.PastingLaws.{EndAtTheirPlaces, IsFree, PasteComesBack, PasteIsTyping}
 use Rattle.bx_editor.proofs.OnePaste.{paste-is-one-edit}
 use Rattle.bx_editor_laws.proofs.OneRun.{insert-is, no-selection, paste-is-a-run}

@@ -19,10 +19,10 @@ use Rattle.bx_editor.specs.Editor.{Editor, cleared, place_after, with_insertion,
 use Rattle.bx_editor.specs.declared.cursor.Soft.TheVariants as softness
 use Rattle.bx_editor.specs.Effects.{Before, before}
 use Rattle.bx_editor.specs.Putting.{after_put, put_in, with_selection_replaced}
-use Rattle.bx_editor.specs.Selecting.{is_selection}
+use Rattle.bx_editor.specs.Region.{is_selection, after_copy, after_cut, bytes_in, held_message, is_empty, line, region, taken, with_held}
 use Rattle.bx_editor.proofs.InSearch.{any-key, behind as left_behind}
-use Rattle.bx_editor.specs.Keys.{after_any, after_key, after_keys}
-use Rattle.bx_editor.specs.Region.{after_copy, after_cut, bytes_in, held_message, is_empty, line, region, taken, with_held}
+use Rattle.bx_editor.specs.Keys.{after_any, after_key}
+use Rattle.bx_editor.specs.Functions.{after_keys}
 use Rattle.bx_editor.specs.Search.{without_search}
 use Rattle.bx_editor_laws.specs.Laws.{CopyPutsTwice, HasPut, IsPart, PutRestoresCut, twice}
 

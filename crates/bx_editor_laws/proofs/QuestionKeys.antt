@@ -17,19 +17,18 @@ use Rattle.bx_ucd.specs.Data.{Data}
 use Rattle.bx_editor.specs.declared.message.Message.TheVariants as messages
 use Rattle.bx_editor.specs.declared.seek.Seek.{Seek}
 use Rattle.bx_editor.specs.declared.cursor.Soft.TheVariants as softness
-use Rattle.bx_editor.specs.Asking.{after_answer_letter, after_code, after_code_letter, after_going, after_line_letter, after_name_letter, after_named}
-use Rattle.bx_editor.specs.Asking.{after_shorter_answer, gone_to, longest_code, longest_line, with_answer, with_character, without_ask}
+use Rattle.bx_editor.specs.Asking.{after_answer_letter, after_code, after_code_letter, after_going, after_line_letter, after_name_letter}
+use Rattle.bx_editor.specs.Asking.{after_named, after_shorter_answer, gone_to, longest_code, longest_line, with_answer, with_character}
+use Rattle.bx_editor.specs.Asking.{without_ask, after_wrapping, spans_lines, with_wrap}
 use Rattle.bx_editor_laws.specs.AskingLaws.{IsUntouched, QuestionsChangeThemselves, StaysAsked, erases, types}
 use Rattle.bx_editor.specs.Editor.{Editor, cleared, with_insertion, with_typing}
 use Rattle.bx_editor.specs.Effects.{Effect}
 use Rattle.bx_editor.specs.Effects.{AsksLine, AsksName, Before, before, by}
-use Rattle.bx_editor.specs.Keys.{Answer, Letter, Shortens, GoesBack, Stays, after_any, after_asking, after_key, answer_of, answered_question, as_left, effect_of, is_told_key}
+use Rattle.bx_editor.specs.Keys.{Answer, Letter, Shortens, GoesBack, Stays, after_any, after_asking, after_key, answer_of, answered_question, as_left, effect_of}
+use Rattle.bx_editor.specs.Functions.{is_told_key}
 use Rattle.bx_editor_laws.specs.Laws.{after_typing}
-use Rattle.bx_editor.specs.Pasting.{paste_begun, paste_ended}
-use Rattle.bx_editor.specs.Putting.{is_paste, only_paste}
-use Rattle.bx_editor.specs.Region.{is_empty, region}
-use Rattle.bx_editor.specs.Selecting.{aged, mark_left, soft_behind, soft_left}
-use Rattle.bx_editor.specs.Wrapping.{after_wrapping, spans_lines, with_wrap}
+use Rattle.bx_editor.specs.Putting.{paste_begun, paste_ended, is_paste, only_paste}
+use Rattle.bx_editor.specs.Region.{is_empty, region, aged, mark_left, soft_behind, soft_left}
 use Rattle.bx_editor.proofs.InSearch.{any-key}
 use Rattle.bx_editor.proofs.QuestionKept.{effect-keeps}
 use Rattle.bx_editor_laws.proofs.PasteEnded.{none-ended}

@@ -13,9 +13,10 @@ use Rattle.bx_keys.specs.declared.key.Key.TheVariants.{Insert, Erase, Forward, S
 use Rattle.bx_store.specs.declared.store.StoreFault.{StoreFault}
 use Rattle.bx_text.specs.Edits.{Edited}
 use Rattle.bx_editor.specs.declared.cursor.Soft.TheVariants as softness
-use Rattle.bx_editor.specs.Selecting.{mark_left}
+use Rattle.bx_editor.specs.Region.{mark_left}
 use Rattle.bx_editor.specs.Editor.{Editor}
-use Rattle.bx_editor.specs.Keys.{after_key, after_keys}
+use Rattle.bx_editor.specs.Keys.{after_key}
+use Rattle.bx_editor.specs.Functions.{after_keys}
 use Rattle.bx_editor_laws.specs.Laws.{hard_mark, after_typing, CopyPutsTwice, GivingUpGoesBack, GoesToBothEnds, IsGivenUp, MarkTwiceIsNothing, PutRestoresCut, StaysOn}
 use Rattle.bx_editor.proofs.Computed.{tables, start, after}
 

@@ -25,10 +25,10 @@ use Rattle.bx_editor.specs.declared.cursor.Soft.{Soft}
 use Rattle.bx_runs.specs.declared.typing.Typing.TheVariants as typings
 use Rattle.bx_editor.specs.Asking.{without_ask}
 use Rattle.bx_editor.specs.Editor.{Editor, cleared, rows, text_height}
-use Rattle.bx_editor.specs.Effects.{Before, before}
-use Rattle.bx_editor.specs.Goal.{after_row_move}
-use Rattle.bx_editor.specs.Keys.{after_any, after_key, after_keys, as_left, is_told_key}
-use Rattle.bx_editor.specs.Selecting.{aged, mark_left, soft_left, unselected}
+use Rattle.bx_editor.specs.Effects.{Before, before, after_row_move}
+use Rattle.bx_editor.specs.Keys.{after_any, after_key, as_left}
+use Rattle.bx_editor.specs.Functions.{after_keys, is_told_key}
+use Rattle.bx_editor.specs.Region.{aged, mark_left, soft_left, unselected}
 use Rattle.bx_editor.proofs.InSearch.{any-key}
 
 -- ---- rows of a text that are entered in a column

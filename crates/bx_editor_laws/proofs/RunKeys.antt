@@ -19,11 +19,11 @@ use Rattle.bx_editor.specs.declared.seek.Seek.{Seek}
 use Rattle.bx_editor.specs.declared.seek.Seek.TheVariants as seeks
 use Rattle.bx_editor.specs.declared.cursor.Soft.TheVariants as softness
 use Rattle.bx_editor.specs.Asking.{without_ask}
-use Rattle.bx_editor.specs.Editor.{Editor, after_step, cleared, with_step}
+use Rattle.bx_editor.specs.Editor.{Editor, after_step, cleared, with_step, after_run_step, by_run, is_changed_at, run_goal, run_length}
 use Rattle.bx_editor.specs.Effects.{Before, before}
-use Rattle.bx_editor.specs.Keys.{after_any, after_key, after_keys, as_left}
+use Rattle.bx_editor.specs.Keys.{after_any, after_key, as_left}
+use Rattle.bx_editor.specs.Functions.{after_keys}
 use Rattle.bx_editor_laws.specs.RunLaws.{redos, undos, IsManySteps, RunKeysAreSteps}
-use Rattle.bx_editor.specs.Runs.{after_run_step, by_run, is_changed_at, run_goal, run_length}
 use Rattle.bx_editor.specs.Search.{without_search}
 use Rattle.bx_editor.proofs.InSearch.{any-key}
 use Rattle.bx_editor.proofs.RunSteps.{run-ends}

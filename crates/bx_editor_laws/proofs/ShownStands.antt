@@ -26,16 +26,16 @@ use Rattle.bx_editor.specs.declared.message.Message.TheVariants.{FromStart, Text
 use Rattle.bx_editor.specs.declared.seek.Seek.{Seek}
 use Rattle.bx_editor.specs.declared.seek.Seek.TheVariants.{Off, Begun, Typed, WithBegun, WithTyped, Replacing}
 use Rattle.bx_editor.specs.Asking.{without_ask}
-use Rattle.bx_editor.specs.Editor.{Editor, at_start, cleared, rows, with_exchange, with_insertion, with_size, with_typing, HasRows}
+use Rattle.bx_editor.specs.Editor.{Editor, at_start, cleared, rows, with_exchange, with_insertion, with_size, with_typing}
+use Rattle.bx_editor.specs.Functions.{HasRows}
 use Rattle.bx_editor.specs.Effects.{Before, before}
 use Rattle.bx_editor.specs.Keys.{Answer, Letter, Shortens, GoesBack, Next, Previous, Replaces, Stays, Ends, after_any, after_asking, after_in_paste, after_key}
 use Rattle.bx_editor.specs.Keys.{after_press, after_pressing, after_user, answer_of, answered, answered_match, answered_other, effect_of}
 use Rattle.bx_editor_laws.specs.Laws.{after_typing}
-use Rattle.bx_editor.specs.Pasting.{after_paste_start, paste_ended, with_paste, without_paste}
-use Rattle.bx_editor.specs.Putting.{is_paste, with_selection_replaced}
+use Rattle.bx_editor.specs.Putting.{after_paste_start, paste_ended, with_paste, without_paste, is_paste, with_selection_replaced}
 use Rattle.bx_editor_laws.specs.ReplaceLaws.{HaveRows, ShownStands}
 use Rattle.bx_editor.specs.Replacing.{after_asking_other, after_ending, after_other_letter, after_replacing, after_replacing_all}
-use Rattle.bx_editor.specs.Replacing.{after_shorter_other, after_showing, after_sought_end, after_sought_letter, asked_at, at_match, is_replacing, longest_other}
+use Rattle.bx_editor.specs.Replacing.{after_shorter_other, after_showing, after_sought_end, after_sought_letter, asked_at, at_match, is_replacing}
 use Rattle.bx_editor.specs.Replacing.{match_stop, matches_on, next_match, on_from, shown_at, with_matches_replaced, with_other}
 use Rattle.bx_editor.specs.Search.{after_letter, forward, is_no_letter, kept, landed, landing_from, lengthened, longest_query, match_or, not_found, reading}
 use Rattle.bx_editor.specs.Search.{search_from, sought, with_query, without_search}
@@ -173,7 +173,7 @@ module _ (d : Data) (e : Editor) (u : IsUtf8 e.content.text) (unasked : e.ask �
 
   other-letter-sound : (typing : Typing) (c : ℕ) → IsNear d e → IsSound d e → IsSound d (after_other_letter d typing e c)
   other-letter-sound typing c near h =
-      let longer : Editor = with_other e (lengthened longest_other (kept e.seek e.other) c) in
+      let longer : Editor = with_other e (lengthened longest_query (kept e.seek e.other) c) in
       either d (c == 0xA) _ _ (either d (is_paste typing) e (after_showing d e) h (showing-sound near h))
       (either d (is_no_letter d c) e longer h (free longer refl, near))
 

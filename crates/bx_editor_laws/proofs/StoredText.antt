@@ -27,25 +27,24 @@ use Rattle.bx_editor.specs.declared.seek.Seek.{Seek}
 use Rattle.bx_editor.specs.declared.seek.Seek.TheVariants as seeks
 use Rattle.bx_editor.specs.declared.cursor.Soft.{Soft}
 use Rattle.bx_editor.specs.declared.cursor.Soft.TheVariants as softness
-use Rattle.bx_editor.specs.Asking.{without_ask}
-use Rattle.bx_editor.specs.Editor.{Editor, after_redo, after_quit, after_save, after_step, after_undo, at_start, cleared, place_after, stored_behind}
-use Rattle.bx_editor.specs.Editor.{with_exchange, with_insertion, with_insertion_at, with_removal}
+use Rattle.bx_editor.specs.Asking.{without_ask, with_wrap}
+use Rattle.bx_editor.specs.Editor.{Editor, after_redo, after_quit, after_save, after_step, after_undo, at_start, cleared, place_after}
+use Rattle.bx_editor.specs.Editor.{stored_behind, with_exchange, with_insertion, with_insertion_at, with_removal, by_run, is_changed_at}
+use Rattle.bx_editor.specs.Editor.{run_goal, run_length}
 use Rattle.bx_editor.specs.Effects.{Effect, Types, BeginsLine, Puts, Removes, RemovesWord, Steps, StepsRun, Goes, GoesByRows, Marks, Selects}
 use Rattle.bx_editor.specs.Effects.{Unmarks, Copies, Cuts, Seeks, SeeksNext, Saves, Quits, Turns, Helps, AsksLine, AsksName, Tells, Rests, Before, before, by}
 use Rattle.bx_editor.specs.Erasing.{after_erasing, after_erasing_word, after_removing, removed_on}
 use Rattle.bx_editor.specs.Keys.{Answer, Letter, Shortens, GoesBack, Stays, Ends, after_any, after_asking, after_in_paste, after_key, after_press, after_pressing, after_user}
 use Rattle.bx_editor.specs.Keys.{answer_of, answered, answered_match, answered_other, answered_question, effect_of, is_save}
 use Rattle.bx_editor_laws.specs.Laws.{after_typing}
-use Rattle.bx_editor.specs.Pasting.{paste_ended, without_paste}
-use Rattle.bx_editor.specs.Putting.{after_character, after_new_line, after_put, has_room, line_end, put_in, typed, with_selection_replaced, yielding}
+use Rattle.bx_editor.specs.Putting.{paste_ended, without_paste, after_character, after_new_line, after_put, has_room, line_end, put_in}
+use Rattle.bx_editor.specs.Putting.{typed, with_selection_replaced, yielding}
 use Rattle.bx_editor.specs.Region.{after_copy, after_cut, bytes_in, held_message, is_at_mark, is_empty, line, region, taken, with_held}
+use Rattle.bx_editor.specs.Region.{is_selection, selecting, unselected}
 use Rattle.bx_editor_laws.specs.RunLaws.{stored_last, UnchangedIsStored}
-use Rattle.bx_editor.specs.Runs.{by_run, is_changed_at, run_goal, run_length}
 use Rattle.bx_editor.specs.Search.{after_beginning, next_or_start, search_from, sought, without_search}
-use Rattle.bx_editor.specs.Selecting.{is_selection, selecting, unselected}
 use Rattle.bx_editor_laws.proofs.PasteEnded.{ended-by, none-ended}
 use Rattle.bx_editor_laws.proofs.Chains.{Chain, opened-chain, redone-chain, replaced-chain, stored-chain, undone-chain}
-use Rattle.bx_editor.specs.Wrapping.{with_wrap}
 use Rattle.bx_editor.proofs.EffectsKept.{IsKeptPasting, start-keeps}
 use Rattle.bx_editor.proofs.InSearch.{each-key}
 use Rattle.bx_editor.proofs.Questions.{IsKept, letter-keeps, shorter-keeps}

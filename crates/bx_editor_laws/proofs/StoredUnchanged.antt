@@ -9,11 +9,11 @@ use Rattle.bx_asking.specs.declared.answers.Ask.{Ask}
 use Rattle.bx_asking.specs.declared.answers.Ask.TheVariants as asks
 use Rattle.bx_editor.specs.declared.seek.Seek.{Seek}
 use Rattle.bx_editor.specs.declared.seek.Seek.TheVariants as seeks
-use Rattle.bx_editor.specs.Editor.{Editor, at_start, cleared}
+use Rattle.bx_editor.specs.Editor.{Editor, at_start, cleared, is_changed_at}
 use Rattle.bx_editor.specs.Effects.{Before, before}
-use Rattle.bx_editor.specs.Keys.{after_any, after_key, after_keys, after_press}
-use Rattle.bx_editor.specs.Pasting.{paste_ended}
-use Rattle.bx_editor.specs.Runs.{is_changed_at}
+use Rattle.bx_editor.specs.Keys.{after_any, after_key, after_press}
+use Rattle.bx_editor.specs.Functions.{after_keys}
+use Rattle.bx_editor.specs.Putting.{paste_ended}
 use Rattle.bx_editor_laws.specs.Laws.{after_typing}
 use Rattle.bx_editor_laws.specs.RunLaws.{redos, undos}
 use Rattle.bx_editor_laws.specs.StoredLaws.{CountsChanges, RunsCountChanges, StoredIsUnchanged}

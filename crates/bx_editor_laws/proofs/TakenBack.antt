@@ -18,12 +18,13 @@ use Rattle.bx_editor.specs.declared.seek.Seek.{Seek}
 use Rattle.bx_editor.specs.declared.seek.Seek.TheVariants.{Off, Begun, Typed, WithBegun, WithTyped, Replacing}
 use Rattle.bx_editor.specs.declared.cursor.Soft.TheVariants as softness
 use Rattle.bx_editor.specs.Asking.{without_ask}
-use Rattle.bx_editor.specs.Editor.{Editor, after_undo, after_redo, after_save, after_step, at_start, cleared, with_exchange, with_insertion, with_removal}
+use Rattle.bx_editor.specs.Editor.{Editor, after_undo, after_redo, after_save, after_step, at_start, cleared, with_exchange}
+use Rattle.bx_editor.specs.Editor.{with_insertion, with_removal, by_run, run_length}
 use Rattle.bx_editor.specs.Effects.{Effect, Seeks, SeeksNext, AsksLine, AsksName, Before, before, by}
-use Rattle.bx_editor.specs.Keys.{after_any, after_asking, after_key, after_keys, after_seeking, answer_of, answered_match, answered_other, effect_of}
-use Rattle.bx_editor.specs.Runs.{by_run, run_length}
+use Rattle.bx_editor.specs.Keys.{after_any, after_asking, after_key, after_seeking, answer_of, answered_match, answered_other, effect_of}
+use Rattle.bx_editor.specs.Functions.{after_keys}
 use Rattle.bx_editor.specs.Search.{after_beginning, next_or_start, search_from, sought, without_search}
-use Rattle.bx_editor.specs.Selecting.{unselected}
+use Rattle.bx_editor.specs.Region.{unselected}
 use Rattle.bx_editor_laws.specs.Laws.{after_typing, IsBackAt, IsUnmarkedAt, mark_behind, UndoGivesBack, RedoMirrorsUndo}
 use Rattle.bx_editor.proofs.EffectsKept.{IsKeptPasting, IsKeptPressing, asks_or_seeks, effect-keeps, ended-keeps, paste-end-keeps, start-keeps}
 use Rattle.bx_editor.proofs.InSearch.{any-key, behind, each-key, press-keeps}

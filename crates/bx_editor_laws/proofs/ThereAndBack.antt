@@ -21,8 +21,8 @@ use Rattle.bx_view.proofs.RowFits.{fitting-from}
 use Rattle.bx_view.proofs.TextPlaces.{place-in-window}
 use Rattle.bx_index.specs.Paragraphs.{paragraphs}
 use Rattle.bx_editor.specs.declared.seek.Seek.TheVariants.{Off}
-use Rattle.bx_editor.specs.Editor.{Editor, rows, HasRows}
-use Rattle.bx_editor.specs.Keys.{after_keys}
+use Rattle.bx_editor.specs.Editor.{Editor, rows}
+use Rattle.bx_editor.specs.Functions.{HasRows, after_keys}
 use Rattle.bx_editor_laws.specs.WorkLaws.{IsEntered, KeptMovesGoBack, LeadsBack, LineMovesGoBack, PageMovesGoBack, own_row}
 use Rattle.bx_editor_laws.proofs.EnteredAgain.{IsEnteredBy, IsFull, entered-again, entered-at-edge}
 use Rattle.bx_editor_laws.proofs.UnitColumns.{rows-have-columns}

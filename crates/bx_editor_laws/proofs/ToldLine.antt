@@ -21,10 +21,10 @@ use Rattle.bx_view.proofs.Numbered.{lead-back}
 use Rattle.bx_editor.specs.Asking.{after_answer_letter, after_going, gone_to, longest_line, with_answer, without_ask}
 use Rattle.bx_editor_laws.specs.AskingLaws.{HasTextPlace, IsUntouched, ToldNumbersLeadBack, is_enter, told_numbers}
 use Rattle.bx_editor.specs.Editor.{Editor, cleared, with_place, with_typing}
-use Rattle.bx_editor.specs.Keys.{after_key, after_keys, as_left}
-use Rattle.bx_editor.specs.Selecting.{aged, mark_left, soft_left}
-use Rattle.bx_editor.specs.Status.{message_part}
-use Rattle.bx_editor.specs.Telling.{told_at_place}
+use Rattle.bx_editor.specs.Keys.{after_key, as_left}
+use Rattle.bx_editor.specs.Functions.{after_keys}
+use Rattle.bx_editor.specs.Region.{aged, mark_left, soft_left}
+use Rattle.bx_editor.specs.Status.{message_part, told_at_place}
 use Rattle.bx_editor_laws.proofs.AskingKeys.{line-is}
 use Rattle.bx_editor_laws.proofs.FewNumbers.{few-numbers}
 use Rattle.bx_editor_laws.proofs.QuestionKeys.{Leaves, asked-key, leaves-trans, left-leaves, untouched}

@@ -32,9 +32,8 @@ use Rattle.bx_editor_laws.specs.AskingLaws.{IsUntouched, TellShows, TellsWhatSta
 use Rattle.bx_editor.specs.Editor.{Editor, cleared, rows}
 use Rattle.bx_editor.specs.Effects.{Before, before}
 use Rattle.bx_editor.specs.Keys.{after_any, as_left}
-use Rattle.bx_editor.specs.Selecting.{aged}
-use Rattle.bx_editor.specs.Status.{paragraph_number, status_line, status_text, unit_number}
-use Rattle.bx_editor.specs.Telling.{told_at_place}
+use Rattle.bx_editor.specs.Region.{aged}
+use Rattle.bx_editor.specs.Status.{paragraph_number, status_line, status_text, unit_number, told_at_place}
 use Rattle.bx_editor.proofs.InSearch.{any-key}
 use Rattle.bx_editor_laws.proofs.UnitBytes.{is-inside, unit-bytes, unit-step}
 

@@ -13,7 +13,8 @@ use Rattle.bx_keys.specs.declared.key.Key.TheVariants.{PageBack, PageOn}
 use Rattle.bx_paragraph.specs.declared.slots.Slot.{Slot}
 use Rattle.bx_paragraph.specs.Slots.{covers, row_slots}
 use Rattle.bx_editor.specs.declared.message.Message.TheVariants.{FromStart}
-use Rattle.bx_editor.specs.Editor.{Editor, HasRows}
+use Rattle.bx_editor.specs.Editor.{Editor}
+use Rattle.bx_editor.specs.Functions.{HasRows}
 use Rattle.bx_editor_laws.specs.WorkLaws.{ColumnIsKept, ErasePointLeavesBeginning, FindNextIsFindTwice, LineMovesGoBack, PageMovesGoBack}
 use Rattle.bx_editor_laws.specs.WorkLaws.{IsEntered, KeptMovesGoBack, keeps_column, own_row}
 use Rattle.bx_editor.proofs.Computed.{tables, start, after}

@@ -31,16 +31,14 @@ use Rattle.bx_editor.specs.declared.message.Message.{Message}
 use Rattle.bx_editor.specs.declared.message.Message.TheVariants.{MoreThanOneLine, TextFull}
 use Rattle.bx_editor.specs.declared.cursor.Soft.TheVariants as softness
 use Rattle.bx_editor.specs.Answers.{IsAnswer}
-use Rattle.bx_editor.specs.Asking.{after_going, longest_code, with_answer, without_ask}
-use Rattle.bx_editor.specs.Editor.{Editor, at_start, place_after, HasRows}
-use Rattle.bx_editor.specs.Keys.{after_key, after_keys}
+use Rattle.bx_editor.specs.Asking.{after_going, longest_code, with_answer, without_ask, cursor_end, spans_lines}
+use Rattle.bx_editor.specs.Editor.{Editor, at_start, place_after}
+use Rattle.bx_editor.specs.Functions.{HasRows, after_keys}
+use Rattle.bx_editor.specs.Keys.{after_key}
 use Rattle.bx_editor_laws.specs.Laws.{after_typing, IsPart}
-use Rattle.bx_editor.specs.Region.{bytes_in, is_empty, region}
+use Rattle.bx_editor.specs.Region.{bytes_in, is_empty, region, aged}
 use Rattle.bx_editor_laws.specs.RunLaws.{IsBackBefore}
-use Rattle.bx_editor.specs.Selecting.{aged}
-use Rattle.bx_editor.specs.Status.{message_part, paragraph_number, prompt_glyphs, status_line, status_text, unit_number}
-use Rattle.bx_editor.specs.Telling.{told_at_place}
-use Rattle.bx_editor.specs.Wrapping.{cursor_end, spans_lines}
+use Rattle.bx_editor.specs.Status.{message_part, paragraph_number, prompt_glyphs, status_line, status_text, unit_number, told_at_place}
 
 -- ---- a question changes nothing but itself
 

@@ -18,12 +18,12 @@ use Rattle.bx_editor.specs.declared.seek.Seek.TheVariants.{Off, Replacing}
 use Rattle.bx_editor.specs.declared.cursor.Soft.{Soft}
 use Rattle.bx_editor.specs.declared.cursor.Soft.TheVariants as softness
 use Rattle.bx_runs.specs.declared.typing.Typing.TheVariants as typings
-use Rattle.bx_editor.specs.Editor.{Editor, at_start, place_after, rows, HasRows}
-use Rattle.bx_editor.specs.Keys.{after_key, after_keys}
-use Rattle.bx_editor.specs.Region.{bytes_in, region, taken}
+use Rattle.bx_editor.specs.Editor.{Editor, at_start, place_after, rows}
+use Rattle.bx_editor.specs.Functions.{HasRows, after_keys}
+use Rattle.bx_editor.specs.Keys.{after_key}
+use Rattle.bx_editor.specs.Region.{bytes_in, region, taken, mark_left}
 use Rattle.bx_editor.specs.Origin.{asks_other, is_queried}
 use Rattle.bx_editor.specs.Search.{next_or_start, reading, sought}
-use Rattle.bx_editor.specs.Selecting.{mark_left}
 use Rattle.bx_editor.specs.Picture.{next_top}
 
 -- ---- the top

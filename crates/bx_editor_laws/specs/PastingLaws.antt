@@ -9,12 +9,11 @@ use Rattle.bx_ucd.specs.Data.{Data}
 use Rattle.bx_asking.specs.declared.answers.Ask.TheVariants as asks
 use Rattle.bx_editor.specs.declared.seek.Seek.TheVariants.{Off}
 use Rattle.bx_editor.specs.Editor.{Editor, at_start}
-use Rattle.bx_editor.specs.Keys.{after_key, after_keys, ends_paste}
+use Rattle.bx_editor.specs.Keys.{after_key, ends_paste}
+use Rattle.bx_editor.specs.Functions.{after_keys}
 use Rattle.bx_editor.specs.PasteLaws.{after_paste, place_between, written}
-use Rattle.bx_editor.specs.Pasting.{paste_ended, pastes_crlf}
-use Rattle.bx_editor.specs.Putting.{has_room}
-use Rattle.bx_editor.specs.Region.{region}
-use Rattle.bx_editor.specs.Selecting.{is_selection}
+use Rattle.bx_editor.specs.Putting.{paste_ended, pastes_crlf, has_room}
+use Rattle.bx_editor.specs.Region.{region, is_selection}
 use Rattle.bx_editor_laws.specs.Laws.{after_typing}
 use Rattle.bx_editor_laws.specs.RunLaws.{IsBackBefore}
 

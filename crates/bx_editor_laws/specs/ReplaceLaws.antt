@@ -19,8 +19,9 @@ use Rattle.bx_editor.specs.declared.seek.Aim.TheVariants as aims
 use Rattle.bx_editor.specs.declared.message.Message.TheVariants.{Replaced, TextFull}
 use Rattle.bx_editor.specs.declared.seek.Seek.TheVariants.{Off, Replacing}
 use Rattle.bx_editor_laws.specs.AskingLaws.{is_enter}
-use Rattle.bx_editor.specs.Editor.{Editor, at_start, place_after, rows, HasRows}
-use Rattle.bx_editor.specs.Keys.{after_key, after_keys}
+use Rattle.bx_editor.specs.Editor.{Editor, at_start, place_after, rows}
+use Rattle.bx_editor.specs.Functions.{HasRows, after_keys}
+use Rattle.bx_editor.specs.Keys.{after_key}
 use Rattle.bx_editor_laws.specs.Laws.{after_typing}
 use Rattle.bx_editor.specs.Putting.{is_paste}
 use Rattle.bx_editor.specs.Replacing.{match_stop}

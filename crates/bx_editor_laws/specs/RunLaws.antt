@@ -15,10 +15,10 @@ use Rattle.bx_runs.specs.declared.typing.Typing.TheVariants as typings
 use Rattle.bx_ucd.specs.Data.{Data}
 use Rattle.bx_asking.specs.declared.answers.Ask.TheVariants as asks
 use Rattle.bx_editor.specs.declared.seek.Seek.TheVariants.{Off}
-use Rattle.bx_editor.specs.Editor.{Editor, at_start}
-use Rattle.bx_editor.specs.Keys.{after_key, after_keys, is_save}
-use Rattle.bx_editor.specs.Pasting.{paste_ended}
-use Rattle.bx_editor.specs.Runs.{is_changed_at}
+use Rattle.bx_editor.specs.Editor.{Editor, at_start, is_changed_at}
+use Rattle.bx_editor.specs.Keys.{after_key, is_save}
+use Rattle.bx_editor.specs.Functions.{after_keys}
+use Rattle.bx_editor.specs.Putting.{paste_ended}
 use Rattle.bx_editor_laws.specs.Laws.{after_typing, IsUnmarkedAt}
 
 -- ---- a run, edit by edit

@@ -14,12 +14,12 @@ use Rattle.bx_editor.specs.declared.message.Message.TheVariants.{TextFull}
 use Rattle.bx_editor.specs.declared.seek.Seek.TheVariants as searches
 use Rattle.bx_editor.specs.declared.cursor.Soft.TheVariants.{Off, Old}
 use Rattle.bx_editor.specs.Editor.{Editor, place_after}
-use Rattle.bx_editor.specs.Keys.{after_key, after_keys}
+use Rattle.bx_editor.specs.Keys.{after_key}
+use Rattle.bx_editor.specs.Functions.{after_keys}
 use Rattle.bx_editor_laws.specs.Laws.{IsPart}
 use Rattle.bx_editor.specs.Putting.{line_end}
-use Rattle.bx_editor.specs.Region.{region}
+use Rattle.bx_editor.specs.Region.{region, aged}
 use Rattle.bx_editor_laws.specs.RunLaws.{IsBackBefore}
-use Rattle.bx_editor.specs.Selecting.{aged}
 use Rattle.bx_runs.specs.declared.typing.Typing.TheVariants as typings
 
 -- ---- moves

@@ -10,7 +10,7 @@ use Rattle.bx_view.specs.Words.{text_stops}
 use Rattle.bx_editor.specs.declared.seek.Seek.TheVariants.{Off}
 use Rattle.bx_editor.specs.Editor.{Editor, place_after}
 use Rattle.bx_editor.specs.Keys.{after_key}
-use Rattle.bx_editor.specs.Selecting.{is_selection}
+use Rattle.bx_editor.specs.Region.{is_selection}
 use Rattle.bx_editor_laws.specs.RunLaws.{IsBackBefore}
 
 -- outside a search, a question and a paste, and without a selection; the text is UTF-8, as in every editor of the code

@@ -16,7 +16,7 @@ use Rattle.bx_ucd.specs.declared.error.UcdFile.{UcdFile}
 use Rattle.bx_ucd.specs.declared.error.UcdFile.TheVariants.{Classes, Brackets, Mirroring, Joining, Characters}
 use Rattle.bx_cli.specs.declared.unicode.UnicodeFiles.{UnicodeFiles}
 use Rattle.bx_store.specs.declared.faults.Faults.{Faults}
-use Rattle.bx_editor.specs.Opening.{Causes}
+use Rattle.bx_editor.specs.Editor.{Causes}
 use Rattle.bx_editor.specs.declared.opening.OpenError.{OpenError}
 use Rattle.bx_editor.specs.declared.opening.OpenError.TheVariants as text
 use Rattle.bx_recovery.specs.declared.beginning.Beginning.{Beginning}

@@ -9,7 +9,7 @@ use Rattle.bx_cli.specs.declared.unicode.UnicodeFiles.{UnicodeFiles}
 use Rattle.bx_store.specs.Stores.{with_fault}
 use Rattle.bx_store.specs.declared.faults.Faults.{Faults}
 use Rattle.bx_store.specs.declared.store.StoreFault.{StoreFault}
-use Rattle.bx_editor.specs.Opening.{Causes}
+use Rattle.bx_editor.specs.Editor.{Causes}
 use Rattle.bx_recovery.specs.Beginnings.{bytes_of}
 use Rattle.bx_recovery.specs.declared.beginning.Beginning.{Beginning}
 use Rattle.bx_recovery.specs.declared.fault.RecoveryFault.{RecoveryFault}

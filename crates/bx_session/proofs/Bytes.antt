@@ -12,9 +12,10 @@ use Rattle.bx_keys.specs.Waiting.{head_of}
 use Rattle.bx_store.specs.Stores.{with_fault}
 use Rattle.bx_store.specs.declared.store.StoreFault.{StoreFault}
 use Rattle.bx_ucd.specs.Data.{Data}
-use Rattle.bx_editor.specs.Editor.{Editor, EditorState, HasRows, at_start, with_top}
+use Rattle.bx_editor.specs.Editor.{Editor, at_start, with_top}
+use Rattle.bx_editor.specs.Functions.{EditorState, HasRows}
 use Rattle.bx_editor.specs.Keys.{after_key, asks_for_whole}
-use Rattle.bx_editor.specs.Pasting.{paste_ended}
+use Rattle.bx_editor.specs.Putting.{paste_ended}
 use Rattle.bx_session.specs.declared.status.Refused.{Refused}
 use Rattle.bx_session.specs.declared.status.Refused.TheVariants.{Edit, Paint, Size}
 use Rattle.bx_session.specs.Session.{Session, SessionState, with_painting, with_painting_owed, with_picture, at_opening, before_painting, key_of_byte}

@@ -12,7 +12,7 @@ use Rattle.bx_editor.specs.declared.seek.Seek.{Seek}
 use Rattle.bx_editor.specs.declared.seek.Seek.TheVariants.{Off}
 use Rattle.bx_editor.specs.Editor.{Editor}
 use Rattle.bx_editor.specs.Keys.{after_key, after_press, after_user}
-use Rattle.bx_editor.specs.Pasting.{ended_with, paste_ended}
+use Rattle.bx_editor.specs.Putting.{ended_with, paste_ended}
 use Rattle.bx_editor.specs.Replay.{after_passed_quit, after_passed_save}
 use Rattle.bx_editor.proofs.Pasted.{ended-none}
 use Rattle.bx_session.specs.Painting.{FitsEditor}

@@ -25,20 +25,21 @@ use Rattle.bx_editor.specs.declared.seek.Seek.TheVariants.{Off, Begun, Typed, Wi
 use Rattle.bx_editor.specs.declared.cursor.Soft.{Soft}
 use Rattle.bx_editor.specs.declared.cursor.Soft.TheVariants as softness
 use Rattle.bx_editor.specs.Asking.{without_ask}
-use Rattle.bx_editor.specs.Editor.{Editor, after_quit, after_redo, after_save, after_step, after_undo, cleared, with_exchange}
+use Rattle.bx_editor.specs.Editor.{Editor, after_quit, after_redo, after_save, after_step, after_undo, cleared, with_exchange, by_run}
+use Rattle.bx_editor.specs.Editor.{run_length}
 use Rattle.bx_editor.specs.Effects.{Effect, Types, BeginsLine, Puts, Removes, RemovesWord, Steps, StepsRun, Goes, GoesByRows, Marks, Selects, Unmarks, Copies}
 use Rattle.bx_editor.specs.Effects.{Cuts, Seeks, SeeksNext, Saves, Quits, Turns, Helps, AsksLine, AsksName, Tells, Rests, Before, before, by}
 use Rattle.bx_editor.specs.Erasing.{after_erasing, after_erasing_word, after_removing, or_selection, removed_on}
 use Rattle.bx_editor.specs.Keys.{Answer, Letter, Shortens, GoesBack, Next, Previous, Replaces, Stays, Ends, after_any, after_asking, after_key, after_press, after_user, answer_of}
-use Rattle.bx_editor.specs.Keys.{answered, answered_match, answered_other, as_left, asks_for_whole, effect_of, is_size_key}
-use Rattle.bx_editor.specs.Pasting.{after_paste_end, after_paste_start, ended_with, paste_ended, without_paste}
-use Rattle.bx_editor.specs.Putting.{after_character, after_new_line, after_put, has_room, is_paste, line_end, put_in, typed, yielding}
-use Rattle.bx_editor.specs.Region.{after_copy, after_cut, after_mark, is_at_mark, is_empty, line, region, taken}
+use Rattle.bx_editor.specs.Keys.{answered, answered_match, answered_other, as_left, asks_for_whole, effect_of}
+use Rattle.bx_editor.specs.Functions.{is_size_key}
+use Rattle.bx_editor.specs.Putting.{after_paste_end, after_paste_start, ended_with, paste_ended, without_paste, after_character}
+use Rattle.bx_editor.specs.Putting.{after_new_line, after_put, has_room, is_paste, line_end, put_in, typed, yielding}
+use Rattle.bx_editor.specs.Region.{after_copy, after_cut, after_mark, is_at_mark, is_empty, line, region, taken, is_selection, selecting}
+use Rattle.bx_editor.specs.Region.{unselected}
 use Rattle.bx_editor.specs.Replacing.{after_asking_other, after_match_letter, after_other_letter, after_replacing, after_replacing_all, after_sought_end, after_sought_letter}
 use Rattle.bx_editor.specs.Replacing.{asked_at, at_match, is_replacing, match_stop, matches_on, next_match, shown_at, with_matches_replaced}
-use Rattle.bx_editor.specs.Runs.{by_run, run_length}
 use Rattle.bx_editor.specs.Search.{after_letter, is_no_letter, landed, landing_from, sought, without_search}
-use Rattle.bx_editor.specs.Selecting.{is_selection, selecting, unselected}
 use Rattle.bx_editor.proofs.EffectsKept.{IsKeptPasting, pasted-letter-keeps, start-keeps}
 use Rattle.bx_editor.proofs.InSearch.{each-key, press-keeps}
 use Rattle.bx_editor.proofs.Questions.{IsKept, question-keeps}

@@ -12,7 +12,7 @@ use Rattle.bx_grid.specs.Grid.{AreWholeTokens, IsPicture}
 use Rattle.bx_grid.specs.Terminal.{Terminal, reads}
 use Rattle.bx_keys.specs.declared.key.Key.{Key}
 use Rattle.bx_ucd.specs.Data.{Data}
-use Rattle.bx_editor.specs.Clipboard.{is_clip}
+use Rattle.bx_editor.specs.Region.{is_clip}
 use Rattle.bx_editor.specs.Editor.{Editor, rows, with_top}
 use Rattle.bx_editor.specs.Picture.{StandsOnItsCell, picture, next_top, blank_picture, text_picture}
 use Rattle.bx_session.specs.declared.session.Session.TheInside.{Inside}

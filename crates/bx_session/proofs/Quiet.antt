@@ -14,8 +14,9 @@ use Rattle.bx_editor.specs.declared.seek.Seek.{Seek}
 use Rattle.bx_editor.specs.declared.seek.Seek.TheVariants as seeks
 use Rattle.bx_editor.specs.Editor.{Editor, with_typing}
 use Rattle.bx_editor.specs.Keys.{after_key, after_press, asks_for_whole, needs_no_painting}
-use Rattle.bx_editor.specs.Pasting.{after_paste_start, after_pasted_letter, paste_begun}
-use Rattle.bx_editor.specs.Picture.{LooksAs, StandsOnItsCell, picture}
+use Rattle.bx_editor.specs.Putting.{after_paste_start, after_pasted_letter, paste_begun}
+use Rattle.bx_editor.specs.Picture.{StandsOnItsCell, picture}
+use Rattle.bx_editor.specs.PasteLaws.{LooksAs}
 use Rattle.bx_editor.proofs.Unseen.{letter-unseen, start-unseen}
 use Rattle.bx_runs.specs.declared.typing.Typing.TheVariants.{Paste}
 use Rattle.bx_session.specs.Painting.{ShowsState}

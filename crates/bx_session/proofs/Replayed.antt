@@ -13,7 +13,7 @@ use Rattle.bx_editor.specs.declared.seek.Seek.{Seek}
 use Rattle.bx_editor.specs.declared.seek.Seek.TheVariants.{Off, Begun, Typed, WithBegun, WithTyped, Replacing}
 use Rattle.bx_editor.specs.Effects.{before}
 use Rattle.bx_editor.specs.Keys.{after_any, after_key}
-use Rattle.bx_editor.specs.Pasting.{paste_ended}
+use Rattle.bx_editor.specs.Putting.{paste_ended}
 use Rattle.bx_editor.specs.Replay.{after_passed_save}
 use Rattle.bx_session.specs.Laws.{keys_from, after_replaying, ReplaysKeys}
 use Rattle.bx_session.specs.Session.{Session, after_all_replayed, after_replay, after_replayed, after_replayed_key, replayed_on, scrolled, session_after_key}

@@ -16,7 +16,8 @@ use Rattle.bx_asking.specs.declared.answers.Ask.{Ask}
 use Rattle.bx_asking.specs.declared.answers.Ask.TheVariants as asks
 use Rattle.bx_editor.specs.declared.seek.Seek.{Seek}
 use Rattle.bx_editor.specs.declared.seek.Seek.TheVariants as seeks
-use Rattle.bx_editor.specs.Editor.{Editor, HasRows, at_start, rows, text_height, with_top}
+use Rattle.bx_editor.specs.Editor.{Editor, at_start, rows, text_height, with_top}
+use Rattle.bx_editor.specs.Functions.{HasRows}
 use Rattle.bx_editor.specs.Picture.{StandsOnItsCell, blank_picture, next_top, picture, region_rows}
 use Rattle.bx_editor.specs.Replacing.{seen_in}
 use Rattle.bx_editor.specs.Status.{glyph_row, letter_glyphs, prompt_glyphs, status_text}

@@ -3,7 +3,7 @@
 ghost use Rattle.std.specs.Prelude.{◌≡◌, ◌≤◌, [], true, None, IfErr, IfOk, IsUtf8, OnOk, length};
 ghost use Rattle.bx_terms.specs.Characters.{largest_text};
 ghost use Rattle.bx_grid.specs.Picture.{is_size};
-ghost use Rattle.bx_editor.specs.Opening.{Causes};
+ghost use Rattle.bx_editor.specs.Editor.{Causes};
 ghost use Rattle.bx_session.specs.Painting.{QueuesPicture};
 ghost use Rattle.bx_session.specs.Session.{at_opening};
 

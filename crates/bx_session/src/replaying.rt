@@ -4,7 +4,7 @@ ghost use Rattle.std.specs.Prelude.{◌≡◌, ◌↔◌, ◌⊎◌, IsErrOf, Is
 ghost use Rattle.bx_session.specs.Saving.{may_refuse_key, store_state, with_text};
 ghost use Rattle.bx_keys.specs.Decoder.{HasSides};
 ghost use Rattle.bx_editor.specs.Keys.{may_refuse};
-ghost use Rattle.bx_editor.specs.Pasting.{paste_ended};
+ghost use Rattle.bx_editor.specs.Putting.{paste_ended};
 ghost use Rattle.bx_session.specs.Session.{after_replay, after_replayed_key, after_spending, at_replay_end, at_unscrolled_end, key_of_byte};
 ghost use Rattle.bx_session.specs.Session.{session_after_replayed, session_replayed_on, session_scrolled};
 ghost use Rattle.bx_store.specs.Stores.{with_fault};

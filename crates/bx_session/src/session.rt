@@ -1,7 +1,7 @@
 //! The session's state, and what can be read of it.
 
 ghost use Rattle.std.specs.Prelude.{◌≡◌, ◌≤◌, MatchOption, None, Some, length};
-ghost use Rattle.bx_editor.specs.Pasting.{has_changes};
+ghost use Rattle.bx_editor.specs.Functions.{has_changes};
 ghost use Rattle.bx_session.specs.Session.{after_sending, key_of_byte, status_of};
 
 use crate::status::Status;

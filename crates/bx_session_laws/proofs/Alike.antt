@@ -21,17 +21,17 @@ use Rattle.bx_editor.specs.declared.message.Message.TheVariants.{TextFull, Copie
 use Rattle.bx_editor.specs.declared.seek.Seek.TheVariants as seeks
 use Rattle.bx_editor.specs.declared.cursor.Soft.{Soft}
 use Rattle.bx_editor.specs.declared.cursor.Soft.TheVariants as softness
-use Rattle.bx_editor.specs.Editor.{Editor, after_redo, after_step, after_undo, place_after, stored_behind, with_insertion, with_removal, with_typing}
+use Rattle.bx_editor.specs.Editor.{Editor, after_redo, after_step, after_undo, place_after, stored_behind, with_insertion, with_removal}
+use Rattle.bx_editor.specs.Editor.{with_typing, by_run, is_changed_at, run_length}
 use Rattle.bx_editor.specs.Effects.{Effect, Types, BeginsLine, Puts, Removes, RemovesWord, Steps, StepsRun, Goes, GoesByRows, Marks, Selects, Unmarks, Copies}
 use Rattle.bx_editor.specs.Effects.{Cuts, Seeks, SeeksNext, Saves, Quits, Turns, Helps, AsksLine, AsksName, Tells, Rests, Before, before, by}
 use Rattle.bx_editor.specs.Erasing.{after_erasing, after_erasing_word, after_removing, or_selection, removed_on}
 use Rattle.bx_editor.specs.Keys.{effect_of}
 use Rattle.bx_editor.specs.Putting.{after_character, after_new_line, after_put, has_room, line_end, only_paste, put_in, typed}
 use Rattle.bx_editor.specs.Putting.{with_selection_replaced, yielding}
-use Rattle.bx_editor.specs.Region.{after_copy, after_cut, after_mark, bytes_in, held_message, is_at_mark, is_empty, line, region, taken, with_held}
-use Rattle.bx_editor.specs.Runs.{by_run, is_changed_at, run_length}
+use Rattle.bx_editor.specs.Region.{after_copy, after_cut, after_mark, bytes_in, held_message, is_at_mark, is_empty, line, region, taken}
+use Rattle.bx_editor.specs.Region.{with_held, is_selection, selecting, unselected}
 use Rattle.bx_editor.specs.Search.{after_beginning, next_or_start, search_from, sought}
-use Rattle.bx_editor.specs.Selecting.{is_selection, selecting, unselected}
 use Rattle.bx_session.proofs.KeyKinds.{effect_kind, is_quitting, is_saving, not_quitting, not_saving}
 use Rattle.bx_session_laws.proofs.Lasting.{Lasting, Serves, lasting, having, effect_is}
 

@@ -7,8 +7,7 @@ use Rattle.bx_text.specs.Edits.{Edit, Edited}
 use Rattle.bx_document.specs.History.{stepped_times}
 use Rattle.bx_document.specs.declared.history.HistoryStep.{HistoryStep}
 use Rattle.bx_document.specs.declared.history.HistoryStep.TheVariants as history
-use Rattle.bx_editor.specs.Editor.{stored_behind}
-use Rattle.bx_editor.specs.Runs.{is_changed_at}
+use Rattle.bx_editor.specs.Editor.{stored_behind, is_changed_at}
 use Rattle.bx_session_laws.proofs.Alike.{Deed, Edits, TakesStep, TakesRun, Work, after_deed, after_deeds, count, end_of}
 use Rattle.bx_session_laws.proofs.Versions.{IsChain, redo_ends, replaced_chain, stepped_leads, steps_lead, undo_ends, version, version_here, version_kept}
 use Rattle.bx_session_laws.proofs.Versions.{version_led}

@@ -14,15 +14,14 @@ use Rattle.bx_editor.specs.declared.message.Message.TheVariants.{TextFull}
 use Rattle.bx_editor.specs.declared.seek.Seek.{Seek}
 use Rattle.bx_editor.specs.declared.seek.Seek.TheVariants.{Off, Begun, Typed, WithBegun, WithTyped, Replacing}
 use Rattle.bx_editor.specs.Editor.{Editor, cleared, with_insertion}
-use Rattle.bx_editor.specs.Effects.{Before, before}
-use Rattle.bx_editor.specs.Goal.{goal_behind}
+use Rattle.bx_editor.specs.Effects.{Before, before, goal_behind}
 use Rattle.bx_editor.specs.Keys.{Answer, Letter, Shortens, GoesBack, Next, Previous, Replaces, Stays, Ends, after_any, after_in_paste, after_key, after_press}
 use Rattle.bx_editor.specs.Keys.{after_user, answer_of, answered}
-use Rattle.bx_editor.specs.Pasting.{ended_with, paste_begun, paste_ended, with_paste, with_pasted, without_paste}
-use Rattle.bx_editor.specs.Putting.{has_room, is_paste, only_paste, put_in, with_selection_replaced}
+use Rattle.bx_editor.specs.Putting.{ended_with, paste_begun, paste_ended, with_paste, with_pasted, without_paste, has_room, is_paste}
+use Rattle.bx_editor.specs.Putting.{only_paste, put_in, with_selection_replaced}
 use Rattle.bx_editor.specs.Replacing.{after_asking_other, after_sought_end, after_sought_letter, is_replacing}
 use Rattle.bx_editor.specs.Search.{after_letter, is_no_letter, kept, lengthened, longest_query, search_from, with_query, without_search}
-use Rattle.bx_editor.specs.Selecting.{is_selection, soft_behind}
+use Rattle.bx_editor.specs.Region.{is_selection, soft_behind}
 use Rattle.bx_editor.proofs.InSearch.{each-key, pressed-key}
 use Rattle.bx_session_laws.proofs.Lasting.{Lasting, Serves, lasting, having}
 use Rattle.bx_session_laws.proofs.Alike.{Alike, Deed, Work, after_deed, after_deeds, either_alike, going_on, idle, pressed_alike, put_in_alike, work}

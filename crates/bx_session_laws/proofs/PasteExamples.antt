@@ -12,7 +12,7 @@ use Rattle.bx_text.specs.Edits.{Edit, edit_of}
 use Rattle.bx_runs.specs.declared.typing.Typing.{Typing}
 use Rattle.bx_runs.specs.declared.typing.Typing.TheVariants as typings
 use Rattle.bx_editor.specs.Editor.{Editor, at_start}
-use Rattle.bx_editor.specs.Pasting.{paste_ended}
+use Rattle.bx_editor.specs.Putting.{paste_ended}
 use Rattle.bx_editor.specs.Replay.{at_replay_end}
 use Rattle.bx_editor.proofs.Computed.{tables}
 use Rattle.bx_session.specs.Session.{after_all_replayed, after_journal}

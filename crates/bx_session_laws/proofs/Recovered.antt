@@ -20,11 +20,11 @@ use Rattle.bx_editor.specs.Asking.{without_ask}
 use Rattle.bx_editor.specs.Editor.{Editor, after_save, cleared}
 use Rattle.bx_editor.specs.Effects.{before}
 use Rattle.bx_editor.specs.Keys.{after_any, after_key}
-use Rattle.bx_editor.specs.Pasting.{paste_ended}
+use Rattle.bx_editor.specs.Putting.{paste_ended}
 use Rattle.bx_editor.specs.Prompts.{HasOnePrompt}
 use Rattle.bx_editor.specs.Replay.{after_passed_quit, after_passed_save}
 use Rattle.bx_editor.specs.Search.{without_search}
-use Rattle.bx_editor.specs.Selecting.{aged}
+use Rattle.bx_editor.specs.Region.{aged}
 use Rattle.bx_editor.proofs.InSearch.{behind, save-ends}
 use Rattle.bx_editor.proofs.OnePrompt.{keeps-one-prompt}
 use Rattle.bx_session.specs.declared.status.Refused.{Refused}

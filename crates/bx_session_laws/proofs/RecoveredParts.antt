@@ -8,8 +8,9 @@ use Rattle.bx_asking.specs.declared.answers.Ask.{Ask}
 use Rattle.bx_asking.specs.declared.answers.Ask.TheVariants as asks
 use Rattle.bx_runs.specs.declared.typing.Typing.{Typing}
 use Rattle.bx_runs.specs.declared.typing.Typing.TheVariants as typings
-use Rattle.bx_editor.specs.Editor.{Editor, HasRows}
-use Rattle.bx_editor.specs.Pasting.{ended_with, paste_ended}
+use Rattle.bx_editor.specs.Editor.{Editor}
+use Rattle.bx_editor.specs.Functions.{HasRows}
+use Rattle.bx_editor.specs.Putting.{ended_with, paste_ended}
 use Rattle.bx_editor.specs.Picture.{next_top}
 use Rattle.bx_editor.specs.Replay as replay
 use Rattle.bx_editor.specs.declared.seek.Seek.{Seek}

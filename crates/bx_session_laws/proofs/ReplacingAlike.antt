@@ -18,7 +18,8 @@ use Rattle.bx_editor.specs.Effects.{Before}
 use Rattle.bx_editor.specs.Keys.{Answer, Letter, Shortens, GoesBack, Next, Previous, Replaces, Stays, Ends, answered_match, answered_other}
 use Rattle.bx_editor.specs.Putting.{is_paste, only_paste}
 use Rattle.bx_editor.specs.Replacing.{after_asking_other, after_ending, after_match_letter, after_other_letter, after_passing_over, after_replacing, after_replacing_all}
-use Rattle.bx_editor.specs.Replacing.{after_showing, asked_at, at_match, longest_other, match_stop, matches_on, next_match, on_from, other_typed}
+use Rattle.bx_editor.specs.Replacing.{after_showing, asked_at, at_match, match_stop, matches_on, next_match, on_from, other_typed}
+use Rattle.bx_editor.specs.Search.{longest_query}
 use Rattle.bx_editor.specs.Replacing.{shown_at, with_matches_replaced, with_other}
 use Rattle.bx_editor.specs.Search.{is_no_letter, kept, landed, landing_from, lengthened, sought, without_search}
 use Rattle.bx_session_laws.proofs.Lasting.{Lasting, Serves, lasting, having}
@@ -141,7 +142,7 @@ other_letter_alike : (d : Data) (typing : Typing) (e f : Editor) (c : ℕ)
     → Alike e (after_other_letter d typing e c) (having (lasting e) f) (after_other_letter d typing (having (lasting e) f) c)
 other_letter_alike d typing e f c =
     let g = having (lasting e) f in
-    let longer : Editor → Editor = λ x. with_other x (lengthened longest_other (kept x.seek x.other) c) in
+    let longer : Editor → Editor = λ x. with_other x (lengthened longest_query (kept x.seek x.other) c) in
     either_alike (c == 0xA) e (if is_paste typing then e else after_showing d e) (other_typed d e c) g
     (if is_paste typing then g else after_showing d g) (other_typed d g c)
     (either_alike (is_paste typing) e e (after_showing d e) g g (after_showing d g) (same e f) (shown_alike e f (next_match d e e.place)))

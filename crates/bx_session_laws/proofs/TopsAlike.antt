@@ -9,9 +9,11 @@ use Rattle.bx_keys.specs.Keys.{key_after, rest_after}
 use Rattle.bx_keys.specs.Waiting.{keys_from, head_of}
 use Rattle.bx_store.specs.declared.store.StoreFault.{StoreFault}
 use Rattle.bx_ucd.specs.Data.{Data}
-use Rattle.bx_editor.specs.Editor.{Editor, HasRows, rows, text_height}
+use Rattle.bx_editor.specs.Editor.{Editor, rows, text_height}
+use Rattle.bx_editor.specs.Functions.{HasRows}
 use Rattle.bx_editor.specs.Keys.{after_key, after_press, needs_no_painting}
-use Rattle.bx_editor.specs.Picture.{LooksAs, next_top}
+use Rattle.bx_editor.specs.Picture.{next_top}
+use Rattle.bx_editor.specs.PasteLaws.{LooksAs}
 use Rattle.bx_editor.specs.Prompts.{HasOnePrompt}
 use Rattle.bx_editor.proofs.TopOnce.{top-stays}
 use Rattle.bx_editor.proofs.Unseen.{paste-is-unseen}

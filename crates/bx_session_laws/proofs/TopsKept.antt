@@ -14,9 +14,9 @@ use Rattle.bx_editor.specs.Asking.{without_ask}
 use Rattle.bx_editor.specs.Editor.{Editor, after_save, cleared, with_exchange}
 use Rattle.bx_editor.specs.Effects.{Effect, Seeks, SeeksNext, AsksLine, AsksName, Before, before, by}
 use Rattle.bx_editor.specs.Keys.{after_any, after_asking, after_key, after_seeking, after_user, answer_of, answered_match, answered_other, effect_of}
-use Rattle.bx_editor.specs.Pasting.{paste_ended}
+use Rattle.bx_editor.specs.Putting.{paste_ended}
 use Rattle.bx_editor.specs.Search.{after_beginning, next_or_start, search_from, sought, without_search}
-use Rattle.bx_editor.specs.Selecting.{unselected}
+use Rattle.bx_editor.specs.Region.{unselected}
 use Rattle.bx_editor.proofs.EffectsKept as kept_by
 use Rattle.bx_editor.proofs.InSearch.{each-key, press-keeps}
 use Rattle.bx_editor.proofs.Questions as questions

@@ -9,8 +9,9 @@ use Rattle.bx_keys.specs.declared.key.Key.TheVariants.{Point, Save}
 use Rattle.bx_ucd.specs.Data.{Data}
 use Rattle.bx_asking.specs.declared.answers.Ask.TheVariants as asks
 use Rattle.bx_runs.specs.declared.typing.Typing.TheVariants as typings
-use Rattle.bx_editor.specs.Editor.{Editor, HasRows, at_start}
-use Rattle.bx_editor.specs.Pasting.{paste_ended}
+use Rattle.bx_editor.specs.Editor.{Editor, at_start}
+use Rattle.bx_editor.specs.Functions.{HasRows}
+use Rattle.bx_editor.specs.Putting.{paste_ended}
 use Rattle.bx_editor.specs.Prompts.{HasOnePrompt}
 use Rattle.bx_editor.specs.declared.seek.Seek.TheVariants.{Off}
 use Rattle.bx_session.specs.declared.status.Refused.TheVariants as refused

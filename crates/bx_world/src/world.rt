@@ -4,7 +4,7 @@ ghost use Rattle.std.specs.Prelude.{◌≡◌, ◌≤◌, ◌↔◌, true, false
 ghost use Rattle.bx_terms.specs.Characters.{largest_text};
 ghost use Rattle.bx_grid.specs.Picture.{is_size};
 ghost use Rattle.bx_terminal.specs.Screens.{IfShown};
-ghost use Rattle.bx_editor.specs.Opening.{Causes};
+ghost use Rattle.bx_editor.specs.Editor.{Causes};
 ghost use Rattle.bx_world.specs.Showing.{IsShownOn};
 ghost use Rattle.bx_session.specs.Session.{at_opening, with_clipboard};
 ghost use Rattle.bx_world.specs.Showing.{IsInStep, StaysWhole, WillShow, picture_of};

@@ -3,7 +3,8 @@ use Rattle.bx_asking.specs.Names.{closing, named}
 use Rattle.bx_asking.specs.declared.answers.Ask.TheVariants.{Name}
 use Rattle.bx_editor.specs.Answers.{IsAnswer}
 use Rattle.bx_editor.specs.Asking.{after_name_letter, without_ask}
-use Rattle.bx_editor.specs.Editor.{Editor, EditorState, cleared}
+use Rattle.bx_editor.specs.Editor.{Editor, cleared}
+use Rattle.bx_editor.specs.Functions.{EditorState}
 use Rattle.bx_editor.proofs.AnswersKept.{answer-coded}
 use Rattle.bx_editor.proofs.QuestionLeft.{named-left}
 use Rattle.bx_editor.proofs.editor.Editor.answer_name.Goals as goal

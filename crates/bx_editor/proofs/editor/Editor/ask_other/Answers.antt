@@ -4,7 +4,8 @@ use Rattle.bx_find.specs.Letters.{letters}
 use Rattle.bx_find.specs.declared.letters.Reading.TheVariants.{Close}
 use Rattle.bx_document.specs.Document.{DocumentState, rows as document_rows}
 use Rattle.bx_editor.specs.declared.matches.Landing.{Landing}
-use Rattle.bx_editor.specs.Editor.{Editor, EditorState, cleared}
+use Rattle.bx_editor.specs.Editor.{Editor, cleared}
+use Rattle.bx_editor.specs.Functions.{EditorState}
 use Rattle.bx_editor.specs.Search.{forward, landed, landing_from, sought}
 use Rattle.bx_editor.specs.declared.seek.Aim.TheVariants.{Replace}
 use Rattle.bx_editor.specs.declared.seek.Seek.TheVariants.{Typed}

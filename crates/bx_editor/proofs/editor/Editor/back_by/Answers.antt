@@ -4,7 +4,7 @@ use Rattle.bx_view.specs.Places.{IsTextPlace}
 use Rattle.bx_view.specs.TextRows.{text_rows}
 use Rattle.bx_view.proofs.TextPlaces.{place-between}
 use Rattle.bx_document.specs.Document.{DocumentState}
-use Rattle.bx_editor.specs.Editor.{EditorState}
+use Rattle.bx_editor.specs.Functions.{EditorState}
 use Rattle.bx_editor.proofs.StepOrder.{between-back}
 use Rattle.bx_editor.proofs.editor.Editor.back_by.Goals as goal
 

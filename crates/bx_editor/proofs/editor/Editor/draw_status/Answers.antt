@@ -3,7 +3,8 @@ use Rattle.std.specs.Prelude.{IfOk}
 use Rattle.bx_rows.specs.RowPicture.{Glyph}
 use Rattle.bx_asking.specs.declared.answers.Ask.{Ask}
 use Rattle.bx_asking.specs.declared.answers.Ask.TheVariants as asks
-use Rattle.bx_editor.specs.Editor.{Editor, EditorState}
+use Rattle.bx_editor.specs.Editor.{Editor}
+use Rattle.bx_editor.specs.Functions.{EditorState}
 use Rattle.bx_editor.specs.Status.{glyph_row, letter_glyphs, prompt_glyphs, prompt_text, typed_glyphs}
 use Rattle.bx_editor.proofs.StatusRow.{question-glyphs}
 use Rattle.bx_editor.proofs.Viewed.{value}

@@ -4,9 +4,10 @@ use Rattle.bx_find.specs.Letters.{letters}
 use Rattle.bx_find.specs.declared.letters.Reading.TheVariants.{Wide}
 use Rattle.bx_editor.specs.declared.seek.Aim.TheVariants.{Find}
 use Rattle.bx_editor.specs.declared.seek.Seek.TheVariants.{Off}
-use Rattle.bx_editor.specs.Editor.{Editor, EditorState, cleared, rows}
+use Rattle.bx_editor.specs.Editor.{Editor, cleared, rows}
+use Rattle.bx_editor.specs.Functions.{EditorState}
 use Rattle.bx_editor.specs.Search.{forward, landed, next_or_start, sought}
-use Rattle.bx_editor.specs.Selecting.{unselected}
+use Rattle.bx_editor.specs.Region.{unselected}
 use Rattle.bx_editor.proofs.Sought.{find-next-sought, not-true}
 use Rattle.bx_editor.proofs.editor.Editor.go_to_next.Goals as goal
 

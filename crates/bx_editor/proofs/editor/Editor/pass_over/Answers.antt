@@ -5,7 +5,7 @@ use Rattle.bx_find.specs.Matches.{first_from}
 use Rattle.bx_document.specs.Document.{DocumentState}
 use Rattle.bx_view.specs.Places.{IsTextPlace}
 use Rattle.bx_editor.specs.Answers.{IsAnswer}
-use Rattle.bx_editor.specs.Editor.{EditorState}
+use Rattle.bx_editor.specs.Functions.{EditorState}
 use Rattle.bx_editor.specs.Origin.{BeganAt, StandsAt}
 use Rattle.bx_editor.specs.Replacing.{next_match}
 use Rattle.bx_editor.specs.Search.{reading}

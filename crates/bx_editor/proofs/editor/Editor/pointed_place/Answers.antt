@@ -3,8 +3,9 @@ use Rattle.std.specs.Prelude.{IfOk, if◌then◌else◌, nat_le}
 use Rattle.std.proofs.lemmas.Bool.Decides.{nat_tests}
 use Rattle.bx_ucd.specs.Data.{Data}
 use Rattle.bx_view.specs.Top.{pointed_at}
-use Rattle.bx_editor.specs.Editor.{Editor, EditorState, rows, text_height}
-use Rattle.bx_editor.specs.Pointing.{pointed_place}
+use Rattle.bx_editor.specs.Editor.{Editor, rows, text_height}
+use Rattle.bx_editor.specs.Functions.{EditorState}
+use Rattle.bx_editor.specs.Effects.{pointed_place}
 use Rattle.bx_editor.proofs.Viewed.{value}
 use Rattle.bx_editor.proofs.editor.Editor.pointed_place.Goals as goal
 

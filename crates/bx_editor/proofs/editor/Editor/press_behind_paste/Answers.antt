@@ -1,9 +1,10 @@
 use Rattle.std.proofs.Common.{◌≡◌, ℕ, List, None, Some, ap, sym, subst, string_bytes, ◌∙◌}
 use Rattle.std.specs.Prelude.{OnOk, Option, option_map}
 use Rattle.bx_ucd.specs.Data.{Data}
-use Rattle.bx_editor.specs.Editor.{Editor, EditorState}
+use Rattle.bx_editor.specs.Editor.{Editor}
+use Rattle.bx_editor.specs.Functions.{EditorState}
 use Rattle.bx_editor.specs.Keys.{after_user}
-use Rattle.bx_editor.specs.Pasting.{ended_with, paste_ended, with_pasted}
+use Rattle.bx_editor.specs.Putting.{ended_with, paste_ended, with_pasted}
 use Rattle.bx_editor.proofs.Pasted.{none-ended}
 use Rattle.bx_editor.proofs.Refused.{all-restored, with_document}
 use Rattle.bx_editor.proofs.Viewed.{holds_of, value}

@@ -1,5 +1,6 @@
 use Rattle.std.proofs.Common.{None, ◌∙◌, ap}
-use Rattle.bx_editor.specs.Editor.{EditorState, cleared}
+use Rattle.bx_editor.specs.Editor.{cleared}
+use Rattle.bx_editor.specs.Functions.{EditorState}
 use Rattle.bx_editor.specs.Effects.{before}
 use Rattle.bx_editor.specs.Keys.{after_pressing}
 use Rattle.bx_editor.proofs.editor.Editor.press_without_question.Goals as goal

@@ -5,9 +5,10 @@ use Rattle.bx_text.specs.Edits.{fits, splice}
 use Rattle.bx_ucd.specs.Data.{Data}
 use Rattle.bx_document.proofs.TouchedPlace.{splice_utf8}
 use Rattle.bx_view.specs.Places.{IsTextPlace}
-use Rattle.bx_editor.specs.Editor.{Editor, EditorState, cleared}
+use Rattle.bx_editor.specs.Editor.{Editor, cleared}
+use Rattle.bx_editor.specs.Functions.{EditorState, next_behind}
 use Rattle.bx_editor.specs.Origin.{IsAtMatch}
-use Rattle.bx_editor.specs.Replacing.{after_ending, next_behind, with_matches_replaced}
+use Rattle.bx_editor.specs.Replacing.{after_ending, with_matches_replaced}
 use Rattle.bx_editor.specs.declared.seek.Seek.TheVariants.{Replacing}
 use Rattle.bx_editor.proofs.Begin.{begin-is-place}
 use Rattle.bx_editor.proofs.Exchanged.{held-in}

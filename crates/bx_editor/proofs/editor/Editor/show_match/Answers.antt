@@ -2,7 +2,8 @@ use Rattle.std.proofs.Common.{◌≡◌, ◌∙◌, IsUtf8, true, ap, ap₂, str
 use Rattle.std.specs.Prelude.{Some}
 use Rattle.bx_find.specs.Matches.{first_from}
 use Rattle.bx_view.proofs.TextPlaces.{place-between}
-use Rattle.bx_editor.specs.Editor.{EditorState, cleared}
+use Rattle.bx_editor.specs.Editor.{cleared}
+use Rattle.bx_editor.specs.Functions.{EditorState}
 use Rattle.bx_editor.specs.Origin.{asks_other}
 use Rattle.bx_editor.specs.Replacing.{next_match, shown_at}
 use Rattle.bx_editor.specs.Search.{reading, sought}

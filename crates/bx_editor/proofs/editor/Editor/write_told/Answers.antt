@@ -1,5 +1,5 @@
 use Rattle.std.proofs.Common.{rules, ◌≡◌, ◌∙◌, ◌++◌, ℕ, List, length, chars, string_bytes, true, ap, ap₂, sym}
-use Rattle.bx_editor.specs.Editor.{EditorState}
+use Rattle.bx_editor.specs.Functions.{EditorState}
 use Rattle.bx_editor.proofs.ToldHere.{told-here, told-is}
 use Rattle.bx_terms.specs.Characters.{are_ascii_printable}
 use Rattle.bx_asking.specs.Told.{told_text}

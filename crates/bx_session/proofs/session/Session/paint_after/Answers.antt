@@ -2,7 +2,8 @@ use Rattle.std.proofs.Common.{◌≡◌, ◌≤◌, ◌∙◌, ◌++◌, ℕ, Li
 use Rattle.std.proofs.lemmas.List.{length-append}
 use Rattle.bx_grid.specs.Picture.{PictureState}
 use Rattle.bx_ucd.specs.Data.{Data}
-use Rattle.bx_editor.specs.Editor.{Editor, EditorState, with_top}
+use Rattle.bx_editor.specs.Editor.{Editor, with_top}
+use Rattle.bx_editor.specs.Functions.{EditorState}
 use Rattle.bx_editor.specs.Picture.{next_top}
 use Rattle.bx_session.proofs.Pictures.{IsUnseen, picture_height, picture_width, longer_by_both, painting_is, painting_queues, painting_appends, then_clip_longer, value_of}
 use Rattle.bx_session.specs.Painting.{text_in}

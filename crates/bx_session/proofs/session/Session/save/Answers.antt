@@ -2,7 +2,7 @@ use Rattle.std.proofs.Common.{◌≡◌, ◌∙◌, ℕ, List, Option, ap, subst
 use Rattle.bx_keys.specs.declared.key.Key.TheVariants.{Save}
 use Rattle.bx_store.specs.declared.store.StoreFault.{StoreFault}
 use Rattle.bx_ucd.specs.Data.{Data}
-use Rattle.bx_editor.specs.Editor.{EditorState}
+use Rattle.bx_editor.specs.Functions.{EditorState}
 use Rattle.bx_session.specs.Saving.{SaveEnds, StoreState, store_state, text_to_save}
 use Rattle.bx_session.specs.Session.{Session, SessionState, known_if, session_after_key}
 use Rattle.bx_session.proofs.Bytes.{save_ends, saved_is}
