@@ -14,8 +14,9 @@ use Rattle.bx_session.specs.declared.end.RunFault.TheVariants.{ReadLimit, WriteF
 use Rattle.bx_session.specs.declared.status.Refused.{Refused}
 use Rattle.bx_session.specs.declared.status.Status.{Status}
 use Rattle.bx_session.specs.declared.wired.Wired.{Wired}
-use Rattle.bx_session.specs.Session.{Session, after_journal, with_painting}
-use Rattle.bx_session.specs.Saving.{StoreAfter, StoreState, is_applied, is_save_byte, is_save_key, store_state, text_to_save}
+use Rattle.bx_session.specs.Session.{Session, with_painting, StoreAfter, StoreState, is_save_byte, is_save_key, store_state, text_to_save}
+use Rattle.bx_session.specs.Replaying.{after_journal}
+use Rattle.bx_session.specs.Feeding.{is_applied}
 use Rattle.bx_session.specs.Running.{ByteAnswer, EndsWith, FeedsAll}
 use Rattle.bx_session.specs.Journal.{RunsRecorded}
 use Rattle.bx_session.specs.Wire.{DidWired, ObeyedWired}

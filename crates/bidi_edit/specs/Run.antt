@@ -8,8 +8,8 @@ use Rattle.bx_session.specs.declared.action.Action.{Action}
 use Rattle.bx_session.specs.declared.end.End.{End}
 use Rattle.bx_session.specs.declared.end.End.TheVariants.{Quit, InputEnded}
 use Rattle.bx_session.specs.declared.end.RunFault.{RunFault}
-use Rattle.bx_session.specs.Session.{Session, after_journal, with_painting}
-use Rattle.bx_session.specs.Saving.{StoreState}
+use Rattle.bx_session.specs.Session.{Session, with_painting, StoreState}
+use Rattle.bx_session.specs.Replaying.{after_journal}
 use Rattle.bx_session.specs.Painting.{QueuesPicture}
 use Rattle.bx_session.specs.Running.{ByteAnswer, EndsWith}
 use Rattle.bx_session.specs.Log.{HasLogged}

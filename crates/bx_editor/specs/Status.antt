@@ -6,7 +6,7 @@ use Rattle.bx_terms.specs.declared.base.Base.TheVariants.{Auto, Ltr, Rtl}
 use Rattle.bx_keys.specs.declared.notice.Notice as told
 use Rattle.bx_keys.specs.declared.notice.Notice.TheVariants as notices
 use Rattle.bx_store.specs.declared.cause.SaveCause.{SaveCause}
-use Rattle.bx_store.specs.Causes.{cause_text}
+use Rattle.bx_store.specs.Faults.{cause_text}
 pub use Rattle.bx_view.specs.Numbers.{paragraph_number, unit_number}
 use Rattle.bx_view.specs.Moves.{step_logical}
 use Rattle.bx_view.specs.declared.moves.Logical.TheVariants.{Forward}

@@ -5,10 +5,10 @@ use Rattle.std.specs.Global.{Vec}
 use Rattle.bx_keys.specs.Waiting.{keys_from}
 use Rattle.bx_ucd.specs.Data.{Data}
 use Rattle.bx_cli.specs.declared.unicode.UnicodeFiles.{UnicodeFiles}
-use Rattle.bx_session.specs.Session.{Session, SessionState, at_opening}
-use Rattle.bx_session.specs.Saving.{StoreState}
+use Rattle.bx_session.specs.Session.{Session, at_opening, clipboard_if, StoreState}
+use Rattle.bx_session.specs.Feeding.{SessionState}
 use Rattle.bx_session.specs.Painting.{QueuesPicture}
-use Rattle.bx_session.specs.Beginning.{Beginning, after_going_to, at_offset, changed_if, clipboard_if}
+use Rattle.bx_session.specs.Beginning.{Beginning, after_going_to, at_offset, changed_if}
 use Rattle.bx_recovery.specs.declared.replaying.Replayed.{Replayed}
 use Rattle.bx_recovery.specs.Beginnings.{AreOfFiles, IsOpened, bytes_of}
 use Rattle.bx_recovery.specs.Recovery.{RecoversFrom, Recovers}

@@ -6,8 +6,9 @@ use Rattle.bx_keys.specs.declared.key.Key.{Key}
 use Rattle.bx_keys.specs.Keys.{key_after, rest_after}
 use Rattle.bx_keys.specs.Waiting.{keys_from, head_of}
 use Rattle.bx_ucd.specs.Data.{Data}
-use Rattle.bx_session.specs.Session.{Session, SessionState, after_journal, after_replay, after_replaying, at_replay_end, key_of_byte}
-use Rattle.bx_session.specs.Saving.{is_save_byte, is_save_key}
+use Rattle.bx_session.specs.Session.{Session, key_of_byte, is_save_byte, is_save_key}
+use Rattle.bx_session.specs.Feeding.{SessionState}
+use Rattle.bx_session.specs.Replaying.{after_journal, after_replay, after_replaying, at_replay_end}
 use Rattle.bx_session.proofs.Replayed.{applies, replayed_more}
 use Rattle.bx_recovery.specs.declared.replaying.FileText.{FileText}
 use Rattle.bx_recovery.specs.declared.replaying.FileText.TheVariants.{Same, Known, Foreign}

@@ -6,7 +6,7 @@ use Rattle.bx_terms.specs.Characters.{largest_text}
 use Rattle.bx_ucd.specs.Reading.{NoMemoryAfter, refusal, texts_of}
 use Rattle.bx_ucd.specs.declared.error.UcdError.{UcdError}
 use Rattle.bx_cli.specs.declared.unicode.UnicodeFiles.{UnicodeFiles}
-use Rattle.bx_store.specs.Stores.{with_fault}
+use Rattle.bx_store.specs.Faults.{with_fault}
 use Rattle.bx_store.specs.declared.faults.Faults.{Faults}
 use Rattle.bx_store.specs.declared.store.StoreFault.{StoreFault}
 use Rattle.bx_editor.specs.Editor.{Causes}

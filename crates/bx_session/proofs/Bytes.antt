@@ -9,7 +9,7 @@ use Rattle.bx_keys.specs.declared.key.Key.{Key}
 use Rattle.bx_keys.specs.declared.key.Key.TheVariants.{Save}
 use Rattle.bx_keys.specs.Keys.{rest_after}
 use Rattle.bx_keys.specs.Waiting.{head_of}
-use Rattle.bx_store.specs.Stores.{with_fault}
+use Rattle.bx_store.specs.Faults.{with_fault}
 use Rattle.bx_store.specs.declared.store.StoreFault.{StoreFault}
 use Rattle.bx_ucd.specs.Data.{Data}
 use Rattle.bx_editor.specs.Editor.{Editor, at_start, with_top}
@@ -18,11 +18,12 @@ use Rattle.bx_editor.specs.Keys.{after_key, asks_for_whole}
 use Rattle.bx_editor.specs.Putting.{paste_ended}
 use Rattle.bx_session.specs.declared.status.Refused.{Refused}
 use Rattle.bx_session.specs.declared.status.Refused.TheVariants.{Edit, Paint, Size}
-use Rattle.bx_session.specs.Session.{Session, SessionState, with_painting, with_painting_owed, with_picture, at_opening, before_painting, key_of_byte}
-use Rattle.bx_session.specs.Session.{after_spending, session_after_any, unpainted_after_byte, is_idle, is_painted, needs_painting, painted_after, picture_of}
-use Rattle.bx_session.specs.Session.{after_byte, session_after_key, unpainted_after_told}
+use Rattle.bx_session.specs.Session.{Session, with_painting, with_painting_owed, with_picture, at_opening, before_painting, key_of_byte}
+use Rattle.bx_session.specs.Session.{after_spending, session_after_any, unpainted_after_byte, is_painted, needs_painting, painted_after}
+use Rattle.bx_session.specs.Session.{picture_of, after_byte, session_after_key, unpainted_after_told, SaveEnds, StoreState, may_refuse_key}
+use Rattle.bx_session.specs.Session.{with_text}
+use Rattle.bx_session.specs.Feeding.{SessionState, is_idle, AfterByte, ToldBy}
 use Rattle.bx_session.specs.Painting.{AppendsPainting, FeedAppends, QueuesPicture, FeedPaints}
-use Rattle.bx_session.specs.Saving.{AfterByte, SaveEnds, StoreState, ToldBy, may_refuse_key, with_text}
 use Rattle.bx_session.specs.declared.status.Status.{Status}
 use Rattle.bx_session.proofs.Ending.{save_ahead}
 use Rattle.bx_session.proofs.KeySizes.{key_goes_on, same_ended}

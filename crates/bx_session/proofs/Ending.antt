@@ -16,8 +16,10 @@ use Rattle.bx_editor.specs.Putting.{ended_with, paste_ended}
 use Rattle.bx_editor.specs.Replay.{after_passed_quit, after_passed_save}
 use Rattle.bx_editor.proofs.Pasted.{ended-none}
 use Rattle.bx_session.specs.Painting.{FitsEditor}
-use Rattle.bx_session.specs.Session.{Session, SessionState, after_replay, after_replayed_key, after_spending, key_of_byte, known_after, session_after_replayed}
-use Rattle.bx_session.specs.Session.{session_replayed_on, session_scrolled, with_painting_owed}
+use Rattle.bx_session.specs.Session.{Session, after_spending, key_of_byte, known_after}
+use Rattle.bx_session.specs.Feeding.{SessionState}
+use Rattle.bx_session.specs.Replaying.{after_replay, after_replayed_key, session_after_replayed, session_replayed_on, session_scrolled}
+use Rattle.bx_session.specs.Session.{with_painting_owed}
 use Rattle.bx_session.proofs.KeySizes.{SameSize, ended_goes_on, fits_still, still_fits}
 
 -- no paste is under way any more

@@ -9,8 +9,7 @@ use Rattle.bx_session.specs.declared.end.End.{End}
 use Rattle.bx_session.specs.declared.end.End.TheVariants.{Quit, InputEnded}
 use Rattle.bx_session.specs.declared.end.RunFault.{RunFault}
 use Rattle.bx_session.specs.declared.end.RunFault.TheVariants.{ReadFault, WriteFault, ReadLimit}
-use Rattle.bx_session.specs.Session.{Session}
-use Rattle.bx_session.specs.Saving.{StoreState}
+use Rattle.bx_session.specs.Session.{Session, StoreState}
 use Rattle.bx_session.specs.Running.{ByteAnswer, FedUntilEnd, Sent, Turn, bytes_of, read_in, read_size}
 use Rattle.bx_session.specs.Log.{Step, Calls, AreTaken, HasLogged, IsLog, FailsLast, IsFailedSending, LoggedTurn}
 use Rattle.bx_session.specs.Log.{bytes_by, in_parts, obeyed_in, read_by, kept_by, written_by, part_steps, sending, turn_steps, run_steps}

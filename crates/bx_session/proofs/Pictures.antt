@@ -16,7 +16,8 @@ use Rattle.bx_editor.specs.Region.{is_clip}
 use Rattle.bx_editor.specs.Editor.{Editor, rows, with_top}
 use Rattle.bx_editor.specs.Picture.{StandsOnItsCell, picture, next_top, blank_picture, text_picture}
 use Rattle.bx_session.specs.declared.session.Session.TheInside.{Inside}
-use Rattle.bx_session.specs.Session.{Session, clip_after, known_if, painted_after, painting, picture_of, then_clip}
+use Rattle.bx_session.specs.Session.{Session, clip_after, painted_after, painting, picture_of, then_clip}
+use Rattle.bx_session.specs.Feeding.{known_if}
 use Rattle.bx_session.specs.Painting.{AppendsPainting, IsClipOf, QueuesPicture, Updates}
 use Rattle.bx_session.proofs.Tops.{drawn_is, stands_on}
 

@@ -13,8 +13,8 @@ use Rattle.bx_session.specs.declared.status.Refused.TheVariants as refused
 use Rattle.bx_session.specs.declared.status.Status.{Status}
 use Rattle.bx_session.specs.Parts.{is_quit, part_length}
 use Rattle.bx_session.specs.Running.{ByteAnswer, FeedsAll, FedUntilEnd, bytes_of}
-use Rattle.bx_session.specs.Saving.{StoreState, Feeds}
-use Rattle.bx_session.specs.Session.{Session}
+use Rattle.bx_session.specs.Session.{StoreState, Session}
+use Rattle.bx_session.specs.Feeding.{Feeds}
 use Rattle.bx_session.proofs.Turns.{FeedsAll-append}
 use Rattle.bx_session.proofs.KeySizes.{key_goes_on}
 use Rattle.bx_session.proofs.Leaving.{Leaves, byte_leaves, editor_after}

@@ -7,8 +7,8 @@ use Rattle.bx_session.specs.declared.action.Action.{Action}
 use Rattle.bx_session.specs.declared.action.Action.TheVariants.{Read, Append, Write, WriteFailed, Flush}
 use Rattle.bx_session.specs.declared.status.Refused.{Refused}
 use Rattle.bx_session.specs.declared.status.Status.{Status}
-use Rattle.bx_session.specs.Session.{Session, is_painted}
-use Rattle.bx_session.specs.Saving.{StoreState, Feeds}
+use Rattle.bx_session.specs.Session.{Session, is_painted, StoreState}
+use Rattle.bx_session.specs.Feeding.{Feeds}
 use Rattle.bx_session.specs.Painting.{FeedPaints}
 use Rattle.bx_session.specs.Running.{ByteAnswer, Sent, bytes_of}
 use Rattle.bx_session.specs.Log.{Step, Calls, Obeys, IsCalled, AreTaken, LoggedTurn}

@@ -13,10 +13,10 @@ use Rattle.bx_ucd.specs.Data.{Data}
 use Rattle.bx_session.specs.declared.status.Status.{Status}
 use Rattle.bx_session.specs.declared.status.Refused.{Refused}
 use Rattle.bx_session.specs.declared.status.Refused.TheVariants.{Edit, Paint, Size}
-use Rattle.bx_session.specs.Session.{Session, clip_after, painted_after, painting, picture_of, scrolled, then_clip, with_painting_owed, key_of_byte, after_spending}
-use Rattle.bx_session.specs.Session.{session_after_any, unpainted_after_byte, is_painted}
+use Rattle.bx_session.specs.Session.{Session, clip_after, painted_after, painting, picture_of, scrolled, then_clip, with_painting_owed}
+use Rattle.bx_session.specs.Session.{key_of_byte, after_spending, session_after_any, unpainted_after_byte, is_painted, StoreState}
 use Rattle.bx_session.specs.Painting.{FeedPaints, QueuesPicture}
-use Rattle.bx_session.specs.Saving.{StoreState, AfterByte, Feeds}
+use Rattle.bx_session.specs.Feeding.{AfterByte, Feeds}
 use Rattle.bx_session.specs.Running.{ByteAnswer, bytes_of, FeedsAll, FedUntilEnd, Sent, HasRun}
 use Rattle.bx_session.proofs.Pictures.{then_clip_after}
 use Rattle.bx_session.specs.Running.{Turn, IsRead, TakesTurn, TakesTurns, read_in, read_size, fed_in, dropped_in, written_in}

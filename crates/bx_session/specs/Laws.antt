@@ -6,8 +6,9 @@ pub use Rattle.bx_keys.specs.Waiting.{keys_from}
 use Rattle.bx_store.specs.declared.store.StoreFault.{StoreFault}
 use Rattle.bx_ucd.specs.Data.{Data}
 use Rattle.bx_session.specs.Session.{Session, at_opening, after_spending, after_byte, owing_after_byte, after_told, owing_after_told, after_sending}
-use Rattle.bx_session.specs.Session.{after_all_replayed, after_going, after_replay, at_replay_end, with_clipboard}
-pub use Rattle.bx_session.specs.Session.{after_journal, after_replaying}
+use Rattle.bx_session.specs.Session.{with_clipboard}
+use Rattle.bx_session.specs.Replaying.{after_all_replayed, after_going, after_replay, at_replay_end}
+pub use Rattle.bx_session.specs.Replaying.{after_journal, after_replaying}
 pub use Rattle.bx_session.specs.Painting.{ShowsState}
 
 -- `ShowsState` holds at opening, and each of these calls preserves it, whether it succeeds or is refused

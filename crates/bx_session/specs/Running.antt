@@ -11,8 +11,8 @@ use Rattle.bx_session.specs.declared.end.End.TheVariants.{Quit, InputEnded}
 use Rattle.bx_session.specs.declared.end.RunFault.{RunFault}
 use Rattle.bx_session.specs.declared.end.RunFault.TheVariants.{ReadFault, WriteFault, ReadLimit}
 use Rattle.bx_editor.specs.Functions.{has_changes}
-use Rattle.bx_session.specs.Session.{Session, is_painted}
-use Rattle.bx_session.specs.Saving.{StoreState, Feeds}
+use Rattle.bx_session.specs.Session.{Session, is_painted, StoreState}
+use Rattle.bx_session.specs.Feeding.{Feeds}
 use Rattle.bx_session.specs.Painting.{FeedPaints}
 
 -- a byte and the answer to it

@@ -17,8 +17,8 @@ pub struct DeviceFault;
 pub trait Device {
     ghost use Rattle.std.specs.Prelude.{◌≡◌, ◌≤◌, true, IfErr, IfOk, OnErr, OnOk, length, take};
     ghost use Rattle.bx_session.specs.declared.action.Action.{Action};
-    ghost use Rattle.bx_session.specs.Session.{Session as SessionValue, is_painted};
-    ghost use Rattle.bx_session.specs.Saving.{StoreState, Feeds};
+    ghost use Rattle.bx_session.specs.Session.{Session as SessionValue, StoreState, is_painted};
+    ghost use Rattle.bx_session.specs.Feeding.{Feeds};
     ghost use Rattle.bx_session.specs.Painting.{FeedPaints};
     ghost use Rattle.bx_session.specs.Running.{ByteAnswer};
 

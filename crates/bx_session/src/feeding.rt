@@ -6,9 +6,8 @@ ghost use Rattle.bx_keys.specs.Decoder.{HasSides};
 ghost use Rattle.bx_editor.specs.Keys as keys;
 ghost use Rattle.bx_store.specs.declared.store.StoreFault.{StoreFault};
 ghost use Rattle.bx_session.specs.Painting.{FeedAppends, FeedPaints, ToldPaints};
-ghost use Rattle.bx_session.specs.Saving.{Feeds, SaveEnds, StoreAfter, ToldBy, is_applied, is_save_byte, may_refuse_key, store_state, text_to_save};
-ghost use Rattle.bx_session.specs.Session.{after_spending, is_idle, is_painted, key_of_byte, needs_painting, session_after_key};
-ghost use Rattle.bx_session.specs.Session.{unpainted_after_byte, unpainted_after_told};
+ghost use Rattle.bx_session.specs.Session.{SaveEnds, StoreAfter, after_spending, is_painted, is_save_byte, key_of_byte, may_refuse_key, needs_painting, session_after_key, store_state, text_to_save, unpainted_after_byte, unpainted_after_told};
+ghost use Rattle.bx_session.specs.Feeding.{Feeds, ToldBy, is_applied, is_idle};
 
 use crate::saving::save_pieces;
 use crate::session::Session;

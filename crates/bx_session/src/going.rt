@@ -2,7 +2,8 @@
 //! saved.
 
 ghost use Rattle.std.specs.Prelude.{◌≡◌, OnErr, OnOk};
-ghost use Rattle.bx_session.specs.Session.{after_going, as_changed, with_clipboard};
+ghost use Rattle.bx_session.specs.Session.{with_clipboard};
+ghost use Rattle.bx_session.specs.Replaying.{after_going, as_changed};
 
 use crate::session::Session;
 use crate::status::Refused;

@@ -24,7 +24,7 @@ pub struct JournalFault {
 pub trait Journal {
     ghost use Rattle.std.specs.Prelude.{◌≡◌, ◌≤◌, ℕ, List, Option, IfErr, OnErr, OnOk, length, take};
     ghost use Rattle.std.specs.Io.KnownBytes.{Appends};
-    ghost use Rattle.bx_store.specs.Stores.{one_more};
+    ghost use Rattle.bx_store.specs.Faults.{one_more};
 
     /// The journal's bytes; None if they are not known.
     ghost contents: { Self → Option (List ℕ) };

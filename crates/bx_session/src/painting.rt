@@ -8,7 +8,8 @@ ghost use Rattle.bx_grid.specs.Picture.{PictureState, Shows, is_size};
 ghost use Rattle.bx_grid.specs.Grid.{AreWholeTokens, IsPicture};
 ghost use Rattle.bx_grid.specs.Terminal.{Terminal, reads};
 ghost use Rattle.bx_session.specs.Painting.{AppendsPainting, QueuesPicture, Updates, text_in};
-ghost use Rattle.bx_session.specs.Session.{clip_after, known_if, painted_after, painting, then_clip, with_painting, with_painting_owed};
+ghost use Rattle.bx_session.specs.Session.{clip_after, painted_after, painting, then_clip, with_painting, with_painting_owed};
+ghost use Rattle.bx_session.specs.Feeding.{known_if};
 
 use crate::session::Session;
 use crate::status::Refused;

@@ -1,13 +1,12 @@
 //! Replay of a journal's bytes in a session that opened the same text: keys are applied again, and nothing is stored.
 
 ghost use Rattle.std.specs.Prelude.{◌≡◌, ◌↔◌, ◌⊎◌, IsErrOf, IsOk, IsTrue, true, None, Some, is_some, IfErr, IfSome, OnErr, OnOk};
-ghost use Rattle.bx_session.specs.Saving.{may_refuse_key, store_state, with_text};
+ghost use Rattle.bx_session.specs.Session.{after_spending, key_of_byte, may_refuse_key, store_state, with_text};
 ghost use Rattle.bx_keys.specs.Decoder.{HasSides};
 ghost use Rattle.bx_editor.specs.Keys.{may_refuse};
 ghost use Rattle.bx_editor.specs.Putting.{paste_ended};
-ghost use Rattle.bx_session.specs.Session.{after_replay, after_replayed_key, after_spending, at_replay_end, at_unscrolled_end, key_of_byte};
-ghost use Rattle.bx_session.specs.Session.{session_after_replayed, session_replayed_on, session_scrolled};
-ghost use Rattle.bx_store.specs.Stores.{with_fault};
+ghost use Rattle.bx_session.specs.Replaying.{after_replay, after_replayed_key, at_replay_end, at_unscrolled_end, session_after_replayed, session_replayed_on, session_scrolled};
+ghost use Rattle.bx_store.specs.Faults.{with_fault};
 
 use crate::saving::{is_text, save_pieces};
 use crate::session::Session;

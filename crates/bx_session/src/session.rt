@@ -2,7 +2,8 @@
 
 ghost use Rattle.std.specs.Prelude.{◌≡◌, ◌≤◌, MatchOption, None, Some, length};
 ghost use Rattle.bx_editor.specs.Functions.{has_changes};
-ghost use Rattle.bx_session.specs.Session.{after_sending, key_of_byte, status_of};
+ghost use Rattle.bx_session.specs.Session.{after_sending, key_of_byte};
+ghost use Rattle.bx_session.specs.Feeding.{status_of};
 
 use crate::status::Status;
 use bx_asking::Ask;
@@ -36,7 +37,7 @@ pub struct Session<D: BidiData + Drop> {
 impl<D: BidiData + Drop> Model for Session<D> {
     ghost use Rattle.std.specs.Prelude.{◌≤◌, drop, length};
     ghost use Rattle.bx_session.specs.Painting.{FitsEditor};
-    ghost use Rattle.bx_session.specs.Session.{SessionState, known_if};
+    ghost use Rattle.bx_session.specs.Feeding.{SessionState, known_if};
 
     ghost Value = { SessionState D };
 

@@ -28,13 +28,15 @@ use Rattle.bx_session.specs.declared.status.Refused.TheVariants as refused
 use Rattle.bx_session.specs.declared.status.Status.{Status}
 use Rattle.bx_session.specs.declared.journal.Backlog.{Backlog}
 use Rattle.bx_session.specs.declared.journal.Backlog.TheVariants.{Empty}
-use Rattle.bx_session.specs.Beginning.{Beginning, after_going_to, at_offset, begun, changed_if, clipboard_if}
+use Rattle.bx_session.specs.Beginning.{Beginning, after_going_to, at_offset, begun, changed_if}
+use Rattle.bx_session.specs.Session.{clipboard_if, Session, at_opening, scrolled, StoreAfter, StoreState, is_save_byte, is_save_key}
+use Rattle.bx_session.specs.Session.{text_to_save}
 use Rattle.bx_session.specs.Journal.{HasKept, RecorderState, is_lost, waiting}
 use Rattle.bx_session.specs.Laws.{after_replaying}
 use Rattle.bx_session_laws.specs.Recovery.{HasAll, HasBack, IsKnown, IsSettled, JournalsGiveBack, RefusesNoKey, TellsChanges, once_pasted}
 use Rattle.bx_session.specs.Running.{ByteAnswer, FeedsAll, bytes_of}
-use Rattle.bx_session.specs.Saving.{StoreAfter, StoreState, Feeds, is_applied, is_save_byte, is_save_key, text_to_save}
-use Rattle.bx_session.specs.Session.{Session, after_all_replayed, after_replay, after_replayed, at_opening, at_replay_end, replayed_on, scrolled}
+use Rattle.bx_session.specs.Feeding.{Feeds, is_applied}
+use Rattle.bx_session.specs.Replaying.{after_all_replayed, after_replay, after_replayed, at_replay_end, replayed_on}
 use Rattle.bx_session_laws.proofs.Alike.{Work, work, after_deeds}
 use Rattle.bx_session_laws.proofs.KeysAlike.{ended_alike, key_alike}
 use Rattle.bx_session_laws.proofs.Deeds.{Knows, Tells, Traces, deeds_know, deeds_tell, deeds_trace, knows_text, traced_text}

@@ -26,8 +26,7 @@ use Rattle.bx_session.specs.Laws.{AlwaysShowsState, HasKeysOfInput, ReplaysKeys,
 use Rattle.bx_session_laws.specs.Recovery.{HasAll, HasBackMidway, HaveRows, IsSettled, JournalsGiveBack, PointsAsSeen, RecoveryGivesBack, RefusesNoKey}
 use Rattle.bx_session_laws.specs.Recovery.{RefusesNoPainting, is_point, once_pasted}
 use Rattle.bx_session.specs.Running.{ByteAnswer, FeedsAll, bytes_of}
-use Rattle.bx_session.specs.Saving.{StoreState}
-use Rattle.bx_session.specs.Session.{Session, after_byte, after_sending, owing_after_byte, with_painting}
+use Rattle.bx_session.specs.Session.{StoreState, Session, after_byte, after_sending, owing_after_byte, with_painting}
 use Rattle.bx_session.proofs.Computed.{start, csi}
 use Rattle.bx_session_laws.proofs.GivenBack.{journal_is}
 use Rattle.bx_session_laws.proofs.RecoveredParts.{has_back}

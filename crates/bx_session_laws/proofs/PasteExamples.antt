@@ -15,7 +15,7 @@ use Rattle.bx_editor.specs.Editor.{Editor, at_start}
 use Rattle.bx_editor.specs.Putting.{paste_ended}
 use Rattle.bx_editor.specs.Replay.{at_replay_end}
 use Rattle.bx_editor.proofs.Computed.{tables}
-use Rattle.bx_session.specs.Session.{after_all_replayed, after_journal}
+use Rattle.bx_session.specs.Replaying.{after_all_replayed, after_journal}
 use Rattle.bx_session.proofs.Computed.{csi, start}
 use Rattle.bx_session.proofs.Replayed.{keys_in_parts, replays_keys}
 

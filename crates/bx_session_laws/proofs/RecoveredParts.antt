@@ -15,11 +15,11 @@ use Rattle.bx_editor.specs.Picture.{next_top}
 use Rattle.bx_editor.specs.Replay as replay
 use Rattle.bx_editor.specs.declared.seek.Seek.{Seek}
 use Rattle.bx_editor.proofs.TopOnce.{top-stays}
-use Rattle.bx_session.specs.Beginning.{Beginning, after_going_to, at_offset, begun, changed_if, clipboard_if}
+use Rattle.bx_session.specs.Beginning.{Beginning, after_going_to, at_offset, begun, changed_if}
+use Rattle.bx_session.specs.Session.{clipboard_if, Session, after_spending, at_opening, key_of_byte, scrolled, with_painting_owed}
 use Rattle.bx_session.specs.Laws.{after_replaying}
 use Rattle.bx_session.specs.Running.{bytes_of}
-use Rattle.bx_session.specs.Session.{Session, after_all_replayed, after_replay, after_replayed_key, after_spending, at_opening, at_replay_end, key_of_byte, scrolled}
-use Rattle.bx_session.specs.Session.{with_painting_owed}
+use Rattle.bx_session.specs.Replaying.{after_all_replayed, after_replay, after_replayed_key, at_replay_end}
 use Rattle.bx_session.proofs.Ending.{over}
 use Rattle.bx_session.proofs.Input.{keys_of_input}
 use Rattle.bx_session.proofs.KeySizes.{ended_goes_on}

@@ -16,7 +16,8 @@ use Rattle.bx_editor.specs.declared.cursor.Soft.{Soft}
 use Rattle.bx_editor.specs.declared.cursor.Soft.TheVariants as softness
 use Rattle.bx_editor.specs.Editor.{Editor}
 use Rattle.bx_editor.proofs.Computed.{tables}
-use Rattle.bx_session.specs.Session.{Session, after_journal}
+use Rattle.bx_session.specs.Session.{Session}
+use Rattle.bx_session.specs.Replaying.{after_journal}
 use Rattle.bx_session.proofs.Computed.{after, start, csi}
 
 -- after a journal over this text, and after more bytes that a session takes then

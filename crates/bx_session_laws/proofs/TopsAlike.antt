@@ -23,8 +23,9 @@ use Rattle.bx_session.specs.declared.status.Refused.TheVariants as refused
 use Rattle.bx_session.specs.declared.status.Status.{Status}
 use Rattle.bx_session.specs.Laws.{after_replaying}
 use Rattle.bx_session.specs.Running.{ByteAnswer, FeedsAll, bytes_of}
-use Rattle.bx_session.specs.Saving.{StoreState, Feeds}
-use Rattle.bx_session.specs.Session.{Session, after_all_replayed, after_byte, after_replay, needs_painting, painted_after, replayed_on, scrolled, session_after_any}
+use Rattle.bx_session.specs.Session.{StoreState, Session, after_byte, needs_painting, painted_after, scrolled, session_after_any}
+use Rattle.bx_session.specs.Feeding.{Feeds}
+use Rattle.bx_session.specs.Replaying.{after_all_replayed, after_replay, replayed_on}
 use Rattle.bx_session.proofs.Leaving.{byte_leaves}
 use Rattle.bx_session.proofs.Replayed.{applies}
 use Rattle.bx_session_laws.specs.Recovery.{HasTop, HaveRows, PointsAsSeen, RefusesNoKey, RefusesNoPainting, is_point}

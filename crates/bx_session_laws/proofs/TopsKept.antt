@@ -21,7 +21,7 @@ use Rattle.bx_editor.proofs.EffectsKept as kept_by
 use Rattle.bx_editor.proofs.InSearch.{each-key, press-keeps}
 use Rattle.bx_editor.proofs.Questions as questions
 use Rattle.bx_editor.proofs.Searches as searches
-use Rattle.bx_session.specs.Session.{after_replayed, replayed_on}
+use Rattle.bx_session.specs.Replaying.{after_replayed, replayed_on}
 use Rattle.bx_session.proofs.Replayed.{each-replayed}
 
 module _ (top : ℕ) where

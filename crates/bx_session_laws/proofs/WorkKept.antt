@@ -14,7 +14,7 @@ use Rattle.bx_editor.specs.Keys.{after_any, after_key}
 use Rattle.bx_editor.specs.Putting.{paste_ended}
 use Rattle.bx_editor.specs.Search.{without_search}
 use Rattle.bx_editor.proofs.InSearch.{any-key}
-use Rattle.bx_session.specs.Session.{after_replayed}
+use Rattle.bx_session.specs.Replaying.{after_replayed}
 use Rattle.bx_session.proofs.Ending.{over, quit_user, save_ahead}
 use Rattle.bx_session_laws.proofs.Alike.{work}
 

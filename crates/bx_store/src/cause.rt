@@ -1,6 +1,7 @@
 //! Why a save failed.
 ghost use Rattle.std.specs.Prelude.{◌≡◌};
-ghost use Rattle.bx_store.specs.Causes.{cause_of_kind, cause_text};
+ghost use Rattle.bx_store.specs.Stores.{cause_of_kind};
+ghost use Rattle.bx_store.specs.Faults.{cause_text};
 
 use std::io::ErrorKind;
 

@@ -17,11 +17,12 @@ use Rattle.bx_editor.specs.declared.seek.Seek.TheVariants.{Off, Begun, Typed, Wi
 use Rattle.bx_editor.specs.Putting.{paste_ended}
 use Rattle.bx_editor.specs.Replay.{after_passed_quit, after_passed_save}
 use Rattle.bx_editor.specs.Replay as replay
-use Rattle.bx_session.specs.Session.{Session, after_all_replayed, at_opening, at_replay_end, after_replay, after_replayed_key, after_spending, key_of_byte, session_after_key, session_after_replayed}
-use Rattle.bx_session.specs.Session.{scrolled, session_replayed_on, session_scrolled}
+use Rattle.bx_session.specs.Session.{Session, at_opening, after_spending, key_of_byte, session_after_key, scrolled, clipboard_if}
+use Rattle.bx_session.specs.Replaying.{after_all_replayed, at_replay_end, after_replay, after_replayed_key, session_after_replayed}
+use Rattle.bx_session.specs.Replaying.{session_replayed_on, session_scrolled}
 use Rattle.bx_session.specs.Painting.{QueuesPicture}
 use Rattle.bx_session.specs.Laws.{keys_from, after_journal, after_replaying}
-use Rattle.bx_session.specs.Beginning.{Beginning, IsBegun, after_going_to, changed_if, clipboard_if, at_offset, unpainted_at, begun}
+use Rattle.bx_session.specs.Beginning.{Beginning, IsBegun, after_going_to, changed_if, at_offset, unpainted_at, begun}
 use Rattle.bx_session.proofs.Input.{keys_of_input}
 use Rattle.bx_session.proofs.KeySizes.{ended_goes_on}
 use Rattle.bx_session.proofs.Pictures.{picture_height, picture_width}

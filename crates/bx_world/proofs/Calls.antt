@@ -15,19 +15,20 @@ use Rattle.bx_editor.specs.Picture.{StandsOnItsCell}
 use Rattle.bx_session.specs.declared.status.Refused.{Refused}
 use Rattle.bx_session.specs.declared.status.Refused.TheVariants as refused
 use Rattle.bx_session.specs.declared.status.Status.{Status}
-use Rattle.bx_session.specs.Session.{Session, SessionState, at_opening, after_spending, after_byte, owing_after_byte, is_painted, unpainted_after_byte}
+use Rattle.bx_session.specs.Session.{Session, at_opening, after_spending, after_byte, owing_after_byte, is_painted, unpainted_after_byte}
 use Rattle.bx_session.specs.Session.{painted_after, key_of_byte, needs_painting, owing_after_told, after_sending, with_clipboard}
-use Rattle.bx_session.specs.Saving.{StoreState, StoreAfter, Feeds, ToldBy, is_save_byte, text_to_save}
+use Rattle.bx_session.specs.Session.{StoreState, StoreAfter, is_save_byte, text_to_save}
+use Rattle.bx_session.specs.Feeding.{SessionState, Feeds, ToldBy}
 use Rattle.bx_session.specs.Painting.{QueuesPicture, FeedPaints, ToldPaints}
 use Rattle.bx_session.proofs.Quiet.{quiet_byte, quiet_shows}
 use Rattle.bx_session.proofs.Shown.{always_shows, no_need}
 use Rattle.bx_session.proofs.Tops.{clipboard_unseen}
 use Rattle.bx_world.specs.declared.step.StepFault.{StepFault}
 use Rattle.bx_world.specs.declared.step.StepFault.TheVariants as faults
-use Rattle.bx_world.specs.Answers.{answer_of, is_applied, mark_after}
-use Rattle.bx_world.specs.Steps.{AfterByteStep, AfterToldStep, AfterReadStep}
+use Rattle.bx_world.specs.Answers.{answer_of, mark_after}
+use Rattle.bx_world.specs.World.{is_applied, AfterByteStep, AfterToldStep, AfterReadStep, World, with_byte, with_told_size, told_after_key}
+use Rattle.bx_world.specs.World.{is_window, after_send}
 use Rattle.bx_world.specs.declared.world.World.TheInside.{Inside}
-use Rattle.bx_world.specs.World.{World, with_byte, with_told_size, told_after_key, is_window, after_send}
 use Rattle.bx_world.specs.Showing.{CursorStands, IsInStep}
 use Rattle.bx_world.proofs.Keys.{spent, byte_keeps, byte_pending, both, same_number}
 use Rattle.bx_world.proofs.Steps.{opened, kept, painted, resized, sent, received, failed}

@@ -6,14 +6,11 @@ use Rattle.bx_ucd.specs.Data.{Data}
 use Rattle.bx_editor.specs.Editor.{Editor}
 use Rattle.bx_editor.specs.Picture.{StandsOnItsCell, picture}
 use Rattle.bx_terms.specs.declared.base.Base.{Base}
-use Rattle.bx_session.specs.Beginning.{clipboard_if}
-use Rattle.bx_session.specs.Saving.{StoreState}
-use Rattle.bx_session.specs.Session.{Session, at_opening, before_painting}
+use Rattle.bx_session.specs.Session.{clipboard_if, Session, at_opening, before_painting, StoreState}
 use Rattle.bx_session.proofs.Replayed.{rest_from}
 use Rattle.bx_world.specs.declared.step.Step.{Step}
 use Rattle.bx_world.specs.declared.step.StepFault.{StepFault}
-use Rattle.bx_world.specs.World.{World}
-use Rattle.bx_world.specs.Steps.{PlaysTo, is_last_accepted}
+use Rattle.bx_world.specs.World.{World, PlaysTo, is_last_accepted}
 use Rattle.bx_world.specs.Showing.{IsInStep}
 use Rattle.bx_world.specs.Events.{Event, AreEventsFrom}
 use Rattle.bx_world.specs.Headline.{Headline, HeadlineFromOpening}

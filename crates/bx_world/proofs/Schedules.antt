@@ -12,17 +12,15 @@ use Rattle.bx_store.specs.declared.store.StoreFault.{StoreFault}
 use Rattle.bx_ucd.specs.Data.{Data}
 use Rattle.bx_editor.specs.Picture.{picture}
 use Rattle.bx_keys.specs.declared.key.Key.{Key}
-use Rattle.bx_session.specs.Session.{Session, after_byte, after_spending, is_painted, key_of_byte, needs_painting, painted_after, session_after_any}
-use Rattle.bx_session.specs.Session.{unpainted_after_byte}
+use Rattle.bx_session.specs.Session.{Session, after_byte, after_spending, is_painted, key_of_byte, needs_painting, painted_after}
+use Rattle.bx_session.specs.Session.{session_after_any, unpainted_after_byte, StoreState}
 use Rattle.bx_session.proofs.Shown.{no_need}
-use Rattle.bx_session.specs.Saving.{StoreState}
 use Rattle.bx_world.specs.declared.step.Step.{Step}
 use Rattle.bx_world.specs.declared.step.Step.TheVariants.{Byte, Window, Told, Send, Read}
 use Rattle.bx_world.specs.declared.step.StepFault.{StepFault}
 use Rattle.bx_world.specs.declared.step.StepFault.TheVariants as faults
-use Rattle.bx_world.specs.World.{World}
-use Rattle.bx_world.specs.Steps.{StepsTo, PlaysTo, AfterByteStep, AfterToldStep}
-use Rattle.bx_world.specs.Steps.{AfterWindowStep, AfterSendStep, AfterReadStep, accepted_after, is_last_accepted}
+use Rattle.bx_world.specs.World.{World, StepsTo, PlaysTo, AfterByteStep, AfterToldStep, AfterWindowStep, AfterSendStep, AfterReadStep}
+use Rattle.bx_world.specs.World.{accepted_after, is_last_accepted}
 use Rattle.bx_world.specs.Showing.{AfterAll, IsInStep, WillShow, ShowsWhenRead}
 use Rattle.bx_world.proofs.Keys.{spent}
 

@@ -5,21 +5,20 @@ use Rattle.std.specs.Prelude.{option_to_list, Result, Ok, Err, if◌then◌else�
 use Rattle.bx_keys.specs.declared.key.Key.{Key}
 use Rattle.bx_keys.specs.Keys.{decoding}
 use Rattle.bx_grid.specs.Picture.{is_size}
-use Rattle.bx_store.specs.Stores.{with_fault}
+use Rattle.bx_store.specs.Faults.{with_fault}
 use Rattle.bx_store.specs.declared.store.StoreFault.{StoreFault}
 use Rattle.bx_ucd.specs.Data.{Data}
 use Rattle.bx_editor.specs.Editor.{Editor, with_size, with_top}
 use Rattle.bx_editor.specs.Keys.{after_key}
 use Rattle.bx_editor.specs.Picture.{next_top}
 use Rattle.bx_session.specs.declared.status.Refused.TheVariants as refused
-use Rattle.bx_session.specs.Saving.{StoreState, with_text, is_save_key, text_to_save}
-use Rattle.bx_session.specs.Session.{needs_painting}
+use Rattle.bx_session.specs.Session.{StoreState, with_text, is_save_key, text_to_save, needs_painting}
 use Rattle.bx_world.specs.declared.step.Step.{Step}
 use Rattle.bx_world.specs.declared.step.Step.TheVariants.{Byte, Window, Told, Send, Read}
 use Rattle.bx_world.specs.declared.step.StepFault.{StepFault}
 use Rattle.bx_world.specs.declared.step.StepFault.TheVariants as faults
-use Rattle.bx_world.specs.Answers.{is_ok}
-pub use Rattle.bx_world.specs.Answers.{is_applied}
+use Rattle.bx_world.specs.World.{is_ok}
+pub use Rattle.bx_world.specs.World.{is_applied}
 
 -- what a schedule's step does to the editor
 pub data Event : Type 0 where

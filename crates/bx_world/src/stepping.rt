@@ -2,14 +2,11 @@
 
 ghost use Rattle.std.specs.Prelude.{◌≡◌, ◌≢◌, ◌≤◌, ◌++◌, ◌==◌, ◌&&◌, [], true, false, Option, IsSome, OnErr, OnOk, drop, length, option_map, take};
 ghost use Rattle.bx_grid.specs.Terminal.{reads};
-ghost use Rattle.bx_session.specs.Saving.{StoreAfter, is_save_byte, store_state, text_to_save};
-ghost use Rattle.bx_session.specs.Session.{key_of_byte};
+ghost use Rattle.bx_session.specs.Session.{StoreAfter, is_save_byte, key_of_byte, store_state, text_to_save};
 ghost use Rattle.bx_store.specs.declared.store.StoreFault.{StoreFault};
-ghost use Rattle.bx_world.specs.Answers.{is_applied};
+ghost use Rattle.bx_world.specs.World.{AfterByteStep, AfterReadStep, AfterSendStep, AfterToldStep, AfterWindowStep, StepsTo, is_applied, told_after};
 ghost use Rattle.bx_world.specs.Answers as answers;
 ghost use Rattle.bx_world.specs.Showing.{StaysWhole, WillShow};
-ghost use Rattle.bx_world.specs.Steps.{AfterByteStep, AfterReadStep, AfterSendStep, AfterToldStep, AfterWindowStep, StepsTo};
-ghost use Rattle.bx_world.specs.World.{told_after};
 
 use crate::step::{Step, StepFault};
 use crate::world::World;

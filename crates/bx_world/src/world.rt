@@ -5,9 +5,8 @@ ghost use Rattle.bx_terms.specs.Characters.{largest_text};
 ghost use Rattle.bx_grid.specs.Picture.{is_size};
 ghost use Rattle.bx_terminal.specs.Screens.{IfShown};
 ghost use Rattle.bx_editor.specs.Editor.{Causes};
-ghost use Rattle.bx_world.specs.Showing.{IsShownOn};
+ghost use Rattle.bx_world.specs.Showing.{IsInStep, IsShownOn, StaysWhole, WillShow, picture_of};
 ghost use Rattle.bx_session.specs.Session.{at_opening, with_clipboard};
-ghost use Rattle.bx_world.specs.Showing.{IsInStep, StaysWhole, WillShow, picture_of};
 ghost use Rattle.bx_world.specs.World.{around};
 
 use bx_session::{OpenError, Session};
@@ -35,8 +34,7 @@ pub struct World<D: BidiData + Drop> {
 }
 
 impl<D: BidiData + Drop> Model for World<D> {
-    ghost use Rattle.bx_world.specs.Showing.{IsInStep};
-    ghost use Rattle.bx_world.specs.World.{WorldState};
+    ghost use Rattle.bx_world.specs.Showing.{IsInStep, WorldState};
 
     ghost Value = { WorldState D };
 

@@ -1,6 +1,6 @@
 use Rattle.std.proofs.Common.{◌≡◌, ap, subst, sym, ◌∙◌}
 use Rattle.bx_ucd.specs.declared.tables.Tables.{Tables}
-use Rattle.bx_session.specs.Session.{SessionState}
+use Rattle.bx_session.specs.Feeding.{SessionState}
 use Rattle.bx_recovery.proofs.TablesData.{says}
 use Rattle.bx_recovery.proofs.Causes.{can_open, ran_out}
 use Rattle.bx_recovery.proofs.Opened.{bytes_or_none, opened_is}

@@ -1,7 +1,8 @@
 use Rattle.std.proofs.Common.{◌≡◌, ◌≤◌, ◌+◌, ◌⊎◌, ◌↔◌, Contains, IsTrue, List, ℕ, drop, get_or, ap, subst, ◌∙◌, arith}
 use Rattle.std.proofs.lemmas.List.{drop_all, drop_more, take_all, take_more}
 use Rattle.bx_ucd.specs.Data.{Data}
-use Rattle.bx_session.specs.Session.{SessionState, after_replay}
+use Rattle.bx_session.specs.Feeding.{SessionState}
+use Rattle.bx_session.specs.Replaying.{after_replay}
 use Rattle.bx_recovery.proofs.Replays.{HasMet, holds_beside, journal_is, met_at_first, met_more, one_key_at_most, replayed_one}
 use Rattle.bx_recovery.specs.Recovery.{known_texts, texts_at_saves}
 use Rattle.bx_recovery.proofs.replaying.replay_beside.Goals as goal

@@ -2,7 +2,7 @@ use Rattle.std.proofs.Common.{◌≤◌, ◌∷◌, [], ◌++◌, length, map, r
 use Rattle.bx_ucd.specs.Data.{Data}
 use Rattle.bx_session.specs.Log.{AreTaken, Obeys}
 use Rattle.bx_session.specs.Running.{FedUntilEnd}
-use Rattle.bx_session.specs.Saving.{StoreState}
+use Rattle.bx_session.specs.Session.{StoreState}
 use Rattle.bx_session.proofs.QuitParts.{part_more, part_most, part_some}
 use Rattle.bx_session.proofs.Steps.{joined_more, part_taken}
 use Rattle.bx_session.proofs.keeping.keep_and_obey.Goals as goal

@@ -4,8 +4,8 @@ use Rattle.bx_ucd.specs.Data.{Data}
 use Rattle.bx_session.specs.declared.status.Refused.{Refused}
 use Rattle.bx_session.specs.declared.status.Refused.TheVariants.{Paint}
 use Rattle.bx_session.specs.declared.status.Status.{Status}
-use Rattle.bx_session.specs.Saving.{StoreAfter, is_applied, is_save_byte, store_state, text_to_save}
-use Rattle.bx_session.specs.Session.{SessionState}
+use Rattle.bx_session.specs.Session.{StoreAfter, is_save_byte, store_state, text_to_save}
+use Rattle.bx_session.specs.Feeding.{is_applied, SessionState}
 use Rattle.bx_session.proofs.Bytes.{after_byte_is, byte_appends, byte_paints, owing_is, quiet_is, unpainted_pending}
 use Rattle.bx_session.proofs.session.Session.feed.Goals as goal
 

@@ -1,7 +1,7 @@
 use Rattle.std.proofs.Common.{None, ◌∙◌, ap, sym}
 use Rattle.bx_ucd.specs.Data.{Data}
 use Rattle.bx_editor.specs.Functions.{EditorState}
-use Rattle.bx_session.specs.Session.{known_if}
+use Rattle.bx_session.specs.Feeding.{known_if}
 use Rattle.bx_session.proofs.KeySizes.{still_fits}
 use Rattle.bx_session.proofs.session.Session.press.Goals as goal
 

@@ -1,6 +1,7 @@
 use Rattle.std.proofs.Common.{◌∙◌, ap}
 use Rattle.bx_ucd.specs.Data.{Data}
-use Rattle.bx_session.specs.Session.{SessionState, with_painting_owed}
+use Rattle.bx_session.specs.Session.{with_painting_owed}
+use Rattle.bx_session.specs.Feeding.{SessionState}
 use Rattle.bx_session.proofs.Ending.{replay_is}
 use Rattle.bx_session.proofs.session.Session.replay.Goals as goal
 

@@ -3,8 +3,8 @@ use Rattle.bx_keys.specs.declared.key.Key.TheVariants.{Save}
 use Rattle.bx_store.specs.declared.store.StoreFault.{StoreFault}
 use Rattle.bx_ucd.specs.Data.{Data}
 use Rattle.bx_editor.specs.Functions.{EditorState}
-use Rattle.bx_session.specs.Saving.{SaveEnds, StoreState, store_state, text_to_save}
-use Rattle.bx_session.specs.Session.{Session, SessionState, known_if, session_after_key}
+use Rattle.bx_session.specs.Session.{SaveEnds, StoreState, store_state, text_to_save, Session, session_after_key}
+use Rattle.bx_session.specs.Feeding.{SessionState, known_if}
 use Rattle.bx_session.proofs.Bytes.{save_ends, saved_is}
 use Rattle.bx_session.proofs.Ending.{save_fits}
 use Rattle.bx_session.proofs.Pictures.{value_of}

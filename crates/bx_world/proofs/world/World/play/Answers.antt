@@ -1,6 +1,6 @@
 use Rattle.std.specs.List.{zip}
 use Rattle.bx_ucd.specs.Data.{Data}
-use Rattle.bx_session.specs.Saving.{store_state}
+use Rattle.bx_session.specs.Session.{store_state}
 use Rattle.bx_world.proofs.Brought.{follows}
 use Rattle.bx_world.proofs.Opened.{headline}
 use Rattle.bx_world.proofs.Schedules.{schedule_shows}

@@ -1,7 +1,7 @@
 use Rattle.std.proofs.Common.{◌∙◌}
 use Rattle.std.proofs.lemmas.List.{take_more}
 use Rattle.bx_ucd.specs.Data.{Data}
-use Rattle.bx_session.specs.Saving.{store_state}
+use Rattle.bx_session.specs.Session.{store_state}
 use Rattle.bx_world.proofs.Schedules.{one_played}
 use Rattle.bx_world.proofs.world.World.play_into.Goals as goal
 

@@ -1,7 +1,7 @@
 use Rattle.bx_ucd.specs.Data.{Data}
 use Rattle.std.proofs.Common.{subst}
-use Rattle.bx_world.specs.World.{World, WorldState}
-use Rattle.bx_world.specs.Steps.{AfterReadStep}
+use Rattle.bx_world.specs.World.{World, AfterReadStep}
+use Rattle.bx_world.specs.Showing.{WorldState}
 use Rattle.bx_world.proofs.Calls.{read_call, read_steps, value_of}
 use Rattle.bx_world.proofs.world.World.read.Goals as goal
 

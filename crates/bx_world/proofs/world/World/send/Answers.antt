@@ -1,6 +1,7 @@
 use Rattle.bx_ucd.specs.Data.{Data}
 use Rattle.std.proofs.Common.{◌≡◌, ◌++◌, take, subst, ap, ◌∙◌}
-use Rattle.bx_world.specs.World.{World, WorldState, after_send}
+use Rattle.bx_world.specs.World.{World, after_send}
+use Rattle.bx_world.specs.Showing.{WorldState}
 use Rattle.bx_world.proofs.Calls.{is_sent, send_call, send_steps, value_of}
 use Rattle.bx_world.proofs.world.World.send.Goals as goal
 

@@ -1,8 +1,8 @@
 use Rattle.bx_ucd.specs.Data.{Data}
 use Rattle.std.proofs.Common.{subst, ap, ◌∙◌}
 use Rattle.bx_world.specs.Answers.{mark_after}
-use Rattle.bx_world.specs.Steps.{AfterToldStep}
-use Rattle.bx_world.specs.World.{World, WorldState}
+use Rattle.bx_world.specs.World.{AfterToldStep, World}
+use Rattle.bx_world.specs.Showing.{WorldState}
 use Rattle.bx_world.proofs.Calls.{told_call, told_steps, value_of}
 use Rattle.bx_world.proofs.world.World.tell.Goals as goal
 

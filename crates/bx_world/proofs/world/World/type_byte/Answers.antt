@@ -2,10 +2,10 @@ use Rattle.std.proofs.Common.{Option, subst, ap, ◌∙◌}
 use Rattle.std.specs.Prelude.{◌&&◌}
 use Rattle.bx_store.specs.declared.store.StoreFault.{StoreFault}
 use Rattle.bx_ucd.specs.Data.{Data}
-use Rattle.bx_session.specs.Saving.{StoreAfter, is_save_byte, store_state, text_to_save}
-use Rattle.bx_world.specs.Answers.{is_applied, mark_after}
-use Rattle.bx_world.specs.Steps.{AfterByteStep}
-use Rattle.bx_world.specs.World.{World, WorldState}
+use Rattle.bx_session.specs.Session.{StoreAfter, is_save_byte, store_state, text_to_save}
+use Rattle.bx_world.specs.Answers.{mark_after}
+use Rattle.bx_world.specs.World.{is_applied, AfterByteStep, World}
+use Rattle.bx_world.specs.Showing.{WorldState}
 use Rattle.bx_world.proofs.Calls.{byte_call, byte_steps, value_of}
 use Rattle.bx_world.proofs.world.World.type_byte.Goals as goal
 
