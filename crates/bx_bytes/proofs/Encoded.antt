@@ -12,6 +12,10 @@ use Rattle.bx_bytes.specs.declared.fate.Fate.TheVariants.{Waits, Ends, Breaks}
 use Rattle.bx_bytes.proofs.Codes.{IsOfThree, IsOfFour, parts_of_three, parts_of_four, after_two, after_three, after_four, code_of_three, code_of_four}
 use Rattle.bx_bytes.proofs.Codes.{code_of_three_fits, code_of_four_fits, too_long}
 
+-- the first bytes of a character, or all of them
+abbrev pub begins_character : List ℕ → Bool
+begins_character bs = begins_any characters bs
+
 -- ---- the rows, by fates
 
 pub ends_by : (m b : Bool) → cond m Ends (cond b Waits Breaks) ≡ Ends → m ≡ true

@@ -1,6 +1,6 @@
 -- Well-formed UTF-8 byte sequences (the Unicode Standard, table 3-7), as a grammar whose items are the characters.
-use Rattle.std.specs.Prelude.{ℕ, Bool, List, [], ◌∷◌}
-use Rattle.bx_bytes.specs.Pattern.{Piece, One, begins_any}
+use Rattle.std.specs.Prelude.{List, [], ◌∷◌}
+use Rattle.bx_bytes.specs.Pattern.{Piece, One}
 pub use Rattle.bx_terms.specs.Characters.{is_control, is_ascii_printable, are_printable}
 
 -- a byte after the first, where the table has its whole range
@@ -23,7 +23,3 @@ long_characters =
 -- all rows of the table
 abbrev pub characters : List (List Piece)
 characters = (One 0x00 0x7F ∷ []) ∷ long_characters
-
--- the first bytes of a character, or all of them
-abbrev pub begins_character : List ℕ → Bool
-begins_character bs = begins_any characters bs

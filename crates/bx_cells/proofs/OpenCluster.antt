@@ -17,7 +17,7 @@ use Rattle.bx_cells.specs.declared.unit.Unit.{Unit}
 use Rattle.bx_cells.specs.Units.{face, face_of, only_char, format_letter, sized_face, unit_at}
 use Rattle.bx_cells.specs.Simple.{is_shown, own_columns, begins, is_mark, is_simple}
 use Rattle.bx_cells.specs.SimpleAt.{IsSimpleAt}
-use Rattle.bx_cells.specs.SimpleFace.{is_some_mark, simple_face}
+use Rattle.bx_cells.specs.SimpleFace.{simple_face}
 use Rattle.bx_cells.specs.UnitFacts.{units_from}
 use Rattle.bx_cells.proofs.FaceSteps.{by_letter, steps}
 use Rattle.bx_cells.proofs.SimpleBreaks.{Begins-from_test, IsMark-from_test, mark_begins_none, breaks-simple}
@@ -26,6 +26,11 @@ use Rattle.bx_cells.proofs.SimpleUnits.{unit_is_no_tab}
 use Rattle.unicode_segmentation.proofs.TextLemmas.{encode_utf8_nonempty}
 use Rattle.bx_cells.proofs.Locality.{cut-own}
 use Rattle.bx_cells.proofs.Rest.{IsUtf8-past_all, chars_past_all, scalars_front}
+
+-- a cluster of simple characters has marks: the list has what follows its first character
+abbrev pub is_some_mark : List ℕ → Bool
+is_some_mark [] = false
+is_some_mark (m ∷ ms) = true
 
 -- ---- its face
 

@@ -1,16 +1,11 @@
 -- The face of a cluster of simple characters, in a window of `w` columns. `says` is Unicode's data. Marks are combining marks here;
 -- `Mark` is the face of a letter in negative.
-use Rattle.std.specs.Prelude.{ℕ, Bool, true, false, cond, List, [], ◌∷◌, Some, None}
+use Rattle.std.specs.Prelude.{ℕ, Bool, cond, Some, None}
 use Rattle.bx_ucd.specs.Data.{Data}
 use Rattle.bx_cells.specs.declared.unit.Face.{Face}
 use Rattle.bx_cells.specs.declared.unit.Face.TheVariants.{Mark}
 use Rattle.bx_cells.specs.Units.{format_letter, sized_face}
 use Rattle.bx_cells.specs.Simple.{own_columns}
-
--- a cluster of simple characters has marks: the list has what follows its first character
-abbrev pub is_some_mark : List ℕ → Bool
-is_some_mark [] = false
-is_some_mark (m ∷ ms) = true
 
 -- the face of a cluster that begins with the character `c`, with marks after it or without; a formatting character has its letter only
 -- where none follow

@@ -7,10 +7,10 @@ use Rattle.std.proofs.lemmas.List.Sorted.{IsPermutation-sym, All-permutation}
 use Rattle.bx_ucd.specs.declared.class.Class.{Class}
 use Rattle.bx_explicit.specs.declared.entry.ExplicitChar.{ExplicitChar}
 use Rattle.bx_explicit.specs.declared.runs.Run.{Run}
-use Rattle.bx_explicit.specs.Sequences.{runs_from, kept_indexes, indexes_of, AreRising, RunSequence, is_joined, followers, follows}
+use Rattle.bx_explicit.specs.Sequences.{runs_from, kept_indexes, indexes_of, RunSequence, is_joined, followers, follows}
+use Rattle.bx_explicit.proofs.LevelRuns.{AreRising, all_within, all_rising}
 use Rattle.bx_explicit.specs.Sequences.{chain_indexes, sequence_of, sequences_from, sequences}
 use Rattle.bx_explicit.specs.Walk.{IsRunWithin, AreGiven}
-use Rattle.bx_explicit.proofs.LevelRuns.{all_within, all_rising}
 use Rattle.bx_explicit.proofs.Bounds.{followers_each}
 use Rattle.bx_explicit.proofs.Ordered.{given_permutes}
 

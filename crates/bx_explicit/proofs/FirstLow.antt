@@ -6,9 +6,20 @@ use Rattle.std.proofs.lemmas.List.Elements.{All-head, All-tail}
 use Rattle.bx_explicit.specs.declared.entry.ExplicitChar.{ExplicitChar}
 use Rattle.bx_explicit.specs.declared.runs.Run.{Run}
 use Rattle.bx_explicit.specs.ParagraphLevel.{one_more}
-use Rattle.bx_explicit.specs.Sequences.{run, join_run, runs_from, AreRising}
-use Rattle.bx_explicit.specs.OpenChains.{all_above}
+use Rattle.bx_explicit.specs.Sequences.{run, join_run, runs_from}
+use Rattle.bx_explicit.proofs.LevelRuns.{AreRising}
+use Rattle.bx_explicit.specs.OpenChains.{ends_in_initiator}
 use Rattle.bx_explicit.proofs.Scan.{further, further_more}
+use Rattle.bx_ucd.specs.declared.class.Class.{Class}
+
+-- all runs are above the level
+abbrev pub all_above : ℕ → List Run → Bool
+all_above level [] = true
+all_above level (r ∷ rs) = nat_lt level r.level && all_above level rs
+
+-- `r` ends in an initiator, and `q`, the first run after `r` that is not above it, has its level; `between` are the runs between them
+abbrev pub is_resumed : List Class → Run → List Run → Run → Bool
+is_resumed cs r between q = ends_in_initiator cs r && (q.level == r.level) && all_above r.level between
 
 -- by whether a level is above another, and whether it is the same
 abbrev pub pick : Bool → Bool → Option ℕ → Option ℕ → Option ℕ

@@ -14,12 +14,11 @@ use Rattle.bx_explicit.specs.declared.runs.Run.{Run}
 use Rattle.bx_explicit.specs.declared.state.State.{State}
 use Rattle.bx_explicit.specs.Stack.{entry}
 use Rattle.bx_explicit.specs.ParagraphLevel.{isolate_level, before_pdi, match_after}
-use Rattle.bx_explicit.specs.Sequences.{runs_from, AreRising, is_joined, starts_with_initiator}
-use Rattle.bx_explicit.specs.OpenChains.{all_above, is_resumed}
+use Rattle.bx_explicit.specs.Sequences.{runs_from, is_joined, starts_with_initiator}
+use Rattle.bx_explicit.proofs.LevelRuns.{AreRising, runs_rising}
+use Rattle.bx_explicit.proofs.FirstLow.{all_above, is_resumed, resumed_run, resumed_runs, begins_at, first_is}
 use Rattle.bx_explicit.proofs.Scan.{further}
 use Rattle.bx_explicit.proofs.Steps.{state_at, first_higher}
-use Rattle.bx_explicit.proofs.LevelRuns.{runs_rising}
-use Rattle.bx_explicit.proofs.FirstLow.{resumed_run, resumed_runs, begins_at, first_is}
 use Rattle.bx_explicit.proofs.RunEnd.{IsUnlike, EndsAt, run_ends}
 use Rattle.bx_explicit.proofs.Inside.{IsInside, out_at}
 use Rattle.bx_explicit.proofs.OverflowIsolate.{no_other_run}

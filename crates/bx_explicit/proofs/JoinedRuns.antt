@@ -11,7 +11,8 @@ use Rattle.bx_ucd.specs.Class.{is_initiator}
 use Rattle.bx_explicit.specs.declared.runs.Run.{Run}
 use Rattle.bx_explicit.specs.ParagraphLevel.{match_after}
 use Rattle.bx_explicit.specs.Sequences.{is_joined, followers, follows, starts_with_initiator}
-use Rattle.bx_explicit.specs.OpenChains.{all_above, ends_in_initiator, is_resumed}
+use Rattle.bx_explicit.specs.OpenChains.{ends_in_initiator}
+use Rattle.bx_explicit.proofs.FirstLow.{all_above, is_resumed}
 
 -- a run that ends in no initiator is joined to none
 match_none : (i : ℕ) (cs : List Class) → starts_with_initiator cs ≡ false → match_after i cs ≡ None

@@ -6,10 +6,15 @@ use Rattle.std.proofs.Math.Seq.{take-length}
 use Rattle.std.proofs.Math.ListN.{length-set}
 use Rattle.bx_explicit.specs.declared.entry.ExplicitChar.{ExplicitChar}
 use Rattle.bx_explicit.specs.declared.runs.Run.{Run}
-use Rattle.bx_explicit.specs.Sequences.{run, join_run, runs_from, AreRising}
+use Rattle.bx_explicit.specs.Sequences.{run, join_run, runs_from}
 use Rattle.bx_explicit.specs.Walk.{IsRunWithin}
-use Rattle.std.specs.Prelude.{All, ◌==◌}
+use Rattle.std.specs.Prelude.{All, ◌==◌, ◌≤◌}
 use Rattle.std.proofs.lemmas.List.Elements.{All-cons, All-nil, All-head, All-tail}
+
+-- the runs are in text order and do not overlap
+abbrev pub AreRising : List Run → Type 0
+AreRising [] = Unit {0}
+AreRising (r ∷ rs) = (r.first ≤ r.last) × All (λ q. r.last < q.first) rs × AreRising rs
 
 -- the last of a list is the first of its reverse
 take_whole : {A : Type 0} (rs : List A) (n : ℕ) → length rs ≡ n → take n rs ≡ rs

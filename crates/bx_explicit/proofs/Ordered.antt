@@ -12,10 +12,10 @@ use Rattle.bx_ucd.specs.declared.class.Class.{Class}
 use Rattle.bx_ucd.specs.declared.class.Class.TheVariants.{L}
 use Rattle.bx_explicit.specs.declared.entry.ExplicitChar.{ExplicitChar}
 use Rattle.bx_explicit.specs.declared.runs.Run.{Run}
-use Rattle.bx_explicit.specs.Sequences.{run, join_run, runs_from, kept_indexes, indexes_of, AreRising, RunSequence, followers, follows}
+use Rattle.bx_explicit.specs.Sequences.{run, join_run, runs_from, kept_indexes, indexes_of, RunSequence, followers, follows}
+use Rattle.bx_explicit.proofs.LevelRuns.{AreRising, runs_within, all_rising}
 use Rattle.bx_explicit.specs.Sequences.{sequence_of, sequences_from, sequences, chain_indexes}
 use Rattle.bx_explicit.specs.Walk.{IsRunWithin, AreGiven}
-use Rattle.bx_explicit.proofs.LevelRuns.{runs_within, all_rising}
 use Rattle.bx_explicit.proofs.Bounds.{sequences_each, followers_each}
 
 -- the first index of a sequence, or 0

@@ -7,7 +7,8 @@ use Rattle.bx_explicit.specs.declared.entry.ExplicitChar.{ExplicitChar}
 use Rattle.bx_explicit.specs.declared.runs.Run.{Run}
 use Rattle.bx_explicit.specs.Walk.{IsRunWithin, IsOut}
 use Rattle.bx_explicit.specs.Sequences.{RunSequence, is_joined, followers, chain_indexes, sequences_from}
-use Rattle.bx_explicit.specs.OpenChains.{all_above, first_run_of, sequence_of_runs}
+use Rattle.bx_explicit.specs.OpenChains.{first_run_of, sequence_of_runs}
+use Rattle.bx_explicit.proofs.FirstLow.{all_above}
 use Rattle.bx_explicit.proofs.Spans.{Spans, each_of_chain, all_reverse, spans_before, spans_after}
 use Rattle.bx_explicit.proofs.JoinedRuns.{AreJoinedByLevel, other_level, above_more, followers_unjoined}
 

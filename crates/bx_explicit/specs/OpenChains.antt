@@ -1,7 +1,7 @@
 -- Open chains: chains of level runs that a later run may join, while the runs are met in order. A chain whose newest run
 -- ends in an initiator waits for the next run of its level; the higher runs before that one are inside the isolate.
 -- `paragraph`, `cs` and `kept` are as in `Sequences`.
-use Rattle.std.specs.Prelude.{◌==◌, ◌&&◌, ◌||◌, ℕ, nat_lt, Bool, true, false, not, List, [], ◌∷◌, Option, drop, reverse}
+use Rattle.std.specs.Prelude.{◌==◌, ◌||◌, ℕ, nat_lt, Bool, true, false, not, List, [], ◌∷◌, Option, drop, reverse}
 use Rattle.bx_ucd.specs.declared.class.Class.{Class}
 use Rattle.bx_ucd.specs.declared.class.Class.TheVariants.{L}
 use Rattle.bx_explicit.specs.declared.entry.Explicit.{Explicit}
@@ -21,15 +21,6 @@ run_at kept p = first_run_of (runs_from p (drop p kept))
 -- the last character of a run is an isolate initiator
 abbrev pub ends_in_initiator : List Class → Run → Bool
 ends_in_initiator cs r = starts_with_initiator (drop r.last cs)
-
--- all runs are above the level
-abbrev pub all_above : ℕ → List Run → Bool
-all_above level [] = true
-all_above level (r ∷ rs) = nat_lt level r.level && all_above level rs
-
--- `r` ends in an initiator, and `q`, the first run after `r` that is not above it, has its level; `between` are the runs between them
-abbrev pub is_resumed : List Class → Run → List Run → Run → Bool
-is_resumed cs r between q = ends_in_initiator cs r && (q.level == r.level) && all_above r.level between
 
 -- the newest chain ends before the run `q`: no later run can join it. Chains are listed the newest first, each with its
 -- newest run first; none is without a run

@@ -1,9 +1,9 @@
 -- Isolating run sequences and the types at their ends, BD13 and X10. `paragraph` is the paragraph level, `cs` are the classes of the
 -- paragraph's characters and `kept` their results of the explicit rules; `r` and `q` are level runs.
 pub use Rattle.bx_ucd.specs.Class.{direction}
-use Rattle.std.specs.Prelude.{◌==◌, ℕ, ◌+◌, Bool, true, false, List, [], ◌∷◌, ◌++◌, Option, Some, None, take, drop, reverse, max, ◌≤◌, ◌<◌}
+use Rattle.std.specs.Prelude.{◌==◌, ℕ, ◌+◌, Bool, true, false, List, [], ◌∷◌, ◌++◌, Option, Some, None, take, drop, reverse, max}
 use Rattle.std.specs.List.{list_any}
-use Rattle.std.specs.Prelude.{◌-◌, All}
+use Rattle.std.specs.Prelude.{◌-◌}
 use Rattle.bx_ucd.specs.declared.class.Class.{Class}
 use Rattle.bx_ucd.specs.Class.{is_initiator}
 use Rattle.bx_explicit.specs.declared.entry.ExplicitChar.{ExplicitChar}
@@ -34,11 +34,6 @@ kept_indexes k (Some c ∷ cs) = k ∷ kept_indexes (k + 1) cs
 -- the indexes of a run
 abbrev pub indexes_of : List (Option ExplicitChar) → Run → List ℕ
 indexes_of kept r = kept_indexes r.first (take (r.last + 1 - r.first) (drop r.first kept))
-
--- the runs are in text order and do not overlap
-abbrev pub AreRising : List Run → Type 0
-AreRising [] = Unit {0}
-AreRising (r ∷ rs) = (r.first ≤ r.last) × All (λ q. r.last < q.first) rs × AreRising rs
 
 -- an isolating run sequence: the indexes of its characters, their level, and the types before its first character (sos)
 -- and after its last (eos)

@@ -3,7 +3,7 @@ ghost use Rattle.std.specs.Prelude.{◌≡◌, ◌+◌, ◌<◌, ◌≤◌, IfOk
 ghost use Rattle.std.specs.Prelude.{vec_capacity};
 ghost use Rattle.bx_explicit.specs.CharLevel.{HasLevel};
 ghost use Rattle.bx_explicit.specs.OpenChains.{run_at};
-ghost use Rattle.bx_explicit.specs.Sequences.{AreRising, join_run, run, runs_from};
+ghost use Rattle.bx_explicit.specs.Sequences.{join_run, run, runs_from};
 ghost use Rattle.bx_explicit.specs.Walk.{IsRunWithin};
 
 use crate::entry::ExplicitChar;

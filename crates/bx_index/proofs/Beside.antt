@@ -8,13 +8,16 @@ use Rattle.bx_index.specs.declared.lengths.Lengths.{Lengths}
 use Rattle.bx_index.specs.Paragraphs.{lengths, bytes_of, total}
 use Rattle.bx_index.specs.Ended.{first, further}
 use Rattle.bx_index.specs.Scan.{HasNone}
-use Rattle.bx_index.specs.ScanRanges.{rest_of}
 use Rattle.bx_index.proofs.Changes.{AreAround, cut_at}
 use Rattle.bx_index.proofs.Counts.{count_is_some, paired_ends}
 use Rattle.bx_index.proofs.Cuts.{width, width_is_some, widths, widths_more, widths_append, one_width, lens, ends, is_paired, lens_plain}
 use Rattle.bx_index.proofs.Edits.{shorter}
 use Rattle.bx_index.proofs.Firsts.{first_behind, first_grown, first_at, one_byte, same_lengths}
 use Rattle.bx_index.proofs.Seams.{seam}
+
+-- the rest of a paragraph after `n` of its bytes
+abbrev pub rest_of : ℕ → Lengths → Lengths
+rest_of n p = record { body = p.body - n; separator = min p.separator (bytes_of p - n) }
 
 module _ (says : Data) where
   first_plain : (c : ℕ) (cs : List ℕ) → ends says c ≡ false → first (lens says (c ∷ cs)) ≡ further (width c) (first (lens says cs))

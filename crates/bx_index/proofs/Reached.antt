@@ -10,8 +10,8 @@ use Rattle.bx_index.specs.declared.scan_range.ScanRange.{ScanRange}
 use Rattle.bx_index.specs.Paragraphs.{lengths, bytes_of, total}
 use Rattle.bx_index.specs.Ended.{first}
 use Rattle.bx_index.specs.Touched.{IsTouched}
-use Rattle.bx_index.specs.ScanRanges.{rest_of, IsScanRange}
-use Rattle.bx_index.proofs.Beside.{GoesOn, goes_on_in_body, rest_behind, HoldsAll}
+use Rattle.bx_index.specs.ScanRanges.{IsScanRange}
+use Rattle.bx_index.proofs.Beside.{rest_of, GoesOn, goes_on_in_body, rest_behind, HoldsAll}
 use Rattle.bx_index.proofs.Changes.{AreAround, around}
 use Rattle.bx_index.proofs.Cuts.{unended, lens}
 use Rattle.bx_index.proofs.Firsts.{same_lengths}

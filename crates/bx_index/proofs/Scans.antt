@@ -10,9 +10,14 @@ use Rattle.bx_ucd.specs.Data.{Data}
 use lib.Utf8.{scalar, scalars}
 use Rattle.bx_index.specs.Paragraphs.{is_separator, begins_with_lf}
 use Rattle.bx_index.specs.LeadBytes.{lead_of, CoversSeparators}
-use Rattle.bx_index.specs.Scan.{HasNone, NoneAt, NoneBefore, BeginsAt, IsAt}
+use Rattle.bx_index.specs.Scan.{HasNone, NoneAt, BeginsAt, IsAt}
 use Rattle.bx_index.proofs.Changes.{scalars_back, cut_at, front_len, spelt}
 use Rattle.bx_index.proofs.Cuts.{width_is_some, widths, widths_more, widths_append, one_width}
+
+-- no separator begins before the offset `n`
+abbrev pub NoneBefore : Data → List ℕ → ℕ → Type 0
+NoneBefore says text n =
+    (front : List ℕ) (c : ℕ) (rest : List ℕ) → chars text ≡ front ++ c ∷ rest → length (encode_utf8_all front) < n → is_separator (says.class c) ≡ false
 
 -- ---- the character at an offset
 

@@ -1,6 +1,6 @@
 -- The first separator of some characters, and that there is none: what a scan finds in a piece of a text.
 -- `says` is Unicode's data.
-use Rattle.std.specs.Prelude.{◌≡◌, ◌<◌, ℕ, true, false, List, [], ◌∷◌, ◌++◌, length, drop, chars, encode_utf8_all, IsCharBoundary}
+use Rattle.std.specs.Prelude.{◌≡◌, ℕ, true, false, List, [], ◌∷◌, ◌++◌, length, drop, chars, encode_utf8_all, IsCharBoundary}
 use Rattle.std.specs.Prelude.{count_by}
 use Rattle.bx_ucd.specs.Data.{Data}
 use Rattle.bx_index.specs.Paragraphs.{is_separator}
@@ -23,11 +23,6 @@ pub record IsAt (says : Data) (cs : List ℕ) (before c : ℕ) : Type 0 where
 abbrev pub NoneAt : Data → List ℕ → ℕ → Type 0
 NoneAt says text at =
     (front : List ℕ) (c : ℕ) (rest : List ℕ) → chars text ≡ front ++ c ∷ rest → length (encode_utf8_all front) ≡ at → is_separator (says.class c) ≡ false
-
--- no separator begins before the offset `n`
-abbrev pub NoneBefore : Data → List ℕ → ℕ → Type 0
-NoneBefore says text n =
-    (front : List ℕ) (c : ℕ) (rest : List ℕ) → chars text ≡ front ++ c ∷ rest → length (encode_utf8_all front) < n → is_separator (says.class c) ≡ false
 
 -- the separator `c` begins at an offset of a text
 pub record BeginsAt (says : Data) (text : List ℕ) (at c : ℕ) : Type 0 where

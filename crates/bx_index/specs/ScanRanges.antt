@@ -1,15 +1,10 @@
 -- The part of a text that a scan for paragraphs reads, and the rest of a paragraph after it, whose lengths are known.
 -- `says` is Unicode's data.
-use Rattle.std.specs.Prelude.{◌≡◌, ◌≤◌, ℕ, ◌-◌, min, List, drop, IsCharBoundary}
+use Rattle.std.specs.Prelude.{◌≡◌, ◌≤◌, ℕ, ◌-◌, List, drop, IsCharBoundary}
 use Rattle.bx_ucd.specs.Data.{Data}
-use Rattle.bx_index.specs.declared.lengths.Lengths.{Lengths}
 use Rattle.bx_index.specs.declared.scan_range.ScanRange.{ScanRange}
-use Rattle.bx_index.specs.Paragraphs.{lengths, bytes_of}
+use Rattle.bx_index.specs.Paragraphs.{lengths}
 use Rattle.bx_index.specs.Ended.{first, further}
-
--- the rest of a paragraph after `n` of its bytes
-abbrev pub rest_of : ℕ → Lengths → Lengths
-rest_of n p = record { body = p.body - n; separator = min p.separator (bytes_of p - n) }
 
 -- The range `w` is one to scan for the paragraph that begins at the offset `at`: no separator is between the offset and the range,
 -- and the range is followed by the rest of a paragraph, a body of `w.body` bytes and a separator of `w.separator`.

@@ -4,7 +4,7 @@ use Rattle.std.specs.Prelude.{◌++◌, ◌==◌, if◌then◌else◌, length, r
 use Rattle.std.specs.Str.{chars}
 use Rattle.std.proofs.lemmas.List.Elements.{All-nil, All-cons}
 use Rattle.bx_ucd.specs.Data.{Data}
-use Rattle.bx_ucd.specs.JoinedTables.{form_line, joined_tables, type_line}
+use Rattle.bx_ucd.proofs.JoinedTables.{form_line, joined_tables, type_line}
 use Rattle.bx_ucd.specs.declared.class.Class.{Class}
 use Rattle.bx_ucd.specs.declared.class.Class.TheVariants.{AL, NSM}
 use Rattle.bx_ucd.specs.declared.joining.Joining.{Joining}

@@ -24,7 +24,11 @@ use Rattle.bx_cells.proofs.Printable.{ascii_bytes}
 use Rattle.bx_joining.specs.Joining.{in_forms}
 use Rattle.bx_rows.specs.RowPicture.{Glyph, glyph, blank, mirror_image, is_own, joined_image_within, mirror_image_within, mirrored_chars, shown_text, face_glyphs, letter_glyphs}
 use Rattle.bx_rows.specs.Wrapping.{columns_at}
-use Rattle.bx_rows.specs.Shown.{HasLetter}
+
+-- a mark's letter is a character from SPACE to TILDE
+abbrev pub HasLetter : Face → Type 0
+HasLetter (Mark letter) = is_ascii_printable letter ≡ true
+HasLetter _ = ⊤
 
 -- ---- a text from its face
 

@@ -15,11 +15,11 @@ use Rattle.bx_rows.specs.declared.narrow_run.NarrowRun.{NarrowRun}
 use Rattle.bx_rows.specs.NarrowRuns.{AreNarrow, IsNarrowRun, IsRunIn, grown}
 use Rattle.bx_rows.specs.declared.row_scan.Scan.{Scan}
 use Rattle.bx_rows.specs.declared.start_search.RowStart.{RowStart}
-use Rattle.bx_rows.specs.RowScan.{Fits, IsRead, IsScan, with_run}
+use Rattle.bx_rows.specs.RowScan.{IsRead, IsScan, with_run}
+use Rattle.bx_rows.proofs.Scans.{Fits, ends-push, none-append, one-passes, scan-more, scan-break}
 use Rattle.bx_rows.specs.Wrapping.{columns_at, is_blank, is_break, is_one_blank, up_to_last}
 use Rattle.bx_rows.proofs.RowsFit.{last-length}
 use Rattle.bx_rows.proofs.RowUnits.{one-column}
-use Rattle.bx_rows.proofs.Scans.{ends-push, none-append, one-passes, scan-more, scan-break}
 
 pub run-none : (says : Data) (w : ℕ) (body : List ℕ) (at : ℕ) → IsNarrowRun says w body at (record { stop = at; count = 0; last = 0; next = at })
 run-none says w body at = record { us = []; units = refl; narrow = tt; count_is = refl; last_is = refl; next_is = refl }

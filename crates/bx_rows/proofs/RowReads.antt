@@ -15,9 +15,9 @@ use Rattle.bx_rows.specs.declared.row_scan.Extent.{Extent}
 use Rattle.bx_rows.specs.declared.row_scan.Scan.{Scan}
 use Rattle.bx_rows.specs.RowStarts.{first_offset, start_of}
 use Rattle.bx_rows.specs.Wrapping.{columns_at, fit_count_from, is_break, rows_from}
-use Rattle.bx_rows.specs.RowScan.{Fits, HasExtent, IsInOrder, IsRead, IsScan, Takes, new_scan}
-use Rattle.bx_rows.proofs.Scans.{none_fits, scan-new, scan-more, scan-break, drop-break, drop-read, scan-length, row-at-break, scan-at-break, row-full}
-use Rattle.bx_rows.proofs.Scans.{row-none, row-last, row-empty}
+use Rattle.bx_rows.specs.RowScan.{HasExtent, IsInOrder, IsRead, IsScan, Takes, new_scan}
+use Rattle.bx_rows.proofs.Scans.{Fits, none_fits, scan-new, scan-more, scan-break, drop-break, drop-read, scan-length, row-at-break}
+use Rattle.bx_rows.proofs.Scans.{scan-at-break, row-full, row-none, row-last, row-empty}
 
 first_from : (says : Data) (w : ℕ) (at : ℕ) (gs : List (List ℕ)) → 0 < length (map (unit_at says w) (with_offsets at gs))
     → first_offset (map (unit_at says w) (with_offsets at gs)) ≡ at

@@ -8,8 +8,12 @@ use Rattle.bx_cells.specs.declared.unit.Face.{Face}
 use Rattle.bx_cells.specs.declared.unit.Face.TheVariants.{Tab, Mark, Own}
 use Rattle.bx_cells.specs.declared.unit.Unit.{Unit}
 use Rattle.bx_rows.specs.Wrapping.{columns_at, fit_count_from, up_to_last, up_to_break, row_len, rows_from}
-use Rattle.bx_rows.specs.RowScan.{Fits, IsScan}
+use Rattle.bx_rows.specs.RowScan.{IsScan}
 use Rattle.bx_rows.proofs.Wraps.{fit_cons, fits_no_more, fits_full, rows_turn}
+
+-- a unit that begins at column `c` begins in the window and ends in it
+abbrev pub Fits : ℕ → ℕ → Unit → Type 0
+Fits w c u = (c < w) × (c + columns_at w c u.face ≤ w)
 
 -- units that begin sooner end no later
 pub sooner : (w c d : ℕ) (f : Face) → c ≤ d → d ≤ w → c + columns_at w c f ≤ d + columns_at w d f

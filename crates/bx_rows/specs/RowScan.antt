@@ -1,6 +1,6 @@
 -- The current row of a scan over a body's units, and its invariants. `says` is what the tables say, `w` the window's columns;
 -- offsets count bytes of the body, columns from 0.
-use Rattle.std.specs.Prelude.{◌≡◌, ℕ, zero, suc, ◌+◌, ◌-◌, ◌<◌, ◌≤◌, Bool, List, ◌∷◌, ◌++◌, map, length, take, drop, chars}
+use Rattle.std.specs.Prelude.{◌≡◌, ℕ, zero, suc, ◌+◌, ◌-◌, ◌≤◌, Bool, List, ◌∷◌, ◌++◌, map, length, take, drop, chars}
 use Rattle.std.specs.Str.{IsCharBoundary}
 use Rattle.bx_ucd.specs.Data.{Data}
 use Rattle.bx_cells.specs.declared.unit.Unit.{Unit}
@@ -11,10 +11,6 @@ use Rattle.bx_rows.specs.declared.row_scan.Scan.{Scan}
 use Rattle.bx_rows.specs.declared.start_search.RowStart.{RowStart}
 use Rattle.bx_rows.specs.RowStarts.{start_of}
 use Rattle.bx_rows.specs.Wrapping.{columns_at, fit_count_from, is_break, rows_from, up_to_last}
-
--- a unit that begins at column `c` begins in the window and ends in it
-abbrev pub Fits : ℕ → ℕ → Unit → Type 0
-Fits w c u = (c < w) × (c + columns_at w c u.face ≤ w)
 
 -- A row read up to the units `rest`; `p` tells after which units there is a break, where a row may end. `here` are the units
 -- from the row's start on: `last` units up to its last break (0: it has none), then `count` units, with which `behind` begins.

@@ -19,9 +19,8 @@ use Rattle.bx_joining.specs.Joining.{in_forms}
 use Rattle.bx_rows_laws.specs.JoiningLaws.{IsSameOrForm, LettersShowTheirForms, ShownLetter, ShowsForms, plain, text_shown, unjoined}
 use Rattle.bx_rows.specs.RowPicture.{Glyph, blank, columns_used, face_glyphs, glyph, is_own, joined_image_within, letter_glyphs, mirror_image_within, mirrored_chars, shown_text}
 use Rattle.bx_rows.specs.RowPicture.{unit_columns, unit_forms, unit_glyphs}
-use Rattle.bx_rows.specs.Shown.{HasLetter}
+use Rattle.bx_rows.proofs.FaceGlyphs.{HasLetter, letter-face}
 use Rattle.bx_rows.specs.RowLevels.{visual}
-use Rattle.bx_rows.proofs.FaceGlyphs.{letter-face}
 use Rattle.bx_rows.proofs.GlyphTexts.{all-append, printable-from}
 use Rattle.bx_rows.proofs.Leveled.{formless-text, same-either, whole-mirrored}
 

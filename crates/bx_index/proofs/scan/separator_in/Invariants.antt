@@ -1,6 +1,6 @@
 -- No separator begins before the byte.
 use Rattle.std.proofs.Common.{◌-◌, length}
-use Rattle.bx_index.specs.Scan.{NoneBefore}
+use Rattle.bx_index.proofs.Scans.{NoneBefore}
 use Rattle.bx_index.proofs.scan.separator_in.Given as goal
 
 abbrev pub invariant-loop-at : goal.invariant-loop-at

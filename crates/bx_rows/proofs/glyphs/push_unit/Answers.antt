@@ -4,8 +4,8 @@ use Rattle.bx_cells.specs.declared.unit.Face.TheVariants.{Tab, Mark, Own}
 use Rattle.bx_cells.specs.Units.{unit_text}
 use Rattle.bx_cells.specs.UnitFacts.{HasFace, StandsIn}
 use Rattle.bx_rows.specs.RowPicture.{text_glyphs}
-use Rattle.bx_rows.specs.Shown.{HasLetter, glyph_of}
-use Rattle.bx_rows.proofs.FaceGlyphs.{letter-face}
+use Rattle.bx_rows.specs.Shown.{glyph_of}
+use Rattle.bx_rows.proofs.FaceGlyphs.{HasLetter, letter-face}
 use Rattle.bx_rows.proofs.RowPlaces.{piece-near, stands-near}
 use Rattle.bx_rows.proofs.Wraps.{no_unit}
 use Rattle.bx_rows.proofs.glyphs.push_unit.Goals as goal
