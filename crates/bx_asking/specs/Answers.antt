@@ -11,13 +11,9 @@ use Rattle.bx_asking.specs.declared.line.Target.{Target}
 abbrev pub lengthened : ℕ → List ℕ → ℕ → List ℕ
 lengthened limit answer c = if nat_lt (length (chars answer)) limit then answer ++ encode_utf8 c else answer
 
--- all characters but the last
-abbrev pub but_last : List ℕ → List ℕ
-but_last cs = take (length cs - 1) cs
-
 -- the answer without its last character, if it has one
 abbrev pub shortened : List ℕ → List ℕ
-shortened answer = encode_utf8_all (but_last (chars answer))
+shortened answer = encode_utf8_all (take (length (chars answer) - 1) (chars answer))
 
 -- ---- the answer to the question for a line: a paragraph and a unit
 

@@ -121,12 +121,11 @@ search_prompt aim Replacing = codes " Enter replace ^W next F4 all ^C end"
 
 -- behind a search's prompt the query or the other text
 abbrev pub search_glyphs : Data → List ℕ → List ℕ → Seek → List Glyph
-search_glyphs d query other Off = []
 search_glyphs d query other Begun = query_glyphs d query
 search_glyphs d query other Typed = query_glyphs d query
 search_glyphs d query other WithBegun = query_glyphs d other
 search_glyphs d query other WithTyped = query_glyphs d other
-search_glyphs d query other Replacing = []
+search_glyphs d query other _ = []
 
 -- the prompt of a question
 abbrev pub prompt_text : Ask → List ℕ

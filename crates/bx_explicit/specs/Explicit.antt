@@ -125,13 +125,9 @@ abbrev pub next_state : Role → List Class → State → State
 next_state Fsi cs s = state_after Fsi (isolate_level cs) s
 next_state role cs s = state_after role 0 s
 
--- the result for a character of a role and the class `c`, from the states `s` before it and `t` after it; `None` if X9 removes it
+-- the result for a character of a role and the class `c`, from the states `s` before it and `t` after it; `None` if X9 removes it:
+-- an embedding or override and its end, and BN
 abbrev pub kept_by : Role → Class → State → State → Option ExplicitChar
--- X2 to X5 and X9: it is removed
-kept_by Rle c s t = None
-kept_by Lre c s t = None
-kept_by Rlo c s t = None
-kept_by Lro c s t = None
 -- X5a to X5c and X6: by the last entry before the character
 kept_by Rli c s t = kept_under (top s) c
 kept_by Lri c s t = kept_under (top s) c
@@ -139,9 +135,8 @@ kept_by Fsi c s t = kept_under (top s) c
 kept_by Other c s t = kept_under (top s) c
 -- X6a: by the last entry after the PDI
 kept_by Pdi c s t = kept_under (top t) c
--- X7 and X9: it is removed
-kept_by Pdf c s t = None
-kept_by Bn c s t = None
+-- X2 to X5, X7 and X9: it is removed
+kept_by _ c s t = None
 
 -- the results for the characters with the classes `cs`, before which the state is `s`
 abbrev pub explicit_from : State → List Class → List (Option ExplicitChar)

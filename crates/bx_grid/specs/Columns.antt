@@ -59,16 +59,14 @@ bool_eq false b = not b
 -- both columns look the same
 abbrev pub col_eq : Col → Col → Bool
 col_eq Unknown Unknown = true
-col_eq Unknown (Glyph text columns offset negative) = false
-col_eq (Glyph text columns offset negative) Unknown = false
 col_eq (Glyph a n i x) (Glyph b m j y) = (bytes_eq a b && (n == m)) && ((i == j) && bool_eq x y)
+col_eq _ _ = false
 
 -- both lists look the same
 abbrev pub are_equal : List Col → List Col → Bool
 are_equal [] [] = true
-are_equal [] (d ∷ ds) = false
-are_equal (c ∷ cs) [] = false
 are_equal (c ∷ cs) (d ∷ ds) = col_eq c d && are_equal cs ds
+are_equal _ _ = false
 
 -- ---- glyphs
 

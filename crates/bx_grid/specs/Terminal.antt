@@ -55,15 +55,12 @@ after_move t line column =
 -- CSI 2 J, in a known normal rendition
 abbrev pub after_clear : Terminal → Option Bool → Terminal
 after_clear t (Some false) = record t { columns = replicate (t.height * t.width) blank; position = None }
-after_clear t (Some true) = all_unknown t
-after_clear t None = all_unknown t
+after_clear t _ = all_unknown t
 
 -- CSI K, at a known position in a known normal rendition: from the cursor to the row's end
 abbrev pub after_erase : Terminal → Option (ℕ × ℕ) → Option Bool → Terminal
 after_erase t (Some p) (Some false) = record t { columns = put t.width t.columns p.0 p.1 (replicate (t.width - p.1) blank); position = None }
-after_erase t (Some p) (Some true) = all_unknown t
-after_erase t (Some p) None = all_unknown t
-after_erase t None negative = all_unknown t
+after_erase t _ _ = all_unknown t
 
 -- CSI m: from now on in this rendition
 abbrev pub after_rendition : Terminal → Bool → Terminal
@@ -95,8 +92,7 @@ glyphs_put t p new =
 abbrev pub run_put : Terminal → Option (ℕ × ℕ) → Option Bool → List ℕ → Terminal
 run_put t position negative [] = t
 run_put t (Some p) (Some negative) (b ∷ bs) = glyphs_put t p (run_columns negative (b ∷ bs))
-run_put t (Some p) None (b ∷ bs) = all_unknown t
-run_put t None negative (b ∷ bs) = all_unknown t
+run_put t _ _ (b ∷ bs) = all_unknown t
 
 -- the run's glyphs are put, if it is not empty
 abbrev pub run_ended : Terminal → Terminal

@@ -90,14 +90,12 @@ after_semicolon (b ∷ bs) = if b == 0x3B then bs else after_semicolon bs
 -- a move to a line and a column, counted from 1, if both are numbers
 abbrev pub move_to : Option ℕ → Option ℕ → Command
 move_to (Some line) (Some column) = Move line column
-move_to (Some line) None = Other
-move_to None column = Other
+move_to _ _ = Other
 
 -- the bytes are this one byte
 abbrev pub is_only : ℕ → List ℕ → Bool
-is_only b [] = false
 is_only b (c ∷ []) = b == c
-is_only b (c ∷ d ∷ rest) = false
+is_only b _ = false
 
 -- there is no byte, or the digit 0 alone
 abbrev pub is_absent_or_zero : List ℕ → Bool
@@ -119,9 +117,8 @@ command_of ps final =
 
 -- the command of a sequence, by its parameter bytes and those after them: `Other` if it has intermediate bytes
 abbrev pub command_at : List ℕ → List ℕ → Command
-command_at ps [] = Other
 command_at ps (b ∷ []) = command_of ps b
-command_at ps (b ∷ c ∷ rest) = Other
+command_at ps _ = Other
 
 -- the command of the bytes after CSI
 abbrev pub command : List ℕ → Command

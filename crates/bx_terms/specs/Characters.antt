@@ -28,9 +28,8 @@ are_printable text = list_all (λ c. not (is_control c)) (chars text)
 
 -- the text is a single printable ASCII character
 abbrev pub is_ascii_glyph : List ℕ → Bool
-is_ascii_glyph [] = false
 is_ascii_glyph (c ∷ []) = is_ascii_printable c
-is_ascii_glyph (c ∷ d ∷ rest) = false
+is_ascii_glyph _ = false
 
 -- a surrogate code point, which is not a character
 abbrev pub is_surrogate : ℕ → Bool

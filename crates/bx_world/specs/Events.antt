@@ -92,10 +92,7 @@ keys_of (Telling height width painted ∷ more) = keys_of more
 -- the byte of input of a step, if it is one, and those of a schedule
 abbrev pub byte_of : Step → List ℕ
 byte_of (Byte b) = b ∷ []
-byte_of (Told height width) = []
-byte_of (Window height width) = []
-byte_of (Send count) = []
-byte_of (Read count) = []
+byte_of _ = []
 
 abbrev pub bytes_of_schedule : {A : Type 0} → List (Step × Result A StepFault) → List ℕ
 bytes_of_schedule [] = []
@@ -125,9 +122,7 @@ owed_by owed _ = owed
 abbrev pub owed_after : {A : Type 0} → Bool → Step → Result A StepFault → Bool
 owed_after owed (Byte b) answer = owed_by owed answer
 owed_after owed (Told height width) answer = owed_by owed answer
-owed_after owed (Window height width) answer = owed
-owed_after owed (Send count) answer = owed
-owed_after owed (Read count) answer = owed
+owed_after owed _ answer = owed
 
 -- The events of a byte, given whether the session has ended, and whether a painting is owed before: none after the end. The picture is
 -- painted if the byte is accepted, and its key may change the picture or a painting was owed.
@@ -142,9 +137,7 @@ abbrev pub Brings : {A : Type 0} → Bool → Editor → Step → Result A StepF
 Brings owed e (Byte b) answer events = BringsByte e.ended owed e b answer events
 Brings owed e (Told height width) answer events =
     events ≡ (if is_size height width then Telling height width (is_ok answer) ∷ [] else [])
-Brings owed e (Window height width) answer events = events ≡ []
-Brings owed e (Send count) answer events = events ≡ []
-Brings owed e (Read count) answer events = events ≡ []
+Brings owed e _ answer events = events ≡ []
 
 -- the events of a schedule, step by step; `owed`: a painting is owed before it
 abbrev pub AreEventsFrom : {A : Type 0} → Data → Bool → Editor → List (Step × Result A StepFault) → List Event → Type 0

@@ -106,9 +106,7 @@ AfterByteStep d fault old b (Err (faults.Session refused.Paint)) new =
     (new ≡ with_byte old b (owing_after_byte d fault old.session b)) × (is_painted old.session b ≡ true)
 AfterByteStep d fault old b (Err (faults.Session refused.Edit)) new =
     (new ≡ record old { session = after_spending old.session b }) × (may_refuse_key old.session.editor (key_of_byte old.session b) ≡ true)
-AfterByteStep d fault old b (Err (faults.Session refused.Size)) new = ⊥
-AfterByteStep d fault old b (Err (faults.Screen _)) new = ⊥
-AfterByteStep d fault old b (Err faults.Line) new = ⊥
+AfterByteStep d fault old b _ new = ⊥
 
 -- the world after the session was told a size, by the answer
 abbrev pub AfterToldStep : {A : Type 0} → Data → World → ℕ → ℕ → Result A StepFault → World → Type 0
@@ -117,9 +115,7 @@ AfterToldStep d old height width (Ok _) new =
 AfterToldStep d old height width (Err (faults.Session refused.Paint)) new =
     (is_size height width ≡ true) × (new ≡ with_told_size old height width (owing_after_told old.session height width))
 AfterToldStep d old height width (Err (faults.Session refused.Size)) new = (is_size height width ≡ false) × (new ≡ old)
-AfterToldStep d old height width (Err (faults.Session refused.Edit)) new = ⊥
-AfterToldStep d old height width (Err (faults.Screen fault)) new = ⊥
-AfterToldStep d old height width (Err faults.Line) new = ⊥
+AfterToldStep d old height width _ new = ⊥
 
 -- the world after the window got a size, by the answer; a failed terminal answers `OutOfMemory`, whatever the size
 abbrev pub AfterWindowStep : {A : Type 0} → World → ℕ → ℕ → Result A StepFault → World → Type 0
@@ -128,15 +124,13 @@ AfterWindowStep old height width (Err (faults.Screen grid.SizeOutOfRange)) new =
     (is_size height width ≡ false) × IsSome old.screen × (new ≡ old)
 AfterWindowStep old height width (Err (faults.Screen grid.OutOfMemory)) new =
     (IsSome old.screen → is_size height width ≡ true) × (new ≡ with_failed_screen old)
-AfterWindowStep old height width (Err (faults.Session fault)) new = ⊥
-AfterWindowStep old height width (Err faults.Line) new = ⊥
+AfterWindowStep old height width _ new = ⊥
 
 -- the world after pending bytes went to the line, by the answer; a count beyond the pending bytes sends all of them
 abbrev pub AfterSendStep : {A : Type 0} → World → ℕ → Result A StepFault → World → Type 0
 AfterSendStep old count (Ok _) new = new ≡ after_send old count
 AfterSendStep old count (Err faults.Line) new = new ≡ old
-AfterSendStep old count (Err (faults.Session fault)) new = ⊥
-AfterSendStep old count (Err (faults.Screen fault)) new = ⊥
+AfterSendStep old count _ new = ⊥
 
 -- The world after the terminal read from the line, by the answer. A count beyond the line reads all of it. A read of no byte is
 -- answered Ok, even by a failed terminal. If the terminal runs out of memory, the bytes of the read are off the line.
@@ -144,9 +138,7 @@ abbrev pub AfterReadStep : {A : Type 0} → World → ℕ → Result A StepFault
 AfterReadStep old count (Ok _) new = (take count old.line ≢ [] → IsSome old.screen) × (new ≡ after_read old count)
 AfterReadStep old count (Err (faults.Screen grid.OutOfMemory)) new =
     (take count old.line ≢ []) × (new ≡ with_failed_screen (record old { line = drop count old.line }))
-AfterReadStep old count (Err (faults.Screen grid.SizeOutOfRange)) new = ⊥
-AfterReadStep old count (Err (faults.Session fault)) new = ⊥
-AfterReadStep old count (Err faults.Line) new = ⊥
+AfterReadStep old count _ new = ⊥
 
 -- a step with its answer, world and store; only a byte changes the store
 abbrev pub StepsTo : {A : Type 0} → Data → World → StoreState → Step → Result A StepFault → World → StoreState → Type 0
@@ -171,9 +163,7 @@ PlaysTo d old store (s ∷ more) new store' =
 abbrev pub accepted_after : {A : Type 0} → Bool → Step → Result A StepFault → Bool
 accepted_after before (Byte b) answer = is_ok answer
 accepted_after before (Told height width) answer = is_ok answer
-accepted_after before (Window height width) answer = before
-accepted_after before (Send count) answer = before
-accepted_after before (Read count) answer = before
+accepted_after before _ answer = before
 
 -- whether the last byte or told size of a schedule was accepted; `before` if it has none
 abbrev pub is_last_accepted : {A : Type 0} → Bool → List (Step × Result A StepFault) → Bool
