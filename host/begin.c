@@ -39,7 +39,7 @@ int find_file(struct edit *edit, const char *typed, bool is_lost) {
     sessions_find(&edit->sessions, file->folder);
     edit->target = (struct target){.path = file->path, .folder = -1, .name = file->name};
     if (!file->is_lost) target_look(&edit->target, file->path, file->folder, file->name);
-    edit->reason = find_in_place(&file->facts, &file->look, &file->folder_facts);
+    edit->reason = find_in_place(&file->facts, &file->stamp, &file->folder_facts);
     return GO_ON;
 }
 
@@ -106,10 +106,10 @@ const char *unkept_by(const struct sessions *sessions, enum notice *notice) {
 /* Makes the session. If that is impossible, `unkept` says why. */
 static void try_session(struct edit *edit) {
     const struct file *file = &edit->file;
-    const struct stat *found = &file->look.found;
+    const struct stat *found = &file->stamp.found;
     struct opening opening = {.target = &edit->target, .file = file->text, .mode = -1, .begin = edit->begin,
                               .is_joined = edit->is_joined, .versions = edit->versions};
-    if (file->look.is_there) {
+    if (file->stamp.is_there) {
         opening.mode = (int)(found->st_mode & PERMISSIONS);
         opening.is_secret = found->st_uid == 0 && (found->st_mode & READ_BY_OTHERS) == 0;
     }
@@ -193,7 +193,7 @@ int resume_session(struct edit *edit) {
     edit->is_joined = edit->is_joined && !session_has(session, PART_UNJOINED);
     session_resume(session, size.rows, size.columns);
     if (!edit->is_joined) session_put_empty(session, PART_UNJOINED);
-    if (!edit->file.look.is_there && session_has(session, PART_MODE)) edit->lost_mode = (int)session_mode(session);
+    if (!edit->file.stamp.is_there && session_has(session, PART_MODE)) edit->lost_mode = (int)session_mode(session);
     return settle_in_place(edit);
 }
 
@@ -216,7 +216,7 @@ static void add_text(struct edit *edit, struct words *words) {
         add_option(words, "--replay", journal);
     } else if (source >= 0) {
         add_option(words, "--text", handed_path(run, source));
-    } else if (edit->file.look.is_there) {
+    } else if (edit->file.stamp.is_there) {
         add_option(words, "--text", "/dev/null");
     } else {
         add_word(words, "--new");
@@ -257,10 +257,10 @@ static void on_journal(void *whose, bool is_kept) {
 /* A successful save replaces FILE by a new file. The session records that file, by which it is found later. */
 static void on_saved(void *whose) {
     struct edit *edit = whose;
-    struct look look;
+    struct file_stamp look;
     if (saver_cause(&edit->saver) != 0) return;
     edit->was_saved = true;
-    if (session_is_none(&edit->session) || !saver_look(&edit->saver, &look, &edit->target.id)) return;
+    if (session_is_none(&edit->session) || !saver_stamp(&edit->saver, &look, &edit->target.id)) return;
     edit->target.is_there = look.is_there;
     session_note_file(&edit->session, &edit->target);
 }

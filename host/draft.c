@@ -36,7 +36,7 @@ static int link_nameless(const struct draft *draft, const char *name) {
 }
 
 static int move_to_free(int folder, const char *from, const char *to) {
-    struct look there;
+    struct file_stamp there;
     int error = rename_by(folder, from, to, RENAME_NOREPLACE);
     if (!is_lacking(error)) return error;
     if (linkat(folder, from, folder, to, 0) == 0) {
@@ -45,7 +45,7 @@ static int move_to_free(int folder, const char *from, const char *to) {
     }
     if (errno != EPERM && !is_lacking(errno)) return errno;
     /* the system has neither call */
-    if (!look_at(folder, to, &there)) return errno;
+    if (!stamp_at(folder, to, &there)) return errno;
     if (there.is_there) return EEXIST;
     return renameat(folder, from, folder, to) == 0 ? 0 : errno;
 }
@@ -134,10 +134,10 @@ int draft_take_over(const struct draft *draft, const struct stat *old, bool is_p
 /* ---- FILE's place */
 
 /* Whether what the exchange took from FILE's place is what was seen there. `is_listless`: it must not have got an access list since. */
-static bool came_out(const struct draft *draft, const struct look *seen, bool is_listless) {
-    struct look out;
+static bool came_out(const struct draft *draft, const struct file_stamp *seen, bool is_listless) {
+    struct file_stamp out;
     int itself;
-    bool is_right = look_and_open(draft->folder, draft->name, &out, &itself) && is_taken_out(seen, &out) &&
+    bool is_right = stamp_and_open(draft->folder, draft->name, &out, &itself) && is_taken_out(seen, &out) &&
                     (!is_listless || has_access_list(itself) != YES);
     close_one(&itself);
     return is_right;
@@ -146,11 +146,11 @@ static bool came_out(const struct draft *draft, const struct look *seen, bool is
 /* Undoes an exchange: puts back what it took from FILE's place. If another program put something newer in that place meanwhile, this
  * exchange takes that out, so it is put back in turn. Returns whether what has the draft's name at the end may be removed. */
 static bool exchange_back(const struct draft *draft, const char *name, struct stat last_in) {
-    struct look goes_in, out;
+    struct file_stamp goes_in, out;
     for (int tries = 0; tries < DRAFT_TRIES; tries++) {
-        if (!look_at(draft->folder, draft->name, &goes_in) || !goes_in.is_there) return false;
+        if (!stamp_at(draft->folder, draft->name, &goes_in) || !goes_in.is_there) return false;
         if (rename_by(draft->folder, draft->name, name, RENAME_EXCHANGE) != 0) return false;
-        if (!look_at(draft->folder, draft->name, &out) || !out.is_there) return false;
+        if (!stamp_at(draft->folder, draft->name, &out) || !out.is_there) return false;
         if (is_same_file(&out.found, &last_in)) return true;
         last_in = goes_in.found;
     }
@@ -164,7 +164,7 @@ static enum placed replace_by_rename(struct draft *draft, const char *name) {
     return PLACED;
 }
 
-enum placed draft_exchange(struct draft *draft, const char *name, const struct look *seen, bool is_listless) {
+enum placed draft_exchange(struct draft *draft, const char *name, const struct file_stamp *seen, bool is_listless) {
     struct stat own;
     if (fstat(draft->file, &own) != 0) return PLACE_FAILED;
     int error = rename_by(draft->folder, draft->name, name, RENAME_EXCHANGE);
@@ -196,8 +196,8 @@ void draft_close(struct draft *draft) {
 
 void draft_remove(struct draft *draft) {
     struct stat own;
-    struct look there;
-    if (draft->file >= 0 && draft->name[0] && fstat(draft->file, &own) == 0 && look_at(draft->folder, draft->name, &there) &&
+    struct file_stamp there;
+    if (draft->file >= 0 && draft->name[0] && fstat(draft->file, &own) == 0 && stamp_at(draft->folder, draft->name, &there) &&
         there.is_there && is_same_file(&own, &there.found))
         unlinkat(draft->folder, draft->name, 0);
     draft->name[0] = 0;
@@ -290,7 +290,7 @@ int save_in_place(struct save *save) {
         note_torn(save);
         error = fill(save, file);
         state->seen.is_there = fstat(file, &state->seen.found) == 0;
-        if (error == 0) state->is_distrusted = !state->seen.is_there || is_written_over(save);
+        if (error == 0) state->is_assumed_changed = !state->seen.is_there || is_written_over(save);
         state->old = state->seen;
         state->has_id = find_id(file, &state->id);
         /* the mark stays as long as FILE may need it */

@@ -52,7 +52,7 @@ enum replayed replay(struct edit *edit, const struct session *session, int *text
     add_option(&words, "--replay", handed_path(&run, session->journal));
     add_option(&words, "--to", handed_path(&run, made));
     if (edit->file.text >= 0) add_option(&words, "--against", handed_path(&run, edit->file.text));
-    else if (edit->file.look.is_there) add_option(&words, "--against", "/dev/null");
+    else if (edit->file.stamp.is_there) add_option(&words, "--against", "/dev/null");
     add_word(&words, edit->file.typed);
     int status = run_aside(&run, words.words, limit);
     enum replayed replayed = replayed_of(&run.said, status);
@@ -69,7 +69,7 @@ static bool is_in_part(const struct edit *edit, const struct session *session, e
 }
 
 enum replayed compare_text(const struct edit *edit, const struct session *session) {
-    if (!edit->file.look.is_there) return REPLAY_KNOWN;
+    if (!edit->file.stamp.is_there) return REPLAY_KNOWN;
     if (is_in_part(edit, session, PART_SNAPSHOT)) return REPLAY_SAME;
     bool is_known = is_in_part(edit, session, PART_TEXT) || is_in_part(edit, session, PART_SAVE);
     return is_known ? REPLAY_KNOWN : REPLAY_FOREIGN;
@@ -149,8 +149,8 @@ static void give_mode(const struct edit *edit) {
 }
 
 static bool is_there_now(const struct edit *edit) {
-    struct look look;
-    return look_again(&edit->file, &look) && look.is_there;
+    struct file_stamp look;
+    return stamp_again(&edit->file, &look) && look.is_there;
 }
 
 static void tell_aside(const struct edit *edit) {
@@ -237,7 +237,7 @@ static bool leave_text(struct edit *edit) {
     /* FILE as it is now */
     if (edit->file.text >= 0) close(edit->file.text);
     edit->file.text = open_now(edit, &look);
-    edit->file.look.is_there = is_there_now(edit);
+    edit->file.stamp.is_there = is_there_now(edit);
     enum replayed found = replay(edit, session, &text, within(end_signal ? REPLAY_BY_SIGNAL_MS : REPLAY_MS));
     if (text < 0) return false;
     put_snapshot(session, text);

@@ -16,13 +16,13 @@ enum { MOST_LINKS = 40, OPEN_TRIES = 10, FRONT = 512, MOST_NAMES = 20000, MOST_D
 
 /* ---- looks */
 
-bool look_at(int folder, const char *name, struct look *look) {
+bool stamp_at(int folder, const char *name, struct file_stamp *look) {
     memset(look, 0, sizeof *look);
     look->is_there = fstatat(folder, name, &look->found, AT_SYMLINK_NOFOLLOW) == 0;
     return look->is_there || errno == ENOENT;
 }
 
-bool look_and_open(int folder, const char *name, struct look *look, int *itself) {
+bool stamp_and_open(int folder, const char *name, struct file_stamp *look, int *itself) {
     memset(look, 0, sizeof *look);
     *itself = open_itself(folder, name);
     if (*itself < 0) return errno == ENOENT;
@@ -31,8 +31,8 @@ bool look_and_open(int folder, const char *name, struct look *look, int *itself)
     return look->is_there;
 }
 
-bool look_again(const struct file *file, struct look *look) {
-    return look_at(file->folder, file->name, look);
+bool stamp_again(const struct file *file, struct file_stamp *look) {
+    return stamp_at(file->folder, file->name, look);
 }
 
 bool find_id(int at, struct file_id *id) {
@@ -132,7 +132,7 @@ static const char *take_step(struct file *file, const char *path) {
     if (!file->is_linked) put_path(file->folder_name, "%s", folder_part);
     close_one(&file->folder);
     file->folder = folder;
-    look_and_open(folder, file->name, &file->look, &file->itself);
+    stamp_and_open(folder, file->name, &file->stamp, &file->itself);
     return NULL;
 }
 
@@ -140,7 +140,7 @@ static const char *walk(struct file *file) {
     char path[PATH_MAX];
     bool is_of_folder = false;
     const char *message = take_step(file, file->typed);
-    for (int links = 0; !message && file->look.is_there && S_ISLNK(file->look.found.st_mode); links++) {
+    for (int links = 0; !message && file->stamp.is_there && S_ISLNK(file->stamp.found.st_mode); links++) {
         if (links >= MOST_LINKS) return refuse(file, "is a link in a circle of links: ls -l shows where it points");
         message = follow_link(file, path, &is_of_folder);
         if (message) break;
@@ -148,7 +148,7 @@ static const char *walk(struct file *file) {
         message = take_step(file, path);
     }
     if (message) return message;
-    if (file->look.is_there && S_ISDIR(file->look.found.st_mode)) return refuse(file, "is a folder: name a file in it");
+    if (file->stamp.is_there && S_ISDIR(file->stamp.found.st_mode)) return refuse(file, "is a folder: name a file in it");
     return is_of_folder ? refuse(file, leads_nowhere) : NULL;
 }
 
@@ -161,7 +161,7 @@ static bool open_text(struct file *file) {
     file->text = openat(file->folder, file->name, O_RDONLY | O_NONBLOCK | O_NOFOLLOW | O_CLOEXEC | O_NOCTTY);
     if (file->text < 0 && errno == EAGAIN) file->text = open(link_of(file->itself).path, O_RDONLY | O_CLOEXEC | O_NOCTTY);
     if (file->text < 0) return errno != ENOENT && errno != ELOOP && errno != ENXIO;
-    if (fstat(file->text, &opened) == 0 && is_same_file(&opened, &file->look.found)) return true;
+    if (fstat(file->text, &opened) == 0 && is_same_file(&opened, &file->stamp.found)) return true;
     close_one(&file->text);
     return false;
 }
@@ -180,7 +180,7 @@ static void forget_file(struct file *file, const char *typed) {
 
 /* Opens the plain file that was found. Returns false if another file has taken its place. */
 static bool open_found(struct file *file) {
-    if (!file->look.is_there) return true;
+    if (!file->stamp.is_there) return true;
     if (!open_text(file)) return false;
     find_id(file->itself, &file->id);
     find_facts(file->itself, file->folder, &file->facts);
@@ -198,7 +198,7 @@ static const char *try_to_open(struct file *file, bool *is_again) {
     if (is_handed) return refuse(file, handed_over_cause(file->typed));
     const char *message = walk(file);
     if (message) return message;
-    if (file->look.is_there && !S_ISREG(file->look.found.st_mode)) return refuse(file, no_plain);
+    if (file->stamp.is_there && !S_ISREG(file->stamp.found.st_mode)) return refuse(file, no_plain);
     find_id(file->folder, &file->folder_id);
     find_folder_facts(file->folder, &file->folder_facts);
     name_paths(file);
@@ -260,7 +260,7 @@ void close_file(struct file *file) {
 /* ---- refusals, and what is told */
 
 bool is_closed(const struct file *file) {
-    return file->look.is_there && !file->facts.readable;
+    return file->stamp.is_there && !file->facts.readable;
 }
 
 static const char *refuse_long_name(const struct file *file) {
@@ -282,7 +282,7 @@ const char *refuse_access(const struct file *file, bool is_in_place) {
     if (!file->folder_facts.writable && !is_in_place)
         return text_of("you cannot write to the folder %s, so no save is possible: edit a copy elsewhere; --force opens the file anyway",
                        shown(file->folder_name));
-    if (file->look.is_there && !file->facts.writable)
+    if (file->stamp.is_there && !file->facts.writable)
         return refuse(file, "is write-protected: if it is yours, chmod u+w makes it writable; --force opens it anyway");
     return NULL;
 }

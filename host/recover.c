@@ -94,7 +94,7 @@ static void tell_cut(const struct session *session) {
 /* Decides which file the recovered text is saved to: FILE, or a new file beside FILE if another program has changed FILE. */
 static int settle_file(struct edit *edit, enum replayed found) {
     const char *typed = edit->call->file;
-    if (found != REPLAY_FOREIGN || !edit->file.look.is_there) {
+    if (found != REPLAY_FOREIGN || !edit->file.stamp.is_there) {
         /* the usual opening refuses a FILE whose folder is gone */
         if (edit->file.is_lost) return find_file(edit, typed, false);
         return check_access(edit);

@@ -19,31 +19,31 @@ enum { FOLDER_LOCK_TRIES = 50, LOCK_MS = 10 };
 
 /* ---- FILE and its folder, as they are now */
 
-static void note(struct save *save, const struct look *now, int itself) {
+static void note(struct save *save, const struct file_stamp *now, int itself) {
     save->state.seen = *now;
-    save->state.is_distrusted = false;
+    save->state.is_assumed_changed = false;
     if (!now->is_there || !S_ISREG(now->found.st_mode)) return;
     save->state.old = *now;
     save->state.is_old_plain = has_access_list(itself) == NO;
 }
 
 /* Notes what is at FILE's name in a folder. */
-static void look_and_note(struct save *save, int folder) {
-    struct look now;
+static void stamp_and_note(struct save *save, int folder) {
+    struct file_stamp now;
     int itself;
-    if (look_and_open(folder, save->file->name, &now, &itself)) note(save, &now, itself);
+    if (stamp_and_open(folder, save->file->name, &now, &itself)) note(save, &now, itself);
     close_one(&itself);
 }
 
 /* Looks at FILE's name, and opens what is there. Returns 0, or the cause why the save must not go on. Sets `is_there`: FILE exists,
  * and is as it was last seen. */
-static int look_now(struct save *save, int *itself) {
-    struct look now;
-    if (!look_and_open(save->folder, save->file->name, &now, itself)) return cause_of(errno);
-    enum look_verdict verdict = judge_look(&save->state.seen, &now, save->state.is_distrusted);
-    save->is_there = verdict == LOOK_SAME;
-    if (verdict == LOOK_NOT_PLAIN) return SAVE_NOT_PLAIN;
-    if (verdict != LOOK_CHANGED) return 0;
+static int stamp_now(struct save *save, int *itself) {
+    struct file_stamp now;
+    if (!stamp_and_open(save->folder, save->file->name, &now, itself)) return cause_of(errno);
+    enum stamp_verdict verdict = judge_stamp(&save->state.seen, &now, save->state.is_assumed_changed);
+    save->is_there = verdict == STAMP_SAME;
+    if (verdict == STAMP_NOT_PLAIN) return SAVE_NOT_PLAIN;
+    if (verdict != STAMP_CHANGED) return 0;
     note(save, &now, *itself);
     return SAVE_CHANGED;
 }
@@ -111,7 +111,7 @@ static int check_place(struct save *save) {
     if (folder < 0) return errno == ENOENT || errno == ENOTDIR || errno == ELOOP ? SAVE_FOLDER_GONE : 0;
     bool is_same = fstat(folder, &there) == 0 && fstat(save->folder, &own) == 0 && is_same_file(&there, &own);
     bool is_new = !is_same && adopt(save, folder);
-    if (is_new) look_and_note(save, folder);
+    if (is_new) stamp_and_note(save, folder);
     else close(folder);
     return is_same ? 0 : is_new ? SAVE_CHANGED : SAVE_FOLDER_GONE;
 }
@@ -131,7 +131,7 @@ static int settle_way(struct save *save, int itself) {
     save->is_in_place = save->is_listless = false;
     if (!save->is_there || !S_ISREG(save->state.seen.found.st_mode)) return 0;
     enum reason reason = find_reason(save, itself);
-    bool is_itself = save->state.is_held || (saver->is_itself && !save->state.is_replaced);
+    bool is_itself = save->state.is_overwritten_in_place || (saver->is_itself && !save->state.is_replaced);
     save->is_in_place = saver->mark_folder >= 0 || is_itself || reason != NO_REASON;
     /* without a session there is no place for a mark, since nothing can be created beside FILE */
     return reason == REASON_PROTECTED && saver->mark_folder < 0 ? SAVE_NOT_PERMITTED : 0;
@@ -150,7 +150,7 @@ static int open_draft(struct save *save) {
 }
 
 static int begin_here(struct save *save) {
-    int itself, cause = look_now(save, &itself);
+    int itself, cause = stamp_now(save, &itself);
     if (cause == 0) cause = settle_way(save, itself);
     close_one(&itself);
     return cause == 0 ? cause_of(open_draft(save)) : cause;
@@ -183,10 +183,10 @@ static void note_replaced(struct save *save, const struct stat *before) {
     struct state *state = &save->state;
     int file = save->draft.file;
     state->seen.is_there = fstat(file, &state->seen.found) == 0;
-    state->is_distrusted = !state->seen.is_there || !has_same_text(&state->seen.found, before);
+    state->is_assumed_changed = !state->seen.is_there || !has_same_text(&state->seen.found, before);
     state->old = state->seen;
     state->is_old_plain = has_access_list(file) == NO;
-    state->is_held = false;
+    state->is_overwritten_in_place = false;
     state->is_replaced = true;
     state->has_id = find_id(file, &state->id);
 }
@@ -205,9 +205,9 @@ static int replace(struct save *save) {
     if (fstat(save->draft.file, &before) != 0) return cause_of(errno);
     enum placed placed = place(save);
     if (placed == PLACE_FAILED) return cause_of(errno);
-    if (placed == PLACE_MOUNTED) save->state.is_held = true;
+    if (placed == PLACE_MOUNTED) save->state.is_overwritten_in_place = true;
     if (placed != PLACED) {
-        look_and_note(save, save->folder);
+        stamp_and_note(save, save->folder);
         return SAVE_CHANGED;
     }
     /* the new name is on the disk before the old file goes */
@@ -234,7 +234,7 @@ static int save_commit(struct save *save) {
     int error = complete(save);
     if (error != 0) return cause_of(error);
     lock_folder(save);
-    int itself, cause = look_now(save, &itself);
+    int itself, cause = stamp_now(save, &itself);
     close_one(&itself);
     if (cause == 0) cause = check_place(save);
     if (cause != 0) return cause;
@@ -243,7 +243,7 @@ static int save_commit(struct save *save) {
     if (!save->is_in_place) return replace(save);
     cause = save_in_place(save);
     /* FILE was changed after the look at it: it is told once */
-    if (cause == SAVE_CHANGED) look_and_note(save, save->folder);
+    if (cause == SAVE_CHANGED) stamp_and_note(save, save->folder);
     return cause;
 }
 
@@ -351,8 +351,8 @@ bool saver_open(struct saver *saver, struct file *file) {
     saver->saved = shared;
     atomic_init(&saver->saved->current, 0);
     struct state *state = current(saver);
-    state->seen = file->look;
-    state->old = file->look;
+    state->seen = file->stamp;
+    state->old = file->stamp;
     state->is_old_plain = !file->facts.has_access_list && !file->facts.is_unsure;
     return true;
 }
@@ -385,7 +385,7 @@ int saver_cause(const struct saver *saver) {
     return current(saver)->cause;
 }
 
-bool saver_look(const struct saver *saver, struct look *look, struct file_id *id) {
+bool saver_stamp(const struct saver *saver, struct file_stamp *look, struct file_id *id) {
     const struct state *state = current(saver);
     *look = state->seen;
     *id = state->id;

@@ -13,7 +13,7 @@ static enum reason reason_for(const struct facts *file, nlink_t names, const str
     return folder->gives_access_lists ? REASON_GIVEN_LIST : NO_REASON;
 }
 
-enum reason find_in_place(const struct facts *file, const struct look *look, const struct facts *folder) {
+enum reason find_in_place(const struct facts *file, const struct file_stamp *look, const struct facts *folder) {
     if (!look->is_there || !S_ISREG(look->found.st_mode) || !file->writable) return NO_REASON;
     return reason_for(file, look->found.st_nlink, folder);
 }
@@ -54,11 +54,11 @@ mode_t mode_of_new(struct taken taken, mode_t old) {
     return (mode & ~(mode_t)GROUP_BITS) | (mode & OTHERS_BITS) << 3;
 }
 
-enum look_verdict judge_look(const struct look *seen, const struct look *now, bool is_distrusted) {
-    if (!now->is_there) return LOOK_GONE;
-    if (!S_ISREG(now->found.st_mode) && !S_ISLNK(now->found.st_mode)) return LOOK_NOT_PLAIN;
-    if (!seen->is_there || is_distrusted) return LOOK_CHANGED;
-    return is_unchanged(&seen->found, &now->found) ? LOOK_SAME : LOOK_CHANGED;
+enum stamp_verdict judge_stamp(const struct file_stamp *seen, const struct file_stamp *now, bool is_assumed_changed) {
+    if (!now->is_there) return STAMP_GONE;
+    if (!S_ISREG(now->found.st_mode) && !S_ISLNK(now->found.st_mode)) return STAMP_NOT_PLAIN;
+    if (!seen->is_there || is_assumed_changed) return STAMP_CHANGED;
+    return is_unchanged(&seen->found, &now->found) ? STAMP_SAME : STAMP_CHANGED;
 }
 
 bool is_same_file(const struct stat *one, const struct stat *other) {
@@ -82,7 +82,7 @@ bool is_unchanged(const struct stat *one, const struct stat *other) {
     return is_alike(one, other) && is_same_time(one->st_ctim, other->st_ctim);
 }
 
-bool is_taken_out(const struct look *seen, const struct look *out) {
+bool is_taken_out(const struct file_stamp *seen, const struct file_stamp *out) {
     return seen->is_there && out->is_there && is_alike(&seen->found, &out->found);
 }
 

@@ -58,7 +58,7 @@ int draft_name_as(struct draft *draft, const char *name);
 
 /* Exchanges the draft with what is at a name, which gets the draft's name, and checks that it is what was seen last. `is_listless`: it must
  * have no access list. For PLACE_FAILED, errno has the fault. */
-enum placed draft_exchange(struct draft *draft, const char *name, const struct look *seen, bool is_listless);
+enum placed draft_exchange(struct draft *draft, const char *name, const struct file_stamp *seen, bool is_listless);
 
 /* Puts the draft at a name where nothing is. */
 enum placed draft_create(struct draft *draft, const char *name);
@@ -73,11 +73,11 @@ void draft_close(struct draft *draft);
 struct state {
     /* What was at FILE's name when last seen; the last plain file there, whose owner and mode a new file gets; whether its mode
      * says all of its permissions. */
-    struct look seen, old;
+    struct file_stamp seen, old;
     bool is_old_plain;
-    /* is_distrusted: at the next look FILE counts as changed. is_held: saves overwrite FILE in place until a new file has replaced it.
+    /* is_assumed_changed: at the next look FILE counts as changed. is_overwritten_in_place: saves overwrite FILE in place until a new file has replaced it.
      * is_replaced: a new file has replaced it. */
-    bool is_distrusted, is_held, is_replaced;
+    bool is_assumed_changed, is_overwritten_in_place, is_replaced;
     /* The user was told that FILE's links lead elsewhere. */
     bool is_link_told;
     /* FILE's folder was removed and created again: this is the new one. */

@@ -127,7 +127,7 @@ bool is_utf8(const char *text) {
 }
 
 /* Whether a terminal would obey a character, change direction by it or show it without a column. The ranges are those of
- * crates/bx_cli/specs/Shown.antt. The joiners, which Persian words need, do not count. */
+ * crates/bx_command/specs/shared/Shown.antt. The joiners, which Persian words need, do not count. */
 static bool is_hidden(uint32_t c) {
     static const struct {
         uint32_t first, last;

@@ -140,11 +140,11 @@ static void obey(char *line) {
     else if (strncmp(line, "put ", 4) == 0) put(line + 4), said = "put";
     else if (strcmp(line, "commit") == 0) said = commit();
     else if (strcmp(line, "torn") == 0) said = torn();
-    else if (strcmp(line, "facts") == 0) said = reason_text(find_in_place(&file.facts, &file.look, &file.folder_facts));
+    else if (strcmp(line, "facts") == 0) said = reason_text(find_in_place(&file.facts, &file.stamp, &file.folder_facts));
     else if (strcmp(line, "look") == 0) {
-        struct look look;
+        struct file_stamp look;
         struct file_id id;
-        bool is_known = saver_look(&saver, &look, &id);
+        bool is_known = saver_stamp(&saver, &look, &id);
         snprintf(text, sizeof text, "%d %llu %lld", is_known, (unsigned long long)look.found.st_ino, (long long)look.found.st_size);
         said = text;
     }
@@ -168,7 +168,7 @@ int main(int count, char **words) {
     fcntl(pipes[0][1], F_SETFL, O_NONBLOCK);
     request = pipes[0][0], to_child = pipes[0][1], from_child = pipes[1][0], answer = pipes[1][1];
     const char *message = is_lost ? open_lost_file(&file, words[at]) : open_file(&file, words[at]);
-    bool is_in_place = find_in_place(&file.facts, &file.look, &file.folder_facts) != NO_REASON;
+    bool is_in_place = find_in_place(&file.facts, &file.stamp, &file.folder_facts) != NO_REASON;
     if (!message && !is_forced) message = refuse_access(&file, is_in_place);
     if (message) {
         printf("%s\n", message);

@@ -5,12 +5,11 @@
 //! removed and that undone).
 
 ghost use Rattle.std.specs.Prelude.{◌≡◌, OnOk};
-ghost use Rattle.bx_index.specs.Paragraphs.{lengths};
+ghost use Rattle.bx_text.specs.index.Paragraphs.{lengths};
 
 use crate::outcome::{Outcome, number};
 use anyhow::{Context, Result, bail};
-use bx_index::Index;
-use bx_text::Text;
+use bx_text::{Index, Text};
 use bx_ucd::{BidiData, sample_tables};
 use std::alloc::Global;
 use std::time::{CpuClock, Duration};

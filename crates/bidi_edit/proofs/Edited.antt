@@ -2,7 +2,7 @@
 use Rattle.std.proofs.Common.{◌≡◌, ℕ, Bool, true, false, List, None, Result, Ok, Err, IsErrAnd, sym, ap, subst, ◌∙◌}
 use Rattle.bx_editor.specs.Functions.{has_changes}
 use Rattle.bx_ucd.specs.Data.{Data}
-use Rattle.bx_cli.specs.declared.unicode.UnicodeFiles.{UnicodeFiles}
+use Rattle.bx_command.specs.declared.shared.unicode.UnicodeFiles.{UnicodeFiles}
 use Rattle.bx_session.specs.declared.action.Action.{Action}
 use Rattle.bx_session.specs.declared.end.End.{End}
 use Rattle.bx_session.specs.declared.end.End.TheVariants.{Quit, InputEnded}
@@ -59,19 +59,19 @@ runs_further P P' Q (Err fault.OutOfMemory) f h = h
 -- ---- after the opening
 
 module _ {V : Type 0} (did : V → Action → V → Type 0) (obeyed : V → Session → ByteAnswer → V → Session → Type 0) (stored : V → StoreState) where
-  pub resumes_of : {D : Type 0} (Q : Type 0) (says : D → Data) (old begun : SessionState D) (new : Session) (journal : List ℕ) (device device' : V)
+  pub resumes_of : {D : Type 0} (Q : Type 0) (ucd : D → Data) (old begun : SessionState D) (new : Session) (journal : List ℕ) (device device' : V)
       (end : Result End RunFault) (changed : Bool) (result : Result Changes ProgramFault) → begun.tables ≡ old.tables
-      → begun.session ≡ with_painting (says old.tables) (after_journal (says old.tables) old.session journal)
-      → QueuesPicture (says old.tables) (after_journal (says old.tables) old.session journal).pending
-      (after_journal (says old.tables) old.session journal).known begun.session
-      → HasLogged did obeyed stored (says begun.tables) most_reads end begun.session new device device'
+      → begun.session ≡ with_painting (ucd old.tables) (after_journal (ucd old.tables) old.session journal)
+      → QueuesPicture (ucd old.tables) (after_journal (ucd old.tables) old.session journal).pending
+      (after_journal (ucd old.tables) old.session journal).known begun.session
+      → HasLogged did obeyed stored (ucd begun.tables) most_reads end begun.session new device device'
       → EndsWith end new None → result ≡ outcome_of end changed → changed ≡ has_changes new.editor
-      → RunsUnless result (Resumes did obeyed stored (says old.tables) old.session journal device device' result) Q
-  resumes_of {D} Q says old begun new journal device device' end changed result same is paints logged ends tells changes =
-      let d = says old.tables in
+      → RunsUnless result (Resumes did obeyed stored (ucd old.tables) old.session journal device device' result) Q
+  resumes_of {D} Q ucd old begun new journal device device' end changed result same is paints logged ends tells changes =
+      let d = ucd old.tables in
       let from = after_journal d old.session journal in
       let from_tables : HasLogged did obeyed stored d most_reads end begun.session new device device' =
-      subst (λ (t : D). HasLogged did obeyed stored (says t) most_reads end begun.session new device device') same logged in
+      subst (λ (t : D). HasLogged did obeyed stored (ucd t) most_reads end begun.session new device device') same logged in
       let all : Resumes did obeyed stored d old.session journal device device' result = record {
         session = new;
         end = end;

@@ -20,8 +20,9 @@ mod fault;
 mod files;
 mod telling;
 
-use bx_cli::{refuse, refuse_words, words_of};
-use bx_command::{Files, JournalFile, Options, command_line, empty_journal};
+use bx_command::{
+    Files, JournalFile, Options, command_line, empty_journal, refuse, refuse_words, words_of,
+};
 use bx_input::FrameReader;
 use bx_recovery::{Beginning, Replayed, recover};
 use bx_session::{Recorder, Wired, WrittenJournal};

@@ -2,8 +2,7 @@
 
 use crate::ending::{Ending, end_of_fault};
 use crate::fault::ProgramFault;
-use bx_cli::FileFault;
-use bx_command::{JournalNotes, Options, TextFault};
+use bx_command::{FileFault, JournalNotes, Options, TextFault};
 use bx_input::{END, FAULT, JOURNAL, OPENED, REPLAYED};
 use bx_recovery::Replayed;
 use bx_session::OpenError;

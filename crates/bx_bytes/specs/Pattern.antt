@@ -1,7 +1,7 @@
 -- Patterns of bytes: sequences of ranges, each of the bytes from `low` to `high`, both included. A grammar is a list of patterns.
 use Rattle.std.specs.Prelude.{ℕ, Bool, true, false, ◌&&◌, List, [], ◌∷◌, if◌then◌else◌}
 use Rattle.std.specs.List.{list_any}
-pub use Rattle.bx_terms.specs.Characters.{is_within}
+pub use Rattle.bx_common.specs.Characters.{is_within}
 use Rattle.bx_bytes.specs.declared.fate.Fate.{Fate}
 use Rattle.bx_bytes.specs.declared.fate.Fate.TheVariants.{Waits, Ends, Breaks}
 

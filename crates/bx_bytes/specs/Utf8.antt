@@ -1,7 +1,7 @@
 -- Well-formed UTF-8 byte sequences (the Unicode Standard, table 3-7), as a grammar whose items are the characters.
 use Rattle.std.specs.Prelude.{List, [], ◌∷◌}
 use Rattle.bx_bytes.specs.Pattern.{Piece, One}
-pub use Rattle.bx_terms.specs.Characters.{is_control, is_ascii_printable, are_printable}
+pub use Rattle.bx_common.specs.Characters.{is_control, is_ascii_printable, are_printable}
 
 -- a byte after the first, where the table has its whole range
 abbrev pub trail : Piece

@@ -1,3 +1,4 @@
 pub mod Starts
 pub mod Examples
 pub mod CommandExamples
+pub mod shared_lemmas

@@ -1,7 +1,7 @@
 -- Cached rows and their columns.
 use Rattle.std.proofs.Common.{◌≡◌, ℕ, List, [], length, get_or, sym, ap, subst, ◌∙◌}
 use Rattle.std.specs.Prelude.{HoldsAt}
-use Rattle.bx_terms.specs.declared.base.Base.{Base}
+use Rattle.bx_common.specs.declared.base.Base.{Base}
 use Rattle.bx_grid.specs.Grid.{GridState}
 use Rattle.bx_paragraph.specs.BodyRows.{BodyRow, body_rows, row_at}
 use Rattle.bx_document.specs.Cache.{AreDrawnBy, EntryState, HoldsRow, IsDrawnBy, IsRowOf, numbered_row_columns}

@@ -4,7 +4,7 @@ use Rattle.std.specs.Prelude.{codes, encode_utf8_all}
 use Rattle.unicode_segmentation.proofs.Computing.{unicode_segmentation}
 use Rattle.unicode_width.proofs.Computing.{unicode_width}
 use Rattle.bx_ucd.specs.SmallTables.{small}
-use Rattle.bx_terms.specs.declared.base.Base.TheVariants.{Auto}
+use Rattle.bx_common.specs.declared.base.Base.TheVariants.{Auto}
 use Rattle.bx_text.specs.Edits.{Edited, inserted, opened, wrapped}
 use Rattle.bx_text.specs.Changes.{exchanged}
 use Rattle.bx_grid.specs.Columns.{Col, Glyph, blank}

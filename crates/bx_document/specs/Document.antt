@@ -1,7 +1,7 @@
 -- An editable text laid out in a window, and what each of its edits makes of it. Offsets and places count bytes of the text.
--- `d` is the data of Unicode's tables (`says` in other files of this folder), `t` the document before an edit.
+-- `d` is the data of Unicode's tables (`ucd` in other files of this folder), `t` the document before an edit.
 use Rattle.std.specs.Prelude.{ℕ, ◌+◌, List, [], ◌∷◌, length}
-use Rattle.bx_terms.specs.declared.base.Base.{Base}
+use Rattle.bx_common.specs.declared.base.Base.{Base}
 use Rattle.bx_document.specs.declared.edits.RegionEnd.{RegionEnd}
 use Rattle.bx_document.specs.Swapped.{wrapped_end, wrapped_text}
 use Rattle.bx_text.specs.Edits.{Edited, inserted, opened, removed, splice, wrapped}

@@ -8,7 +8,7 @@ use Rattle.bx_rows.specs.RowPicture.{Glyph, glyph}
 use Rattle.bx_view.specs.TextRows.{TextRow, row_of}
 use Rattle.bx_view.specs.Top.{is_covered}
 use Rattle.bx_ucd.specs.Data.{Data}
-use Rattle.bx_terms.specs.declared.base.Base.TheVariants.{Auto}
+use Rattle.bx_common.specs.declared.base.Base.TheVariants.{Auto}
 
 -- the columns of glyphs side by side
 abbrev pub side_by_side : List Glyph → List Col

@@ -4,7 +4,7 @@ pub mod Drawing
 pub mod Points
 pub mod History
 pub mod Line
-pub mod OwnText
+pub mod IndexedText
 pub mod Past
 pub mod Backup
 pub mod PlaceLevel

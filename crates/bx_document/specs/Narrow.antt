@@ -1,7 +1,7 @@
 -- Characters that a terminal shows in one column, and glyphs that it shows in as many as they are said to have.
 use Rattle.std.specs.Prelude.{◌≡◌, ℕ, true, encode_utf8}
 use Rattle.std.specs.Cow.{cow_str_bytes}
-use Rattle.bx_terms.specs.Glyphs.{is_one_glyph, run_width}
+use Rattle.bx_common.specs.Glyphs.{is_one_glyph, run_width}
 use Rattle.bx_rows.specs.declared.drawn.Drawn.{Drawn}
 
 -- a character that a terminal shows in one column

@@ -8,15 +8,15 @@ use Rattle.bx_view.specs.Places.{IsTextPlace}
 use Rattle.bx_document.specs.declared.history.HistoryStep.{HistoryStep}
 use Rattle.bx_document.specs.declared.history.HistoryStep.TheVariants.{Undo, Redo}
 
--- the places of the edit `e` are places of the texts before and after it; `says` is what the tables say
-pub record HasPlaces (says : Data) (e : Edit) : Type 0 where
-  pub before : IsTextPlace says e.before.text e.before.place
-  pub after : IsTextPlace says e.after.text e.after.place
+-- the places of the edit `e` are places of the texts before and after it; `ucd` is what the tables say
+pub record HasPlaces (ucd : Data) (e : Edit) : Type 0 where
+  pub before : IsTextPlace ucd e.before.text e.before.place
+  pub after : IsTextPlace ucd e.after.text e.after.place
 
 -- each edit of the past and the future has such places
-pub record KeepsPlaces (says : Data) (content : Edited) : Type 0 where
-  pub past : All (HasPlaces says) content.past
-  pub future : All (HasPlaces says) content.future
+pub record KeepsPlaces (ucd : Data) (content : Edited) : Type 0 where
+  pub past : All (HasPlaces ucd) content.past
+  pub future : All (HasPlaces ucd) content.future
 
 -- the text after a step, with its past and future; unchanged if there is nothing to undo or redo
 abbrev pub stepped : HistoryStep → Edited → Edited

@@ -1,11 +1,11 @@
 -- The embedding level of the unit at a place, which the editor tells of the unit at the cursor: UAX #9's after rule I2, before
--- rule L1 resets trailing blanks. Rule X9 removes characters: these have no level. `says` is what the tables say.
+-- rule L1 resets trailing blanks. Rule X9 removes characters: these have no level. `ucd` is what the tables say.
 use Rattle.std.specs.Prelude.{ℕ, ◌+◌, ◌-◌, ◌==◌, true, false, List, [], ◌∷◌, length, take, drop, Option, None, chars}
 use Rattle.bx_ucd.specs.Data.{Data}
-use Rattle.bx_terms.specs.declared.base.Base.{Base}
+use Rattle.bx_common.specs.declared.base.Base.{Base}
 use Rattle.unicode_segmentation.specs.Grapheme.{graphemes}
-use Rattle.bx_index.specs.Paragraphs.{lengths, paragraph_of}
-use Rattle.bx_resolve.specs.Levels.{levels_under}
+use Rattle.bx_text.specs.index.Paragraphs.{lengths, paragraph_of}
+use Rattle.bx_levels.specs.resolve.Levels.{levels_under}
 use Rattle.bx_rows.specs.RowLevels.{first_level}
 use Rattle.bx_view.specs.Numbers.{body_at, start_at}
 
@@ -26,7 +26,7 @@ unit_level body each at = level_from 0 (graphemes true body) each at
 
 -- the level of the unit that begins at a place of a text; None at a separator and at the text's end
 abbrev pub place_level : Data → Base → List ℕ → ℕ → Option ℕ
-place_level says base text place =
-    let number = paragraph_of (lengths says text) place in
-    let body = body_at says text number in
-    unit_level body (levels_under says base (chars body)) (place - start_at says text number)
+place_level ucd base text place =
+    let number = paragraph_of (lengths ucd text) place in
+    let body = body_at ucd text number in
+    unit_level body (levels_under ucd base (chars body)) (place - start_at ucd text number)

@@ -1,10 +1,10 @@
--- A law of the levels of units. `says` is what the tables say.
+-- A law of the levels of units. `ucd` is what the tables say.
 use Rattle.std.specs.Prelude.{◌≡◌, ℕ, ◌+◌, ◌<◌, true, List, ◌∷◌, ◌++◌, length, slice_get, Option, Some, None, chars}
 use Rattle.std.specs.List.{concat}
 use Rattle.bx_ucd.specs.Data.{Data}
-use Rattle.bx_terms.specs.declared.base.Base.{Base}
+use Rattle.bx_common.specs.declared.base.Base.{Base}
 use Rattle.unicode_segmentation.specs.Grapheme.{graphemes}
-use Rattle.bx_resolve.specs.Levels.{levels_under}
+use Rattle.bx_levels.specs.resolve.Levels.{levels_under}
 use Rattle.bx_view.specs.Numbers.{body_at, count, start_at}
 use Rattle.bx_document.specs.PlaceLevel.{place_level}
 
@@ -16,8 +16,8 @@ pub record IsFirstLevel (each : List (Option ℕ)) (k i level : ℕ) : Type 0 wh
 -- The place before a unit has the level of the unit's first character with a level, if there is one. `number` is the paragraph,
 -- from 0, `front` its units before this one, and `i`, from 0, that character in the unit.
 abbrev pub UnitsHaveLevels : Data → Base → List ℕ → Type 0
-UnitsHaveLevels says base text =
-    (number : ℕ) → number < count says text → (front rest : List (List ℕ)) (unit : List ℕ)
-    → graphemes true (body_at says text number) ≡ front ++ unit ∷ rest → (i level : ℕ) → i < length (chars unit)
-    → IsFirstLevel (levels_under says base (chars (body_at says text number))) (length (chars (concat front))) i level
-    → place_level says base text (start_at says text number + length (concat front)) ≡ Some level
+UnitsHaveLevels ucd base text =
+    (number : ℕ) → number < count ucd text → (front rest : List (List ℕ)) (unit : List ℕ)
+    → graphemes true (body_at ucd text number) ≡ front ++ unit ∷ rest → (i level : ℕ) → i < length (chars unit)
+    → IsFirstLevel (levels_under ucd base (chars (body_at ucd text number))) (length (chars (concat front))) i level
+    → place_level ucd base text (start_at ucd text number + length (concat front)) ≡ Some level

@@ -11,7 +11,7 @@ ghost use Rattle.bx_document.specs.Swapped.{wrapped_end, wrapped_text};
 
 use crate::document::Document;
 use crate::touched::{place_after, place_at_inside, place_inside, stop_after};
-use bx_terms::{LARGEST_TEXT, OutOfMemory};
+use bx_common::{LARGEST_TEXT, OutOfMemory};
 use bx_text::{EditPlaces, Text};
 use bx_ucd::BidiData;
 use std::alloc::Global;

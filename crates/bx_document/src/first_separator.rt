@@ -7,9 +7,8 @@ ghost use Rattle.bx_ucd.specs.Data.{Data};
 ghost use Rattle.bx_document.specs.SeparatorReads.{crlf_from};
 
 use crate::document::Document;
-use bx_index::separates;
-use bx_terms::first_char;
-use bx_text::Text;
+use bx_common::first_char;
+use bx_text::{Text, separates};
 use bx_ucd::BidiData;
 
 /// What the characters read so far, from a text's start on, tell of its first separator.
@@ -25,7 +24,7 @@ enum Seen {
 
 /// Whether the first separator is CR LF, once all characters are read.
 fn is_crlf(seen: Seen) -> bool
-    ensures { (says : Data) → result ≡ crlf_from says seen [] }
+    ensures { (ucd : Data) → result ≡ crlf_from ucd seen [] }
 {
     match seen {
         Seen::Nothing | Seen::Cr => false,

@@ -7,9 +7,9 @@ ghost use Rattle.bx_view.specs.Numbers.{boundaries};
 ghost use Rattle.bx_document.specs.PlaceLevel.{place_level, unit_level};
 
 use crate::document::Document;
-use bx_resolve::{Level, levels};
+use bx_common::OutOfMemory;
+use bx_levels::{Level, levels};
 use bx_rows::char_count;
-use bx_terms::OutOfMemory;
 use bx_ucd::BidiData;
 use unicode_segmentation::UnicodeSegmentation;
 

@@ -6,7 +6,7 @@ ghost use Rattle.bx_document.specs.Points.{chooses_look, is_point, is_zero_width
 ghost use Rattle.bx_ucd.specs.Class.{is_nsm};
 
 use crate::document::Document;
-use bx_terms::OutOfMemory;
+use bx_common::OutOfMemory;
 use bx_ucd::{BidiData, Class};
 
 /// Whether a class is NSM, the class of nonspacing marks.

@@ -1,9 +1,9 @@
 //! Draws status rows: a text, or a text and after it a query or what was typed.
 ghost use Rattle.std.specs.Prelude.{◌≡◌, ◌≤◌, ◌∷◌, [], ◌++◌, All, IfOk, OnOk, chars, length, map, string_bytes, sum_by, take, true};
 ghost use Rattle.std.specs.Cow.{cow_str_bytes};
-ghost use Rattle.bx_terms.specs.Characters.{are_ascii_printable, is_side};
-ghost use Rattle.bx_terms.specs.Glyphs.{is_one_glyph, run_width};
-ghost use Rattle.bx_terms.specs.declared.base.Base.TheVariants.{Auto};
+ghost use Rattle.bx_common.specs.Characters.{are_ascii_printable, is_side};
+ghost use Rattle.bx_common.specs.Glyphs.{is_one_glyph, run_width};
+ghost use Rattle.bx_common.specs.declared.base.Base.TheVariants.{Auto};
 ghost use Rattle.bx_rows.specs.Shown.{glyph_of};
 ghost use Rattle.bx_paragraph.specs.Layout.{IsLayoutBy};
 ghost use Rattle.bx_rows.specs.RowPicture.{letter_glyphs};
@@ -12,10 +12,10 @@ ghost use Rattle.bx_document.specs.Narrow.{IsNarrow, IsWellDrawn};
 
 use crate::document::Document;
 use crate::drawing::draw_glyphs;
+use bx_common::{Base, OutOfMemory};
 use bx_grid::Grid;
 use bx_paragraph::{LentRow, ParagraphLayout};
 use bx_rows::{Drawn, RowPicture};
-use bx_terms::{Base, OutOfMemory};
 use bx_ucd::BidiData;
 use std::alloc::{AllocError, Global};
 use std::borrow::CowStr;

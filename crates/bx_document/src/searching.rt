@@ -10,8 +10,8 @@ ghost use Rattle.bx_document.specs.Document.{rows};
 ghost use Rattle.bx_document.specs.Swapped.{behind_character};
 
 use crate::document::Document;
+use bx_common::{OutOfMemory, first_char};
 use bx_find::{Query, Reading};
-use bx_terms::{OutOfMemory, first_char};
 use bx_ucd::BidiData;
 
 impl<D: BidiData + Drop> Document<D> {

@@ -6,8 +6,8 @@ ghost use Rattle.bx_text.specs.Changes.{IsRange};
 ghost use Rattle.bx_document.specs.Swapped.{last_stop, swapped};
 
 use crate::document::Document;
+use bx_common::{LARGEST_TEXT, OutOfMemory};
 use bx_find::{Query, Reading};
-use bx_terms::{LARGEST_TEXT, OutOfMemory};
 use bx_ucd::BidiData;
 
 /// What replaces the text from the offset at which a search starts to the end of the last match.

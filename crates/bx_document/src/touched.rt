@@ -1,26 +1,25 @@
 //! The place after an edit, found in the cached paragraph or in a copy of the paragraphs that the edit touches.
 ghost use Rattle.std.specs.Prelude.{◌≡◌, ◌≤◌, ◌<◌, ◌+◌, true, IfOk, IsCharBoundary, OnOk, length, string_bytes};
-ghost use Rattle.bx_terms.specs.Characters.{is_side};
-ghost use Rattle.bx_index.specs.Paragraphs.{lengths};
+ghost use Rattle.bx_common.specs.Characters.{is_side};
+ghost use Rattle.bx_text.specs.index.Paragraphs.{lengths};
 ghost use Rattle.bx_text.specs.Edits.{fits, splice};
 ghost use Rattle.bx_text.specs.Changes.{IsRange};
 ghost use Rattle.bx_view.specs.FoundRow.{rows_by};
 ghost use Rattle.bx_view.specs.Caching.{IsViewBy, Keeps};
 ghost use Rattle.bx_view.specs.Moves.{place_at, place_from};
 ghost use Rattle.bx_view.specs.Places.{IsTextPlace};
-ghost use Rattle.bx_view.specs.Source.{bytes};
+ghost use Rattle.bx_view.specs.TextRef.{bytes};
 ghost use Rattle.bx_document.specs.Touched.{touched, touched_start, touched_stop};
 
-use bx_index::Index;
-use bx_terms::OutOfMemory;
-use bx_text::Text;
+use bx_common::OutOfMemory;
+use bx_text::{Index, Text};
 use bx_ucd::BidiData;
-use bx_view::{Source, View};
+use bx_view::{TextRef, View};
 use std::alloc::Global;
 use std::ops::Range;
 
 /// The start of the paragraph that contains the byte before an offset; 0 for offset 0. Allocates nothing.
-fn start_before<D: BidiData>(source: &Source<'_, D>, start: usize) -> usize
+fn start_before<D: BidiData>(source: &TextRef<'_, D>, start: usize) -> usize
     requires bounds { IsCharBoundary (bytes source.now) start }
     ensures start { result ≡ touched_start (D.data source.now.tables.now) (bytes source.now) start }
     ensures range { IsRange (bytes source.now) result start }
@@ -30,7 +29,7 @@ fn start_before<D: BidiData>(source: &Source<'_, D>, start: usize) -> usize
 }
 
 /// The end of the paragraph that an offset falls in, its separator included. Allocates nothing.
-pub(crate) fn stop_after<D: BidiData>(source: &Source<'_, D>, stop: usize) -> usize
+pub(crate) fn stop_after<D: BidiData>(source: &TextRef<'_, D>, stop: usize) -> usize
     requires bounds { IsCharBoundary (bytes source.now) stop }
     ensures stop { result ≡ touched_stop (D.data source.now.tables.now) (bytes source.now) stop }
     ensures range { IsRange (bytes source.now) stop result }
@@ -42,7 +41,7 @@ pub(crate) fn stop_after<D: BidiData>(source: &Source<'_, D>, stop: usize) -> us
 /// The offset at which the paragraphs begin that an edit touches, and a copy of their text as it is after the edit, which
 /// replaces the bytes from `start` to `stop` with `new`.
 fn touched<D: BidiData>(
-    source: &Source<'_, D>,
+    source: &TextRef<'_, D>,
     start: usize,
     stop: usize,
     new: &str,
@@ -86,7 +85,7 @@ fn opened<D: BidiData>(
 /// its start or end. A copy of the touched paragraphs is laid out.
 pub(crate) fn place_inside<D: BidiData>(
     alloc: Global,
-    source: &Source<'_, D>,
+    source: &TextRef<'_, D>,
     view: &mut View,
     range: Range<usize>,
     new: &str,
@@ -107,7 +106,7 @@ pub(crate) fn place_inside<D: BidiData>(
     let (first, characters) = touched(source, range.start, range.end, new)?;
     // The copy is no longer than the text after the edit, so it is not too long.
     let (text, index) = opened(alloc, characters, source.tables)?;
-    let copy = Source::of(&text, &index, source.tables);
+    let copy = TextRef::of(&text, &index, source.tables);
     let place = view.place_from(&copy, offset - first)?;
     Ok(first + place)
 }
@@ -116,7 +115,7 @@ pub(crate) fn place_inside<D: BidiData>(
 /// the end of `new`, before the end of the touched paragraphs, of which a copy is laid out.
 pub(crate) fn place_at_inside<D: BidiData>(
     alloc: Global,
-    source: &Source<'_, D>,
+    source: &TextRef<'_, D>,
     view: &mut View,
     range: Range<usize>,
     new: &str,
@@ -137,7 +136,7 @@ pub(crate) fn place_at_inside<D: BidiData>(
     let (first, characters) = touched(source, range.start, range.end, new)?;
     // The copy is no longer than the text after the edit, so it is not too long.
     let (text, index) = opened(alloc, characters, source.tables)?;
-    let copy = Source::of(&text, &index, source.tables);
+    let copy = TextRef::of(&text, &index, source.tables);
     let place = view.place_at(&copy, offset - first)?;
     Ok(first + place)
 }
@@ -146,7 +145,7 @@ pub(crate) fn place_at_inside<D: BidiData>(
 /// the edit is made in it; otherwise a copy of the touched paragraphs is laid out.
 pub(crate) fn place_after<D: BidiData>(
     alloc: Global,
-    source: &Source<'_, D>,
+    source: &TextRef<'_, D>,
     view: &mut View,
     range: Range<usize>,
     new: &str,

@@ -10,8 +10,8 @@ begin-in : (gs : List (List ℕ)) → Contains (boundaries 0 gs) 0
 begin-in [] = (0, omega arith, refl)
 begin-in (g ∷ gs) = (0, omega arith, refl)
 
-pub begin-is-place : (says : Data) (text : List ℕ) → IsTextPlace says text 0
-begin-is-place says text = begin-in (pieces says text)
+pub begin-is-place : (ucd : Data) (text : List ℕ) → IsTextPlace ucd text 0
+begin-is-place ucd text = begin-in (pieces ucd text)
 
 pub few-at-start : (q : List ℕ) → q ≡ [] → length (chars q) ≤ 64
 few-at-start q none = omega (arith, ap (λ t. length (chars t)) none, ap length chars-nil)

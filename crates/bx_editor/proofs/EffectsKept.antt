@@ -1,26 +1,26 @@
 -- What keys keep outside a search and a question.
 use Rattle.std.proofs.Common.{◌≡◌, ℕ, Bool, true, false, List, [], ◌∷◌, length, Option, Some, None, refl, if◌then◌else◌}
 use Rattle.std.specs.Prelude.{◌||◌, ◌==◌, not, encode_utf8}
-use Rattle.bx_terms.specs.declared.base.Base.{Base}
+use Rattle.bx_common.specs.declared.base.Base.{Base}
 use Rattle.bx_store.specs.declared.store.StoreFault.{StoreFault}
 use Rattle.bx_text.specs.declared.change.Change.{Change}
 use Rattle.bx_text.specs.Edits.{Edit, Edited, redone, splice, undone}
 use Rattle.bx_document.specs.History.{next_changes, stepped_times}
 use Rattle.bx_document.specs.declared.history.HistoryStep.{HistoryStep}
 use Rattle.bx_document.specs.declared.history.HistoryStep.TheVariants as steps
-use Rattle.bx_runs.specs.Runs.{after_insertion, after_removal, goes_on, goes_on_removing, kind_of}
-use Rattle.bx_runs.specs.declared.typing.Kind.{Kind}
-use Rattle.bx_runs.specs.declared.typing.Kind.TheVariants.{Separator}
-use Rattle.bx_runs.specs.declared.typing.Removal.{Removal}
-use Rattle.bx_runs.specs.declared.typing.Typing.{Typing}
-use Rattle.bx_runs.specs.declared.typing.Typing.TheVariants.{Off, Paste}
+use Rattle.bx_editor.specs.undo_groups.Groups.{after_insertion, after_removal, goes_on, goes_on_removing, kind_of}
+use Rattle.bx_editor.specs.declared.undo_groups.typing.Kind.{Kind}
+use Rattle.bx_editor.specs.declared.undo_groups.typing.Kind.TheVariants.{Separator}
+use Rattle.bx_editor.specs.declared.undo_groups.typing.Removal.{Removal}
+use Rattle.bx_editor.specs.declared.undo_groups.typing.Typing.{Typing}
+use Rattle.bx_editor.specs.declared.undo_groups.typing.Typing.TheVariants.{Off, Paste}
 use Rattle.bx_ucd.specs.Data.{Data}
-use Rattle.bx_asking.specs.declared.answers.Ask.{Ask}
-use Rattle.bx_asking.specs.declared.answers.Ask.TheVariants as asks
+use Rattle.bx_editor.specs.declared.questions.answers.Prompt.{Prompt}
+use Rattle.bx_editor.specs.declared.questions.answers.Prompt.TheVariants as asks
 use Rattle.bx_editor.specs.declared.message.Message.{Message}
 use Rattle.bx_editor.specs.declared.message.Message.TheVariants as messages
-use Rattle.bx_editor.specs.declared.seek.Seek.{Seek}
-use Rattle.bx_editor.specs.declared.seek.Seek.TheVariants as seeks
+use Rattle.bx_editor.specs.declared.search_state.SearchState.{SearchState}
+use Rattle.bx_editor.specs.declared.search_state.SearchState.TheVariants as seeks
 use Rattle.bx_editor.specs.declared.cursor.Soft.{Soft}
 use Rattle.bx_editor.specs.declared.cursor.Soft.TheVariants as softness
 use Rattle.bx_editor.specs.Editor.{Editor, after_help, after_quit, after_redo, after_save, after_step, after_undo, next_base, nothing_left}
@@ -211,7 +211,7 @@ module _ (P : Editor → Type 0) (keeps : IsKeptPasting P) where
   pub begun-keeps : (e : Editor) → P e → P (with_paste e)
   begun-keeps e h = keeps.pasted e (Some []) (Some messages.Pasting) e.typing h
 
-  begin-keeps : (e : Editor) (ask : Ask) (seek : Seek) (pasted : Option (List ℕ)) → P e → P (paste_begun ask seek pasted e)
+  begin-keeps : (e : Editor) (ask : Prompt) (seek : SearchState) (pasted : Option (List ℕ)) → P e → P (paste_begun ask seek pasted e)
   begin-keeps e asks.Off seeks.Off None h = begun-keeps e h
   begin-keeps e asks.Off seeks.Off (Some list) h = h
   begin-keeps e asks.Off seeks.Begun pasted h = h

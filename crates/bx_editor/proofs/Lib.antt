@@ -13,7 +13,7 @@ pub mod OnItsCell
 pub mod Begin
 pub mod Sought
 pub mod InSearch
-pub mod Questions
+pub mod QuestionSteps
 pub mod Searches
 pub mod EffectsKept
 pub mod OnePrompt
@@ -23,7 +23,7 @@ pub mod MatchSpans
 pub mod ShownMatch
 pub mod Exchanged
 pub mod NextShown
-pub mod AskedOther
+pub mod AskedReplacement
 pub mod RunSteps
 pub mod HeldApart
 pub mod ManySteps
@@ -35,3 +35,5 @@ pub mod Unseen
 pub mod OnePaste
 pub mod SentOut
 mod PasteExamples
+pub mod undo_groups_lemmas
+pub mod questions_lemmas

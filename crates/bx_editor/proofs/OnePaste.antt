@@ -5,13 +5,13 @@ use Rattle.std.specs.Prelude.{◌≢◌, ◌==◌, ◌⊎◌, ◌&&◌, not, Opt
 use Rattle.std.proofs.lemmas.Bool.{ne_eqb}
 use Rattle.std.proofs.lemmas.Bool.Decides.{nat_tests}
 use Rattle.bx_keys.specs.declared.key.Key.TheVariants.{Insert, PasteEnd}
-use Rattle.bx_terms.specs.Characters.{largest_text}
+use Rattle.bx_common.specs.Characters.{largest_text}
 use Rattle.bx_text.specs.Edits.{fits}
 use Rattle.bx_ucd.specs.Data.{Data}
-use Rattle.bx_asking.specs.declared.answers.Ask.TheVariants as asks
-use Rattle.bx_runs.specs.declared.typing.Typing.TheVariants as typings
+use Rattle.bx_editor.specs.declared.questions.answers.Prompt.TheVariants as asks
+use Rattle.bx_editor.specs.declared.undo_groups.typing.Typing.TheVariants as typings
 use Rattle.bx_editor.specs.declared.message.Message.TheVariants.{Pasting, TextFull}
-use Rattle.bx_editor.specs.declared.seek.Seek.TheVariants as seeks
+use Rattle.bx_editor.specs.declared.search_state.SearchState.TheVariants as seeks
 use Rattle.bx_editor.specs.declared.cursor.Soft.{Soft}
 use Rattle.bx_editor.specs.declared.cursor.Soft.TheVariants.{Off, Fresh, Old}
 use Rattle.bx_editor.specs.Editor.{Editor, place_after, with_insertion, with_typing}
@@ -129,7 +129,7 @@ module _ (d : Data) (e : Editor) where
     one true is = record {
       alone = λ none. (let no = sym is ∙ none in absurd (cc no));
       instead = λ some. refl;
-      begins = runs-of-two e.runs (length e.content.past);
+      begins = runs-of-two e.undo_groups (length e.content.past);
       place = ap (place_by (shaped true true).content.text) (sym is);
     }
     one false is = record {

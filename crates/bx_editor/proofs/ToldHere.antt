@@ -2,9 +2,9 @@
 use Rattle.std.proofs.Common.{◌≡◌, ◌∙◌, ℕ, true, List, length, chars, Option, ap, ap₂, sym}
 use Rattle.std.specs.Prelude.{codes, if◌then◌else◌, slice_range}
 use Rattle.std.proofs.lemmas.Bool.{ne_eqb}
-use Rattle.bx_terms.specs.Characters.{are_ascii_printable}
+use Rattle.bx_common.specs.Characters.{are_ascii_printable}
 use Rattle.bx_ucd.specs.Data.{Data}
-use Rattle.bx_asking.specs.Told.{told_text}
+use Rattle.bx_editor.specs.questions.Told.{told_text}
 use Rattle.bx_document.specs.PlaceLevel.{place_level}
 use Rattle.bx_view.specs.Moves.{step_logical}
 use Rattle.bx_view.specs.declared.moves.Logical.TheVariants.{Forward}

@@ -4,20 +4,20 @@ use Rattle.std.specs.Prelude.{ℕ, ◌+◌, ◌==◌, false, List, [], length, c
 use Rattle.std.specs.Prelude.{Bool}
 use Rattle.std.specs.List.{list_any}
 use Rattle.bx_ucd.specs.Data.{Data}
-use Rattle.bx_asking.specs.declared.line.Target.{Target}
-use Rattle.bx_asking.specs.declared.answers.Ask.{Ask}
-use Rattle.bx_asking.specs.declared.answers.Ask.TheVariants.{Off, Line, Name, Code}
-use Rattle.bx_asking.specs.Answers.{lengthened, shortened, asked, is_line_letter}
-use Rattle.bx_asking.specs.Names.{coded, is_code_letter, asks_code, closing, named}
-use Rattle.bx_runs.specs.declared.typing.Typing.{Typing}
-use Rattle.bx_runs.specs.Runs.{after_insertion, kind_of}
+use Rattle.bx_editor.specs.declared.questions.line.Target.{Target}
+use Rattle.bx_editor.specs.declared.questions.answers.Prompt.{Prompt}
+use Rattle.bx_editor.specs.declared.questions.answers.Prompt.TheVariants.{Off, Line, Name, Code}
+use Rattle.bx_editor.specs.questions.Answers.{lengthened, shortened, asked, is_line_letter}
+use Rattle.bx_editor.specs.questions.Names.{coded, is_code_letter, asks_code, closing, named}
+use Rattle.bx_editor.specs.declared.undo_groups.typing.Typing.{Typing}
+use Rattle.bx_editor.specs.undo_groups.Groups.{after_insertion, kind_of}
 use Rattle.bx_text.specs.Edits.{fits, fits_both, wrapped}
 use Rattle.bx_view.specs.Numbers.{place_of, paragraph_number}
 use Rattle.bx_editor.specs.declared.message.Message.TheVariants.{NoSuchCharacter, TextFull, MoreThanOneLine}
 use Rattle.bx_editor.specs.Editor.{Editor, with_insertion, with_place, with_typing, place_after, with_edit}
 use Rattle.bx_editor.specs.Putting.{is_paste, only_paste}
 use Rattle.bx_editor.specs.Region.{is_empty, region, bytes_in}
-use Rattle.bx_index.specs.Paragraphs.{is_separator}
+use Rattle.bx_text.specs.index.Paragraphs.{is_separator}
 use Rattle.bx_document.specs.declared.edits.RegionEnd.{RegionEnd}
 use Rattle.bx_document.specs.declared.edits.RegionEnd.TheVariants.{Start, Stop}
 use Rattle.bx_document.specs.Swapped.{wrapped_end, wrapped_text}
@@ -50,7 +50,7 @@ after_wrapping d e opener closer =
     else record e { message = Some TextFull }
 
 -- the most characters of the answer that names a line: its numbers then stay below 10^18, so they fit in 64 bits
--- (`bx_asking/src/line.rt`)
+-- (`bx_editor/src/questions/line.rt`)
 abbrev pub longest_line : ℕ
 longest_line = 16
 
@@ -59,7 +59,7 @@ abbrev pub longest_code : ℕ
 longest_code = 6
 
 -- `ask` is asked, with an empty answer
-abbrev pub asking : Editor → Ask → Editor
+abbrev pub asking : Editor → Prompt → Editor
 asking e ask = record e { ask = ask; answer = [] }
 
 -- nothing is asked any more
@@ -136,14 +136,14 @@ abbrev pub unless_paste : Typing → Editor → Editor → Editor
 unless_paste typing e new = if is_paste typing then with_typing e typing else new
 
 -- a character is typed while something is asked
-abbrev pub after_answer_letter : Data → Typing → Ask → Editor → ℕ → Editor
+abbrev pub after_answer_letter : Data → Typing → Prompt → Editor → ℕ → Editor
 after_answer_letter d typing Off e c = e
 after_answer_letter d typing Line e c = with_typing (after_line_letter d typing e c) (only_paste typing)
 after_answer_letter d typing Name e c = unless_paste typing e (after_name_letter d e c (named c))
 after_answer_letter d typing Code e c = unless_paste typing e (after_code_letter d e c)
 
 -- the answer loses its last character; an empty code becomes the question for a name again
-abbrev pub after_shorter_answer : Ask → Editor → Editor
+abbrev pub after_shorter_answer : Prompt → Editor → Editor
 after_shorter_answer Off e = e
 after_shorter_answer Line e = with_answer e (shortened e.answer)
 after_shorter_answer Name e = e

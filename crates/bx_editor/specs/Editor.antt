@@ -1,11 +1,11 @@
 -- The editor's state, and its changes. Offsets and places count bytes of the text. `d` is Unicode's data, `e` the editor.
 use Rattle.std.specs.Prelude.{ℕ, ◌+◌, ◌-◌, Bool, true, false, not, ◌||◌, nat_le, nat_lt, List, [], ◌∷◌, length, Option, Some, None, if◌then◌else◌}
 use Rattle.std.specs.Prelude.{◌==◌, ◌≡◌, ◌<◌, ◌≤◌, take, IsUtf8}
-use Rattle.bx_terms.specs.declared.base.Base.{Base}
-use Rattle.bx_terms.specs.declared.base.Base.TheVariants.{Auto, Ltr, Rtl}
-use Rattle.bx_terms.specs.Characters.{largest_text}
-use Rattle.bx_asking.specs.declared.answers.Ask.{Ask}
-use Rattle.bx_asking.specs.declared.answers.Ask.TheVariants as asks
+use Rattle.bx_common.specs.declared.base.Base.{Base}
+use Rattle.bx_common.specs.declared.base.Base.TheVariants.{Auto, Ltr, Rtl}
+use Rattle.bx_common.specs.Characters.{largest_text}
+use Rattle.bx_editor.specs.declared.questions.answers.Prompt.{Prompt}
+use Rattle.bx_editor.specs.declared.questions.answers.Prompt.TheVariants as asks
 use Rattle.bx_keys.specs.declared.notice.Notice.{Notice}
 use Rattle.bx_store.specs.declared.store.StoreFault.{StoreFault}
 use Rattle.bx_text.specs.Edits.{Edited, Edit, opened, inserted, removed, splice, undone, redone}
@@ -16,19 +16,19 @@ use Rattle.bx_document.specs.declared.history.HistoryStep.{HistoryStep}
 use Rattle.bx_document.specs.declared.history.HistoryStep.TheVariants as steps
 use Rattle.bx_document.specs.History.{next_changes, stepped_times}
 use Rattle.bx_document.specs.declared.history.HistoryStep.TheVariants.{Undo, Redo}
-use Rattle.bx_editor.specs.declared.seek.Aim.{Aim}
-use Rattle.bx_editor.specs.declared.seek.Aim.TheVariants as aims
+use Rattle.bx_editor.specs.declared.search_state.SearchPurpose.{SearchPurpose}
+use Rattle.bx_editor.specs.declared.search_state.SearchPurpose.TheVariants as aims
 use Rattle.bx_editor.specs.declared.message.Message.{Message}
 use Rattle.bx_editor.specs.declared.message.Message.TheVariants as messages
-use Rattle.bx_editor.specs.declared.seek.Seek.{Seek}
-use Rattle.bx_editor.specs.declared.seek.Seek.TheVariants as seeks
+use Rattle.bx_editor.specs.declared.search_state.SearchState.{SearchState}
+use Rattle.bx_editor.specs.declared.search_state.SearchState.TheVariants as seeks
 use Rattle.bx_editor.specs.declared.cursor.Soft.{Soft}
 use Rattle.bx_editor.specs.declared.cursor.Soft.TheVariants as softness
 use Rattle.bx_editor.specs.declared.opening.OpenError.{OpenError}
 use Rattle.bx_editor.specs.declared.opening.OpenError.TheVariants.{NotUtf8, OutOfMemory, SizeOutOfRange, TooLong}
-use Rattle.bx_runs.specs.declared.typing.Typing.{Typing}
-use Rattle.bx_runs.specs.declared.typing.Typing.TheVariants as typings
-use Rattle.bx_runs.specs.Runs.{edited, run_end, run_start}
+use Rattle.bx_editor.specs.declared.undo_groups.typing.Typing.{Typing}
+use Rattle.bx_editor.specs.declared.undo_groups.typing.Typing.TheVariants as typings
+use Rattle.bx_editor.specs.undo_groups.Groups.{edited, run_end, run_start}
 use Rattle.bx_ucd.specs.Data.{Data}
 use Rattle.bx_grid.specs.Picture.{is_size}
 
@@ -47,24 +47,24 @@ pub record Editor : Type 0 where
   -- the query of the search, or of the latest one: at most 64 characters, in UTF-8
   pub query : List ℕ
   -- how far the search is
-  pub seek : Seek
+  pub seek : SearchState
   -- what the search, or the latest one, is for
-  pub aim : Aim
+  pub aim : SearchPurpose
   -- the place at which the latest search began
   pub origin : ℕ
   -- the text that replaces matches: at most 64 characters, in UTF-8
-  pub other : List ℕ
+  pub replacement : List ℕ
   -- where the match that is shown, or the latest one, begins: maybe inside a unit
   pub at : ℕ
-  -- how many matches were replaced since the other text was asked for last
+  -- how many matches were replaced since the replacement was asked for last
   pub count : ℕ
   -- what the user is asked, and the answer as far as it is typed, in UTF-8
-  pub ask : Ask
+  pub ask : Prompt
   pub answer : List ℕ
   -- what a paste has brought so far, in UTF-8; none while none is under way that goes into the text
   pub pasted : Option (List ℕ)
-  -- the lengths of the past at which runs of edits begin
-  pub runs : List ℕ
+  -- the lengths of the past at which undo groups begin
+  pub undo_groups : List ℕ
   -- what the next edit may go on with
   pub typing : Typing
   -- the length of the past at which the text is the one that was stored or opened last; none if no undo or redo leads there
@@ -98,13 +98,13 @@ at_start text height width base = record {
   seek = seeks.Off;
   aim = aims.Find;
   origin = 0;
-  other = [];
+  replacement = [];
   at = 0;
   count = 0;
   ask = asks.Off;
   answer = [];
   pasted = None;
-  runs = [];
+  undo_groups = [];
   typing = typings.Off;
   stored = Some 0;
   changed = false;
@@ -150,7 +150,7 @@ with_edit e content place goes_on =
       mark = None;
       soft = softness.Off;
       seek = seeks.Off;
-      runs = edited e.runs n goes_on;
+      undo_groups = edited e.undo_groups n goes_on;
       stored = stored_behind n e.stored;
       changed = true;
     }
@@ -267,12 +267,12 @@ with_notice e notice = record e { message = Some (messages.Notice notice) }
 abbrev pub cleared : Editor → Editor
 cleared e = record e { message = None; quit_before = false; typing = typings.Off }
 
--- ---- undo and redo by runs of edits; `n` is a length of the past: its number of edits
+-- ---- undo and redo by undo groups; `n` is a length of the past: its number of edits
 
 -- the length of the past to which a run is undone, or redone
 abbrev pub run_goal : HistoryStep → Editor → ℕ
-run_goal Undo e = run_start e.runs (length e.content.past)
-run_goal Redo e = run_end e.runs (length e.content.past) (length e.content.past + length e.content.future)
+run_goal Undo e = run_start e.undo_groups (length e.content.past)
+run_goal Redo e = run_end e.undo_groups (length e.content.past) (length e.content.past + length e.content.future)
 
 -- how many edits are undone, or redone, for that
 abbrev pub run_length : HistoryStep → Editor → ℕ

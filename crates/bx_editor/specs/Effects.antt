@@ -3,14 +3,14 @@ use Rattle.std.specs.Prelude.{ℕ, Bool, Option, Some, None, unwrap_or, nat_le, 
 use Rattle.bx_store.specs.declared.store.StoreFault.{StoreFault}
 use Rattle.bx_ucd.specs.Data.{Data}
 use Rattle.bx_document.specs.declared.history.HistoryStep.{HistoryStep}
-use Rattle.bx_runs.specs.declared.typing.Removal.{Removal}
-use Rattle.bx_runs.specs.declared.typing.Typing.{Typing}
+use Rattle.bx_editor.specs.declared.undo_groups.typing.Removal.{Removal}
+use Rattle.bx_editor.specs.declared.undo_groups.typing.Typing.{Typing}
 use Rattle.bx_view.specs.declared.moves.Vertical.{Vertical}
 use Rattle.bx_view.specs.Moves.{rows_away}
 use Rattle.bx_view.specs.TextRows.{cell_of}
 use Rattle.bx_view.specs.Top.{pointed_at}
-use Rattle.bx_asking.specs.declared.answers.Ask.TheVariants.{Line, Name}
-use Rattle.bx_editor.specs.declared.seek.Aim.{Aim}
+use Rattle.bx_editor.specs.declared.questions.answers.Prompt.TheVariants.{Line, Name}
+use Rattle.bx_editor.specs.declared.search_state.SearchPurpose.{SearchPurpose}
 use Rattle.bx_editor.specs.declared.message.Message.{Message}
 use Rattle.bx_editor.specs.declared.message.Message.TheVariants.{Told}
 use Rattle.bx_editor.specs.Asking.{asking}
@@ -72,7 +72,7 @@ pub data Effect : Type 0 where
   Copies : Effect
   Cuts : Effect
   -- a search begins, or the next match is sought
-  Seeks : Aim → Effect
+  Seeks : SearchPurpose → Effect
   SeeksNext : Effect
   Saves : Effect
   Quits : Effect

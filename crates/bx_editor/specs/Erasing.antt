@@ -2,9 +2,9 @@
 use Rattle.std.specs.Prelude.{ℕ, ◌+◌, ◌==◌, Bool, false, slice_range, if◌then◌else◌}
 use Rattle.bx_ucd.specs.Data.{Data}
 use Rattle.bx_document.specs.Points.{point_start}
-use Rattle.bx_runs.specs.declared.typing.Removal.{Removal}
-use Rattle.bx_runs.specs.declared.typing.Typing.{Typing}
-use Rattle.bx_runs.specs.Runs.{after_removal, goes_on_removing}
+use Rattle.bx_editor.specs.declared.undo_groups.typing.Removal.{Removal}
+use Rattle.bx_editor.specs.declared.undo_groups.typing.Typing.{Typing}
+use Rattle.bx_editor.specs.undo_groups.Groups.{after_removal, goes_on_removing}
 use Rattle.bx_view.specs.Moves.{step_logical}
 use Rattle.bx_view.specs.declared.moves.Logical.TheVariants.{Back}
 use Rattle.bx_editor.specs.Editor.{Editor, rows, with_removal}

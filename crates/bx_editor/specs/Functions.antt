@@ -1,7 +1,7 @@
 -- Words on which no key's effect rests: those of laws, and of contracts of single functions in src/. `d` is Unicode's data, `e` the
 -- editor.
 use Rattle.std.specs.Prelude.{true, ◌≡◌, IsUtf8, Bool, false, List, [], ◌∷◌, Option, ℕ, ◌+◌, length, Some, None, ◌||◌, nat_lt}
-use Rattle.bx_terms.specs.Characters.{is_side}
+use Rattle.bx_common.specs.Characters.{is_side}
 use Rattle.bx_editor.specs.Editor.{Editor, rows_of}
 use Rattle.bx_editor.specs.Keys.{after_key}
 use Rattle.bx_editor.specs.Search.{reading, sought}
@@ -82,7 +82,7 @@ as_before e new = record new {
   mark = e.mark;
   soft = e.soft;
   seek = e.seek;
-  runs = e.runs;
+  undo_groups = e.undo_groups;
   stored = e.stored;
   changed = e.changed;
   pasted = e.pasted;

@@ -10,17 +10,17 @@ use Rattle.bx_keys.specs.declared.key.Key.TheVariants.{Select, UndoRun, RedoRun,
 use Rattle.bx_store.specs.declared.store.StoreFault.{StoreFault}
 use Rattle.bx_document.specs.declared.history.HistoryStep.TheVariants as steps
 use Rattle.bx_paragraph.specs.declared.moves.Visual.TheVariants as visual
-use Rattle.bx_runs.specs.declared.typing.Removal.TheVariants as removals
+use Rattle.bx_editor.specs.declared.undo_groups.typing.Removal.TheVariants as removals
 use Rattle.bx_view.specs.declared.moves.Logical.TheVariants as logical
 use Rattle.bx_view.specs.declared.moves.Vertical.TheVariants as ways
 use Rattle.bx_view.specs.Moves.{step_logical, step_visual, vertical, page, row_home, row_end, word_towards}
 use Rattle.bx_view.specs.Words.{step_word}
 use Rattle.bx_ucd.specs.Data.{Data}
-use Rattle.bx_editor.specs.declared.seek.Aim.TheVariants as aims
-use Rattle.bx_editor.specs.declared.seek.Seek.{Seek}
-use Rattle.bx_editor.specs.declared.seek.Seek.TheVariants.{Off, Begun, Typed, WithBegun, WithTyped, Replacing}
-use Rattle.bx_asking.specs.declared.answers.Ask.{Ask}
-use Rattle.bx_asking.specs.declared.answers.Ask.TheVariants as asks
+use Rattle.bx_editor.specs.declared.search_state.SearchPurpose.TheVariants as aims
+use Rattle.bx_editor.specs.declared.search_state.SearchState.{SearchState}
+use Rattle.bx_editor.specs.declared.search_state.SearchState.TheVariants.{Off, Begun, Typed, WithBegun, WithTyped, Replacing}
+use Rattle.bx_editor.specs.declared.questions.answers.Prompt.{Prompt}
+use Rattle.bx_editor.specs.declared.questions.answers.Prompt.TheVariants as asks
 use Rattle.bx_editor.specs.Asking.{after_answer_letter, after_shorter_answer, without_ask}
 use Rattle.bx_editor.specs.Editor.{Editor, cleared, rows, text_height, with_notice, with_size, with_typing}
 use Rattle.bx_editor.specs.Effects.{Effect, Types, BeginsLine, Puts, Removes, RemovesWord, Steps, StepsRun, Goes, GoesByRows, Marks}
@@ -28,8 +28,8 @@ use Rattle.bx_editor.specs.Effects.{Selects, Unmarks, Copies, Cuts, Seeks, Seeks
 use Rattle.bx_editor.specs.Effects.{Tells, Rests, Before, before, by, goal_behind, pointed_place}
 use Rattle.bx_editor.specs.Erasing.{point_before}
 use Rattle.bx_editor.specs.Putting.{after_paste_end, after_paste_start, after_pasted_letter, paste_ended, only_paste}
-use Rattle.bx_editor.specs.Replacing.{after_asking_other, after_ending, after_match_letter, after_other_letter, after_passing_over}
-use Rattle.bx_editor.specs.Replacing.{after_replacing_all, after_shorter_other, after_showing, after_sought_letter}
+use Rattle.bx_editor.specs.Replacing.{after_asking_replacement, after_ending, after_match_letter, after_replacement_letter, after_passing_over}
+use Rattle.bx_editor.specs.Replacing.{after_replacing_all, after_shorter_replacement, after_showing, after_sought_letter}
 use Rattle.bx_editor.specs.Search.{after_find, after_find_back, after_giving_up, after_shortening, without_search}
 use Rattle.bx_editor.specs.Region.{soft_behind}
 
@@ -128,25 +128,25 @@ answered d fault was e key Shortens = after_shortening d e
 answered d fault was e key GoesBack = after_giving_up e
 answered d fault was e key Next = after_find d e
 answered d fault was e key Previous = after_find_back d e
-answered d fault was e key Replaces = after_asking_other d e
+answered d fault was e key Replaces = after_asking_replacement d e
 answered d fault was e key Stays = with_typing e was.typing
 answered d fault was e key Ends = without_search (after_pressing d fault was e key)
 
 abbrev pub after_seeking : Data → Option StoreFault → Before → Editor → Key → Editor
 after_seeking d fault was e key = answered d fault was e key (answer_of key)
 
--- ---- while the other text is asked for: a key answers, or ends the search and does what it always does
+-- ---- while the replacement is asked for: a key answers, or ends the search and does what it always does
 
 -- Next and Previous begin another search, and Replaces shows the first match
-abbrev pub answered_other : Data → Option StoreFault → Before → Editor → Key → Answer → Editor
-answered_other d fault was e key (Letter c) = with_typing (after_other_letter d was.typing e c) (only_paste was.typing)
-answered_other d fault was e key Shortens = after_shorter_other e
-answered_other d fault was e key GoesBack = after_giving_up e
-answered_other d fault was e key Next = by d fault was (without_search e) (Seeks aims.Find)
-answered_other d fault was e key Previous = by d fault was (without_search e) (Seeks aims.Find)
-answered_other d fault was e key Replaces = after_showing d e
-answered_other d fault was e key Stays = with_typing e was.typing
-answered_other d fault was e key Ends = after_pressing d fault was (without_search e) key
+abbrev pub answered_replacement : Data → Option StoreFault → Before → Editor → Key → Answer → Editor
+answered_replacement d fault was e key (Letter c) = with_typing (after_replacement_letter d was.typing e c) (only_paste was.typing)
+answered_replacement d fault was e key Shortens = after_shorter_replacement e
+answered_replacement d fault was e key GoesBack = after_giving_up e
+answered_replacement d fault was e key Next = by d fault was (without_search e) (Seeks aims.Find)
+answered_replacement d fault was e key Previous = by d fault was (without_search e) (Seeks aims.Find)
+answered_replacement d fault was e key Replaces = after_showing d e
+answered_replacement d fault was e key Stays = with_typing e was.typing
+answered_replacement d fault was e key Ends = after_pressing d fault was (without_search e) key
 
 -- ---- while a match is shown: a key replaces it, passes it over, or ends replacing and does what it always does
 
@@ -163,12 +163,12 @@ answered_match d fault was e key Ends = after_pressing d fault was (without_sear
 
 -- ---- in any state of a search
 
-abbrev pub after_searching : Data → Option StoreFault → Before → Seek → Editor → Key → Editor
+abbrev pub after_searching : Data → Option StoreFault → Before → SearchState → Editor → Key → Editor
 after_searching d fault was Off e key = after_pressing d fault was e key
 after_searching d fault was Begun e key = after_seeking d fault was e key
 after_searching d fault was Typed e key = after_seeking d fault was e key
-after_searching d fault was WithBegun e key = answered_other d fault was e key (answer_of key)
-after_searching d fault was WithTyped e key = answered_other d fault was e key (answer_of key)
+after_searching d fault was WithBegun e key = answered_replacement d fault was e key (answer_of key)
+after_searching d fault was WithTyped e key = answered_replacement d fault was e key (answer_of key)
 after_searching d fault was Replacing e key = answered_match d fault was e key (answer_of key)
 
 -- ---- in a question: a key answers it, or ends it and does what it always does
@@ -186,7 +186,7 @@ after_asking d fault was e key = answered_question d fault was e key (answer_of 
 -- ---- any key
 
 -- a question has the key before a search has
-abbrev pub after_any : Data → Option StoreFault → Before → Ask → Seek → Editor → Key → Editor
+abbrev pub after_any : Data → Option StoreFault → Before → Prompt → SearchState → Editor → Key → Editor
 after_any d fault was asks.Off seek e key = after_searching d fault was seek e key
 after_any d fault was _ _ e key = after_asking d fault was e key
 

@@ -15,3 +15,5 @@ pub mod Picture
 pub mod PasteLaws
 pub mod Status
 pub mod Functions
+pub mod undo_groups
+pub mod questions

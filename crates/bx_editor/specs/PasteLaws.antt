@@ -2,14 +2,14 @@
 use Rattle.std.specs.Prelude.{◌≡◌, ◌≢◌, ℕ, ◌+◌, ◌<◌, ◌≤◌, ◌⊎◌, true, false, List, [], ◌∷◌, ◌++◌, length, map, Option, Some, None, if◌then◌else◌}
 use Rattle.bx_keys.specs.declared.key.Key.{Key}
 use Rattle.bx_keys.specs.declared.key.Key.TheVariants.{Copy, Cut, Insert, PasteEnd, PasteStart}
-use Rattle.bx_runs.specs.Runs.{edited}
+use Rattle.bx_editor.specs.undo_groups.Groups.{edited}
 use Rattle.bx_store.specs.declared.store.StoreFault.{StoreFault}
 use Rattle.bx_text.specs.Edits.{inserted, splice}
 use Rattle.bx_text.specs.Changes.{exchanged}
 use Rattle.bx_ucd.specs.Data.{Data}
-use Rattle.bx_asking.specs.declared.answers.Ask.TheVariants as asks
+use Rattle.bx_editor.specs.declared.questions.answers.Prompt.TheVariants as asks
 use Rattle.bx_editor.specs.declared.message.Message.TheVariants.{TextFull, TooLongForClipboard}
-use Rattle.bx_editor.specs.declared.seek.Seek.TheVariants.{Off}
+use Rattle.bx_editor.specs.declared.search_state.SearchState.TheVariants.{Off}
 use Rattle.bx_editor.specs.Region.{clip_of, bytes_in, is_empty, largest_clip, region, taken, is_selection}
 use Rattle.bx_editor.specs.Editor.{Editor, place_after}
 use Rattle.bx_editor.specs.Keys.{after_key, needs_no_painting}
@@ -43,7 +43,7 @@ pub record IsOneEdit (d : Data) (e : Editor) (list : List ℕ) (new : Editor) : 
   pub alone : is_selection e ≡ false → new.content ≡ inserted e.content e.place list e.place new.place
   pub instead : is_selection e ≡ true
       → new.content ≡ exchanged e.content (region e).0 (region e).1 (place_between d e) list e.place (place_between d e) new.place
-  pub begins : new.runs ≡ edited e.runs (length e.content.past) false
+  pub begins : new.undo_groups ≡ edited e.undo_groups (length e.content.past) false
   pub place : new.place ≡ place_after d e new.content.text ((if is_selection e then place_between d e else e.place) + length list)
 
 -- the text, with its past and future, and the cursor's place stay

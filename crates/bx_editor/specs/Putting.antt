@@ -4,19 +4,19 @@ use Rattle.std.specs.Prelude.{Option, None}
 use Rattle.bx_text.specs.Edits.{fits, splice}
 use Rattle.bx_ucd.specs.Data.{Data}
 use Rattle.bx_document.specs.Line.{has_crlf_first}
-use Rattle.bx_runs.specs.declared.typing.Kind.{Kind}
-use Rattle.bx_runs.specs.declared.typing.Kind.TheVariants.{Separator}
-use Rattle.bx_runs.specs.declared.typing.Typing.{Typing}
-use Rattle.bx_runs.specs.declared.typing.Typing.TheVariants.{Off, Paste}
-use Rattle.bx_runs.specs.Runs.{after_insertion, goes_on, kind_of}
+use Rattle.bx_editor.specs.declared.undo_groups.typing.Kind.{Kind}
+use Rattle.bx_editor.specs.declared.undo_groups.typing.Kind.TheVariants.{Separator}
+use Rattle.bx_editor.specs.declared.undo_groups.typing.Typing.{Typing}
+use Rattle.bx_editor.specs.declared.undo_groups.typing.Typing.TheVariants.{Off, Paste}
+use Rattle.bx_editor.specs.undo_groups.Groups.{after_insertion, goes_on, kind_of}
 use Rattle.bx_editor.specs.declared.message.Message.TheVariants.{NothingToPut, TextFull, Pasting}
 use Rattle.bx_editor.specs.Editor.{Editor, with_insertion, with_removal, with_typing}
 use Rattle.bx_editor.specs.Region.{region, is_selection, aged}
-use Rattle.bx_editor.specs.declared.seek.Seek.{Seek}
-use Rattle.bx_editor.specs.declared.seek.Seek.TheVariants as seeks
-use Rattle.bx_terms.specs.Characters.{largest_text}
-use Rattle.bx_asking.specs.declared.answers.Ask.{Ask}
-use Rattle.bx_asking.specs.declared.answers.Ask.TheVariants as asks
+use Rattle.bx_editor.specs.declared.search_state.SearchState.{SearchState}
+use Rattle.bx_editor.specs.declared.search_state.SearchState.TheVariants as seeks
+use Rattle.bx_common.specs.Characters.{largest_text}
+use Rattle.bx_editor.specs.declared.questions.answers.Prompt.{Prompt}
+use Rattle.bx_editor.specs.declared.questions.answers.Prompt.TheVariants as asks
 
 -- ---- bytes put in
 
@@ -83,7 +83,7 @@ abbrev pub with_paste : Editor → Editor
 with_paste e = record e { pasted = Some []; message = Some Pasting }
 
 -- it begins unless something is asked or sought, or one is under way
-abbrev pub paste_begun : Ask → Seek → Option (List ℕ) → Editor → Editor
+abbrev pub paste_begun : Prompt → SearchState → Option (List ℕ) → Editor → Editor
 paste_begun asks.Off seeks.Off None e = with_paste e
 paste_begun ask seek pasted e = e
 

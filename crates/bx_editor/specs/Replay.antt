@@ -1,8 +1,8 @@
 -- What a replay does in place of keys of a journal that save or quit, and its end.
 use Rattle.std.specs.Prelude.{length, Some, None, if◌then◌else◌}
-use Rattle.bx_runs.specs.declared.typing.Typing.TheVariants.{Off}
-use Rattle.bx_editor.specs.declared.seek.Seek.TheVariants as seeks
-use Rattle.bx_asking.specs.declared.answers.Ask.TheVariants as asks
+use Rattle.bx_editor.specs.declared.undo_groups.typing.Typing.TheVariants.{Off}
+use Rattle.bx_editor.specs.declared.search_state.SearchState.TheVariants as seeks
+use Rattle.bx_editor.specs.declared.questions.answers.Prompt.TheVariants as asks
 use Rattle.bx_editor.specs.Editor.{Editor}
 use Rattle.bx_editor.specs.Region.{aged}
 

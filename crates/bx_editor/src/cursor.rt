@@ -1,7 +1,7 @@
 //! The cursor, with all that an edit settles, and how fresh a selection is.
 ghost use Rattle.std.specs.Prelude.{◌≡◌, None};
 
-use crate::seek::Seek;
+use crate::search_state::SearchState;
 
 /// How fresh a selection is. It gives way to what is typed.
 #[derive(Clone, Copy)]
@@ -20,19 +20,19 @@ pub(crate) struct Cursor {
     pub(crate) place: usize,
     pub(crate) mark: Option<usize>,
     pub(crate) soft: Soft,
-    pub(crate) seek: Seek,
+    pub(crate) seek: SearchState,
 }
 
 impl Cursor {
     /// Goes to the place behind an edit, which removes the mark and ends the search.
-    pub(crate) fn settle(&mut self, place: usize)
-        ensures { self.new ≡ record { place = place; mark = None; soft = Soft.Off; seek = Seek.Off } }
+    pub(crate) fn move_after_edit(&mut self, place: usize)
+        ensures { self.new ≡ record { place = place; mark = None; soft = Soft.Off; seek = SearchState.Off } }
     {
         *self = Cursor {
             place,
             mark: None,
             soft: Soft::Off,
-            seek: Seek::Off,
+            seek: SearchState::Off,
         };
     }
 }

@@ -8,11 +8,11 @@ ghost use Rattle.bx_editor.specs.Editor.{cleared, rows, with_removal};
 ghost use Rattle.bx_editor.specs.Erasing.{after_erasing, after_erasing_word, after_removing, point_before, removed_on};
 ghost use Rattle.bx_editor.specs.Functions.{goes_back, goes_on};
 ghost use Rattle.bx_editor.specs.Region.{region};
-ghost use Rattle.bx_runs.specs.declared.typing.Removal.{Removal};
+ghost use Rattle.bx_editor.specs.declared.undo_groups.typing.Removal.{Removal};
 
 use crate::editor::Editor;
-use bx_runs::Removal;
-use bx_terms::OutOfMemory;
+use crate::undo_groups::Removal;
+use bx_common::OutOfMemory;
 use bx_ucd::BidiData;
 use bx_view::{Logical, Move};
 
@@ -30,12 +30,12 @@ impl<D: BidiData + Drop> Editor<D> {
         }) }
         ensures err { OnErr result (self.new ≡ self.old) }
     {
-        self.past.runs.reserve()?;
+        self.past.undo_groups.reserve()?;
         let n = self.document.past_len();
         let place = self.document.remove(start, stop, self.cursor.place)?;
         self.past.edited(n, goes_on);
-        self.cursor.settle(place);
-        self.clear();
+        self.cursor.move_after_edit(place);
+        self.reset_after_key();
         Ok(())
     }
 
@@ -49,7 +49,7 @@ impl<D: BidiData + Drop> Editor<D> {
         ensures err { OnErr result (self.new ≡ self.old) }
     {
         if start == stop {
-            self.clear();
+            self.reset_after_key();
             return Ok(());
         }
         let goes_on = self.typing.goes_on_removing(how);
@@ -67,7 +67,7 @@ impl<D: BidiData + Drop> Editor<D> {
         ensures err { OnErr result (self.new ≡ self.old) }
     {
         if start == stop {
-            self.clear();
+            self.reset_after_key();
             return Ok(());
         }
         self.remove(start, stop, false)

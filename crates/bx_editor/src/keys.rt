@@ -10,14 +10,14 @@ ghost use Rattle.bx_editor.specs.Functions.{is_size_key, is_told_key};
 use crate::editor::Editor;
 use crate::message::Message;
 use crate::moving::goal_behind;
-use crate::seek::{Aim, Seek};
+use crate::questions::Prompt;
+use crate::search_state::{SearchPurpose, SearchState};
 use crate::selecting::{aged, soft_behind};
-use bx_asking::Ask;
+use crate::undo_groups::Typing;
+use bx_common::{Base, OutOfMemory};
 use bx_document::HistoryStep;
 use bx_keys::Key;
-use bx_runs::Typing;
 use bx_store::StoreFault;
-use bx_terms::{Base, OutOfMemory};
 use bx_ucd::BidiData;
 use bx_view::{Logical, Move, Vertical, Visual};
 
@@ -34,7 +34,7 @@ fn next_base(base: Base) -> Base
 
 impl<D: BidiData + Drop> Editor<D> {
     /// Clears the message and forgets an earlier Quit, but what is typed goes on.
-    pub(crate) fn rest(&mut self)
+    pub(crate) fn clear_message(&mut self)
         ensures { self.new ≡ record self.old { editor = with_typing (cleared self.old.editor) self.old.editor.typing } }
     {
         self.message = None;
@@ -42,10 +42,10 @@ impl<D: BidiData + Drop> Editor<D> {
     }
 
     /// Clears the message, forgets an earlier Quit, and ends what is typed.
-    pub(crate) fn clear(&mut self)
+    pub(crate) fn reset_after_key(&mut self)
         ensures { self.new ≡ record self.old { editor = cleared self.old.editor } }
     {
-        self.rest();
+        self.clear_message();
         self.typing = Typing::Off;
     }
 
@@ -53,7 +53,7 @@ impl<D: BidiData + Drop> Editor<D> {
     pub(crate) fn tell(&mut self, message: Message)
         ensures { self.new ≡ record self.old { editor = record (cleared self.old.editor) { message = Some message } } }
     {
-        self.clear();
+        self.reset_after_key();
         self.message = Some(message);
     }
 
@@ -62,7 +62,7 @@ impl<D: BidiData + Drop> Editor<D> {
         ensures { self.new ≡ record self.old { editor = after_quit (cleared self.old.editor) self.old.editor.quit_before } }
     {
         let again = self.quit_before;
-        self.clear();
+        self.reset_after_key();
         if !self.past.changed || again {
             self.ended = true;
         } else {
@@ -113,8 +113,8 @@ impl<D: BidiData + Drop> Editor<D> {
             Some(fault) => self.tell(Message::SaveFailed(fault.cause)),
         }
         match self.ask {
-            Ask::Off => self.leave_search(),
-            Ask::Line | Ask::Name | Ask::Code => self.leave_question(),
+            Prompt::Off => self.leave_search(),
+            Prompt::Line | Prompt::Name | Prompt::Code => self.leave_question(),
         }
         self.goal = None;
         self.cursor.soft = aged(self.cursor.soft);
@@ -191,11 +191,12 @@ impl<D: BidiData + Drop> Editor<D> {
         ensures edits { OnErr result (is_edit_or_move key ≡ true) }
     {
         match (self.ask, self.cursor.seek) {
-            (Ask::Off, Seek::Off) => self.press(key),
-            (Ask::Off, Seek::Begun | Seek::Typed) => self.press_in_search(key),
-            (Ask::Off, Seek::WithBegun | Seek::WithTyped) => self.press_for_other(key),
-            (Ask::Off, Seek::Replacing) => self.press_at_match(key),
-            (Ask::Line | Ask::Name | Ask::Code, _) => self.press_in_question(key),
+            (Prompt::Off, SearchState::Off) => self.press(key),
+            (Prompt::Off, SearchState::Begun | SearchState::Typed) => self.press_in_search(key),
+            (Prompt::Off, SearchState::WithBegun | SearchState::WithTyped) =>
+                self.press_for_replacement(key),
+            (Prompt::Off, SearchState::Replacing) => self.press_at_match(key),
+            (Prompt::Line | Prompt::Name | Prompt::Code, _) => self.press_in_question(key),
         }
     }
 
@@ -263,11 +264,11 @@ impl<D: BidiData + Drop> Editor<D> {
             }
             Key::GoTo => {
                 self.unselect();
-                self.begin_question(Ask::Line);
+                self.begin_question(Prompt::Line);
                 Ok(())
             }
             Key::Name => {
-                self.begin_question(Ask::Name);
+                self.begin_question(Prompt::Name);
                 Ok(())
             }
             Key::Tell => {
@@ -283,15 +284,15 @@ impl<D: BidiData + Drop> Editor<D> {
                 Ok(())
             }
             Key::Find | Key::FindBack => {
-                self.begin_search(Aim::Find);
+                self.begin_search(SearchPurpose::Find);
                 Ok(())
             }
             Key::Replace => {
-                self.begin_search(Aim::Replace);
+                self.begin_search(SearchPurpose::Replace);
                 Ok(())
             }
             Key::Repaint => {
-                self.rest();
+                self.clear_message();
                 Ok(())
             }
             Key::Save | Key::Size(..) | Key::Notice(_) => unreachable!(),
@@ -315,11 +316,11 @@ impl<D: BidiData + Drop> Editor<D> {
             Key::Erase | Key::Delete | Key::ErasePoint => self.shorten_answer(),
             Key::Quit | Key::Copy | Key::Cancel => {
                 self.leave_question();
-                self.clear();
+                self.reset_after_key();
                 Ok(())
             }
             Key::Repaint => {
-                self.rest();
+                self.clear_message();
                 Ok(())
             }
             _ => self.press_without_question(key),

@@ -2,9 +2,9 @@
 ghost use Rattle.std.specs.Prelude.{◌≡◌};
 ghost use Rattle.bx_editor.specs.Status.{failed_text, message_text, notice_text};
 
+use bx_common::Base;
 use bx_keys::Notice;
 use bx_store::SaveCause;
-use bx_terms::Base;
 
 /// The message of the status row.
 #[derive(Clone, Copy)]

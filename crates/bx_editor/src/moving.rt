@@ -9,8 +9,8 @@ ghost use Rattle.bx_editor.specs.Region.{unselected};
 
 use crate::editor::Editor;
 use crate::picture::text_height;
+use bx_common::OutOfMemory;
 use bx_keys::Key;
-use bx_terms::OutOfMemory;
 use bx_ucd::BidiData;
 use bx_view::{Move, Vertical};
 
@@ -32,7 +32,7 @@ impl<D: BidiData + Drop> Editor<D> {
         ensures { self.new ≡ record self.old { editor = with_place (cleared self.old.editor) place } }
     {
         self.cursor.place = place;
-        self.clear();
+        self.reset_after_key();
     }
 
     /// Moves the cursor to the first place at or after an offset, in bytes from 0, or to the text's end for an offset past

@@ -7,12 +7,12 @@ ghost use Rattle.bx_editor.specs.Keys.{after_user, is_of_paste, is_save, needs_n
 use crate::editor::Editor;
 use crate::message::Message;
 use crate::past::Past;
-use crate::seek::Seek;
+use crate::questions::Prompt;
+use crate::search_state::SearchState;
 use crate::selecting::aged;
-use bx_asking::Ask;
+use crate::undo_groups::Typing;
+use bx_common::{LARGEST_TEXT, OutOfMemory};
 use bx_keys::Key;
-use bx_runs::Typing;
-use bx_terms::{LARGEST_TEXT, OutOfMemory};
 use bx_ucd::BidiData;
 
 /// Appends a character to what a paste has brought, or CR LF in its place. A list that is longer than any text stays as it is.
@@ -99,7 +99,7 @@ impl<D: BidiData + Drop> Editor<D> {
         ensures { self.new ≡ record self.old { editor = paste_begun self.old.editor.ask self.old.editor.seek self.old.editor.pasted self.old.editor } }
     {
         match (self.ask, self.cursor.seek, &self.pasted) {
-            (Ask::Off, Seek::Off, None) => self.begin_paste(),
+            (Prompt::Off, SearchState::Off, None) => self.begin_paste(),
             _ => {}
         }
     }
@@ -218,7 +218,7 @@ impl<D: BidiData + Drop> Editor<D> {
         ensures err { OnErr result (self.new ≡ self.old) }
     {
         let document = self.document.backup()?;
-        let runs = self.past.runs.copy()?;
+        let runs = self.past.undo_groups.copy()?;
         let (stored, changed) = (self.past.stored, self.past.changed);
         let (cursor, typing, message) = (self.cursor, self.typing, self.message);
         let Some(list) = self.pasted.take() else {
@@ -229,7 +229,7 @@ impl<D: BidiData + Drop> Editor<D> {
             Err(refused) => {
                 self.document.restore(document);
                 self.past = Past {
-                    runs,
+                    undo_groups: runs,
                     stored,
                     changed,
                 };

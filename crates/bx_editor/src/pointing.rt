@@ -8,7 +8,7 @@ ghost use Rattle.bx_editor.specs.Region.{unselected};
 
 use crate::editor::Editor;
 use crate::picture::text_height;
-use bx_terms::OutOfMemory;
+use bx_common::OutOfMemory;
 use bx_ucd::BidiData;
 
 impl<D: BidiData + Drop> Editor<D> {

@@ -7,8 +7,8 @@ ghost use Rattle.bx_editor.specs.Region.{region};
 
 use crate::editor::Editor;
 use crate::message::Message;
-use bx_runs::{Kind, Typing};
-use bx_terms::OutOfMemory;
+use crate::undo_groups::{Kind, Typing};
+use bx_common::OutOfMemory;
 use bx_ucd::BidiData;
 use std::mem;
 
@@ -38,13 +38,13 @@ impl<D: BidiData + Drop> Editor<D> {
         }) }
         ensures err { OnErr result (self.new ≡ self.old) }
     {
-        self.past.runs.reserve()?;
+        self.past.undo_groups.reserve()?;
         let n = self.document.past_len();
         let Some(place) = self.document.insert(self.cursor.place, new)? else {
             return Ok(false);
         };
         self.past.edited(n, goes_on);
-        self.cursor.settle(place);
+        self.cursor.move_after_edit(place);
         Ok(true)
     }
 
@@ -57,14 +57,14 @@ impl<D: BidiData + Drop> Editor<D> {
         ensures err { OnErr result (self.new ≡ self.old) }
     {
         let (start, stop) = self.region();
-        self.past.runs.reserve()?;
+        self.past.undo_groups.reserve()?;
         let n = self.document.past_len();
         let Some(place) = self.document.replace(start, stop, new, self.cursor.place)? else {
             return Ok(false);
         };
         // Two edits are noted as one: the second goes on with the first one's run, and changes neither `runs` nor `stored`.
         self.past.edited(n, false);
-        self.cursor.settle(place);
+        self.cursor.move_after_edit(place);
         Ok(true)
     }
 
@@ -81,7 +81,7 @@ impl<D: BidiData + Drop> Editor<D> {
         } else {
             self.insert_text(new, goes_on)?
         };
-        self.clear();
+        self.reset_after_key();
         if !room {
             self.message = Some(Message::TextFull);
         }

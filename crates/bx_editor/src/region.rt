@@ -7,7 +7,7 @@ ghost use Rattle.bx_editor.specs.Region.{after_copy, after_cut, after_mark, held
 use crate::cursor::Soft;
 use crate::editor::Editor;
 use crate::message::Message;
-use bx_terms::OutOfMemory;
+use bx_common::OutOfMemory;
 use bx_ucd::BidiData;
 
 /// Whether the mark is at the place.
@@ -54,7 +54,7 @@ impl<D: BidiData + Drop> Editor<D> {
     {
         self.cursor.mark = None;
         self.cursor.soft = Soft::Off;
-        self.clear();
+        self.reset_after_key();
     }
 
     /// The offsets of the region's start and end: the mark and the place in order. Equal if there is no mark.
@@ -89,7 +89,7 @@ impl<D: BidiData + Drop> Editor<D> {
         ensures err { OnErr result (self.new ≡ self.old) }
     {
         let held = self.document.copy(start, stop)?;
-        self.clear();
+        self.reset_after_key();
         self.message = held_message(self.clipboard, held.as_str(), Some(message));
         self.held = held;
         self.cursor.mark = None;

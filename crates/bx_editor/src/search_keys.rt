@@ -1,25 +1,25 @@
-//! The keys of a search: while the query is asked for, while the other text is, and while a match is shown.
+//! The keys of a search: while the query is asked for, while the replacement is, and while a match is shown.
 ghost use Rattle.std.specs.Prelude.{◌≡◌, None, true, false, OnErr, OnOk};
 ghost use Rattle.bx_view.specs.Places.{IsTextPlace};
 ghost use Rattle.bx_editor.specs.Editor.{cleared, with_typing};
 ghost use Rattle.bx_editor.specs.Effects.{before};
-ghost use Rattle.bx_editor.specs.Keys.{after_pressing, after_seeking, answer_of, answered_match, answered_other, is_edit_or_move, is_save};
+ghost use Rattle.bx_editor.specs.Keys.{after_pressing, after_seeking, answer_of, answered_match, answered_replacement, is_edit_or_move, is_save};
 ghost use Rattle.bx_editor.specs.Functions.{is_told_key};
-ghost use Rattle.bx_editor.specs.Origin.{asks_other, is_queried};
+ghost use Rattle.bx_editor.specs.Origin.{asks_replacement, is_queried};
 ghost use Rattle.bx_editor.specs.Putting.{only_paste};
-ghost use Rattle.bx_editor.specs.Replacing.{after_match_letter, after_other_letter, after_sought_end, after_sought_letter};
+ghost use Rattle.bx_editor.specs.Replacing.{after_match_letter, after_replacement_letter, after_sought_end, after_sought_letter};
 ghost use Rattle.bx_editor.specs.Search.{without_search};
 
 use crate::editor::Editor;
 use crate::putting::{is_paste, only_paste};
-use crate::seek::{Aim, Seek};
+use crate::search_state::{SearchPurpose, SearchState};
+use crate::undo_groups::Typing;
+use bx_common::OutOfMemory;
 use bx_keys::Key;
-use bx_runs::Typing;
-use bx_terms::OutOfMemory;
 use bx_ucd::BidiData;
 
 impl<D: BidiData + Drop> Editor<D> {
-    /// Applies a line end in a search: in one for replacing it asks for the other text, but a pasted one asks nothing; in one for
+    /// Applies a line end in a search: in one for replacing it asks for the replacement, but a pasted one asks nothing; in one for
     /// finding it ends the search, and what a paste then brings goes into the text.
     fn end_query(&mut self) -> Result<(), OutOfMemory>
         requires origin { IsTextPlace (D.data self.old.tables) self.old.editor.content.text self.old.editor.origin }
@@ -31,12 +31,12 @@ impl<D: BidiData + Drop> Editor<D> {
         ensures err { OnErr result (self.new ≡ self.old) }
     {
         let typing = self.typing;
-        if self.aim == Aim::Replace {
+        if self.aim == SearchPurpose::Replace {
             if is_paste(typing) {
-                self.rest();
+                self.clear_message();
                 return Ok(());
             }
-            return self.ask_other();
+            return self.ask_replacement();
         }
         self.end_search();
         if is_paste(typing) {
@@ -84,13 +84,13 @@ impl<D: BidiData + Drop> Editor<D> {
             Key::Erase | Key::Delete | Key::ErasePoint => self.shorten(),
             Key::Find | Key::FindNext => self.find_next(),
             Key::FindBack => self.find_previous(),
-            Key::Replace => self.ask_other(),
+            Key::Replace => self.ask_replacement(),
             Key::Quit | Key::Copy | Key::Cancel => {
                 self.give_up();
                 Ok(())
             }
             Key::Repaint => {
-                self.rest();
+                self.clear_message();
                 Ok(())
             }
             _ => self.press_last(key),
@@ -112,20 +112,20 @@ impl<D: BidiData + Drop> Editor<D> {
         Ok(())
     }
 
-    /// Applies a character that is typed as part of the other text; a paste goes on behind it.
-    fn answer_other(&mut self, c: char) -> Result<(), OutOfMemory>
-        requires asked { asks_other self.old.editor.seek ≡ true }
+    /// Applies a character that is typed as part of the replacement; a paste goes on behind it.
+    fn answer_replacement(&mut self, c: char) -> Result<(), OutOfMemory>
+        requires asked { asks_replacement self.old.editor.seek ≡ true }
         ensures ok { OnOk result (self.new ≡ record self.old {
-          editor = with_typing (after_other_letter (D.data self.old.tables) self.old.editor.typing (cleared self.old.editor) c)
+          editor = with_typing (after_replacement_letter (D.data self.old.tables) self.old.editor.typing (cleared self.old.editor) c)
               (only_paste self.old.editor.typing);
         }) }
         ensures err { OnErr result (self.new ≡ self.old) }
     {
         let typing = self.typing;
         if c != '\n' {
-            self.type_other(c)?;
+            self.type_replacement(c)?;
         } else if is_paste(typing) {
-            self.rest();
+            self.clear_message();
         } else {
             self.show_match();
         }
@@ -133,24 +133,24 @@ impl<D: BidiData + Drop> Editor<D> {
         Ok(())
     }
 
-    /// Applies a key while the other text is asked for.
-    pub(crate) fn press_for_other(&mut self, key: Key) -> Result<(), OutOfMemory>
+    /// Applies a key while the replacement is asked for.
+    pub(crate) fn press_for_replacement(&mut self, key: Key) -> Result<(), OutOfMemory>
         requires no_save { is_save key ≡ false }
         requires typed { is_told_key key ≡ false }
         requires origin { IsTextPlace (D.data self.old.tables) self.old.editor.content.text self.old.editor.origin }
-        requires asked { asks_other self.old.editor.seek ≡ true }
+        requires asked { asks_replacement self.old.editor.seek ≡ true }
         ensures ok { OnOk result (self.new.editor
-            ≡ answered_other (D.data self.old.tables) None (before self.old.editor) (cleared self.old.editor) key (answer_of key)) }
+            ≡ answered_replacement (D.data self.old.tables) None (before self.old.editor) (cleared self.old.editor) key (answer_of key)) }
         ensures tables { self.new.tables ≡ self.old.tables }
         ensures err { OnErr result (self.new ≡ self.old) }
         ensures edits { OnErr result (is_edit_or_move key ≡ true) }
     {
         match key {
-            Key::Insert(c) => self.answer_other(c),
-            Key::NewLine => self.answer_other('\n'),
-            Key::Erase | Key::Delete | Key::ErasePoint => self.shorten_other(),
+            Key::Insert(c) => self.answer_replacement(c),
+            Key::NewLine => self.answer_replacement('\n'),
+            Key::Erase | Key::Delete | Key::ErasePoint => self.shorten_replacement(),
             Key::Find | Key::FindNext | Key::FindBack => {
-                self.begin_search(Aim::Find);
+                self.begin_search(SearchPurpose::Find);
                 Ok(())
             }
             Key::Replace => {
@@ -162,7 +162,7 @@ impl<D: BidiData + Drop> Editor<D> {
                 Ok(())
             }
             Key::Repaint => {
-                self.rest();
+                self.clear_message();
                 Ok(())
             }
             _ => self.press_behind(key),
@@ -171,7 +171,7 @@ impl<D: BidiData + Drop> Editor<D> {
 
     /// Applies a character that is typed while a match is shown.
     fn answer_match(&mut self, c: char) -> Result<(), OutOfMemory>
-        requires shown { self.old.editor.seek ≡ Seek.Replacing }
+        requires shown { self.old.editor.seek ≡ SearchState.Replacing }
         ensures ok { OnOk result (self.new ≡ record self.old {
           editor = with_typing (after_match_letter (D.data self.old.tables) self.old.editor.typing (cleared self.old.editor) c)
               (only_paste self.old.editor.typing);
@@ -182,7 +182,7 @@ impl<D: BidiData + Drop> Editor<D> {
         if c == '\n' && !is_paste(typing) {
             return self.replace_match();
         }
-        self.clear();
+        self.reset_after_key();
         self.typing = only_paste(typing);
         Ok(())
     }
@@ -191,7 +191,7 @@ impl<D: BidiData + Drop> Editor<D> {
     pub(crate) fn press_at_match(&mut self, key: Key) -> Result<(), OutOfMemory>
         requires no_save { is_save key ≡ false }
         requires typed { is_told_key key ≡ false }
-        requires shown { self.old.editor.seek ≡ Seek.Replacing }
+        requires shown { self.old.editor.seek ≡ SearchState.Replacing }
         ensures ok { OnOk result (self.new.editor
             ≡ answered_match (D.data self.old.tables) None (before self.old.editor) (cleared self.old.editor) key (answer_of key)) }
         ensures tables { self.new.tables ≡ self.old.tables }
@@ -204,11 +204,11 @@ impl<D: BidiData + Drop> Editor<D> {
             Key::Find | Key::FindNext => self.pass_over(),
             Key::Replace => self.replace_all(),
             Key::FindBack => {
-                self.begin_search(Aim::Find);
+                self.begin_search(SearchPurpose::Find);
                 Ok(())
             }
             Key::Erase | Key::Delete | Key::ErasePoint => {
-                self.clear();
+                self.reset_after_key();
                 Ok(())
             }
             Key::Quit | Key::Copy | Key::Cancel => {
@@ -216,7 +216,7 @@ impl<D: BidiData + Drop> Editor<D> {
                 Ok(())
             }
             Key::Repaint => {
-                self.rest();
+                self.clear_message();
                 Ok(())
             }
             _ => self.press_behind(key),

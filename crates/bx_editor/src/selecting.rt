@@ -61,7 +61,7 @@ impl<D: BidiData + Drop> Editor<D> {
             (Some(_), Soft::Old) => self.cursor.soft = Soft::Fresh,
             (Some(_), _) => {}
         }
-        self.clear();
+        self.reset_after_key();
     }
 
     /// Takes an old selection off.

@@ -4,8 +4,8 @@ ghost use Rattle.bx_editor.specs.Editor.{after_run_step, after_step, cleared, is
 
 use crate::editor::Editor;
 use crate::message::Message;
+use bx_common::OutOfMemory;
 use bx_document::HistoryStep;
-use bx_terms::OutOfMemory;
 use bx_ucd::BidiData;
 
 /// The message where there is nothing to undo, or to redo.
@@ -36,9 +36,9 @@ impl<D: BidiData + Drop> Editor<D> {
             self.tell(nothing_left(step));
             return Ok(());
         };
-        self.cursor.settle(place);
+        self.cursor.move_after_edit(place);
         self.past.changed = true;
-        self.clear();
+        self.reset_after_key();
         Ok(())
     }
 
@@ -48,8 +48,11 @@ impl<D: BidiData + Drop> Editor<D> {
     {
         let n = self.document.past_len();
         match step {
-            HistoryStep::Undo => n - self.past.runs.start_before(n),
-            HistoryStep::Redo => self.past.runs.redo_count(n, self.document.future_len()),
+            HistoryStep::Undo => n - self.past.undo_groups.start_before(n),
+            HistoryStep::Redo => self
+                .past
+                .undo_groups
+                .redo_count(n, self.document.future_len()),
         }
     }
 
@@ -63,9 +66,9 @@ impl<D: BidiData + Drop> Editor<D> {
             self.tell(nothing_left(step));
             return Ok(());
         };
-        self.cursor.settle(place);
+        self.cursor.move_after_edit(place);
         self.past.changed = is_changed_at(self.document.past_len(), self.past.stored);
-        self.clear();
+        self.reset_after_key();
         Ok(())
     }
 }

@@ -5,8 +5,8 @@ ghost use Rattle.bx_editor.specs.Asking.{after_wrapping, cursor_end, spans_lines
 
 use crate::editor::Editor;
 use crate::message::Message;
+use bx_common::OutOfMemory;
 use bx_document::RegionEnd;
-use bx_terms::OutOfMemory;
 use bx_ucd::BidiData;
 
 impl<D: BidiData + Drop> Editor<D> {
@@ -50,7 +50,7 @@ impl<D: BidiData + Drop> Editor<D> {
         let (mut front, mut back) = ([0; 4], [0; 4]);
         let front = opener.encode_utf8(&mut front);
         let back = closer.encode_utf8(&mut back);
-        self.past.runs.reserve()?;
+        self.past.undo_groups.reserve()?;
         let n = self.document.past_len();
         let Some(place) = self
             .document
@@ -60,8 +60,8 @@ impl<D: BidiData + Drop> Editor<D> {
             return Ok(());
         };
         self.past.edited(n, false);
-        self.cursor.settle(place);
-        self.clear();
+        self.cursor.move_after_edit(place);
+        self.reset_after_key();
         Ok(())
     }
 }

@@ -5,10 +5,10 @@ use Rattle.std.specs.Fmt.{digits}
 use Rattle.std.specs.Str.{chars}
 use Rattle.unicode_segmentation.proofs.Computing.{unicode_segmentation}
 use Rattle.unicode_width.proofs.Computing.{unicode_width}
-use Rattle.bx_terms.specs.declared.base.Base.TheVariants.{Auto}
+use Rattle.bx_common.specs.declared.base.Base.TheVariants.{Auto}
 use Rattle.bx_keys.specs.declared.key.Key.{Key}
 use Rattle.bx_keys.specs.declared.key.Key.TheVariants.{Insert, NewLine, Erase, Forward, TextEnd, Back, Mark, UndoRun, GoTo, Name, Tell}
-use Rattle.bx_resolve.specs.Laws.{level_at}
+use Rattle.bx_levels.specs.resolve.Laws.{level_at}
 use Rattle.bx_rows.specs.RowPicture.{letter_glyphs}
 use Rattle.bx_text.specs.Changes.{IsRange}
 use Rattle.bx_view.specs.Numbers.{body_at}

@@ -4,7 +4,7 @@ use Rattle.std.proofs.Common.{arith, if◌then◌else◌, append-nil, length-app
 use Rattle.std.specs.Prelude.{◌≢◌, ◌==◌, ◌&&◌, not, nat_le, encode_utf8, Some, None}
 use Rattle.std.proofs.lemmas.Bool.Decides.{nat_tests}
 use Rattle.std.proofs.lemmas.List.{length-drop, length-take}
-use Rattle.bx_terms.specs.Characters.{largest_text}
+use Rattle.bx_common.specs.Characters.{largest_text}
 use Rattle.bx_keys.specs.declared.key.Key.{Key}
 use Rattle.bx_keys.specs.declared.key.Key.TheVariants.{Insert, Erase, Delete, Back, Forward, Up, Down, Right, Left, RowHome, RowEnd, PageUp, PageDown, Save}
 use Rattle.bx_keys.specs.declared.key.Key.TheVariants.{Quit, Undo, Redo, Repaint, Direction, Size, Mark, Copy, Cut, Put}
@@ -12,10 +12,10 @@ use Rattle.bx_keys.specs.declared.key.Key.TheVariants.{Find, FindBack, WordLeft,
 use Rattle.bx_keys.specs.declared.key.Key.TheVariants.{EraseWord, DeleteWord, ErasePoint, NewLine, FindNext, Cancel, LineUp, LineDown, PageBack, PageOn}
 use Rattle.bx_keys.specs.declared.key.Key.TheVariants.{Select, UndoRun, RedoRun, GoTo, Replace, Name, Tell, PasteStart, PasteEnd, Point}
 use Rattle.bx_text.specs.Edits.{fits, splice}
-use Rattle.bx_runs.specs.Runs.{goes_on, kind_of}
-use Rattle.bx_runs.specs.declared.typing.Kind.{Kind}
-use Rattle.bx_runs.specs.declared.typing.Kind.TheVariants.{Separator}
-use Rattle.bx_runs.specs.declared.typing.Typing.{Typing}
+use Rattle.bx_editor.specs.undo_groups.Groups.{goes_on, kind_of}
+use Rattle.bx_editor.specs.declared.undo_groups.typing.Kind.{Kind}
+use Rattle.bx_editor.specs.declared.undo_groups.typing.Kind.TheVariants.{Separator}
+use Rattle.bx_editor.specs.declared.undo_groups.typing.Typing.{Typing}
 use Rattle.bx_ucd.specs.Data.{Data}
 use Rattle.bx_editor.specs.declared.message.Message.TheVariants.{NothingToPut, TextFull}
 use Rattle.bx_editor.specs.declared.cursor.Soft.{Soft}

@@ -2,17 +2,17 @@
 use Rattle.std.proofs.Common.{◌≡◌, ℕ, ◌+◌, ◌-◌, ◌<◌, ◌≤◌, Bool, true, false, [], ◌∷◌, ◌++◌, length, take, drop, append_assoc, refl, sym, ap, subst, ◌∙◌, arith, inl, inr, if◌then◌else◌}
 use Rattle.std.specs.Prelude.{◌⊎◌, ◌==◌, encode_utf8, nat_le, slice_range, Option, Some, None}
 use Rattle.std.proofs.lemmas.Bool.Decides.{nat_tests}
-use Rattle.bx_terms.specs.Characters.{largest_text}
-use Rattle.bx_asking.specs.Names.{closing, named}
+use Rattle.bx_common.specs.Characters.{largest_text}
+use Rattle.bx_editor.specs.questions.Names.{closing, named}
 use Rattle.bx_keys.specs.declared.key.Key.TheVariants.{Insert, Name}
-use Rattle.bx_runs.specs.Runs.{after_insertion, kind_of}
+use Rattle.bx_editor.specs.undo_groups.Groups.{after_insertion, kind_of}
 use Rattle.bx_text.specs.Edits.{fits_both}
 use Rattle.bx_ucd.specs.Data.{Data}
 use Rattle.bx_document.specs.Swapped.{wrapped_end, wrapped_text}
 use Rattle.bx_document.proofs.PlacesKept.{wrapped_is}
 use Rattle.bx_editor.specs.declared.message.Message.{Message}
 use Rattle.bx_editor.specs.declared.message.Message.TheVariants.{MoreThanOneLine, TextFull}
-use Rattle.bx_editor.specs.declared.seek.Seek.{Seek}
+use Rattle.bx_editor.specs.declared.search_state.SearchState.{SearchState}
 use Rattle.bx_editor.specs.Asking.{after_name_letter, after_named, with_character, without_ask, after_wrapping, cursor_end, spans_lines}
 use Rattle.bx_editor.specs.Asking.{with_wrap}
 use Rattle.bx_editor_laws.specs.AskingLaws.{IsPutIn, IsRefusedWith, IsWrapped, LetterPutsIn, LetterWraps, WrapsRegion, wrapped_region}
@@ -27,7 +27,7 @@ use Rattle.bx_editor_laws.proofs.AskingKeys.{asked_name, name-is}
 -- ---- Name and a letter
 
 -- what the letter finds
-abbrev asked : Editor → Seek → Editor
+abbrev asked : Editor → SearchState → Editor
 asked e seek = without_ask (cleared (asked_name e seek))
 
 letter-is : (d : Data) (e : Editor) (letter c : ℕ) → e.pasted ≡ None → named letter ≡ Some c

@@ -6,11 +6,11 @@ use Rattle.std.specs.Prelude.{◌≢◌, ◌==◌, ◌&&◌, nat_le, Some, None}
 use Rattle.std.proofs.lemmas.Bool.{eqb-true}
 use Rattle.std.proofs.lemmas.Bool.Decides.{nat_tests}
 use Rattle.std.proofs.lemmas.List.{take-append-drop}
-use Rattle.bx_terms.specs.Characters.{largest_text}
+use Rattle.bx_common.specs.Characters.{largest_text}
 use Rattle.bx_keys.specs.declared.key.Key.TheVariants.{NewLine}
 use Rattle.bx_document.specs.Line.{is_cr_lf}
-use Rattle.bx_runs.specs.Runs.{after_insertion, goes_on}
-use Rattle.bx_runs.specs.declared.typing.Kind.TheVariants.{Separator}
+use Rattle.bx_editor.specs.undo_groups.Groups.{after_insertion, goes_on}
+use Rattle.bx_editor.specs.declared.undo_groups.typing.Kind.TheVariants.{Separator}
 use Rattle.bx_text.specs.Edits.{fits, splice}
 use Rattle.bx_ucd.specs.Data.{Data}
 use Rattle.bx_editor.specs.declared.message.Message.TheVariants.{TextFull}
@@ -108,5 +108,5 @@ module _ (d : Data) (e : Editor) (plain : IsPlain e) where
 pub new-line-puts-separator : NewLinePutsSeparator
 new-line-puts-separator d e plain = record {
   crlf = λ same. if-room d e plain cr_lf (ap (λ s. line_by (is_cr_lf s)) same);
-  other = λ other. if-room d e plain (0xA ∷ []) (ap line_by (not-crlf (first_separator d e) other));
+  replacement = λ other. if-room d e plain (0xA ∷ []) (ap line_by (not-crlf (first_separator d e) other));
 }

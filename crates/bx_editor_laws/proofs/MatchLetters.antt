@@ -14,7 +14,7 @@ use Rattle.bx_ucd.specs.Class.{is_unlettered}
 use Rattle.bx_ucd.specs.Data.{Data}
 use Rattle.bx_ucd.specs.declared.class.Class.{Class}
 use Rattle.bx_ucd.specs.declared.class.Class.TheVariants.{NSM}
-use Rattle.bx_terms.specs.Characters.{is_direction_mark}
+use Rattle.bx_common.specs.Characters.{is_direction_mark}
 use Rattle.bx_find.specs.declared.letters.Reading.TheVariants.{Close}
 use Rattle.bx_find_laws.specs.Laws.{AreSpans}
 use Rattle.bx_find.specs.Nearest.{MatchesAt}

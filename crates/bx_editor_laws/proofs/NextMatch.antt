@@ -2,13 +2,13 @@
 use Rattle.std.proofs.Common.{◌≡◌, ℕ, false, List, [], ◌∷◌, length, refl, sym, ap, ap₂, ◌∙◌, arith, ne_eqb}
 use Rattle.std.specs.Prelude.{◌≢◌, ◌==◌, chars, None, if◌then◌else◌}
 use Rattle.bx_keys.specs.declared.key.Key.TheVariants.{Find, FindNext}
-use Rattle.bx_editor.specs.declared.seek.Aim.TheVariants as aims
-use Rattle.bx_editor.specs.declared.seek.Seek.TheVariants.{Off, Typed}
+use Rattle.bx_editor.specs.declared.search_state.SearchPurpose.TheVariants as aims
+use Rattle.bx_editor.specs.declared.search_state.SearchState.TheVariants.{Off, Typed}
 use Rattle.bx_editor.specs.declared.cursor.Soft.{Soft}
 use Rattle.bx_editor.specs.declared.cursor.Soft.TheVariants as softness
 use Rattle.bx_ucd.specs.Data.{Data}
-use Rattle.bx_asking.specs.declared.answers.Ask.{Ask}
-use Rattle.bx_asking.specs.declared.answers.Ask.TheVariants as asks
+use Rattle.bx_editor.specs.declared.questions.answers.Prompt.{Prompt}
+use Rattle.bx_editor.specs.declared.questions.answers.Prompt.TheVariants as asks
 use Rattle.bx_editor.specs.Asking.{without_ask}
 use Rattle.bx_editor.specs.Editor.{Editor, cleared}
 use Rattle.bx_editor.specs.Effects.{Before, before}
@@ -33,7 +33,7 @@ aged-twice softness.Fresh = refl
 aged-twice softness.Old = refl
 
 -- it ends a question
-next-any : (d : Data) (was : Before) (ask : Ask) (e : Editor) → e.ask ≡ ask → after_any d None was ask Off e FindNext ≡ after_find_next d (unselected (without_ask e))
+next-any : (d : Data) (was : Before) (ask : Prompt) (e : Editor) → e.ask ≡ ask → after_any d None was ask Off e FindNext ≡ after_find_next d (unselected (without_ask e))
 next-any d was asks.Off e is = ap (λ a. after_find_next d (unselected (record e { ask = a }))) is
 next-any d was asks.Line e is = refl
 next-any d was asks.Name e is = refl

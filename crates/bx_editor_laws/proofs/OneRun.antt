@@ -7,20 +7,20 @@ use Rattle.std.specs.Fn.{iterate}
 use Rattle.std.proofs.lemmas.Bool.Decides.{nat_tests}
 use Rattle.std.proofs.lemmas.List.{length-drop, length-take}
 use Rattle.std.proofs.lemmas.List.Elements.{All-head, All-tail}
-use Rattle.bx_terms.specs.Characters.{largest_text}
+use Rattle.bx_common.specs.Characters.{largest_text}
 use Rattle.bx_keys.specs.declared.key.Key.TheVariants.{Insert, PasteEnd, UndoRun}
 use Rattle.bx_text.specs.Edits.{Edit, Edited, splice}
 use Rattle.bx_document.specs.declared.history.HistoryStep.TheVariants as steps
-use Rattle.bx_runs.specs.Runs.{edited, run_start, after_insertion, goes_on, kind_of}
-use Rattle.bx_runs.specs.declared.typing.Kind.{Kind}
-use Rattle.bx_runs.specs.declared.typing.Kind.TheVariants.{Blank, Letter}
-use Rattle.bx_runs.specs.declared.typing.Typing.{Typing}
-use Rattle.bx_runs.specs.declared.typing.Typing.TheVariants as typings
-use Rattle.bx_runs.proofs.RunLaws.{edit-is-of-its-run}
+use Rattle.bx_editor.specs.undo_groups.Groups.{edited, run_start, after_insertion, goes_on, kind_of}
+use Rattle.bx_editor.specs.declared.undo_groups.typing.Kind.{Kind}
+use Rattle.bx_editor.specs.declared.undo_groups.typing.Kind.TheVariants.{Blank, Letter}
+use Rattle.bx_editor.specs.declared.undo_groups.typing.Typing.{Typing}
+use Rattle.bx_editor.specs.declared.undo_groups.typing.Typing.TheVariants as typings
+use Rattle.bx_editor.proofs.undo_groups_lemmas.RunLaws.{edit-is-of-its-run}
 use Rattle.bx_ucd.specs.Data.{Data}
-use Rattle.bx_asking.specs.declared.answers.Ask.TheVariants as asks
+use Rattle.bx_editor.specs.declared.questions.answers.Prompt.TheVariants as asks
 use Rattle.bx_editor.specs.declared.message.Message.TheVariants.{TextFull}
-use Rattle.bx_editor.specs.declared.seek.Seek.TheVariants as seeks
+use Rattle.bx_editor.specs.declared.search_state.SearchState.TheVariants as seeks
 use Rattle.bx_editor.specs.declared.cursor.Soft.TheVariants as softness
 use Rattle.bx_editor.specs.Editor.{Editor, cleared, with_insertion, with_removal, with_typing, run_length}
 use Rattle.bx_editor.specs.Effects.{before}
@@ -64,7 +64,7 @@ pub record Going (first : Editor) (t : Edited) (place : ℕ) (runs : List ℕ) :
   pub start : run_start runs (length t.past) ≡ length first.content.past
 
 abbrev pub IsOneRun : Editor → Editor → Type 0
-IsOneRun first e = Going first e.content e.place e.runs
+IsOneRun first e = Going first e.content e.place e.undo_groups
 
 undo-going : (d : Data) (first e : Editor) (text : List ℕ) (past future : List Edit) → e.pasted ≡ None
     → let now : Editor = record e { content = version text past future } in IsOneRun first now
@@ -100,21 +100,21 @@ pub insertion-begins : (d : Data) (first e : Editor) (new : List ℕ) → Nothin
 insertion-begins d first e new h = record {
   more = 0;
   over = h;
-  start = next e.runs (length e.content.past) false ∙ ap length h.1.1;
+  start = next e.undo_groups (length e.content.past) false ∙ ap length h.1.1;
 }
 
 pub removal-begins : (d : Data) (first e : Editor) (start stop : ℕ) → Nothing first e → IsOneRun first (with_removal d e start stop false)
 removal-begins d first e start stop h = record {
   more = 0;
   over = h;
-  start = next e.runs (length e.content.past) false ∙ ap length h.1.1;
+  start = next e.undo_groups (length e.content.past) false ∙ ap length h.1.1;
 }
 
 insertion-goes : (d : Data) (first e : Editor) (new : List ℕ) → IsOneRun first e → IsOneRun first (with_insertion d e new true)
 insertion-goes d first e new h = record {
   more = suc h.more;
   over = h.over;
-  start = next e.runs (length e.content.past) true ∙ h.start;
+  start = next e.undo_groups (length e.content.past) true ∙ h.start;
 }
 
 pub replacement-begins : (d : Data) (first e : Editor) (new : List ℕ) → Nothing first e → IsOneRun first (with_selection_replaced d e new)

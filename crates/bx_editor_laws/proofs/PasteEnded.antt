@@ -10,7 +10,7 @@ use Rattle.bx_editor.specs.Editor.{Editor, with_insertion, with_typing}
 use Rattle.bx_editor.specs.Keys.{after_in_paste, after_key, after_press, after_user, ends_paste}
 use Rattle.bx_editor.specs.Putting.{ended_with, paste_ended, without_paste, has_room, put_in, with_selection_replaced}
 use Rattle.bx_editor.specs.Region.{is_selection}
-use Rattle.bx_runs.specs.declared.typing.Typing.TheVariants as typings
+use Rattle.bx_editor.specs.declared.undo_groups.typing.Typing.TheVariants as typings
 use Rattle.bx_editor_laws.specs.PastingLaws.{KeysEndPastes}
 use Rattle.bx_editor.proofs.InSearch.{each-key, pressed-key}
 use Rattle.bx_editor.proofs.Pasted.{ended-none}

@@ -7,11 +7,11 @@ use Rattle.ucd_case.proofs.Computing.{ucd_case}
 use Rattle.unicode_normalization.proofs.Computing.{unicode_normalization}
 use Rattle.unicode_segmentation.proofs.Computing.{unicode_segmentation}
 use Rattle.unicode_width.proofs.Computing.{unicode_width}
-use Rattle.bx_terms.specs.declared.base.Base.TheVariants.{Auto}
+use Rattle.bx_common.specs.declared.base.Base.TheVariants.{Auto}
 use Rattle.bx_keys.specs.declared.key.Key.{Key}
 use Rattle.bx_keys.specs.declared.key.Key.TheVariants.{Find, Forward, PasteEnd, PasteStart, Right, Select, UndoRun}
 use Rattle.bx_store.specs.declared.store.StoreFault.{StoreFault}
-use Rattle.bx_editor.specs.declared.seek.Seek.TheVariants.{Off}
+use Rattle.bx_editor.specs.declared.search_state.SearchState.TheVariants.{Off}
 use Rattle.bx_editor.specs.Editor.{Editor}
 use Rattle.bx_editor.specs.Putting.{pastes_crlf}
 use Rattle.bx_editor_laws.specs.PastingLaws.{KeysEndPastes, PasteComesBack, PasteIsTyping, PastesAreAlone}

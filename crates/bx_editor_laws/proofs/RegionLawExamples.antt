@@ -7,7 +7,7 @@ use Rattle.unicode_normalization.proofs.Computing.{unicode_normalization}
 use Rattle.unicode_segmentation.proofs.Computing.{unicode_segmentation}
 use Rattle.unicode_width.proofs.Computing.{unicode_width}
 use Rattle.bx_ucd.specs.Data.{Data}
-use Rattle.bx_terms.specs.Characters.{largest_text}
+use Rattle.bx_common.specs.Characters.{largest_text}
 use Rattle.bx_keys.specs.declared.key.Key.{Key}
 use Rattle.bx_keys.specs.declared.key.Key.TheVariants.{Insert, Erase, Forward, Size, Quit, Mark, Copy, Cut, Put, Find, FindBack, TextStart, TextEnd}
 use Rattle.bx_store.specs.declared.store.StoreFault.{StoreFault}

@@ -7,18 +7,18 @@ use Rattle.ucd_case.proofs.Computing.{ucd_case}
 use Rattle.unicode_normalization.proofs.Computing.{unicode_normalization}
 use Rattle.unicode_segmentation.proofs.Computing.{unicode_segmentation}
 use Rattle.unicode_width.proofs.Computing.{unicode_width}
-use Rattle.bx_terms.specs.Characters.{largest_text}
-use Rattle.bx_terms.specs.declared.base.Base.TheVariants.{Auto}
+use Rattle.bx_common.specs.Characters.{largest_text}
+use Rattle.bx_common.specs.declared.base.Base.TheVariants.{Auto}
 use Rattle.bx_keys.specs.declared.key.Key.{Key}
 use Rattle.bx_keys.specs.declared.key.Key.TheVariants.{Insert, Erase, Delete, Back, Forward, Save, Undo, Mark, Cut, Put, Find, TextEnd}
 use Rattle.bx_keys.specs.declared.key.Key.TheVariants.{TextStart}
 use Rattle.bx_keys.specs.declared.key.Key.TheVariants.{Repaint, UndoRun, RedoRun, PasteStart, PasteEnd}
 use Rattle.bx_store.specs.declared.store.StoreFault.{StoreFault}
 use Rattle.bx_text.specs.Edits.{Edited}
-use Rattle.bx_runs.specs.Runs.{kind_of}
-use Rattle.bx_runs.specs.declared.typing.Kind.TheVariants.{Blank, Letter}
-use Rattle.bx_runs.specs.declared.typing.Typing.{Typing}
-use Rattle.bx_runs.specs.declared.typing.Typing.TheVariants.{Off, Word, Erasing, Deleting}
+use Rattle.bx_editor.specs.undo_groups.Groups.{kind_of}
+use Rattle.bx_editor.specs.declared.undo_groups.typing.Kind.TheVariants.{Blank, Letter}
+use Rattle.bx_editor.specs.declared.undo_groups.typing.Typing.{Typing}
+use Rattle.bx_editor.specs.declared.undo_groups.typing.Typing.TheVariants.{Off, Word, Erasing, Deleting}
 use Rattle.bx_editor.specs.declared.message.Message.{Message}
 use Rattle.bx_editor.specs.declared.message.Message.TheVariants.{NothingToUndo}
 use Rattle.bx_editor.specs.Editor.{Editor}
@@ -32,7 +32,7 @@ edited text keys = let e = after (start text 5 40) keys in (e.content.text, e.pl
 
 -- where runs begin, and what the next edit may go on with
 abbrev run_at : List ℕ → List Key → List ℕ × Typing
-run_at text keys = let e = after (start text 5 40) keys in (e.runs, e.typing)
+run_at text keys = let e = after (start text 5 40) keys in (e.undo_groups, e.typing)
 
 -- whether the text counts as changed, and the message
 abbrev told : List ℕ → List Key → Bool × Option Message

@@ -19,8 +19,8 @@ use Rattle.bx_view.proofs.KeptPlaces.{contains-counted, rows-leveled}
 use Rattle.bx_view.proofs.OneSlot.{one-slot}
 use Rattle.bx_view.proofs.RowFits.{fitting-from}
 use Rattle.bx_view.proofs.TextPlaces.{place-in-window}
-use Rattle.bx_index.specs.Paragraphs.{paragraphs}
-use Rattle.bx_editor.specs.declared.seek.Seek.TheVariants.{Off}
+use Rattle.bx_text.specs.index.Paragraphs.{paragraphs}
+use Rattle.bx_editor.specs.declared.search_state.SearchState.TheVariants.{Off}
 use Rattle.bx_editor.specs.Editor.{Editor, rows}
 use Rattle.bx_editor.specs.Functions.{HasRows, after_keys}
 use Rattle.bx_editor_laws.specs.WorkLaws.{IsEntered, KeptMovesGoBack, LeadsBack, LineMovesGoBack, PageMovesGoBack, own_row}

@@ -4,13 +4,13 @@ use Rattle.std.proofs.Common.{length-append, refl, sym, ap, ap₂, subst, ◌∙
 use Rattle.std.specs.Prelude.{◌≢◌, ◌==◌, chars, codes, decimal, encode_utf8, IsUtf8, None}
 use Rattle.std.proofs.lemmas.Bool.Decides.{nat_tests}
 use Rattle.std.proofs.lemmas.Str.{encode_ascii}
-use Rattle.bx_terms.specs.Characters.{largest_text}
-use Rattle.bx_terms.specs.declared.base.Base.TheVariants.{Auto}
-use Rattle.bx_asking.specs.declared.answers.Ask.TheVariants.{Off, Line}
-use Rattle.bx_asking.specs.Answers.{lengthened, asked, is_line_letter}
+use Rattle.bx_common.specs.Characters.{largest_text}
+use Rattle.bx_common.specs.declared.base.Base.TheVariants.{Auto}
+use Rattle.bx_editor.specs.declared.questions.answers.Prompt.TheVariants.{Off, Line}
+use Rattle.bx_editor.specs.questions.Answers.{lengthened, asked, is_line_letter}
 use Rattle.bx_keys.specs.declared.key.Key.{Key}
 use Rattle.bx_keys.specs.declared.key.Key.TheVariants as keys
-use Rattle.bx_runs.specs.declared.typing.Typing.TheVariants as typings
+use Rattle.bx_editor.specs.declared.undo_groups.typing.Typing.TheVariants as typings
 use Rattle.bx_text.specs.Edits.{Edited}
 use Rattle.bx_ucd.specs.Data.{Data}
 use Rattle.bx_view.specs.Numbers.{place_of, paragraph_number, unit_number}

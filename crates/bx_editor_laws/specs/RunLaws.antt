@@ -1,20 +1,20 @@
 -- Laws of runs of edits, and of the text that was stored. `d`, `e` and `new` are as in Laws.antt.
 use Rattle.std.specs.Prelude.{◌≡◌, ◌≢◌, ℕ, ◌+◌, ◌-◌, ◌&&◌, ◌<◌, ◌≤◌, false, List, [], ◌∷◌, ◌++◌, length, map, replicate, encode_utf8_all}
 use Rattle.std.specs.Prelude.{All, Option, None, is_none, if◌then◌else◌}
-use Rattle.bx_terms.specs.Characters.{largest_text}
-use Rattle.bx_terms.specs.declared.base.Base.{Base}
+use Rattle.bx_common.specs.Characters.{largest_text}
+use Rattle.bx_common.specs.declared.base.Base.{Base}
 use Rattle.bx_keys.specs.declared.key.Key.{Key}
 use Rattle.bx_keys.specs.declared.key.Key.TheVariants.{Insert, Redo, RedoRun, Undo, UndoRun}
 use Rattle.bx_store.specs.declared.store.StoreFault.{StoreFault}
 use Rattle.bx_text.specs.Edits.{Edit}
-use Rattle.bx_runs.specs.Laws.{BeginsAt, EndsAt, redone, undone}
-use Rattle.bx_runs.specs.Runs.{kind_of}
-use Rattle.bx_runs.specs.declared.typing.Kind.{Kind}
-use Rattle.bx_runs.specs.declared.typing.Kind.TheVariants.{Blank, Letter}
-use Rattle.bx_runs.specs.declared.typing.Typing.TheVariants as typings
+use Rattle.bx_editor.specs.undo_groups.Laws.{BeginsAt, EndsAt, redone, undone}
+use Rattle.bx_editor.specs.undo_groups.Groups.{kind_of}
+use Rattle.bx_editor.specs.declared.undo_groups.typing.Kind.{Kind}
+use Rattle.bx_editor.specs.declared.undo_groups.typing.Kind.TheVariants.{Blank, Letter}
+use Rattle.bx_editor.specs.declared.undo_groups.typing.Typing.TheVariants as typings
 use Rattle.bx_ucd.specs.Data.{Data}
-use Rattle.bx_asking.specs.declared.answers.Ask.TheVariants as asks
-use Rattle.bx_editor.specs.declared.seek.Seek.TheVariants.{Off}
+use Rattle.bx_editor.specs.declared.questions.answers.Prompt.TheVariants as asks
+use Rattle.bx_editor.specs.declared.search_state.SearchState.TheVariants.{Off}
 use Rattle.bx_editor.specs.Editor.{Editor, at_start, is_changed_at}
 use Rattle.bx_editor.specs.Keys.{after_key, is_save}
 use Rattle.bx_editor.specs.Functions.{after_keys}
@@ -25,11 +25,11 @@ use Rattle.bx_editor_laws.specs.Laws.{after_typing, IsUnmarkedAt}
 
 -- how many edits are undone until none is left or a run begins
 abbrev pub undos : Editor → ℕ
-undos e = length e.content.past - undone e.runs (length e.content.past)
+undos e = length e.content.past - undone e.undo_groups (length e.content.past)
 
 -- how many edits are redone until none is left or the next run begins
 abbrev pub redos : Editor → ℕ
-redos e = redone e.runs (length e.content.past) (length e.content.future) - length e.content.past
+redos e = redone e.undo_groups (length e.content.past) (length e.content.future) - length e.content.past
 
 -- `key` steps over a run, `one` over an edit; `edits` are those that are left to step over. If there are some, `key` does what
 -- `n` presses of `one` do, one at least; but the text then counts as changed only if it is not the one that was stored or opened
@@ -58,11 +58,11 @@ all_edits e = length e.content.past + length e.content.future
 -- UndoRun then RedoRun leaves text, past and future unchanged where a run ends, and the cursor at its place after the latest
 -- edit. RedoRun then UndoRun leaves them unchanged where a run begins, and the cursor at its place before the next edit.
 pub record RunsAreMirrored (d : Data) (e : Editor) : Type 0 where
-  pub redo : EndsAt e.runs (all_edits e) (length e.content.past) → (after_keys d None e (UndoRun ∷ RedoRun ∷ [])).content ≡ e.content
-  pub redo_place : EndsAt e.runs (all_edits e) (length e.content.past) → (edit : Edit) (past : List Edit) → e.content.past ≡ edit ∷ past
+  pub redo : EndsAt e.undo_groups (all_edits e) (length e.content.past) → (after_keys d None e (UndoRun ∷ RedoRun ∷ [])).content ≡ e.content
+  pub redo_place : EndsAt e.undo_groups (all_edits e) (length e.content.past) → (edit : Edit) (past : List Edit) → e.content.past ≡ edit ∷ past
       → IsUnmarkedAt edit.after.place (after_keys d None e (UndoRun ∷ RedoRun ∷ []))
-  pub undo : BeginsAt e.runs (all_edits e) (length e.content.past) → (after_keys d None e (RedoRun ∷ UndoRun ∷ [])).content ≡ e.content
-  pub undo_place : BeginsAt e.runs (all_edits e) (length e.content.past) → (edit : Edit) (future : List Edit)
+  pub undo : BeginsAt e.undo_groups (all_edits e) (length e.content.past) → (after_keys d None e (RedoRun ∷ UndoRun ∷ [])).content ≡ e.content
+  pub undo_place : BeginsAt e.undo_groups (all_edits e) (length e.content.past) → (edit : Edit) (future : List Edit)
       → e.content.future ≡ edit ∷ future
       → IsUnmarkedAt edit.before.place (after_keys d None e (RedoRun ∷ UndoRun ∷ []))
 

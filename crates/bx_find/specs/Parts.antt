@@ -1,4 +1,4 @@
--- The first and the last match in a part of a text. `says` is Unicode's data.
+-- The first and the last match in a part of a text. `ucd` is Unicode's data.
 use Rattle.std.specs.Prelude.{ℕ, true, false, List, [], ◌∷◌, nat_le, nat_lt, find, Option, Some, None, chars}
 use Rattle.bx_ucd.specs.Data.{Data}
 use Rattle.bx_find.specs.declared.letters.Reading.{Reading}
@@ -10,7 +10,7 @@ first_below x ats = find (λ at. nat_lt at x) ats
 
 -- the first match in a text before the offset x
 abbrev pub first_before : Data → Reading → List ℕ → List ℕ → ℕ → Option ℕ
-first_before says reading sought text x = first_below x (matches says reading sought 0 (chars text))
+first_before ucd reading sought text x = first_below x (matches ucd reading sought 0 (chars text))
 
 -- the last of the offsets at or above x; `found` if there is none
 abbrev pub last_above : ℕ → Option ℕ → List ℕ → Option ℕ
@@ -19,4 +19,4 @@ last_above x found (at ∷ ats) = elim (nat_le x at) [ true ↦ last_above x (So
 
 -- the last match in a text at or after the offset x
 abbrev pub last_from : Data → Reading → List ℕ → List ℕ → ℕ → Option ℕ
-last_from says reading sought text x = last_above x None (matches says reading sought 0 (chars text))
+last_from ucd reading sought text x = last_above x None (matches ucd reading sought 0 (chars text))

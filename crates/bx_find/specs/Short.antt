@@ -1,7 +1,7 @@
 -- Characters whose letters need no table of decompositions or foldings.
 use Rattle.std.specs.Prelude.{ℕ, Bool, true, ◌||◌}
 use Rattle.std.specs.Char.{to_ascii_lowercase}
-use Rattle.bx_terms.specs.Characters.{is_within}
+use Rattle.bx_common.specs.Characters.{is_within}
 use Rattle.bx_find.specs.Letters.{main_letter}
 use Rattle.bx_find.specs.declared.letters.Reading.{Reading}
 use Rattle.bx_find.specs.declared.letters.Reading.TheVariants.{Wide, Close}

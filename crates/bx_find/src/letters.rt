@@ -5,7 +5,7 @@ ghost use Rattle.bx_find.specs.Letters.{is_stroke_or_mark, is_passed_over, main_
 ghost use Rattle.bx_find.specs.Short.{is_short, is_simple, simple_letter};
 
 use arrayvec::ArrayVec;
-use bx_terms::is_direction_mark;
+use bx_common::is_direction_mark;
 use bx_ucd::BidiData;
 use bx_ucd::class::is_unlettered;
 use ucd_case::full_folding;

@@ -7,7 +7,7 @@ use crate::borders::border;
 use crate::letters::{Reading, letters_of};
 use crate::ring::Ring;
 use arrayvec::ArrayVec;
-use bx_terms::first_char;
+use bx_common::first_char;
 use bx_ucd::BidiData;
 use std::marker::Model;
 

@@ -7,7 +7,7 @@ use crate::letters::Reading;
 use crate::query::Query;
 use crate::search::first_match;
 use crate::sought::Sought;
-use bx_terms::first_char;
+use bx_common::first_char;
 use bx_ucd::BidiData;
 use bx_ucd::class::Class;
 

@@ -1,7 +1,7 @@
 -- A clip that is read changes nothing that is seen.
 use Rattle.std.proofs.Common.{◌≡◌, ℕ, true, List, [], ◌++◌, refl, ap, sym, ◌∙◌, codes}
 use Rattle.std.proofs.lemmas.List.{append-nil}
-use Rattle.bx_terms.specs.Characters.{is_ascii_printable, are_ascii_printable}
+use Rattle.bx_common.specs.Characters.{is_ascii_printable, are_ascii_printable}
 use Rattle.base64.specs.Engines.{standard}
 use Rattle.bx_grid.specs.declared.command.Command.TheVariants.{Clip}
 use Rattle.base64.specs.GeneralPurpose.{encode_of}

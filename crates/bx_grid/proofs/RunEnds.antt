@@ -4,7 +4,7 @@ use Rattle.std.specs.Str.{chars}
 use Rattle.std.proofs.lemmas.Bool.Decides.{nat_tests}
 use Rattle.unicode_width.specs.Width.{str_width}
 use Rattle.bx_grid.specs.Columns.{Col, glyph_columns, run_columns, are_ascii_printable}
-use Rattle.bx_terms.specs.Glyphs.{run_width}
+use Rattle.bx_common.specs.Glyphs.{run_width}
 use Rattle.bx_grid.specs.Terminal.{Terminal, within, glyphs_put, run_put}
 
 -- ---- runs that are one glyph

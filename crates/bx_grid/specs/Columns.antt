@@ -1,6 +1,6 @@
 -- The content of columns, and a row after a run of columns was put in it.
 use Rattle.bx_grid.specs.Tokens.{is_only}
-pub use Rattle.bx_terms.specs.Characters.{is_ascii_printable, are_ascii_printable, is_ascii_glyph}
+pub use Rattle.bx_common.specs.Characters.{is_ascii_printable, are_ascii_printable, is_ascii_glyph}
 use Rattle.std.specs.Str.{bytes_eq}
 use Rattle.unicode_width.specs.Width.{str_width}
 use Rattle.std.specs.Prelude.{ℕ, zero, suc, chars, ◌+◌, ◌-◌, ◌*◌, nat_lt, if◌then◌else◌, Bool, true, false, ◌&&◌, ◌==◌, not, List, [], ◌∷◌}

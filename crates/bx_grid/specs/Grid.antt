@@ -4,7 +4,7 @@ use Rattle.bx_grid.specs.Columns.{Col, blank, columns_before, turned}
 use Rattle.bx_grid.specs.Glyphs.{AreWholeRows}
 use Rattle.bx_grid.specs.Terminal.{Terminal, reads}
 use Rattle.bx_grid.specs.Picture.{IsIdle, PictureState}
-use Rattle.bx_terms.specs.Characters.{largest_side}
+use Rattle.bx_common.specs.Characters.{largest_side}
 
 -- the columns with `new` in place of those from index `k` on
 abbrev pub paste : List Col → ℕ → List Col → List Col

@@ -1,7 +1,7 @@
 -- Pictures, and a terminal that shows one.
 use Rattle.std.specs.Prelude.{◌≡◌, ℕ, Bool, false, ◌&&◌, List, [], Some}
 use Rattle.bx_grid.specs.Columns.{Col}
-use Rattle.bx_terms.specs.Characters.{is_side}
+use Rattle.bx_common.specs.Characters.{is_side}
 use Rattle.bx_grid.specs.Terminal.{Terminal}
 
 -- a grid's columns, and the cursor's row and column, counted from 0

@@ -1,7 +1,7 @@
 -- The tokens of a terminal's input that a list of bytes may begin, and the commands of sequences and strings.
 use Rattle.std.specs.Prelude.{ℕ, Bool, true, false, ◌&&◌, nat_le, ◌==◌, List, [], ◌∷◌, Option, Some, None, if◌then◌else◌, ◌≡◌, ◌↔◌, ◌++◌}
 use Rattle.std.specs.Str.{all_ascii_digits, bytes_eq}
-use Rattle.bx_terms.specs.Characters.{is_ascii_printable}
+use Rattle.bx_common.specs.Characters.{is_ascii_printable}
 use Rattle.bx_bytes.specs.Pattern.{fate_in}
 use Rattle.bx_bytes.specs.Utf8.{characters}
 use Rattle.bx_bytes.specs.declared.fate.Fate.{Fate}

@@ -13,7 +13,7 @@ ghost use Rattle.bx_grid.specs.Seen.{seen, all_seen};
 use crate::column::Column;
 use crate::glyph_run::GlyphRun;
 use crate::glyph_text::{GlyphText, SHORT};
-use bx_terms::are_ascii_printable;
+use bx_common::are_ascii_printable;
 use std::alloc::{AllocError, Global};
 
 /// A blank.

@@ -3,11 +3,11 @@
 ghost use Rattle.std.specs.Prelude.{◌≡◌, ℕ, ◌*◌, ◌+◌, ◌-◌, ◌<◌, ◌≤◌, ◌↔◌, List, ◌++◌, length, replicate, take, drop, IfOk, OnOk, OnErr, IfErr, IsErrOf, IsOk};
 ghost use Rattle.std.specs.Prelude.{IsTrue, true, false};
 ghost use Rattle.bx_grid.specs.Columns.{blank, run_columns};
-ghost use Rattle.bx_terms.specs.Glyphs.{is_one_glyph, run_width};
+ghost use Rattle.bx_common.specs.Glyphs.{is_one_glyph, run_width};
 ghost use Rattle.bx_grid.specs.Grid.{GridState, HasRoom, IsGrid, IsWithin, paste};
 ghost use Rattle.bx_grid.specs.Seen.{seen, all_seen};
 ghost use Rattle.bx_grid.specs.Picture.{is_size};
-ghost use Rattle.bx_terms.specs.Characters.{largest_side};
+ghost use Rattle.bx_common.specs.Characters.{largest_side};
 
 use crate::borrowed_row::BorrowedRow;
 use crate::codes::{blank_codes, note_codes, set_column};
@@ -16,7 +16,7 @@ use crate::columns::{are_blank, blank_columns, put_over_blanks};
 use crate::error::GridError;
 use crate::glyph_run::GlyphRun;
 use crate::glyph_text::SHORT;
-use bx_terms::{OutOfMemory, is_side, run_width};
+use bx_common::{OutOfMemory, is_side, run_width};
 use std::alloc::{AllocError, Global};
 use std::marker::Model;
 

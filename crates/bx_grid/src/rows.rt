@@ -11,7 +11,7 @@ use crate::codes::note_codes;
 use crate::column::Column;
 use crate::columns::fill_blank;
 use crate::grid::Grid;
-use bx_terms::OutOfMemory;
+use bx_common::OutOfMemory;
 use std::alloc::{AllocError, Global};
 
 impl Grid {

@@ -56,7 +56,7 @@ fn outside(
         After::Digit(digit) => (OUTSIDE, apart(is_open, digit)),
         After::Reports => (begin_report(is_open), nothing()),
         After::Pastes => (fresh_paste(false), keys(b"\x1b[90~")),
-        After::Breaks => broken_off(erases_by_delete, waiting, is_open, byte),
+        After::Breaks => pass_on(erases_by_delete, waiting, is_open, byte),
     }
 }
 
@@ -78,8 +78,9 @@ fn apart(is_open: bool, digit: u8) -> Output
     plain(if is_open { b"\x18" } else { b"" }, Some(digit))
 }
 
-/// Reads a byte that does not continue the waiting bytes' sequence.
-fn broken_off(
+/// Passes the waiting bytes on, whose sequence the byte does not continue, and reads the byte afresh. Ordinary text comes this way, with no
+/// byte waiting.
+fn pass_on(
     erases_by_delete: bool,
     waiting: Beginning,
     is_open: bool,

@@ -6,7 +6,7 @@ use Rattle.bx_keys.specs.Waiting.{IsWaiting}
 use Rattle.bx_keys.specs.declared.decoder.Decoder.TheInside.{Inside}
 use Rattle.bx_keys.specs.declared.key.Key.{Key}
 use Rattle.bx_keys.specs.declared.key.Key.TheVariants.{Size, Point}
-use Rattle.bx_terms.specs.Characters.{largest_side}
+use Rattle.bx_common.specs.Characters.{largest_side}
 
 -- the bytes that wait, or the first 12 of them: what a decoder `d` holds
 abbrev pub head_bytes : Inside → List ℕ

@@ -1,6 +1,6 @@
 -- The key of each item, and the keys of input: what a decoder gives. `b` is a byte, `bs` are bytes, `rest` bytes that wait; of a
 -- size, `h` are the rows, `w` the columns; of a cell, `h` is the row, `w` the column.
-use Rattle.bx_terms.specs.Characters.{is_side}
+use Rattle.bx_common.specs.Characters.{is_side}
 use Rattle.std.specs.Prelude.{ℕ, zero, suc, ◌-◌, max, Bool, ◌&&◌, nat_le, ◌==◌, List, [], ◌∷◌, ◌++◌, length, slice_index, take, drop, Option, Some, None}
 use Rattle.std.specs.Prelude.{find, option_map, option_to_list, codes, if◌then◌else◌}
 use Rattle.std.specs.List.{slice_split}

@@ -6,7 +6,7 @@ ghost use Rattle.std.specs.Str.Parse.{digits_value};
 ghost use Rattle.bx_keys.specs.Keys.{is_number, is_side_in_digits};
 ghost use Rattle.bx_keys.specs.Decoder.{IsSide};
 
-use bx_terms::is_side;
+use bx_common::is_side;
 
 /// The index of the first semicolon; None without one.
 pub fn first_semicolon(bytes: &[u8]) -> Option<usize>

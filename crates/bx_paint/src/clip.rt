@@ -12,7 +12,7 @@ ghost use Rattle.bx_grid.specs.Terminal.{Terminal, reads};
 
 use crate::output::Output;
 use base64::engine::general_purpose::STANDARD;
-use bx_terms::OutOfMemory;
+use bx_common::OutOfMemory;
 use std::alloc::{AllocError, Global};
 use std::mem;
 

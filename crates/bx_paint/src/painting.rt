@@ -5,14 +5,14 @@ ghost use Rattle.bx_grid.specs.Effects.{effects};
 ghost use Rattle.bx_grid.specs.Picture.{IsIdle, PictureState, Shows};
 ghost use Rattle.bx_grid.specs.Grid.{AreWholeTokens, IsGrid, IsPicture};
 ghost use Rattle.bx_grid.specs.Terminal.{Terminal, reads};
-ghost use Rattle.bx_terms.specs.Characters.{largest_side};
+ghost use Rattle.bx_common.specs.Characters.{largest_side};
 ghost use Rattle.bx_paint.specs.Changed.{changed, differing};
 ghost use Rattle.bx_paint.specs.Painting.{whole_bytes, changes_bytes, columns_changed, ended, render_change, move_bytes};
 
 use crate::output::Output;
 use crate::writing::{write_move, write_over_blanks, write_rendition, write_rows};
+use bx_common::OutOfMemory;
 use bx_grid::{Cell, Grid, Picture};
-use bx_terms::OutOfMemory;
 use std::alloc::{AllocError, Global};
 use std::mem;
 

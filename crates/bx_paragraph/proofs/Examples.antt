@@ -5,7 +5,7 @@ use Rattle.std.specs.Str.{IsCharBoundary, IsUtf8}
 use Rattle.std.proofs.lemmas.Str.{IsCharBoundary-from_drop}
 use Rattle.unicode_segmentation.proofs.Computing.{unicode_segmentation}
 use Rattle.unicode_width.proofs.Computing.{unicode_width}
-use Rattle.bx_terms.specs.declared.base.Base.TheVariants.{Ltr, Rtl}
+use Rattle.bx_common.specs.declared.base.Base.TheVariants.{Ltr, Rtl}
 use Rattle.bx_paragraph.specs.declared.moves.Visual.TheVariants.{Right}
 use Rattle.bx_ucd.specs.SmallTables.{small}
 use Rattle.bx_rows.specs.RowStarts.{row_starts}

@@ -3,7 +3,7 @@
 use Rattle.std.specs.Prelude.{ℕ, zero, suc, ◌+◌, ◌-◌, ◌%◌, ◌==◌, ◌&&◌, nat_le, nat_lt, min, max, true, false}
 use Rattle.std.specs.Prelude.{Bool, List, [], ◌∷◌, ◌++◌, map, length, reverse, find, slice_index_or, Option, Some, None, option_map, unwrap_or}
 use Rattle.std.specs.List.{zip}
-use Rattle.bx_cells.specs.declared.unit.Unit.{Unit}
+use Rattle.bx_rows.specs.declared.cells.unit.Unit.{Unit}
 use Rattle.bx_rows.specs.RowLevels.{visual}
 use Rattle.bx_rows.specs.RowPicture.{unit_columns, columns_used}
 use Rattle.bx_paragraph.specs.declared.moves.Visual.{Visual}

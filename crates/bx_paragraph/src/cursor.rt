@@ -8,8 +8,8 @@ ghost use Rattle.bx_paragraph.specs.Slots.{reading_end, reading_start, slot_offs
 use crate::lent_row::LentRow;
 use crate::moves::{Visual, opposite, reading_side};
 use crate::reading::{covering_in, first_in, last_offset, next_in, offsets_toward};
-use bx_cells::Unit;
-use bx_terms::OutOfMemory;
+use bx_common::OutOfMemory;
+use bx_rows::Unit;
 use bx_ucd::BidiData;
 use std::alloc::{AllocError, Global};
 

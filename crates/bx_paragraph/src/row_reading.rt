@@ -1,8 +1,8 @@
 //! What is read of a lent row: the row laid out, its slots and its glyphs.
 ghost use Rattle.std.specs.Prelude.{◌≡◌, ◌+◌, ◌==◌, All, IfOk, IsPermutation, length, map, sum_by, true};
 ghost use Rattle.std.specs.Cow.{cow_str_bytes};
-ghost use Rattle.bx_terms.specs.Glyphs.{is_one_glyph, run_width};
-ghost use Rattle.bx_terms.specs.Characters.{is_side};
+ghost use Rattle.bx_common.specs.Glyphs.{is_one_glyph, run_width};
+ghost use Rattle.bx_common.specs.Characters.{is_side};
 ghost use Rattle.bx_rows.specs.Shown.{glyph_of};
 ghost use Rattle.bx_paragraph.specs.BodyRows.{offsets_of, row_glyphs, row_own_glyphs};
 ghost use Rattle.bx_paragraph.specs.LaidRows.{body_row};
@@ -11,8 +11,8 @@ ghost use Rattle.bx_paragraph.specs.Slots.{row_slots};
 
 use crate::lent_row::LentRow;
 use crate::slots::{Slot, row_slots};
+use bx_common::OutOfMemory;
 use bx_rows::{LaidRow, RowPicture};
-use bx_terms::OutOfMemory;
 use bx_ucd::BidiData;
 
 impl<'a, 't, D: BidiData> LentRow<'a, 't, D> {

@@ -1,13 +1,12 @@
 //! The slots of a row, which are the positions of the cursor in it, from its units.
 ghost use Rattle.std.specs.Prelude.{◌≡◌, ◌≤◌, ◌<◌, ◌+◌, ◌++◌, ◌∷◌, [], true, false, All, IfOk, OnOk, length, map};
-ghost use Rattle.bx_terms.specs.Characters.{is_side, largest_side};
+ghost use Rattle.bx_common.specs.Characters.{is_side, largest_side};
 ghost use Rattle.bx_paragraph.specs.LaidRows.{body_row};
 ghost use Rattle.bx_paragraph.specs.OrderedColumns.{ordered_columns};
 ghost use Rattle.bx_paragraph.specs.Slots.{extent_of, row_slots, side_by_side};
 
-use bx_cells::Unit;
-use bx_rows::{LaidRow, unit_columns, visual};
-use bx_terms::OutOfMemory;
+use bx_common::OutOfMemory;
+use bx_rows::{LaidRow, Unit, unit_columns, visual};
 use bx_ucd::BidiData;
 use std::alloc::{AllocError, Global};
 

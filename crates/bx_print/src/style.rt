@@ -1,8 +1,8 @@
 //! Options of printing, such as how marks are printed.
 ghost use Rattle.std.specs.Prelude.{◌≡◌, true};
-ghost use Rattle.bx_terms.specs.Characters.{is_side};
+ghost use Rattle.bx_common.specs.Characters.{is_side};
 
-use bx_terms::Base;
+use bx_common::Base;
 
 /// How a mark is printed: the letter, in negative image on a screen, for a character with no visible form of its own.
 #[derive(Clone, Copy)]

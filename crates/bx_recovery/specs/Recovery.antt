@@ -4,7 +4,7 @@
 use Rattle.std.specs.Prelude.{◌≡◌, ◌≢◌, ℕ, Bool, true, false, List, [], ◌∷◌, Contains, length}
 use Rattle.bx_ucd.specs.Data.{Data}
 use Rattle.bx_keys.specs.Waiting.{keys_from}
-use Rattle.bx_cli.specs.declared.unicode.UnicodeFiles.{UnicodeFiles}
+use Rattle.bx_command.specs.declared.shared.unicode.UnicodeFiles.{UnicodeFiles}
 use Rattle.bx_session.specs.Session.{Session, StoreState, is_save_byte, with_text}
 use Rattle.bx_session.specs.Replaying.{after_journal, after_replay}
 use Rattle.bx_session.specs.Beginning.{Beginning, at_offset, unpainted_at}

@@ -2,10 +2,10 @@
 -- text's length, its bytes, and the window. Memory can run out at each step, which tells that all before it was accepted. `b` is
 -- what a session starts from.
 use Rattle.std.specs.Prelude.{◌≡◌, ◌≤◌, ◌⊎◌, ℕ, List, Option, None, Some, IsUtf8, length}
-use Rattle.bx_terms.specs.Characters.{largest_text}
+use Rattle.bx_common.specs.Characters.{largest_text}
 use Rattle.bx_ucd.specs.Reading.{NoMemoryAfter, refusal, texts_of}
 use Rattle.bx_ucd.specs.declared.error.UcdError.{UcdError}
-use Rattle.bx_cli.specs.declared.unicode.UnicodeFiles.{UnicodeFiles}
+use Rattle.bx_command.specs.declared.shared.unicode.UnicodeFiles.{UnicodeFiles}
 use Rattle.bx_store.specs.Faults.{with_fault}
 use Rattle.bx_store.specs.declared.faults.Faults.{Faults}
 use Rattle.bx_store.specs.declared.store.StoreFault.{StoreFault}

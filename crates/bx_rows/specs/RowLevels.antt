@@ -1,13 +1,13 @@
 -- The levels of a row's units: L1 on the row's characters, and then one level for each unit. `each` has the level of each of
--- the body's characters, None for one that X9 removes; the others are kept. `says` is what the tables say.
+-- the body's characters, None for one that X9 removes; the others are kept. `ucd` is what the tables say.
 use Rattle.std.specs.Prelude.{ℕ, ◌&&◌, Bool, true, false, List, [], ◌∷◌, map, flat_map, length, take, drop, Option, Some, None, unwrap_or, chars}
 use Rattle.std.specs.List.{zip, enumerate_from}
 use Rattle.std.specs.Prelude.{zero, suc, ◌+◌, ◌-◌, ◌%◌, nat_le, max, min, ◌++◌}
 use Rattle.bx_ucd.specs.Data.{Data}
 use Rattle.bx_ucd.specs.declared.class.Class.{Class}
 use Rattle.bx_ucd.specs.declared.class.Class.TheVariants.{S, WS, FSI, LRI, RLI, PDI}
-use Rattle.bx_cells.specs.declared.unit.Unit.{Unit}
-use Rattle.bx_cells.specs.Units.{unit_chars}
+use Rattle.bx_rows.specs.declared.cells.unit.Unit.{Unit}
+use Rattle.bx_rows.specs.cells.Units.{unit_chars}
 
 -- a segment separator
 abbrev pub is_segment_separator : Class → Bool
@@ -70,12 +70,12 @@ chars_before body (u ∷ us) = length (chars (take u.start body))
 
 -- the characters of a row's units, with their levels among the levels `each` of the body's characters
 abbrev pub row_chars : Data → List ℕ → List (Option ℕ) → List Unit → List CharLevel
-row_chars says body each us = zip (map says.class (flat_map (unit_chars body) us)) (drop (chars_before body us) each)
+row_chars ucd body each us = zip (map ucd.class (flat_map (unit_chars body) us)) (drop (chars_before body us) each)
 
 -- the levels of a row's units, in a paragraph of the level `paragraph` whose characters have the levels `each`
 abbrev pub row_levels : Data → List ℕ → ℕ → List (Option ℕ) → List Unit → List ℕ
-row_levels says body paragraph each us =
-    levels_or_before paragraph (unit_levels (map (λ u. length (unit_chars body u)) us) (l1 paragraph (row_chars says body each us)))
+row_levels ucd body paragraph each us =
+    levels_or_before paragraph (unit_levels (map (λ u. length (unit_chars body u)) us) (l1 paragraph (row_chars ucd body each us)))
 
 -- Units, with each maximal run at level `n` or higher reversed. `run` is the current run so far, the latest unit first.
 abbrev pub reverse_runs : ℕ → List (ℕ × ℕ) → List (ℕ × ℕ) → List (ℕ × ℕ)

@@ -1,7 +1,7 @@
--- The glyph that a `Drawn` of the code is, and what marks and rows must be for a picture to be drawn in `w` columns.
+-- The glyph that a `Drawn` of the code is, and what placeholders and rows must be for a picture to be drawn in `w` columns.
 use Rattle.std.specs.Prelude.{◌≤◌, ℕ, List, length}
 use Rattle.std.specs.Cow.{cow_str_bytes}
-use Rattle.bx_cells.specs.declared.unit.Unit.{Unit}
+use Rattle.bx_rows.specs.declared.cells.unit.Unit.{Unit}
 use Rattle.bx_rows.specs.declared.drawn.Drawn.{Drawn}
 use Rattle.bx_rows.specs.declared.wrapping.Row.{Row}
 use Rattle.bx_rows.specs.RowPicture.{Glyph, glyph, columns_used}

@@ -4,9 +4,9 @@ ghost use Rattle.std.specs.Str.{IsCharBoundary};
 ghost use Rattle.bx_rows.specs.NarrowRuns.{IsNarrowRun, IsRunIn};
 ghost use Rattle.bx_rows.specs.Wrapping.{is_blank};
 
+use crate::cells::printable_stop;
 use crate::narrow_run::NarrowRun;
 use crate::wrapping::is_blank;
-use bx_cells::printable_stop;
 use bx_ucd::BidiData;
 
 /// The offset after the last byte of `at..stop` that allows a break; `at` if there is none.

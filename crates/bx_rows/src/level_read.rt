@@ -9,8 +9,8 @@ ghost use Rattle.std.specs.List.{zip};
 ghost use Rattle.bx_rows.specs.RowLevels.{is_segment_separator, is_trailing};
 ghost use Rattle.bx_rows.specs.LevelReads.{Reads, ReadsChar, level_before, levels_from, settled, settled_if};
 
-use bx_resolve::Level;
-use bx_terms::first_char;
+use bx_common::first_char;
+use bx_levels::Level;
 use bx_ucd::{BidiData, Class};
 use std::alloc::AllocError;
 

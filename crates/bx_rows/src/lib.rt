@@ -4,10 +4,12 @@
 #![tactic(auto)]
 
 mod ascii_part;
+mod cells;
 mod drawn;
 mod form_texts;
 mod glyphs;
 mod joined_text;
+mod joining;
 mod laid_row;
 mod level_read;
 mod lines;
@@ -25,7 +27,15 @@ mod unit_levels;
 mod visual_order;
 mod wrapping;
 
+pub use cells::{
+    Face, SimpleCluster, Unit, UnitRange, face, is_printable, is_simple_within, only_char,
+    printable_stop, ruled_unit, simple, simple_cluster, simple_face, units, units_from,
+};
 pub use drawn::{Drawn, RowPicture};
+pub use joining::{
+    LeveledBody, TextAt, forms_go_by_joining, has_forms, joined_image, joining_is_symmetric,
+    shown_form,
+};
 pub use laid_row::LaidRow;
 pub use lines::Lines;
 pub use picture::unit_columns;

@@ -5,9 +5,9 @@ ghost use Rattle.bx_rows.specs.NarrowRuns.{IsNarrowRun, IsRunIn, grown};
 ghost use Rattle.bx_rows.specs.Wrapping.{is_one_blank};
 
 use crate::ascii_part::ascii_run;
+use crate::cells::simple::{Simple, common_kind, simple_kind};
 use crate::wrapping::is_blank;
-use bx_cells::simple::{Simple, common_kind, simple_kind};
-use bx_terms::first_char;
+use bx_common::first_char;
 use bx_ucd::BidiData;
 
 /// A run of units of one column each.

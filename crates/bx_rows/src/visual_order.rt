@@ -4,7 +4,7 @@ ghost use Rattle.std.specs.List.{range_with_len};
 ghost use Rattle.bx_rows.specs.ReversedRuns.{AgreeUpTo, turned};
 ghost use Rattle.bx_rows.specs.RowLevels.{highest, lower_odd, lowest_odd, reverse_runs, visual};
 
-use bx_terms::OutOfMemory;
+use bx_common::OutOfMemory;
 use std::alloc::{AllocError, Global};
 
 /// The highest level, or 0 if there is none.

@@ -39,8 +39,8 @@ with-blanks (suc odd) blanks glyphs pieces i j s =
     }
 
 pub pictures-touch : PicturesShowTouch
-pictures-touch says w body paragraph each us levels i j t =
-    let pieces = unit_glyphs says w body each us (unit_columns w 0 us) levels in
+pictures-touch ucd w body paragraph each us levels i j t =
+    let pieces = unit_glyphs ucd w body each us (unit_columns w 0 us) levels in
     let piece : ℕ → List Glyph = λ k. get_or pieces k [] in
     with-blanks (paragraph % 2) (replicate (w - columns_used w us) blank) (flat_map piece (visual levels)) pieces i j (record {
       front = flat_map piece t.front;

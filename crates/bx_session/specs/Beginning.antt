@@ -1,7 +1,7 @@
 -- The start of a session: a text is opened, the cursor goes to an offset, a journal is replayed, and the screen is painted. `d` is
 -- Unicode's data, `b` what the session starts with, `s` the session.
 use Rattle.std.specs.Prelude.{ℕ, Bool, true, false, List, [], Option, Some, None}
-use Rattle.bx_terms.specs.declared.base.Base.{Base}
+use Rattle.bx_common.specs.declared.base.Base.{Base}
 use Rattle.bx_ucd.specs.Data.{Data}
 use Rattle.bx_session.specs.Session.{Session, at_opening, with_painting, clipboard_if}
 use Rattle.bx_session.specs.Replaying.{after_going, as_changed, after_journal}

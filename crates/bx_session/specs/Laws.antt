@@ -1,6 +1,6 @@
 -- Laws of sessions, for any input. `d` is Unicode's data, `s` a session, `b` a byte, `bs` bytes.
 use Rattle.std.specs.Prelude.{◌≡◌, ℕ, false, List, [], Option}
-use Rattle.bx_terms.specs.declared.base.Base.{Base}
+use Rattle.bx_common.specs.declared.base.Base.{Base}
 use Rattle.bx_keys.specs.Keys.{decoding}
 pub use Rattle.bx_keys.specs.Waiting.{keys_from}
 use Rattle.bx_store.specs.declared.store.StoreFault.{StoreFault}

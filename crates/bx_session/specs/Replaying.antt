@@ -3,12 +3,12 @@ use Rattle.std.specs.Prelude.{ℕ, true, List, [], ◌∷◌, Option, Some, None
 use Rattle.bx_keys.specs.declared.key.Key.{Key}
 use Rattle.bx_keys.specs.declared.key.Key.TheVariants.{Quit, Save}
 use Rattle.bx_ucd.specs.Data.{Data}
-use Rattle.bx_asking.specs.declared.answers.Ask.{Ask}
-use Rattle.bx_asking.specs.declared.answers.Ask.TheVariants as asks
+use Rattle.bx_editor.specs.declared.questions.answers.Prompt.{Prompt}
+use Rattle.bx_editor.specs.declared.questions.answers.Prompt.TheVariants as asks
 use Rattle.bx_view.specs.Moves.{place_from}
 use Rattle.bx_editor.specs.Editor.{Editor, cleared, rows, with_place}
-use Rattle.bx_editor.specs.declared.seek.Seek.{Seek}
-use Rattle.bx_editor.specs.declared.seek.Seek.TheVariants.{Off}
+use Rattle.bx_editor.specs.declared.search_state.SearchState.{SearchState}
+use Rattle.bx_editor.specs.declared.search_state.SearchState.TheVariants.{Off}
 use Rattle.bx_editor.specs.Keys.{after_key}
 use Rattle.bx_editor.specs.Putting.{paste_ended}
 use Rattle.bx_editor.specs.Replay.{after_passed_quit, after_passed_save}
@@ -18,7 +18,7 @@ use Rattle.bx_session.specs.Session.{Session, after_spending, key_of_byte, scrol
 -- The effect of a key in a replay. A Save and a Quit end what any key ends, first a paste, and a Save a search and a question too; a
 -- Quit gives up a search or a question. Neither stores a text, nor ends the session. `ask` and `seek` are what stands once a paste has
 -- ended.
-abbrev pub after_replayed : Data → Ask → Seek → Editor → Key → Editor
+abbrev pub after_replayed : Data → Prompt → SearchState → Editor → Key → Editor
 after_replayed d ask seek e Save = after_passed_save (paste_ended d e)
 after_replayed d asks.Off Off e Quit = after_passed_quit (paste_ended d e)
 after_replayed d ask seek e key = after_key d None e key
@@ -34,7 +34,7 @@ after_all_replayed d e [] = e
 after_all_replayed d e (key ∷ keys) = after_all_replayed d (replayed_on d (scrolled d e) key) keys
 
 -- the session after a key of a journal, in these states of question and search
-abbrev pub session_after_replayed : Data → Ask → Seek → Session → Key → Session
+abbrev pub session_after_replayed : Data → Prompt → SearchState → Session → Key → Session
 session_after_replayed d ask seek s Save = record s { editor = after_passed_save (paste_ended d s.editor) }
 session_after_replayed d asks.Off Off s Quit = record s { editor = after_passed_quit (paste_ended d s.editor) }
 session_after_replayed d ask seek s key = session_after_key d None s key

@@ -1,7 +1,7 @@
 -- The session's state, and its changes: an editor, the input that waits for more, and the bytes queued for the terminal. `d` is
 -- Unicode's data, `s` the session before, `b` a byte of input.
 use Rattle.std.specs.Prelude.{ℕ, Bool, true, false, not, ◌||◌, List, [], ◌++◌, drop, Option, Some, None, if◌then◌else◌, ◌≡◌, option_map}
-use Rattle.bx_terms.specs.declared.base.Base.{Base}
+use Rattle.bx_common.specs.declared.base.Base.{Base}
 use Rattle.bx_keys.specs.declared.key.Key.{Key}
 use Rattle.bx_keys.specs.Keys.{head_of, key_after, rest_after}
 use Rattle.bx_grid.specs.Tokens.{clip_bytes}

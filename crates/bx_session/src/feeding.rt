@@ -12,10 +12,10 @@ ghost use Rattle.bx_session.specs.Feeding.{Feeds, ToldBy, is_applied, is_idle};
 use crate::saving::save_pieces;
 use crate::session::Session;
 use crate::status::{Refused, Status};
+use bx_common::is_side;
 use bx_editor::Editor;
 use bx_keys::Key;
 use bx_store::Store;
-use bx_terms::is_side;
 use bx_ucd::BidiData;
 
 /// Whether the screen's content counts as unknown after a key: after Repaint, and after a size, since a resized terminal may show
@@ -198,7 +198,7 @@ impl<D: BidiData + Drop> Session<D> {
     ///
     /// Errors: `Size` if a side is not from 1 to 500: nothing has changed. `Paint` if memory runs out: the size is set, the queue
     /// is unchanged, and the painting is owed.
-    pub fn told(&mut self, height: u16, width: u16) -> Result<(), Refused>
+    pub fn set_window_size(&mut self, height: u16, width: u16) -> Result<(), Refused>
         ensures told { ToldBy (D.data self.old.tables) self.old.session height width result self.new.session }
         ensures tables { self.new.tables ≡ self.old.tables }
         ensures paints { OnOk result (ToldPaints (D.data self.old.tables) self.old.session self.new.session) }

@@ -13,11 +13,11 @@ ghost use Rattle.bx_session.specs.Feeding.{known_if};
 
 use crate::session::Session;
 use crate::status::Refused;
+use bx_common::OutOfMemory;
 use bx_editor::Editor;
 use bx_grid::{Grid, Picture};
 use bx_keys::Key;
 use bx_paint::{changes_into, clip_into, whole_into};
-use bx_terms::OutOfMemory;
 use bx_ucd::BidiData;
 use std::alloc::Global;
 
@@ -128,7 +128,7 @@ fn spare_of(picture: Option<Picture>) -> Option<Grid> {
 }
 
 impl<D: BidiData + Drop> Session<D> {
-    /// Scrolls to the cursor and queues the bytes that paint the picture. `feed` and `told` paint by themselves; `replay`,
+    /// Scrolls to the cursor and queues the bytes that paint the picture. `feed` and `set_window_size` paint by themselves; `replay`,
     /// `go_to` and `count_as_changed` do not.
     ///
     /// Errors: `Paint` if memory runs out: top and queue are unchanged, and the painting is owed.

@@ -11,8 +11,7 @@ ghost use Rattle.bx_store.specs.Faults.{with_fault};
 use crate::saving::{is_text, save_pieces};
 use crate::session::Session;
 use crate::status::Refused;
-use bx_asking::Ask;
-use bx_editor::Seek;
+use bx_editor::{Prompt, SearchState};
 use bx_keys::Key;
 use bx_store::{Store, StoreFault};
 use bx_ucd::BidiData;
@@ -57,7 +56,7 @@ impl<D: BidiData + Drop> Session<D> {
         ensures ok { IsOk result }
     {
         match (self.editor.ask(), self.editor.seek()) {
-            (Ask::Off, Seek::Off) => {
+            (Prompt::Off, SearchState::Off) => {
                 self.editor.pass_quit();
                 Ok(())
             }

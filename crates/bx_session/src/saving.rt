@@ -5,8 +5,8 @@ ghost use Rattle.bx_store.specs.Stores.{with_bytes};
 ghost use Rattle.bx_store.specs.Faults.{with_fault};
 ghost use Rattle.bx_session.specs.Session.{store_state, with_text};
 
+use bx_common::are_equal;
 use bx_store::{Store, StoreFault};
-use bx_terms::are_equal;
 use bx_text::Slices;
 
 /// Puts all pieces into the store's draft, in order.

@@ -6,8 +6,7 @@ ghost use Rattle.bx_session.specs.Session.{after_sending, key_of_byte};
 ghost use Rattle.bx_session.specs.Feeding.{status_of};
 
 use crate::status::Status;
-use bx_asking::Ask;
-use bx_editor::{Aim, Editor, Seek};
+use bx_editor::{Editor, Prompt, SearchPurpose, SearchState};
 use bx_grid::{Grid, Picture};
 use bx_keys::{Decoder, Key};
 use bx_ucd::BidiData;
@@ -130,28 +129,28 @@ impl<D: BidiData + Drop> Session<D> {
     }
 
     /// The text that replaces matches. Allocates nothing.
-    pub fn other(&self) -> &str
-        ensures { result.now ≡ self.now.session.editor.other }
+    pub fn replacement(&self) -> &str
+        ensures { result.now ≡ self.now.session.editor.replacement }
     {
-        self.editor.other()
+        self.editor.replacement()
     }
 
     /// How far the search is, or that none is on. Allocates nothing.
-    pub fn seek(&self) -> Seek
+    pub fn seek(&self) -> SearchState
         ensures { result ≡ self.now.session.editor.seek }
     {
         self.editor.seek()
     }
 
     /// What the search, or the latest one, is for. Allocates nothing.
-    pub fn aim(&self) -> Aim
+    pub fn aim(&self) -> SearchPurpose
         ensures { result ≡ self.now.session.editor.aim }
     {
         self.editor.aim()
     }
 
     /// What the user is asked, or that there is no question. Allocates nothing.
-    pub fn ask(&self) -> Ask
+    pub fn ask(&self) -> Prompt
         ensures { result ≡ self.now.session.editor.ask }
     {
         self.editor.ask()

@@ -11,14 +11,14 @@ use Rattle.bx_document.specs.History.{next_changes, stepped_times}
 use Rattle.bx_document.specs.Past.{stepped}
 use Rattle.bx_document.specs.declared.history.HistoryStep.{HistoryStep}
 use Rattle.bx_document.specs.declared.history.HistoryStep.TheVariants as history
-use Rattle.bx_runs.specs.declared.typing.Kind.{Kind}
-use Rattle.bx_runs.specs.declared.typing.Kind.TheVariants.{Separator}
-use Rattle.bx_runs.specs.declared.typing.Removal.{Removal}
-use Rattle.bx_runs.specs.declared.typing.Typing.{Typing}
-use Rattle.bx_runs.specs.Runs.{edited, run_end, run_start, after_insertion, after_removal, goes_on, goes_on_removing, kind_of}
-use Rattle.bx_editor.specs.declared.seek.Aim.TheVariants as aims
+use Rattle.bx_editor.specs.declared.undo_groups.typing.Kind.{Kind}
+use Rattle.bx_editor.specs.declared.undo_groups.typing.Kind.TheVariants.{Separator}
+use Rattle.bx_editor.specs.declared.undo_groups.typing.Removal.{Removal}
+use Rattle.bx_editor.specs.declared.undo_groups.typing.Typing.{Typing}
+use Rattle.bx_editor.specs.undo_groups.Groups.{edited, run_end, run_start, after_insertion, after_removal, goes_on, goes_on_removing, kind_of}
+use Rattle.bx_editor.specs.declared.search_state.SearchPurpose.TheVariants as aims
 use Rattle.bx_editor.specs.declared.message.Message.TheVariants.{TextFull, Copied, LineCopied, MarkOff, MarkSet, NothingToCopy, NothingToPut}
-use Rattle.bx_editor.specs.declared.seek.Seek.TheVariants as seeks
+use Rattle.bx_editor.specs.declared.search_state.SearchState.TheVariants as seeks
 use Rattle.bx_editor.specs.declared.cursor.Soft.{Soft}
 use Rattle.bx_editor.specs.declared.cursor.Soft.TheVariants as softness
 use Rattle.bx_editor.specs.Editor.{Editor, after_redo, after_step, after_undo, place_after, stored_behind, with_insertion, with_removal}
@@ -40,13 +40,13 @@ use Rattle.bx_session_laws.proofs.Lasting.{Lasting, Serves, lasting, having, eff
 -- what they change, and whether the session has ended
 pub record Work : Type 0 where
   pub content : Edited
-  pub runs : List ℕ
+  pub undo_groups : List ℕ
   pub stored : Option ℕ
   pub changed : Bool
   pub ended : Bool
 
 abbrev pub work : Editor → Work
-work e = record { content = e.content; runs = e.runs; stored = e.stored; changed = e.changed; ended = e.ended }
+work e = record { content = e.content; undo_groups = e.undo_groups; stored = e.stored; changed = e.changed; ended = e.ended }
 
 -- an edit from one offset to another, by bytes, with the places before and after, that goes on with a run or begins one; one
 -- step, or the steps of a run
@@ -58,12 +58,12 @@ pub data Deed : Type 0 where
 abbrev with_content : Work → Edited → Bool → Work
 with_content w content goes_on =
     let n = length w.content.past in
-    record w { content = content; runs = edited w.runs n goes_on; stored = stored_behind n w.stored; changed = true }
+    record w { content = content; undo_groups = edited w.undo_groups n goes_on; stored = stored_behind n w.stored; changed = true }
 
 -- the length of the past to which a run is undone, or redone, and how many edits that takes
 abbrev pub end_of : HistoryStep → Work → ℕ
-end_of history.Undo w = run_start w.runs (length w.content.past)
-end_of history.Redo w = run_end w.runs (length w.content.past) (length w.content.past + length w.content.future)
+end_of history.Undo w = run_start w.undo_groups (length w.content.past)
+end_of history.Redo w = run_end w.undo_groups (length w.content.past) (length w.content.past + length w.content.future)
 
 abbrev pub count : HistoryStep → Work → ℕ
 count history.Undo w = length w.content.past - end_of history.Undo w
@@ -93,14 +93,14 @@ either_alike false e p q f p' q' h k = k
 
 -- no deed
 pub idle : (e new f new' : Editor) → lasting new ≡ lasting new' → work new ≡ work e → work new' ≡ work f → Alike e new f new'
-idle e new f new' lasts first other = record { lasts = lasts; deeds = []; first = first; other = other }
+idle e new f new' lasts first other = record { lasts = lasts; deeds = []; first = first; replacement = other }
 
 pub going_on : (typing : Typing) (e new f new' : Editor) → Alike e new f new' → Alike e (with_typing new typing) f (with_typing new' typing)
 going_on typing e new f new' h = record {
   lasts = ap (λ (l : Lasting). record l { typing = typing }) h.lasts;
   deeds = h.deeds;
   first = h.first;
-  other = h.other;
+  replacement = h.replacement;
 }
 
 -- ---- edits
@@ -109,13 +109,13 @@ pub insertion_alike : (d : Data) (e f : Editor) (new : List ℕ) (goes_on : Bool
     → Alike e (with_insertion d e new goes_on) (having (lasting e) f) (with_insertion d (having (lasting e) f) new goes_on)
 insertion_alike d e f new goes_on =
     let after = place_after d e (splice e.content.text e.place e.place new) (e.place + length new) in
-    record { lasts = refl; deeds = Edits e.place e.place new e.place after goes_on ∷ []; first = refl; other = refl }
+    record { lasts = refl; deeds = Edits e.place e.place new e.place after goes_on ∷ []; first = refl; replacement = refl }
 
 pub removal_alike : (d : Data) (e f : Editor) (start stop : ℕ) (goes_on : Bool)
     → Alike e (with_removal d e start stop goes_on) (having (lasting e) f) (with_removal d (having (lasting e) f) start stop goes_on)
 removal_alike d e f start stop goes_on =
     let after = place_after d e (splice e.content.text start stop []) start in
-    record { lasts = refl; deeds = Edits start stop [] e.place after goes_on ∷ []; first = refl; other = refl }
+    record { lasts = refl; deeds = Edits start stop [] e.place after goes_on ∷ []; first = refl; replacement = refl }
 
 replaced_alike : (d : Data) (e f : Editor) (new : List ℕ)
     → Alike e (with_selection_replaced d e new) (having (lasting e) f) (with_selection_replaced d (having (lasting e) f) new)
@@ -127,7 +127,7 @@ replaced_alike d e f new =
       lasts = refl;
       deeds = Edits part.0 part.1 [] e.place cut.place false ∷ Edits cut.place cut.place new cut.place after true ∷ [];
       first = refl;
-      other = refl;
+      replacement = refl;
     }
 
 pub put_in_alike : (d : Data) (e f : Editor) (new : List ℕ) (goes_on : Bool)
@@ -196,11 +196,11 @@ word_alike d e f start stop =
 
 undo_alike : (e f : Editor) (past : List Edit) → Alike e (after_undo e past) (having (lasting e) f) (after_undo (having (lasting e) f) past)
 undo_alike e f [] = idle e (after_undo e []) (having (lasting e) f) (after_undo (having (lasting e) f) []) refl refl refl
-undo_alike e f (edit ∷ past) = record { lasts = refl; deeds = TakesStep history.Undo ∷ []; first = refl; other = refl }
+undo_alike e f (edit ∷ past) = record { lasts = refl; deeds = TakesStep history.Undo ∷ []; first = refl; replacement = refl }
 
 redo_alike : (e f : Editor) (future : List Edit) → Alike e (after_redo e future) (having (lasting e) f) (after_redo (having (lasting e) f) future)
 redo_alike e f [] = idle e (after_redo e []) (having (lasting e) f) (after_redo (having (lasting e) f) []) refl refl refl
-redo_alike e f (edit ∷ future) = record { lasts = refl; deeds = TakesStep history.Redo ∷ []; first = refl; other = refl }
+redo_alike e f (edit ∷ future) = record { lasts = refl; deeds = TakesStep history.Redo ∷ []; first = refl; replacement = refl }
 
 step_alike : (step : HistoryStep) (e f : Editor) → Alike e (after_step step e) (having (lasting e) f) (after_step step (having (lasting e) f))
 step_alike history.Undo e f = undo_alike e f e.content.past
@@ -209,8 +209,8 @@ step_alike history.Redo e f = redo_alike e f e.content.future
 run_alike : (step : HistoryStep) (e f : Editor) (change : Option Change)
     → Alike e (by_run step e change) (having (lasting e) f) (by_run step (having (lasting e) f) change)
 run_alike step e f None = idle e (by_run step e None) (having (lasting e) f) (by_run step (having (lasting e) f) None) refl refl refl
-run_alike history.Undo e f (Some change) = record { lasts = refl; deeds = TakesRun history.Undo ∷ []; first = refl; other = refl }
-run_alike history.Redo e f (Some change) = record { lasts = refl; deeds = TakesRun history.Redo ∷ []; first = refl; other = refl }
+run_alike history.Undo e f (Some change) = record { lasts = refl; deeds = TakesRun history.Undo ∷ []; first = refl; replacement = refl }
+run_alike history.Redo e f (Some change) = record { lasts = refl; deeds = TakesRun history.Redo ∷ []; first = refl; replacement = refl }
 
 runs_alike : (step : HistoryStep) (e f : Editor)
     → Alike e (by_run step e (next_changes step (run_length step e) e.content)) (having (lasting e) f)
@@ -230,10 +230,10 @@ mark_alike e f =
 
 select_alike : (e f : Editor) (mark : Option ℕ) (soft : Soft)
     → Alike e (selecting e mark soft) (having (lasting e) f) (selecting (having (lasting e) f) mark soft)
-select_alike e f None soft = record { lasts = refl; deeds = []; first = refl; other = refl }
-select_alike e f (Some mark) softness.Off = record { lasts = refl; deeds = []; first = refl; other = refl }
-select_alike e f (Some mark) softness.Fresh = record { lasts = refl; deeds = []; first = refl; other = refl }
-select_alike e f (Some mark) softness.Old = record { lasts = refl; deeds = []; first = refl; other = refl }
+select_alike e f None soft = record { lasts = refl; deeds = []; first = refl; replacement = refl }
+select_alike e f (Some mark) softness.Off = record { lasts = refl; deeds = []; first = refl; replacement = refl }
+select_alike e f (Some mark) softness.Fresh = record { lasts = refl; deeds = []; first = refl; replacement = refl }
+select_alike e f (Some mark) softness.Old = record { lasts = refl; deeds = []; first = refl; replacement = refl }
 
 copy_alike : (d : Data) (e f : Editor) → Alike e (after_copy d e) (having (lasting e) f) (after_copy d (having (lasting e) f))
 copy_alike d e f =
@@ -254,7 +254,7 @@ cut_alike d e f =
     let cut : Editor = record (with_removal d e part.0 part.1 false) { held = bytes; message = held_message e.clipboard bytes e.message } in
     let cut' : Editor = record (with_removal d g part.0 part.1 false) { held = bytes; message = held_message g.clipboard bytes g.message } in
     either_alike (is_empty part) e (after_copy d e) cut g (after_copy d g) cut' (copy_alike d e f)
-    (record { lasts = ap (λ (l : Lasting). record l { held = bytes }) out.lasts; deeds = out.deeds; first = out.first; other = out.other })
+    (record { lasts = ap (λ (l : Lasting). record l { held = bytes }) out.lasts; deeds = out.deeds; first = out.first; replacement = out.replacement })
 
 next_alike : (d : Data) (e f : Editor) → let g = having (lasting e) f in
     Alike e (by d None (before e) e SeeksNext) g (by d None (before g) g SeeksNext)
@@ -279,23 +279,23 @@ by_alike d fault was was' e f (Removes how start stop) s q = erasing_alike d was
 by_alike d fault was was' e f (RemovesWord start stop) s q = word_alike d e f start stop
 by_alike d fault was was' e f (Steps step) s q = step_alike step e f
 by_alike d fault was was' e f (StepsRun step) s q = runs_alike step e f
-by_alike d fault was was' e f (Goes place) s q = record { lasts = refl; deeds = []; first = refl; other = refl }
-by_alike d fault was was' e f (GoesByRows way n) s q = record { lasts = refl; deeds = []; first = refl; other = refl }
+by_alike d fault was was' e f (Goes place) s q = record { lasts = refl; deeds = []; first = refl; replacement = refl }
+by_alike d fault was was' e f (GoesByRows way n) s q = record { lasts = refl; deeds = []; first = refl; replacement = refl }
 by_alike d fault was was' e f Marks s q = mark_alike e f
 by_alike d fault was was' e f Selects s q = select_alike e f e.mark e.soft
-by_alike d fault was was' e f Unmarks s q = record { lasts = refl; deeds = []; first = refl; other = refl }
+by_alike d fault was was' e f Unmarks s q = record { lasts = refl; deeds = []; first = refl; replacement = refl }
 by_alike d fault was was' e f Copies s q = copy_alike d e f
 by_alike d fault was was' e f Cuts s q = cut_alike d e f
-by_alike d fault was was' e f (Seeks aim) s q = record { lasts = refl; deeds = []; first = refl; other = refl }
+by_alike d fault was was' e f (Seeks aim) s q = record { lasts = refl; deeds = []; first = refl; replacement = refl }
 by_alike d fault was was' e f SeeksNext s q = next_alike d e f
 by_alike d fault was was' e f Saves s q = absurd (cc s)
 by_alike d fault was was' e f Quits s q = absurd (cc q)
-by_alike d fault was was' e f Turns s q = record { lasts = refl; deeds = []; first = refl; other = refl }
-by_alike d fault was was' e f Helps s q = record { lasts = refl; deeds = []; first = refl; other = refl }
-by_alike d fault was was' e f AsksLine s q = record { lasts = refl; deeds = []; first = refl; other = refl }
-by_alike d fault was was' e f AsksName s q = record { lasts = refl; deeds = []; first = refl; other = refl }
-by_alike d fault was was' e f Tells s q = record { lasts = refl; deeds = []; first = refl; other = refl }
-by_alike d fault was was' e f Rests s q = record { lasts = refl; deeds = []; first = refl; other = refl }
+by_alike d fault was was' e f Turns s q = record { lasts = refl; deeds = []; first = refl; replacement = refl }
+by_alike d fault was was' e f Helps s q = record { lasts = refl; deeds = []; first = refl; replacement = refl }
+by_alike d fault was was' e f AsksLine s q = record { lasts = refl; deeds = []; first = refl; replacement = refl }
+by_alike d fault was was' e f AsksName s q = record { lasts = refl; deeds = []; first = refl; replacement = refl }
+by_alike d fault was was' e f Tells s q = record { lasts = refl; deeds = []; first = refl; replacement = refl }
+by_alike d fault was was' e f Rests s q = record { lasts = refl; deeds = []; first = refl; replacement = refl }
 
 pub pressed_alike : (d : Data) (fault : Option StoreFault) (was was' : Before) (e f : Editor) (key : Key) → Serves e f key
     → let g = having (lasting e) f in

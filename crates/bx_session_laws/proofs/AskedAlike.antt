@@ -5,14 +5,14 @@ use Rattle.bx_keys.specs.declared.key.Key.{Key}
 use Rattle.bx_store.specs.declared.store.StoreFault.{StoreFault}
 use Rattle.bx_text.specs.Edits.{fits, fits_both}
 use Rattle.bx_ucd.specs.Data.{Data}
-use Rattle.bx_asking.specs.declared.line.Target.{Target}
-use Rattle.bx_asking.specs.declared.answers.Ask.{Ask}
-use Rattle.bx_asking.specs.declared.answers.Ask.TheVariants as asks
-use Rattle.bx_asking.specs.Names.{coded, is_code_letter, asks_code, closing, named}
-use Rattle.bx_asking.specs.Answers.{asked, is_line_letter}
+use Rattle.bx_editor.specs.declared.questions.line.Target.{Target}
+use Rattle.bx_editor.specs.declared.questions.answers.Prompt.{Prompt}
+use Rattle.bx_editor.specs.declared.questions.answers.Prompt.TheVariants as asks
+use Rattle.bx_editor.specs.questions.Names.{coded, is_code_letter, asks_code, closing, named}
+use Rattle.bx_editor.specs.questions.Answers.{asked, is_line_letter}
 use Rattle.bx_document.specs.Swapped.{wrapped_text}
-use Rattle.bx_runs.specs.declared.typing.Typing.{Typing}
-use Rattle.bx_runs.specs.Runs.{after_insertion, kind_of}
+use Rattle.bx_editor.specs.declared.undo_groups.typing.Typing.{Typing}
+use Rattle.bx_editor.specs.undo_groups.Groups.{after_insertion, kind_of}
 use Rattle.bx_editor.specs.declared.message.Message.TheVariants.{TextFull, MoreThanOneLine}
 use Rattle.bx_editor.specs.Asking.{after_answer_letter, after_code, after_code_letter, after_going, after_line_letter, after_name_letter}
 use Rattle.bx_editor.specs.Asking.{after_named, after_shorter_answer, gone_to, longest_code, longest_line, unless_paste, with_answer}
@@ -29,12 +29,12 @@ use Rattle.bx_session_laws.proofs.Alike.{Alike, either_alike, idle, going_on, in
 
 -- nothing is asked any more
 unasked_alike : (e new f new' : Editor) → Alike (without_ask e) new (without_ask f) new' → Alike e new f new'
-unasked_alike e new f new' h = record { lasts = h.lasts; deeds = h.deeds; first = h.first; other = h.other }
+unasked_alike e new f new' h = record { lasts = h.lasts; deeds = h.deeds; first = h.first; replacement = h.replacement }
 
 going_alike : (d : Data) (e f : Editor) (target : Option Target)
     → Alike e (gone_to d e target) (having (lasting e) f) (gone_to d (having (lasting e) f) target)
-going_alike d e f None = record { lasts = refl; deeds = []; first = refl; other = refl }
-going_alike d e f (Some target) = record { lasts = refl; deeds = []; first = refl; other = refl }
+going_alike d e f None = record { lasts = refl; deeds = []; first = refl; replacement = refl }
+going_alike d e f (Some target) = record { lasts = refl; deeds = []; first = refl; replacement = refl }
 
 line_letter_alike : (d : Data) (typing : Typing) (e f : Editor) (c : ℕ)
     → Alike e (after_line_letter d typing e c) (having (lasting e) f) (after_line_letter d typing (having (lasting e) f) c)
@@ -68,12 +68,12 @@ wrap_alike d e f opener closer =
     let stop = (region e).1 in
     let between = place_after d e (wrapped_text t.text start stop [] closer) (stop + length closer) in
     let after = (with_wrap d e opener closer).place in
-    let runs = sym (runs-of-two e.runs n) in
+    let runs = sym (runs-of-two e.undo_groups n) in
     record {
       lasts = refl;
       deeds = Edits stop stop closer e.place between false ∷ Edits start start opener between after true ∷ [];
-      first = ap₂ (λ rs stored. record (work (with_wrap d e opener closer)) { runs = rs; stored = stored }) runs (sym (stored-of-two n e.stored));
-      other = ap₂ (λ rs stored. record (work (with_wrap d g opener closer)) { runs = rs; stored = stored }) runs (sym (stored-of-two n f.stored));
+      first = ap₂ (λ rs stored. record (work (with_wrap d e opener closer)) { undo_groups = rs; stored = stored }) runs (sym (stored-of-two n e.stored));
+      replacement = ap₂ (λ rs stored. record (work (with_wrap d g opener closer)) { undo_groups = rs; stored = stored }) runs (sym (stored-of-two n f.stored));
     }
 
 wrapping_alike : (d : Data) (e f : Editor) (opener closer : ℕ)
@@ -112,7 +112,7 @@ name_letter_alike d e f letter None =
     (idle e e g g refl refl refl))
 
 code_alike : (d : Data) (e f : Editor) (c : Option ℕ) → Alike e (after_code d e c) (having (lasting e) f) (after_code d (having (lasting e) f) c)
-code_alike d e f None = record { lasts = refl; deeds = []; first = refl; other = refl }
+code_alike d e f None = record { lasts = refl; deeds = []; first = refl; replacement = refl }
 code_alike d e f (Some c) = coded_alike d e f c
 
 code_letter_alike : (d : Data) (e f : Editor) (letter : ℕ)
@@ -132,9 +132,9 @@ unless_paste_alike typing e new f new' same h =
     either_alike (is_paste typing) e (with_typing e typing) new f (with_typing f typing) new'
     (idle e (with_typing e typing) f (with_typing f typing) (ap (λ (l : Lasting). record l { typing = typing }) same) refl refl) h
 
-answer_letter_alike : (d : Data) (typing : Typing) (ask : Ask) (e f : Editor) (c : ℕ)
+answer_letter_alike : (d : Data) (typing : Typing) (ask : Prompt) (e f : Editor) (c : ℕ)
     → Alike e (after_answer_letter d typing ask e c) (having (lasting e) f) (after_answer_letter d typing ask (having (lasting e) f) c)
-answer_letter_alike d typing asks.Off e f c = record { lasts = refl; deeds = []; first = refl; other = refl }
+answer_letter_alike d typing asks.Off e f c = record { lasts = refl; deeds = []; first = refl; replacement = refl }
 answer_letter_alike d typing asks.Line e f c =
     let g = having (lasting e) f in
     going_on (only_paste typing) e (after_line_letter d typing e c) g (after_line_letter d typing g c) (line_letter_alike d typing e f c)
@@ -145,10 +145,10 @@ answer_letter_alike d typing asks.Code e f c =
     let g = having (lasting e) f in
     unless_paste_alike typing e (after_code_letter d e c) g (after_code_letter d g c) refl (code_letter_alike d e f c)
 
-shorter_alike : (ask : Ask) (e f : Editor) → Alike e (after_shorter_answer ask e) (having (lasting e) f) (after_shorter_answer ask (having (lasting e) f))
-shorter_alike asks.Off e f = record { lasts = refl; deeds = []; first = refl; other = refl }
-shorter_alike asks.Line e f = record { lasts = refl; deeds = []; first = refl; other = refl }
-shorter_alike asks.Name e f = record { lasts = refl; deeds = []; first = refl; other = refl }
+shorter_alike : (ask : Prompt) (e f : Editor) → Alike e (after_shorter_answer ask e) (having (lasting e) f) (after_shorter_answer ask (having (lasting e) f))
+shorter_alike asks.Off e f = record { lasts = refl; deeds = []; first = refl; replacement = refl }
+shorter_alike asks.Line e f = record { lasts = refl; deeds = []; first = refl; replacement = refl }
+shorter_alike asks.Name e f = record { lasts = refl; deeds = []; first = refl; replacement = refl }
 shorter_alike asks.Code e f =
     let g = having (lasting e) f in
     let name : Editor → Editor = λ x. record x { ask = asks.Name } in
@@ -169,9 +169,9 @@ pub question_alike : (d : Data) (fault : Option StoreFault) (was was' : Before) 
     (answered_question d None (record was' { typing = was.typing }) (having (lasting e) f) key answer)
 question_alike d fault was was' e f key (Letter c) other = answer_letter_alike d was.typing e.ask e f c
 question_alike d fault was was' e f key Shortens other = shorter_alike e.ask e f
-question_alike d fault was was' e f key GoesBack other = record { lasts = refl; deeds = []; first = refl; other = refl }
+question_alike d fault was was' e f key GoesBack other = record { lasts = refl; deeds = []; first = refl; replacement = refl }
 question_alike d fault was was' e f key Next other = ends_alike d fault was was' e f key other
 question_alike d fault was was' e f key Previous other = ends_alike d fault was was' e f key other
 question_alike d fault was was' e f key Replaces other = ends_alike d fault was was' e f key other
-question_alike d fault was was' e f key Stays other = record { lasts = refl; deeds = []; first = refl; other = refl }
+question_alike d fault was was' e f key Stays other = record { lasts = refl; deeds = []; first = refl; replacement = refl }
 question_alike d fault was was' e f key Ends other = ends_alike d fault was was' e f key other

@@ -5,23 +5,23 @@ use Rattle.std.specs.Prelude.{◌||◌, ◌&&◌, IfSome, option_map, option_to_
 use Rattle.std.specs.Io.KnownBytes.{Appends}
 use Rattle.std.proofs.lemmas.List.{append-nil}
 use Rattle.std.proofs.lemmas.List.Elements.{All-tail}
-use Rattle.bx_terms.specs.declared.base.Base.{Base}
+use Rattle.bx_common.specs.declared.base.Base.{Base}
 use Rattle.bx_keys.specs.declared.key.Key.{Key}
 use Rattle.bx_keys.specs.declared.key.Key.TheVariants.{Quit}
 use Rattle.bx_keys.specs.Keys.{key_after}
 use Rattle.bx_text.specs.Edits.{Edit}
 use Rattle.bx_store.specs.declared.store.StoreFault.{StoreFault}
 use Rattle.bx_ucd.specs.Data.{Data}
-use Rattle.bx_asking.specs.declared.answers.Ask.{Ask}
-use Rattle.bx_asking.specs.declared.answers.Ask.TheVariants as asks
+use Rattle.bx_editor.specs.declared.questions.answers.Prompt.{Prompt}
+use Rattle.bx_editor.specs.declared.questions.answers.Prompt.TheVariants as asks
 use Rattle.bx_editor.specs.declared.message.Message.TheVariants.{Unsaved}
 use Rattle.bx_editor.specs.Editor.{Editor, after_save, cleared}
 use Rattle.bx_editor.specs.Effects.{before}
 use Rattle.bx_editor.specs.Putting.{paste_ended}
 use Rattle.bx_editor.specs.Replay as replay
 use Rattle.bx_editor.specs.Replay.{after_passed_save}
-use Rattle.bx_editor.specs.declared.seek.Seek.{Seek}
-use Rattle.bx_editor.specs.declared.seek.Seek.TheVariants.{Off}
+use Rattle.bx_editor.specs.declared.search_state.SearchState.{SearchState}
+use Rattle.bx_editor.specs.declared.search_state.SearchState.TheVariants.{Off}
 use Rattle.bx_editor.specs.Keys.{after_any, after_key, is_save}
 use Rattle.bx_session.specs.declared.status.Refused.{Refused}
 use Rattle.bx_session.specs.declared.status.Refused.TheVariants as refused
@@ -94,7 +94,7 @@ replaying_more d s (b ∷ bs) more = replaying_more d (after_replay d s b) bs mo
 -- ---- a Quit in a session
 
 -- it changes at most whether the session has ended
-quit_leaves : (d : Data) (fault : Option StoreFault) (ask : Ask) (seek : Seek) (e : Editor)
+quit_leaves : (d : Data) (fault : Option StoreFault) (ask : Prompt) (seek : SearchState) (e : Editor)
     → (ended : Bool) × (work (after_any d fault (before e) ask seek (cleared e) Quit) ≡ record (work e) { ended = ended })
 quit_leaves d fault asks.Off Off e = by_end (not e.changed || e.quit_before) where
   by_end : (ends : Bool) → (ended : Bool)
@@ -171,12 +171,12 @@ any_knows d fault first store store' e (Some key) stores h = key_knows d fault f
 -- ---- a replay counts as changed where the session does
 
 ended_tells : (w r : Work) (ended : Bool) → Tells w r → Tells (record w { ended = ended }) r
-ended_tells w r ended h = record { content = h.content; runs = h.runs; stored = h.stored; changed = h.changed }
+ended_tells w r ended h = record { content = h.content; undo_groups = h.undo_groups; stored = h.stored; changed = h.changed }
 
 save_tells : (fault : Option StoreFault) (e f : Editor) → Tells (work e) (work f)
     → Tells (work (after_save (cleared e) fault)) (work (after_passed_save f))
-save_tells None e f h = record { content = h.content; runs = h.runs; stored = inl refl; changed = λ is. absurd (cc is) }
-save_tells (Some fault) e f h = record { content = h.content; runs = h.runs; stored = inl refl; changed = h.changed }
+save_tells None e f h = record { content = h.content; undo_groups = h.undo_groups; stored = inl refl; changed = λ is. absurd (cc is) }
+save_tells (Some fault) e f h = record { content = h.content; undo_groups = h.undo_groups; stored = inl refl; changed = h.changed }
 
 over_tells : (d : Data) (e f : Editor) → let g = having (lasting e) f in
     Tells (work e) (work g) → Tells (work (paste_ended d e)) (work (paste_ended d g))
@@ -184,7 +184,7 @@ over_tells d e f h =
     let g = having (lasting e) f in
     let alike = ended_alike d e f in
     subst (λ (w : Work). Tells w (work (paste_ended d g))) (sym alike.first)
-    (subst (Tells (after_deeds alike.deeds (work e))) (sym alike.other) (deeds_tell alike.deeds (work e) (work g) h))
+    (subst (Tells (after_deeds alike.deeds (work e))) (sym alike.replacement) (deeds_tell alike.deeds (work e) (work g) h))
 
 -- the same of two editors of which the same lasts
 both_tell : (d : Data) (e f : Editor) → lasting e ≡ lasting f → Tells (work e) (work f) → Tells (work (paste_ended d e)) (work (paste_ended d f))
@@ -215,7 +215,7 @@ like_tells d fault e f key points h =
     (save_tells fault (paste_ended d e) y (over_tells d e f h))) (λ points. quit_tells d fault e f h)
     (λ k other points. (let alike = key_alike d fault e f k (other, points) in
     subst (λ (w : Work). Tells w (work (after_key d None g k))) (sym alike.first)
-    (subst (Tells (after_deeds alike.deeds (work e))) (sym alike.other) (deeds_tell alike.deeds (work e) (work g) h)))) key points
+    (subst (Tells (after_deeds alike.deeds (work e))) (sym alike.replacement) (deeds_tell alike.deeds (work e) (work g) h)))) key points
 
 any_tells : (d : Data) (fault : Option StoreFault) (e f : Editor) (key : Option Key) → lasting e ≡ lasting f
     → PointsAny e.top (scrolled d f).top key → Tells (work e) (work f)
@@ -314,7 +314,7 @@ starts : (d : Data) (b : Beginning) → Replays b.text (at_offset d b)
 starts d b = starts_at d b.text b.height b.width b.base b.clipboard b.offset b.unsaved
 
 end_tells : (first : List ℕ) (e : Editor) → Traces first (work e) → IsSettled e → Tells (work (replay.at_replay_end e)) (work e)
-end_tells first e traces settled = record { content = refl; runs = refl; stored = by_change e.changed refl traces.stored; changed = λ h. h } where
+end_tells first e traces settled = record { content = refl; undo_groups = refl; stored = by_change e.changed refl traces.stored; changed = λ h. h } where
   by_change : (changed : Bool) → e.changed ≡ changed → (e.stored ≡ None) ⊎ (e.stored ≡ Some 0)
       → (e.stored ≡ None) ⊎ (e.stored ≡ (if changed then None else Some (length e.content.past)))
   by_change true is stored = inl (settled.stored is)
@@ -372,14 +372,14 @@ unsent : (d : Data) (all new replayed : Session) → new ≡ record all { pendin
     → HasBack (once_pasted d new) replayed
 unsent d all new replayed is h = subst (λ (x : Session). HasBack (once_pasted d x) replayed) (sym is) (record {
   content = h.content;
-  runs = h.runs;
+  undo_groups = h.undo_groups;
   place = h.place;
   mark = h.mark;
   soft = h.soft;
   held = h.held;
   query = h.query;
   aim = h.aim;
-  other = h.other;
+  replacement = h.replacement;
   pasted = h.pasted;
   base = h.base;
   goal = h.goal;

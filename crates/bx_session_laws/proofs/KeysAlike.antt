@@ -5,28 +5,28 @@ use Rattle.std.specs.Prelude.{◌==◌}
 use Rattle.bx_keys.specs.declared.key.Key.{Key}
 use Rattle.bx_keys.specs.declared.key.Key.TheVariants.{Insert, Repaint}
 use Rattle.bx_store.specs.declared.store.StoreFault.{StoreFault}
-use Rattle.bx_runs.specs.declared.typing.Typing.{Typing}
-use Rattle.bx_runs.specs.declared.typing.Typing.TheVariants as typings
+use Rattle.bx_editor.specs.declared.undo_groups.typing.Typing.{Typing}
+use Rattle.bx_editor.specs.declared.undo_groups.typing.Typing.TheVariants as typings
 use Rattle.bx_ucd.specs.Data.{Data}
-use Rattle.bx_asking.specs.declared.answers.Ask.{Ask}
-use Rattle.bx_asking.specs.declared.answers.Ask.TheVariants as asks
+use Rattle.bx_editor.specs.declared.questions.answers.Prompt.{Prompt}
+use Rattle.bx_editor.specs.declared.questions.answers.Prompt.TheVariants as asks
 use Rattle.bx_editor.specs.declared.message.Message.TheVariants.{TextFull}
-use Rattle.bx_editor.specs.declared.seek.Seek.{Seek}
-use Rattle.bx_editor.specs.declared.seek.Seek.TheVariants.{Off, Begun, Typed, WithBegun, WithTyped, Replacing}
+use Rattle.bx_editor.specs.declared.search_state.SearchState.{SearchState}
+use Rattle.bx_editor.specs.declared.search_state.SearchState.TheVariants.{Off, Begun, Typed, WithBegun, WithTyped, Replacing}
 use Rattle.bx_editor.specs.Editor.{Editor, cleared, with_insertion}
 use Rattle.bx_editor.specs.Effects.{Before, before, goal_behind}
 use Rattle.bx_editor.specs.Keys.{Answer, Letter, Shortens, GoesBack, Next, Previous, Replaces, Stays, Ends, after_any, after_in_paste, after_key, after_press}
 use Rattle.bx_editor.specs.Keys.{after_user, answer_of, answered}
 use Rattle.bx_editor.specs.Putting.{ended_with, paste_begun, paste_ended, with_paste, with_pasted, without_paste, has_room, is_paste}
 use Rattle.bx_editor.specs.Putting.{only_paste, put_in, with_selection_replaced}
-use Rattle.bx_editor.specs.Replacing.{after_asking_other, after_sought_end, after_sought_letter, is_replacing}
+use Rattle.bx_editor.specs.Replacing.{after_asking_replacement, after_sought_end, after_sought_letter, is_replacing}
 use Rattle.bx_editor.specs.Search.{after_letter, is_no_letter, kept, lengthened, longest_query, search_from, with_query, without_search}
 use Rattle.bx_editor.specs.Region.{is_selection, soft_behind}
 use Rattle.bx_editor.proofs.InSearch.{each-key, pressed-key}
 use Rattle.bx_session_laws.proofs.Lasting.{Lasting, Serves, lasting, having}
 use Rattle.bx_session_laws.proofs.Alike.{Alike, Deed, Work, after_deed, after_deeds, either_alike, going_on, idle, pressed_alike, put_in_alike, work}
 use Rattle.bx_session_laws.proofs.AskedAlike.{question_alike}
-use Rattle.bx_session_laws.proofs.ReplacingAlike.{asking_alike, match_alike, other_alike}
+use Rattle.bx_session_laws.proofs.ReplacingAlike.{asking_alike, match_alike, replacement_alike}
 
 -- ---- a key in a search
 
@@ -42,9 +42,9 @@ end_alike d typing e f =
     let g = having (lasting e) f in
     let left : Editor → Editor = λ x. without_search x in
     let begun : Editor → Editor = λ x. with_paste (without_search x) in
-    either_alike (is_replacing e.aim) e (if is_paste typing then e else after_asking_other d e) (if is_paste typing then begun e else left e) g
-    (if is_paste typing then g else after_asking_other d g) (if is_paste typing then begun g else left g)
-    (either_alike (is_paste typing) e e (after_asking_other d e) g g (after_asking_other d g) (idle e e g g refl refl refl) (asking_alike d e f))
+    either_alike (is_replacing e.aim) e (if is_paste typing then e else after_asking_replacement d e) (if is_paste typing then begun e else left e) g
+    (if is_paste typing then g else after_asking_replacement d g) (if is_paste typing then begun g else left g)
+    (either_alike (is_paste typing) e e (after_asking_replacement d e) g g (after_asking_replacement d g) (idle e e g g refl refl refl) (asking_alike d e f))
     (either_alike (is_paste typing) e (begun e) (left e) g (begun g) (left g) (idle e (begun e) g (begun g) refl refl refl)
     (idle e (left e) g (left g) refl refl refl))
 
@@ -60,7 +60,7 @@ over e new f new' h = record {
   lasts = ap (λ (l : Lasting). record l { seek = Off }) h.lasts;
   deeds = h.deeds;
   first = h.first;
-  other = h.other;
+  replacement = h.replacement;
 }
 
 answered_alike : (d : Data) (fault : Option StoreFault) (was was' : Before) (e f : Editor) (key : Key) (answer : Answer) → Serves e f key
@@ -69,24 +69,24 @@ answered_alike : (d : Data) (fault : Option StoreFault) (was was' : Before) (e f
 answered_alike d fault was was' e f key (Letter c) other =
     let g = having (lasting e) f in
     going_on (only_paste was.typing) e (after_sought_letter d was.typing e c) g (after_sought_letter d was.typing g c) (sought_letter_alike d was.typing e f c)
-answered_alike d fault was was' e f key Shortens other = record { lasts = refl; deeds = []; first = refl; other = refl }
-answered_alike d fault was was' e f key GoesBack other = record { lasts = refl; deeds = []; first = refl; other = refl }
-answered_alike d fault was was' e f key Next other = record { lasts = refl; deeds = []; first = refl; other = refl }
-answered_alike d fault was was' e f key Previous other = record { lasts = refl; deeds = []; first = refl; other = refl }
+answered_alike d fault was was' e f key Shortens other = record { lasts = refl; deeds = []; first = refl; replacement = refl }
+answered_alike d fault was was' e f key GoesBack other = record { lasts = refl; deeds = []; first = refl; replacement = refl }
+answered_alike d fault was was' e f key Next other = record { lasts = refl; deeds = []; first = refl; replacement = refl }
+answered_alike d fault was was' e f key Previous other = record { lasts = refl; deeds = []; first = refl; replacement = refl }
 answered_alike d fault was was' e f key Replaces other = asking_alike d e f
-answered_alike d fault was was' e f key Stays other = record { lasts = refl; deeds = []; first = refl; other = refl }
+answered_alike d fault was was' e f key Stays other = record { lasts = refl; deeds = []; first = refl; replacement = refl }
 answered_alike d fault was was' e f key Ends other = over e _ (having (lasting e) f) _ (pressed_alike d fault was was' e f key other)
 
 -- ---- whether a search or a question is on or not
 
-any_alike : (d : Data) (fault : Option StoreFault) (was was' : Before) (ask : Ask) (seek : Seek) (e f : Editor) (key : Key) → Serves e f key
+any_alike : (d : Data) (fault : Option StoreFault) (was was' : Before) (ask : Prompt) (seek : SearchState) (e f : Editor) (key : Key) → Serves e f key
     → Alike e (after_any d fault was ask seek e key) (having (lasting e) f)
     (after_any d None (record was' { typing = was.typing }) ask seek (having (lasting e) f) key)
 any_alike d fault was was' asks.Off Off e f key other = pressed_alike d fault was was' e f key other
 any_alike d fault was was' asks.Off Begun e f key other = answered_alike d fault was was' e f key (answer_of key) other
 any_alike d fault was was' asks.Off Typed e f key other = answered_alike d fault was was' e f key (answer_of key) other
-any_alike d fault was was' asks.Off WithBegun e f key other = other_alike d fault was was' e f key (answer_of key) other
-any_alike d fault was was' asks.Off WithTyped e f key other = other_alike d fault was was' e f key (answer_of key) other
+any_alike d fault was was' asks.Off WithBegun e f key other = replacement_alike d fault was was' e f key (answer_of key) other
+any_alike d fault was was' asks.Off WithTyped e f key other = replacement_alike d fault was was' e f key (answer_of key) other
 any_alike d fault was was' asks.Off Replacing e f key other = match_alike d fault was was' e f key (answer_of key) other
 any_alike d fault was was' asks.Line seek e f key other = question_alike d fault was was' e f key (answer_of key) other
 any_alike d fault was was' asks.Name seek e f key other = question_alike d fault was was' e f key (answer_of key) other
@@ -101,7 +101,7 @@ user_alike d fault e f key other =
       lasts = ap (λ (l : Lasting). record l { goal = goal_behind key l.goal; soft = soft_behind key l.soft }) h.lasts;
       deeds = h.deeds;
       first = h.first;
-      other = h.other;
+      replacement = h.replacement;
     }
 
 -- ---- a paste
@@ -114,7 +114,7 @@ list_alike d e f list =
     let left' = without_paste g in
     let put = put_in_alike d left (without_paste f) list false in
     either_alike (length list == 0) e left (put_in d left list false) g left' (put_in d left' list false) (idle e left g left' refl refl refl)
-    (record { lasts = put.lasts; deeds = put.deeds; first = put.first; other = put.other })
+    (record { lasts = put.lasts; deeds = put.deeds; first = put.first; replacement = put.replacement })
 
 ended_by : (d : Data) (e f : Editor) (pasted : Option (List ℕ)) → Alike e (ended_with d e pasted) (having (lasting e) f) (ended_with d (having (lasting e) f) pasted)
 ended_by d e f None = idle e e (having (lasting e) f) (having (lasting e) f) refl refl refl
@@ -137,18 +137,18 @@ top_by d e (Some list) =
     (record left { message = Some TextFull }) e.top
     (if_top (is_selection left) (with_selection_replaced d left list) (with_insertion d left list false) e.top refl refl) refl)
 
-begun_alike : (e f : Editor) (ask : Ask) (seek : Seek) (pasted : Option (List ℕ))
+begun_alike : (e f : Editor) (ask : Prompt) (seek : SearchState) (pasted : Option (List ℕ))
     → Alike e (paste_begun ask seek pasted e) (having (lasting e) f) (paste_begun ask seek pasted (having (lasting e) f))
-begun_alike e f asks.Off Off None = record { lasts = refl; deeds = []; first = refl; other = refl }
-begun_alike e f asks.Off Off (Some list) = record { lasts = refl; deeds = []; first = refl; other = refl }
-begun_alike e f asks.Off Begun pasted = record { lasts = refl; deeds = []; first = refl; other = refl }
-begun_alike e f asks.Off Typed pasted = record { lasts = refl; deeds = []; first = refl; other = refl }
-begun_alike e f asks.Off WithBegun pasted = record { lasts = refl; deeds = []; first = refl; other = refl }
-begun_alike e f asks.Off WithTyped pasted = record { lasts = refl; deeds = []; first = refl; other = refl }
-begun_alike e f asks.Off Replacing pasted = record { lasts = refl; deeds = []; first = refl; other = refl }
-begun_alike e f asks.Line seek pasted = record { lasts = refl; deeds = []; first = refl; other = refl }
-begun_alike e f asks.Name seek pasted = record { lasts = refl; deeds = []; first = refl; other = refl }
-begun_alike e f asks.Code seek pasted = record { lasts = refl; deeds = []; first = refl; other = refl }
+begun_alike e f asks.Off Off None = record { lasts = refl; deeds = []; first = refl; replacement = refl }
+begun_alike e f asks.Off Off (Some list) = record { lasts = refl; deeds = []; first = refl; replacement = refl }
+begun_alike e f asks.Off Begun pasted = record { lasts = refl; deeds = []; first = refl; replacement = refl }
+begun_alike e f asks.Off Typed pasted = record { lasts = refl; deeds = []; first = refl; replacement = refl }
+begun_alike e f asks.Off WithBegun pasted = record { lasts = refl; deeds = []; first = refl; replacement = refl }
+begun_alike e f asks.Off WithTyped pasted = record { lasts = refl; deeds = []; first = refl; replacement = refl }
+begun_alike e f asks.Off Replacing pasted = record { lasts = refl; deeds = []; first = refl; replacement = refl }
+begun_alike e f asks.Line seek pasted = record { lasts = refl; deeds = []; first = refl; replacement = refl }
+begun_alike e f asks.Name seek pasted = record { lasts = refl; deeds = []; first = refl; replacement = refl }
+begun_alike e f asks.Code seek pasted = record { lasts = refl; deeds = []; first = refl; replacement = refl }
 
 -- deeds after deeds
 deeds_on : (one more : List Deed) (w : Work) → after_deeds (one ++ more) w ≡ after_deeds more (after_deeds one w)
@@ -160,7 +160,7 @@ then_alike e mid new f mid' new' one more = record {
   lasts = more.lasts;
   deeds = one.deeds ++ more.deeds;
   first = more.first ∙ ap (after_deeds more.deeds) one.first ∙ sym (deeds_on one.deeds more.deeds (work e));
-  other = more.other ∙ ap (after_deeds more.deeds) one.other ∙ sym (deeds_on one.deeds more.deeds (work f));
+  replacement = more.replacement ∙ ap (after_deeds more.deeds) one.replacement ∙ sym (deeds_on one.deeds more.deeds (work f));
 }
 
 -- a key that ends a paste
@@ -178,7 +178,7 @@ ends_alike d fault e f key other =
 
 in_paste_alike : (d : Data) (fault : Option StoreFault) (e f : Editor) (key : Key) → Serves e f key
     → Alike e (after_in_paste d fault e key) (having (lasting e) f) (after_in_paste d None (having (lasting e) f) key)
-in_paste_alike d fault e f (Insert c) other = record { lasts = refl; deeds = []; first = refl; other = refl }
+in_paste_alike d fault e f (Insert c) other = record { lasts = refl; deeds = []; first = refl; replacement = refl }
 in_paste_alike d fault e f Repaint other = user_alike d fault e f Repaint other
 in_paste_alike d fault e f key other = ends_alike d fault e f key other
 
@@ -194,8 +194,8 @@ pub key_alike : (d : Data) (fault : Option StoreFault) (e f : Editor) (key : Key
 key_alike d fault e f =
     let g = having (lasting e) f in
     each-key d fault e (λ key new. Serves e f key → Alike e new g (after_key d None g key))
-    (λ height width other. record { lasts = refl; deeds = []; first = refl; other = refl })
-    (λ notice other. record { lasts = refl; deeds = []; first = refl; other = refl }) (
+    (λ height width other. record { lasts = refl; deeds = []; first = refl; replacement = refl })
+    (λ notice other. record { lasts = refl; deeds = []; first = refl; replacement = refl }) (
       λ other.
           going_on typings.Paste e (paste_begun e.ask e.seek e.pasted e) g (paste_begun e.ask e.seek e.pasted g) (begun_alike e f e.ask e.seek e.pasted),
       λ other. going_on typings.Off e (paste_ended d e) g (paste_ended d g) (ended_alike d e f),

@@ -10,12 +10,12 @@ use Rattle.bx_keys.specs.Keys.{key_after, rest_after}
 use Rattle.bx_keys.specs.Waiting.{head_of}
 use Rattle.bx_store.specs.declared.store.StoreFault.{StoreFault}
 use Rattle.bx_ucd.specs.Data.{Data}
-use Rattle.bx_asking.specs.declared.answers.Ask.{Ask}
-use Rattle.bx_asking.specs.declared.answers.Ask.TheVariants as asks
-use Rattle.bx_runs.specs.declared.typing.Typing.TheVariants as typings
+use Rattle.bx_editor.specs.declared.questions.answers.Prompt.{Prompt}
+use Rattle.bx_editor.specs.declared.questions.answers.Prompt.TheVariants as asks
+use Rattle.bx_editor.specs.declared.undo_groups.typing.Typing.TheVariants as typings
 use Rattle.bx_editor.specs.declared.message.Message.TheVariants.{Unsaved}
-use Rattle.bx_editor.specs.declared.seek.Seek.{Seek}
-use Rattle.bx_editor.specs.declared.seek.Seek.TheVariants.{Off}
+use Rattle.bx_editor.specs.declared.search_state.SearchState.{SearchState}
+use Rattle.bx_editor.specs.declared.search_state.SearchState.TheVariants.{Off}
 use Rattle.bx_editor.specs.Asking.{without_ask}
 use Rattle.bx_editor.specs.Editor.{Editor, after_save, cleared}
 use Rattle.bx_editor.specs.Effects.{before}
@@ -69,23 +69,23 @@ quit_by true e = refl
 quit_by false e = refl
 
 -- what a Quit of a replay leaves, once it has ended a paste, by the states of question and search
-abbrev quit_left : Data → Ask → Seek → Editor → Editor
+abbrev quit_left : Data → Prompt → SearchState → Editor → Editor
 quit_left d asks.Off Off e = after_passed_quit e
 quit_left d ask seek e = behind (after_any d None (before e) ask seek (cleared e) Quit)
 
-replayed_quit : (d : Data) (ask : Ask) (seek : Seek) (e : Editor) → (paste_ended d e).ask ≡ ask → (paste_ended d e).seek ≡ seek
+replayed_quit : (d : Data) (ask : Prompt) (seek : SearchState) (e : Editor) → (paste_ended d e).ask ≡ ask → (paste_ended d e).seek ≡ seek
     → after_replayed d ask seek e Quit ≡ quit_left d ask seek (paste_ended d e)
 replayed_quit d asks.Off Off e asked is = refl
 replayed_quit d asks.Off seek e asked is =
-    quit_user d None e ∙ ap₂ (λ (a : Ask) (s : Seek). behind (after_any d None (before (paste_ended d e)) a s (cleared (paste_ended d e)) Quit)) asked is
+    quit_user d None e ∙ ap₂ (λ (a : Prompt) (s : SearchState). behind (after_any d None (before (paste_ended d e)) a s (cleared (paste_ended d e)) Quit)) asked is
 replayed_quit d ask seek e asked is =
-    quit_user d None e ∙ ap₂ (λ (a : Ask) (s : Seek). behind (after_any d None (before (paste_ended d e)) a s (cleared (paste_ended d e)) Quit)) asked is
+    quit_user d None e ∙ ap₂ (λ (a : Prompt) (s : SearchState). behind (after_any d None (before (paste_ended d e)) a s (cleared (paste_ended d e)) Quit)) asked is
 
 -- where the same lasts, one editor has all of the other's
 own : (e f : Editor) → lasting e ≡ lasting f → having (lasting e) f ≡ f
 own e f same = ap (λ l. having l f) same
 
-quit_lasts : (d : Data) (fault : Option StoreFault) (ask : Ask) (seek : Seek) (e f : Editor) → lasting e ≡ lasting f
+quit_lasts : (d : Data) (fault : Option StoreFault) (ask : Prompt) (seek : SearchState) (e f : Editor) → lasting e ≡ lasting f
     → lasting (behind (after_any d fault (before e) ask seek (cleared e) Quit)) ≡ lasting (quit_left d ask seek f)
 quit_lasts d fault asks.Off Off e f same =
     quit_by (not e.changed || e.quit_before) (cleared e)

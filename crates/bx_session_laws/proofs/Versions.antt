@@ -9,7 +9,7 @@ use Rattle.bx_document.specs.History.{stepped_times}
 use Rattle.bx_document.specs.Past.{stepped}
 use Rattle.bx_document.specs.declared.history.HistoryStep.{HistoryStep}
 use Rattle.bx_document.specs.declared.history.HistoryStep.TheVariants as history
-use Rattle.bx_runs.specs.Runs.{above, least, run_end, run_start}
+use Rattle.bx_editor.specs.undo_groups.Groups.{above, least, run_end, run_start}
 
 -- ---- the versions, from the opened text on
 

@@ -1,7 +1,7 @@
 -- A second painting: where none is owed, it changes nothing, so a byte that completes no key needs none. `d` is Unicode's data,
 -- `s` a session, `b` a byte; `fault` is why a Save failed, None if it succeeded.
 use Rattle.std.specs.Prelude.{◌≡◌, ℕ, false, List, Option}
-use Rattle.bx_terms.specs.declared.base.Base.{Base}
+use Rattle.bx_common.specs.declared.base.Base.{Base}
 use Rattle.bx_store.specs.declared.store.StoreFault.{StoreFault}
 use Rattle.bx_ucd.specs.Data.{Data}
 use Rattle.bx_session.specs.Session.{Session, with_painting, at_opening, after_spending, after_byte, owing_after_byte, after_told, owing_after_told, after_sending}

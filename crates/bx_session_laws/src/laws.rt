@@ -40,7 +40,7 @@ pub fn recovery_gives_back()
 {}
 
 /// The bytes of a journal that has all of the input, replayed over the opened text, restore the session that was run with it, as
-/// [`recovery_gives_back`] says. Keys typed after the session's end do not come back. The session counts as changed wherever it
+/// [`recovery_gives_back`] ucd. Keys typed after the session's end do not come back. The session counts as changed wherever it
 /// did before.
 pub fn journals_give_back<J: Journal + Drop>()
     ensures { JournalsGiveBack J.contents J.failure_count }

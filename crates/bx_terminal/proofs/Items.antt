@@ -8,7 +8,7 @@ use Rattle.bx_bytes.specs.Pattern.{fate_in, past, One}
 use Rattle.bx_bytes.specs.Grammar.{is_grammar}
 use Rattle.bx_bytes.specs.declared.fate.Fate.{Fate}
 use Rattle.bx_bytes.specs.declared.fate.Fate.TheVariants.{Waits, Ends, Breaks}
-use Rattle.bx_terms.specs.Characters.{is_ascii_printable}
+use Rattle.bx_common.specs.Characters.{is_ascii_printable}
 use Rattle.bx_bytes.proofs.Patterns.{begins_any_front, matches_any_begins, none_begins_longer}
 use Rattle.bx_bytes.proofs.Encoded.{ends_by}
 use Rattle.bx_terminal.specs.Cutting.{items, is_item, begins_item, beginning_up_to, beginning}

@@ -4,7 +4,7 @@ use Rattle.std.proofs.lemmas.List.{reverse-append}
 use Rattle.std.proofs.lemmas.Str.{IsUtf8-append, IsUtf8-take, IsUtf8-drop}
 use Rattle.std.specs.List.{fold, reduce}
 use Rattle.std.specs.Str.{IsUtf8}
-use Rattle.bx_pieces.specs.Pieces.{total}
+use Rattle.bx_text.specs.pieces.Pieces.{total}
 use Rattle.bx_text.specs.declared.change.Change.{Change}
 use Rattle.bx_text.specs.declared.step.Step.{Step}
 use Rattle.bx_text.specs.declared.step.Way.{Way}

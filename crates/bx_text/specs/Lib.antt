@@ -5,3 +5,5 @@ pub mod Steps
 pub mod Text
 pub mod Slices
 pub mod Changes
+pub mod pieces
+pub mod index

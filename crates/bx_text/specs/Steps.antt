@@ -2,8 +2,8 @@
 -- of the future those from after it. So each version of the text follows from the present text.
 use Rattle.std.specs.Prelude.{◌^◌, ◌<◌, ◌++◌, ◌≡◌, ℕ, ◌+◌, ◌≤◌, List, [], ◌∷◌, length, reverse}
 use Rattle.std.specs.Str.{IsUtf8}
-use Rattle.bx_pieces.specs.declared.piece.Piece.{Piece}
-use Rattle.bx_pieces.specs.Pieces.{total, front, back}
+use Rattle.bx_text.specs.declared.pieces.piece.Piece.{Piece}
+use Rattle.bx_text.specs.pieces.Pieces.{total, front, back}
 use Rattle.bx_text.specs.declared.change.Change.{Change}
 use Rattle.bx_text.specs.declared.step.Step.{Step}
 use Rattle.bx_text.specs.declared.step.Way.{Way}

@@ -13,11 +13,11 @@ ghost use Rattle.std.specs.Borrow.{Bor};
 use crate::buffers::{has_in, rest_in};
 use crate::change::Change;
 use crate::error::TextError;
+use crate::pieces::{Buffer, Piece, Pieces, Spares};
 use crate::slices::Slices;
 use crate::step::Step;
 use crate::swap::put;
-use bx_pieces::{Buffer, Piece, Pieces, Spares};
-use bx_terms::LARGEST_TEXT;
+use bx_common::LARGEST_TEXT;
 use std::alloc::{AllocError, Global};
 use std::marker::Model;
 

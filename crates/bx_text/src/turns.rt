@@ -6,9 +6,9 @@ ghost use Rattle.bx_text.specs.Edits.{largest_text, merged};
 ghost use Rattle.bx_text.specs.Steps.{Apply, CanTurn, HaveTurned, step_change};
 
 use crate::change::Change;
+use crate::pieces::{Pieces, Spares};
 use crate::step::{Step, Way};
 use crate::swap::turn;
-use bx_pieces::{Pieces, Spares};
 use std::alloc::AllocError;
 
 /// One change in place of two, of which `next` was made after `first`.

@@ -7,7 +7,7 @@ use Rattle.bx_ucd.specs.Lines.{and_then}
 use Rattle.bx_ucd.specs.declared.codes.Range.{Range}
 use Rattle.bx_ucd.specs.declared.error.Cause.{Cause}
 use Rattle.bx_ucd.specs.declared.error.Cause.TheVariants.{BadCode, BadRange}
-use Rattle.bx_terms.specs.Characters.{is_surrogate}
+use Rattle.bx_common.specs.Characters.{is_surrogate}
 
 -- four to six hexadecimal digits, up to 10FFFF
 abbrev pub is_code : List ℕ → Bool

@@ -23,9 +23,9 @@ module _ {D : Type 0} {g : Ghosts D} (s : LentRow D g) where
   pub lies : LiesIn Low (columns s) (row s)
   lies =
       let l = s.paragraph.now in
-      let says = g.data s.tables.now in
+      let ucd = g.data s.tables.now in
       let within = s.within in
-      body-row-lies Low says l.base l.w l.body s.number s.sound.utf8 (λ o b. b.0) (omega (arith, within, row_count l s.sound.side says s.by))
+      body-row-lies Low ucd l.base l.w l.body s.number s.sound.utf8 (λ o b. b.0) (omega (arith, within, row_count l s.sound.side ucd s.by))
 
   abbrev Fits : ℕ → Type 0
   Fits o = s.start + o < 2 ^ 64

@@ -4,7 +4,7 @@ use Rattle.std.proofs.Common.{refl, sym, ap, subst, ◌∙◌, ⊎_elim, arith, 
 use Rattle.std.proofs.lemmas.List.{drop-drop}
 use Rattle.std.proofs.lemmas.Str.{IsCharBoundary-from_drop, IsUtf8-drop}
 use Rattle.unicode_segmentation.specs.Grapheme.{graphemes}
-use Rattle.bx_cells.proofs.Rest.{first-cluster}
+use Rattle.bx_rows.proofs.cells_lemmas.Rest.{first-cluster}
 use Rattle.bx_view.specs.Numbers.{boundaries}
 use Rattle.bx_view.proofs.WordParts.{none-left}
 

@@ -101,4 +101,4 @@ word_way false = Back
 
 -- WordRight and WordLeft: WordForward toward the side that the place's paragraph is read toward, else WordBack
 abbrev pub word_towards : Data → List ℕ → List TextRow → Visual → ℕ → ℕ
-word_towards says text rows side place = step_word says text (word_way (reads_on side (row_at rows (row_of rows place)).row)) place
+word_towards ucd text rows side place = step_word ucd text (word_way (reads_on side (row_at rows (row_of rows place)).row)) place

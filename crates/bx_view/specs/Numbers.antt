@@ -1,29 +1,29 @@
--- Paragraphs and units by their numbers: the numbers of a place, and the place that two numbers name. `says` is what the tables say.
+-- Paragraphs and units by their numbers: the numbers of a place, and the place that two numbers name. `ucd` is what the tables say.
 use Rattle.std.specs.Prelude.{ℕ, ◌+◌, nat_lt, true, List, [], count_by, map, slice_index_or, length, take, ◌∷◌, ◌-◌, min}
 use Rattle.unicode_segmentation.specs.Grapheme.{graphemes}
 use Rattle.unicode_segmentation.specs.Segments.{with_offsets}
 use Rattle.bx_ucd.specs.Data.{Data}
-use Rattle.bx_index.specs.Paragraphs.{lengths_of, paragraphs, paragraph_of, spans, Paragraph, bare, lengths, total}
+use Rattle.bx_text.specs.index.Paragraphs.{lengths_of, paragraphs, paragraph_of, spans, Paragraph, bare, lengths, total}
 
 -- the number of paragraphs of a text
 abbrev pub count : Data → List ℕ → ℕ
-count says text = length (paragraphs says text)
+count ucd text = length (paragraphs ucd text)
 
 -- paragraph `number`; an empty one if there is none
 abbrev pub paragraph_at : Data → List ℕ → ℕ → Paragraph
-paragraph_at says text number = slice_index_or (paragraphs says text) number (bare [])
+paragraph_at ucd text number = slice_index_or (paragraphs ucd text) number (bare [])
 
 -- the body of paragraph `number`
 abbrev pub body_at : Data → List ℕ → ℕ → List ℕ
-body_at says text number = (paragraph_at says text number).body
+body_at ucd text number = (paragraph_at ucd text number).body
 
 -- the offset at which the body of paragraph `number` begins
 abbrev pub start_at : Data → List ℕ → ℕ → ℕ
-start_at says text number = total (take number (lengths says text))
+start_at ucd text number = total (take number (lengths ucd text))
 
 -- the number of the paragraph, from 0, that an offset of a text falls in
 abbrev pub paragraph_number : Data → List ℕ → ℕ → ℕ
-paragraph_number says text offset = paragraph_of (map lengths_of (paragraphs says text)) offset
+paragraph_number ucd text offset = paragraph_of (map lengths_of (paragraphs ucd text)) offset
 
 -- the number of units that begin before a place, in a body that begins at the offset `start`
 abbrev pub units_before : ℕ → ℕ → List ℕ → ℕ
@@ -31,9 +31,9 @@ units_before start place body = count_by (λ (at, _). nat_lt (start + at) place)
 
 -- the number of a place among the units of its paragraph, from 1
 abbrev pub unit_number : Data → List ℕ → ℕ → ℕ
-unit_number says text place =
-    let ps = paragraphs says text in
-    let k = paragraph_number says text place in
+unit_number ucd text place =
+    let ps = paragraphs ucd text in
+    let k = paragraph_number ucd text place in
     let start = (slice_index_or (spans (map lengths_of ps)) k (0, 0)).0 in
     units_before start place (slice_index_or (map (λ p. p.body) ps) k []) + 1
 
@@ -50,6 +50,6 @@ unit_place start body unit = slice_index_or (boundaries start (graphemes true bo
 -- The place of unit `unit` of paragraph `paragraph`, both counted from 1, where 0 means 1. If the text has fewer paragraphs, it
 -- is in the last one.
 abbrev pub place_of : Data → List ℕ → ℕ → ℕ → ℕ
-place_of says text paragraph unit =
-    let number = min (paragraph - 1) (count says text - 1) in
-    unit_place (start_at says text number) (body_at says text number) (unit - 1)
+place_of ucd text paragraph unit =
+    let number = min (paragraph - 1) (count ucd text - 1) in
+    unit_place (start_at ucd text number) (body_at ucd text number) (unit - 1)

@@ -1,13 +1,13 @@
 //! The paragraphs that a view caches.
 ghost use Rattle.std.specs.Prelude.{◌≡◌, ◌≤◌, ◌<◌, ◌+◌, ◌⊎◌, ◌↔◌, ℕ, List, [], true, IfOk, IfSome, IsTrue, MatchOption, OnOk, length, slice_range};
 ghost use Rattle.std.specs.List.{splice};
-ghost use Rattle.bx_terms.specs.Characters.{is_side};
+ghost use Rattle.bx_common.specs.Characters.{is_side};
 ghost use Rattle.bx_text.specs.Changes.{IsRange};
 ghost use Rattle.bx_view.specs.Caching.{AreCached, FitsLimit, HasBody, Caches, IsCached, cached_bytes, most_cached};
 
 use crate::span::TextSpan;
+use bx_common::{Base, OutOfMemory};
 use bx_paragraph::ParagraphLayout;
-use bx_terms::{Base, OutOfMemory};
 use bx_text::Text;
 use bx_ucd::BidiData;
 use std::alloc::{AllocError, Global};

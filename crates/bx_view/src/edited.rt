@@ -2,23 +2,23 @@
 ghost use Rattle.std.specs.Prelude.{◌≡◌, ◌≤◌, ◌+◌, ◌==◌, ◌||◌, IfOk, IfSome, chars, length, nat_lt};
 ghost use Rattle.std.specs.List.{list_any};
 ghost use Rattle.bx_paragraph.specs.Layout.{IsLayoutBy, rows_by as rows_of_body};
-ghost use Rattle.bx_index.specs.Paragraphs.{is_separator};
+ghost use Rattle.bx_text.specs.index.Paragraphs.{is_separator};
 ghost use Rattle.bx_text.specs.Edits.{splice};
 ghost use Rattle.bx_view.specs.BodyPlaces.{place_in_body};
 ghost use Rattle.bx_view.specs.FoundRow.{rows_by};
 ghost use Rattle.bx_view.specs.Caching as caching;
 ghost use Rattle.bx_view.specs.Moves.{place_from};
 ghost use Rattle.bx_view.specs.Places.{IsTextPlace};
-ghost use Rattle.bx_view.specs.Source.{IsViewBy, Keeps, bytes};
+ghost use Rattle.bx_view.specs.TextRef.{IsViewBy, Keeps, bytes};
 
 use crate::cache::{edit_in, find_in, lay_out_in};
 use crate::placed::first_from;
-use crate::source::Source;
 use crate::span::paragraph_under;
+use crate::text_ref::TextRef;
 use crate::view::View;
-use bx_index::separates;
+use bx_common::OutOfMemory;
 use bx_paragraph::{LentRow, ParagraphLayout};
-use bx_terms::OutOfMemory;
+use bx_text::separates;
 use bx_ucd::BidiData;
 
 /// A range of bytes in the body of a cached paragraph, from the offset `start` up to `stop`. It is no plain range, since its offsets
@@ -83,7 +83,7 @@ impl View {
     /// other than the text's first, where a CR before it and an LF may join into one separator.
     pub fn edit<D: BidiData>(
         &mut self,
-        source: &Source<'_, D>,
+        source: &TextRef<'_, D>,
         start: usize,
         stop: usize,
         new: &str,
@@ -123,7 +123,7 @@ impl View {
     /// is not cached or the range exceeds it. Allocates nothing.
     pub fn cached_range<D: BidiData>(
         &mut self,
-        source: &Source<'_, D>,
+        source: &TextRef<'_, D>,
         start: usize,
         stop: usize,
     ) -> Option<CachedRange>

@@ -1,22 +1,22 @@
 //! The first place at or after an offset, and the last one at or before it.
 ghost use Rattle.std.specs.Prelude.{◌≡◌, true, IfOk, OnOk};
 ghost use Rattle.std.specs.Str.{IsCharBoundary};
-ghost use Rattle.bx_terms.specs.Characters.{is_side};
+ghost use Rattle.bx_common.specs.Characters.{is_side};
 ghost use Rattle.bx_view.specs.Moves.{place_at, place_from};
 ghost use Rattle.bx_view.specs.Places.{IsTextPlace};
-ghost use Rattle.bx_view.specs.Source.{IsViewBy, Keeps, bytes, rows};
+ghost use Rattle.bx_view.specs.TextRef.{IsViewBy, Keeps, bytes, rows};
 
 use crate::placed::{first_place_from, last_place, last_place_at};
-use crate::source::Source;
+use crate::text_ref::TextRef;
 use crate::view::View;
-use bx_terms::OutOfMemory;
+use bx_common::OutOfMemory;
 use bx_ucd::BidiData;
 
 impl View {
     /// The first place at or after an offset; the text's last place, if there is none.
     pub fn place_from<D: BidiData>(
         &mut self,
-        source: &Source<'_, D>,
+        source: &TextRef<'_, D>,
         offset: usize,
     ) -> Result<usize, OutOfMemory>
         requires data { IsViewBy source.now self.old }
@@ -41,7 +41,7 @@ impl View {
     /// The place of an offset: the last place at or before it.
     pub fn place_at<D: BidiData>(
         &mut self,
-        source: &Source<'_, D>,
+        source: &TextRef<'_, D>,
         offset: usize,
     ) -> Result<usize, OutOfMemory>
         requires data { IsViewBy source.now self.old }

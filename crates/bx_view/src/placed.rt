@@ -5,8 +5,8 @@ ghost use Rattle.bx_view.specs.Moves.{place_in};
 ghost use Rattle.bx_view.specs.Placed.{placed};
 ghost use Rattle.bx_view.specs.TextRows.{places_of};
 
+use bx_common::OutOfMemory;
 use bx_paragraph::LentRow;
-use bx_terms::OutOfMemory;
 use bx_ucd::BidiData;
 
 /// The first of `offsets` at or after an offset.

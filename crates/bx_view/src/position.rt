@@ -1,14 +1,14 @@
 //! The position of a place in its row and its paragraph.
 ghost use Rattle.std.specs.Prelude.{◌≡◌, ◌≤◌, IfOk};
-ghost use Rattle.bx_index.specs.Paragraphs.{lengths, paragraph_of};
+ghost use Rattle.bx_text.specs.index.Paragraphs.{lengths, paragraph_of};
 ghost use Rattle.bx_view.specs.Position.{IsPosition};
-ghost use Rattle.bx_view.specs.Source.{IsViewBy, Keeps, StandsOn, bytes, rows};
+ghost use Rattle.bx_view.specs.TextRef.{IsViewBy, Keeps, StandsOn, bytes, rows};
 ghost use Rattle.bx_view.specs.TextRows.{cell_of, row_of};
 
 use crate::in_row::RowAt;
-use crate::source::Source;
+use crate::text_ref::TextRef;
 use crate::view::View;
-use bx_terms::OutOfMemory;
+use bx_common::OutOfMemory;
 use bx_ucd::BidiData;
 
 /// The position of a place. All fields count from 1.
@@ -26,7 +26,7 @@ impl View {
     /// The position of a place in its row, `at`.
     pub(crate) fn position<D: BidiData>(
         &self,
-        source: &Source<'_, D>,
+        source: &TextRef<'_, D>,
         at: RowAt,
         place: usize,
     ) -> Result<Position, OutOfMemory>
@@ -49,7 +49,7 @@ impl View {
     /// The column, from 1, of the cell of a place.
     pub fn cell_of<D: BidiData>(
         &mut self,
-        source: &Source<'_, D>,
+        source: &TextRef<'_, D>,
         place: usize,
     ) -> Result<u16, OutOfMemory>
         requires data { IsViewBy source.now self.old }

@@ -1,14 +1,14 @@
 //! The units of a row that begin in a part of the text.
 ghost use Rattle.std.specs.Prelude.{◌≡◌, ◌&&◌, nat_lt, filter, IfOk};
-ghost use Rattle.bx_view.specs.Source.{OfRow, Stands};
+ghost use Rattle.bx_view.specs.TextRef.{OfRow, Stands};
 ghost use Rattle.bx_view.specs.TextParts.{slots_in};
 ghost use Rattle.bx_view.specs.Top.{is_in};
 
 use crate::in_row::RowAt;
-use crate::source::Source;
+use crate::text_ref::TextRef;
 use crate::view::View;
+use bx_common::OutOfMemory;
 use bx_paragraph::Slot;
-use bx_terms::OutOfMemory;
 use bx_ucd::BidiData;
 
 /// Keeps the slots of units that begin from `start` up to `stop`, offsets of the body. The slot of the paragraph's end, the only
@@ -24,7 +24,7 @@ impl View {
     /// right. If the row's paragraph lies outside the part, nothing is computed.
     pub fn slots_in<D: BidiData>(
         &self,
-        source: &Source<'_, D>,
+        source: &TextRef<'_, D>,
         at: RowAt,
         part: (usize, usize),
     ) -> Result<Vec<Slot>, OutOfMemory>

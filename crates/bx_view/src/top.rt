@@ -1,15 +1,15 @@
 //! The top visible row, and a place among the visible rows.
 ghost use Rattle.std.specs.Prelude.{◌≡◌, ℕ, ◌+◌, ◌<◌, ◌≤◌, IfOk};
 ghost use Rattle.bx_view.specs.Position.{IsPosition};
-ghost use Rattle.bx_view.specs.Source.{BeginsAt, IsViewBy, Keeps, Stands, StandsOn, bytes, rows};
+ghost use Rattle.bx_view.specs.TextRef.{BeginsAt, IsViewBy, Keeps, Stands, StandsOn, bytes, rows};
 ghost use Rattle.bx_view.specs.TextRows.{row_of};
 ghost use Rattle.bx_view.specs.Top.{nearest_top};
 
 use crate::in_row::RowAt;
 use crate::position::Position;
-use crate::source::Source;
+use crate::text_ref::TextRef;
 use crate::view::View;
-use bx_terms::OutOfMemory;
+use bx_common::OutOfMemory;
 use bx_ucd::BidiData;
 
 /// A place among the visible rows.
@@ -28,7 +28,7 @@ impl View {
     /// of rows from it down to `at`.
     fn top_above<D: BidiData>(
         &mut self,
-        source: &Source<'_, D>,
+        source: &TextRef<'_, D>,
         at: RowAt,
         old: usize,
         t: usize,
@@ -62,7 +62,7 @@ impl View {
     /// make the place's row visible.
     pub fn locate<D: BidiData>(
         &mut self,
-        source: &Source<'_, D>,
+        source: &TextRef<'_, D>,
         top: usize,
         place: usize,
         t: usize,

@@ -1,19 +1,19 @@
 //! The view of a text in a width.
 ghost use Rattle.std.specs.Prelude.{◌≡◌, ℕ, ◌+◌, ◌-◌, ◌^◌, ◌<◌, ◌≤◌, [], true, IfOk, IfSome};
-ghost use Rattle.bx_terms.specs.Characters.{is_side};
-ghost use Rattle.bx_index.specs.Paragraphs.{lengths, paragraph_of};
+ghost use Rattle.bx_common.specs.Characters.{is_side};
+ghost use Rattle.bx_text.specs.index.Paragraphs.{lengths, paragraph_of};
 ghost use Rattle.bx_view.specs.FoundRow.{IsSameAtEnd};
 ghost use Rattle.bx_view.specs.Caching.{Caches};
-ghost use Rattle.bx_view.specs.Source.{IsAlong, IsBefore, IsNext, IsOfText, IsSpan, IsViewBy, Keeps, Stands, StandsOn, body_at, bytes, rows};
+ghost use Rattle.bx_view.specs.TextRef.{IsAlong, IsBefore, IsNext, IsOfText, IsSpan, IsViewBy, Keeps, Stands, StandsOn, body_at, bytes, rows};
 ghost use Rattle.bx_view.specs.TextRows.{row_of};
 
 use crate::cache::{add, cache_limit, find_in, lay_out_in};
 use crate::in_row::RowAt;
-use crate::source::Source;
 use crate::span::{TextSpan, current_span, paragraph_under};
-use bx_index::ParagraphWalk;
+use crate::text_ref::TextRef;
+use bx_common::{Base, OutOfMemory};
 use bx_paragraph::ParagraphLayout;
-use bx_terms::{Base, OutOfMemory};
+use bx_text::ParagraphWalk;
 use bx_ucd::BidiData;
 use std::alloc::Global;
 use std::marker::Model;
@@ -33,7 +33,7 @@ pub struct View {
 
 impl Model for View {
     ghost use Rattle.std.specs.Prelude.{◌≡◌, true};
-    ghost use Rattle.bx_terms.specs.Characters.{is_side};
+    ghost use Rattle.bx_common.specs.Characters.{is_side};
     ghost use Rattle.bx_view.specs.Caching.{ViewState};
 
     ghost Value = { ViewState };
@@ -110,7 +110,7 @@ impl View {
     /// cached.
     pub fn find<D: BidiData>(
         &mut self,
-        source: &Source<'_, D>,
+        source: &TextRef<'_, D>,
         span: TextSpan,
     ) -> Result<usize, OutOfMemory>
         requires data { IsViewBy source.now self.old }
@@ -136,7 +136,7 @@ impl View {
     /// The cached paragraph at index `cached`, which has the body of the text's paragraph `number`, from 0.
     pub fn paragraph<D: BidiData>(
         &self,
-        source: &Source<'_, D>,
+        source: &TextRef<'_, D>,
         number: usize,
         cached: usize,
     ) -> &ParagraphLayout
@@ -153,7 +153,7 @@ impl View {
     /// The row that an offset falls in, in its paragraph, whose body is cached at index `cached`.
     fn row_in<D: BidiData>(
         &self,
-        source: &Source<'_, D>,
+        source: &TextRef<'_, D>,
         span: TextSpan,
         cached: usize,
         offset: usize,
@@ -179,7 +179,7 @@ impl View {
     /// The row that an offset of the text falls in.
     pub fn row_at<D: BidiData>(
         &mut self,
-        source: &Source<'_, D>,
+        source: &TextRef<'_, D>,
         offset: usize,
     ) -> Result<RowAt, OutOfMemory>
         requires data { IsViewBy source.now self.old }
@@ -194,7 +194,11 @@ impl View {
     }
 
     /// A walk over the text's paragraphs, at the one of a row.
-    pub fn walk_from<'a, D: BidiData>(&self, source: &Source<'a, D>, at: RowAt) -> ParagraphWalk<'a>
+    pub fn walk_from<'a, D: BidiData>(
+        &self,
+        source: &TextRef<'a, D>,
+        at: RowAt,
+    ) -> ParagraphWalk<'a>
         requires row { Stands source.now self.now at }
         ensures { IsAlong source.now result at }
     {
@@ -206,7 +210,7 @@ impl View {
     /// The row after `at`, if there is one.
     pub fn next_row<D: BidiData>(
         &mut self,
-        source: &Source<'_, D>,
+        source: &TextRef<'_, D>,
         at: RowAt,
     ) -> Result<Option<RowAt>, OutOfMemory>
         requires row { Stands source.now self.old at }
@@ -225,7 +229,7 @@ impl View {
     /// Like `next_row`, but advances `walk`, which is at the paragraph of `at`.
     pub fn next_row_along<D: BidiData>(
         &mut self,
-        source: &Source<'_, D>,
+        source: &TextRef<'_, D>,
         walk: &mut ParagraphWalk<'_>,
         at: RowAt,
     ) -> Result<Option<RowAt>, OutOfMemory>
@@ -256,7 +260,7 @@ impl View {
     /// The row before `at`, if there is one.
     pub fn row_before<D: BidiData>(
         &mut self,
-        source: &Source<'_, D>,
+        source: &TextRef<'_, D>,
         at: RowAt,
     ) -> Result<Option<RowAt>, OutOfMemory>
         requires row { Stands source.now self.old at }
@@ -274,7 +278,7 @@ impl View {
     /// Like `row_before`, for many steps in turn: `walk`, which is at the paragraph of `at`, goes along.
     pub fn row_before_along<D: BidiData>(
         &mut self,
-        source: &Source<'_, D>,
+        source: &TextRef<'_, D>,
         walk: &mut ParagraphWalk<'_>,
         at: RowAt,
     ) -> Result<Option<RowAt>, OutOfMemory>
@@ -305,7 +309,7 @@ impl View {
     /// The row that an offset of the text falls in. In the paragraph of `at`, which is found already, it needs no search.
     pub(crate) fn row_near<D: BidiData>(
         &mut self,
-        source: &Source<'_, D>,
+        source: &TextRef<'_, D>,
         at: RowAt,
         offset: usize,
     ) -> Result<RowAt, OutOfMemory>

@@ -2,30 +2,30 @@
 //! library. The editor does not run them: it goes from row to row by `RowAt`, and asks `locate` once for each picture.
 ghost use Rattle.std.specs.Prelude.{◌≡◌, ℕ, ◌+◌, ◌^◌, ◌<◌, ◌≤◌, true, All, IfOk, IsUtf8, length, map, option_map, slice_get, slice_range};
 ghost use Rattle.std.specs.Str.{IsCharBoundary};
-ghost use Rattle.bx_terms.specs.Characters.{is_side};
-ghost use Rattle.bx_terms.specs.declared.base.Base.{Base};
+ghost use Rattle.bx_common.specs.Characters.{is_side};
+ghost use Rattle.bx_common.specs.declared.base.Base.{Base};
 ghost use Rattle.bx_text.specs.Edits.{largest_text};
 ghost use Rattle.bx_text.specs.Changes.{IsRange};
-ghost use Rattle.bx_index.specs.Paragraphs.{lengths};
+ghost use Rattle.bx_text.specs.index.Paragraphs.{lengths};
 ghost use Rattle.bx_rows.specs.RowStarts.{row_starts};
 ghost use Rattle.bx_view.specs.Places.{IsTextPlace};
-ghost use Rattle.bx_view.specs.Source.{IsViewBy, Keeps, body_at, bytes, count, rows, start_at};
+ghost use Rattle.bx_view.specs.TextRef.{IsViewBy, Keeps, body_at, bytes, count, rows, start_at};
 ghost use Rattle.bx_view.specs.Standing.{rows_ahead};
 ghost use Rattle.bx_view.specs.TextRows.{first, row_at, row_of, slots};
 ghost use Rattle.bx_view.specs.Top.{follow};
 
-use bx_index::ParagraphWalk;
+use bx_common::OutOfMemory;
 use bx_paragraph::Slot;
 use bx_rows::{RowStart, row_starts};
-use bx_terms::OutOfMemory;
+use bx_text::ParagraphWalk;
 use bx_ucd::BidiData;
-use bx_view::{Source, View, current_span};
+use bx_view::{TextRef, View, current_span};
 use std::alloc::{AllocError, Global};
 
 /// The row starts of the walk's current paragraph in a window of `w` columns, as offsets of its body.
 fn starts_in<D: BidiData>(
     alloc: Global,
-    source: &Source<'_, D>,
+    source: &TextRef<'_, D>,
     walk: &ParagraphWalk<'_>,
     w: u16,
 ) -> Result<Vec<RowStart>, OutOfMemory>
@@ -45,7 +45,7 @@ fn starts_in<D: BidiData>(
 /// The number of rows of the paragraphs before paragraph `number`, from 0, in a window of `w` columns.
 fn rows_before<D: BidiData>(
     alloc: Global,
-    source: &Source<'_, D>,
+    source: &TextRef<'_, D>,
     w: u16,
     number: usize,
 ) -> Result<usize, OutOfMemory>
@@ -81,7 +81,7 @@ fn in_text(alloc: Global, start: usize, slots: &[Slot]) -> Result<Vec<usize>, Al
 pub fn row_count<D: BidiData>(
     alloc: Global,
     view: &View,
-    source: &Source<'_, D>,
+    source: &TextRef<'_, D>,
 ) -> Result<usize, OutOfMemory>
     ensures { IfOk result (λ n. n ≡ length (rows source.now view.now)) }
 {
@@ -95,7 +95,7 @@ pub fn row_count<D: BidiData>(
 pub fn row_of<D: BidiData>(
     alloc: Global,
     view: &mut View,
-    source: &Source<'_, D>,
+    source: &TextRef<'_, D>,
     offset: usize,
 ) -> Result<usize, OutOfMemory>
     requires data { IsViewBy source.now view.old }
@@ -112,7 +112,7 @@ pub fn row_of<D: BidiData>(
 pub fn first<D: BidiData>(
     alloc: Global,
     view: &View,
-    source: &Source<'_, D>,
+    source: &TextRef<'_, D>,
     row: usize,
 ) -> Result<Option<usize>, OutOfMemory>
     ensures { IfOk result (λ o. o ≡ option_map first (slice_get (rows source.now view.now) row)) }
@@ -138,7 +138,7 @@ pub fn first<D: BidiData>(
 /// The places of the row that a place falls in, in visual order from left to right.
 pub fn slots<D: BidiData>(
     view: &mut View,
-    source: &Source<'_, D>,
+    source: &TextRef<'_, D>,
     place: usize,
 ) -> Result<Vec<usize>, OutOfMemory>
     requires data { IsViewBy source.now view.old }
@@ -156,7 +156,7 @@ pub fn slots<D: BidiData>(
 /// make the row of `place` visible.
 pub fn follow<D: BidiData>(
     view: &mut View,
-    source: &Source<'_, D>,
+    source: &TextRef<'_, D>,
     top: usize,
     place: usize,
     t: usize,

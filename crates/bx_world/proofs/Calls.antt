@@ -2,7 +2,7 @@
 use Rattle.std.proofs.Common.{◌≡◌, ℕ, zero, suc, Bool, true, false, List, [], ◌∷◌, ◌++◌, take, drop, length, Option, Some, None, Result, Ok, Err}
 use Rattle.std.proofs.Common.{refl, sym, ap, subst, ◌∙◌, if◌then◌else◌}
 use Rattle.std.specs.Prelude.{IfSome, IsSome, OnOk, OnErr, ◌&&◌, ◌==◌, ◌≢◌, option_map}
-use Rattle.bx_terms.specs.declared.base.Base.{Base}
+use Rattle.bx_common.specs.declared.base.Base.{Base}
 use Rattle.bx_keys.specs.Keys.{rest_after}
 use Rattle.bx_keys.specs.Waiting.{head_of}
 use Rattle.bx_grid.specs.declared.error.GridError.TheVariants as grid
@@ -46,10 +46,10 @@ value_of w = record {
 
 -- ---- opening
 
-pub opened_is : {D : Type 0} (says : D → Data) (s : SessionState D) (tables : D) (text : List ℕ) (height width : ℕ) (base : Base) (line : List ℕ)
-    (screen : Option Terminal) → s ≡ record { tables = tables; session = at_opening (says tables) text height width base }
-    → QueuesPicture (says tables) [] None s.session → line ≡ [] → screen ≡ Some (unknown_terminal height width)
-    → IsInStep (says s.tables) (record {
+pub opened_is : {D : Type 0} (ucd : D → Data) (s : SessionState D) (tables : D) (text : List ℕ) (height width : ℕ) (base : Base) (line : List ℕ)
+    (screen : Option Terminal) → s ≡ record { tables = tables; session = at_opening (ucd tables) text height width base }
+    → QueuesPicture (ucd tables) [] None s.session → line ≡ [] → screen ≡ Some (unknown_terminal height width)
+    → IsInStep (ucd s.tables) (record {
       session = s.session;
       line = line;
       height = height;
@@ -57,9 +57,9 @@ pub opened_is : {D : Type 0} (says : D → Data) (s : SessionState D) (tables : 
       screen = screen;
       told = true;
     })
-opened_is {D} says s tables text height width base line screen is queued empty shown =
+opened_is {D} ucd s tables text height width base line screen is queued empty shown =
     let same : s.tables ≡ tables = ap (λ (x : SessionState D). x.tables) is in
-    rw (empty, shown) (opened (says s.tables) s.session height width (subst (λ t. QueuesPicture (says t) [] None s.session) (sym same) queued)
+    rw (empty, shown) (opened (ucd s.tables) s.session height width (subst (λ t. QueuesPicture (ucd t) [] None s.session) (sym same) queued)
     (ap (λ (x : SessionState D). x.session.editor.height) is, ap (λ (x : SessionState D). x.session.editor.width) is))
 
 -- ---- a clipboard
@@ -83,12 +83,12 @@ clipboard_in_step d w was = record {
 }
 
 -- a session with a clipboard is in step as before
-pub clipboard_call : {D : Type 0} (says : D → Data) (old new : SessionState D) (w : World) → w.session ≡ old.session
-    → new ≡ record old { session = with_clipboard old.session } → IsInStep (says old.tables) w
-    → IsInStep (says new.tables) (record w { session = new.session })
-clipboard_call {D} says old new w same is was =
-    subst (λ (x : SessionState D). IsInStep (says x.tables) (record w { session = x.session })) (sym is)
-    (subst (λ (s : Session). IsInStep (says old.tables) (record w { session = with_clipboard s })) same (clipboard_in_step (says old.tables) w was))
+pub clipboard_call : {D : Type 0} (ucd : D → Data) (old new : SessionState D) (w : World) → w.session ≡ old.session
+    → new ≡ record old { session = with_clipboard old.session } → IsInStep (ucd old.tables) w
+    → IsInStep (ucd new.tables) (record w { session = new.session })
+clipboard_call {D} ucd old new w same is was =
+    subst (λ (x : SessionState D). IsInStep (ucd x.tables) (record w { session = x.session })) (sym is)
+    (subst (λ (s : Session). IsInStep (ucd old.tables) (record w { session = with_clipboard s })) same (clipboard_in_step (ucd old.tables) w was))
 
 -- ---- a byte
 
@@ -156,13 +156,13 @@ byte_in_step d w new store store' b (Err refused.Edit) was feeds paints = rw fee
 byte_in_step d w new store store' b (Err refused.Paint) was feeds paints = rw feeds.2.0 (owing_in_step d feeds.0 w b was)
 byte_in_step d w new store store' b (Err refused.Size) was feeds paints = absurd feeds.2
 
-pub byte_call : {D : Type 0} (says : D → Data) (tables tables' : D) (w : World) (new : Session) (store store' : StoreState) (b : ℕ)
+pub byte_call : {D : Type 0} (ucd : D → Data) (tables tables' : D) (w : World) (new : Session) (store store' : StoreState) (b : ℕ)
     (answer : Result Status Refused) (told : Bool) → tables' ≡ tables → told ≡ mark_after w.told (told_after_key w (key_of_byte w.session b)) answer
-    → IsInStep (says tables) w → Feeds (says tables) w.session store b answer new store'
-    → (is_painted w.session b ≡ true → OnOk answer (FeedPaints (says tables) w.session b new))
-    → IsInStep (says tables') (record w { session = new; told = told })
-byte_call says tables tables' w new store store' b answer told same is was feeds paints =
-    rw (same, is) (byte_in_step (says tables) w new store store' b answer was feeds paints)
+    → IsInStep (ucd tables) w → Feeds (ucd tables) w.session store b answer new store'
+    → (is_painted w.session b ≡ true → OnOk answer (FeedPaints (ucd tables) w.session b new))
+    → IsInStep (ucd tables') (record w { session = new; told = told })
+byte_call ucd tables tables' w new store store' b answer told same is was feeds paints =
+    rw (same, is) (byte_in_step (ucd tables) w new store store' b answer was feeds paints)
 
 byte_answer : (d : Data) (w : World) (new : Session) (store store' : StoreState) (b : ℕ) (answer : Result Status Refused)
     → Feeds d w.session store b answer new store'
@@ -200,12 +200,12 @@ told_in_step d w new height width (Err refused.Paint) was told paints =
     (λ owed. absurd (cc owed)) (λ on. tt) (λ on. window_fits w height width on))
 told_in_step d w new height width (Err refused.Size) was told paints = rw told.1 was
 
-pub told_call : {D : Type 0} (says : D → Data) (tables tables' : D) (w : World) (new : Session) (height width : ℕ) (answer : Result (Unit {0}) Refused)
-    (told : Bool) → tables' ≡ tables → told ≡ mark_after w.told (is_window w height width) answer → IsInStep (says tables) w
-    → ToldBy (says tables) w.session height width answer new → OnOk answer (ToldPaints (says tables) w.session new)
-    → IsInStep (says tables') (record w { session = new; told = told })
-told_call says tables tables' w new height width answer told same is was by paints =
-    rw (same, is) (told_in_step (says tables) w new height width answer was by paints)
+pub told_call : {D : Type 0} (ucd : D → Data) (tables tables' : D) (w : World) (new : Session) (height width : ℕ) (answer : Result (Unit {0}) Refused)
+    (told : Bool) → tables' ≡ tables → told ≡ mark_after w.told (is_window w height width) answer → IsInStep (ucd tables) w
+    → ToldBy (ucd tables) w.session height width answer new → OnOk answer (ToldPaints (ucd tables) w.session new)
+    → IsInStep (ucd tables') (record w { session = new; told = told })
+told_call ucd tables tables' w new height width answer told same is was by paints =
+    rw (same, is) (told_in_step (ucd tables) w new height width answer was by paints)
 
 told_answer : (d : Data) (w : World) (new : Session) (height width : ℕ) (answer : Result (Unit {0}) Refused) → ToldBy d w.session height width answer new
     → AfterToldStep d w height width (answer_of answer) (record w { session = new; told = mark_after w.told (is_window w height width) answer })
@@ -255,10 +255,10 @@ is_sent {D} tables s new count part pending same first is =
     is ∙ ap (λ left. record { tables = tables; session = record s { pending = left } })
     (rw (first, same) (drop_taken count s.pending))
 
-pub send_call : {D : Type 0} (says : D → Data) (tables : D) (w : World) (new : SessionState D) (count : ℕ) (line : List ℕ)
+pub send_call : {D : Type 0} (ucd : D → Data) (tables : D) (w : World) (new : SessionState D) (count : ℕ) (line : List ℕ)
     → new ≡ record { tables = tables; session = after_sending w.session count } → line ≡ w.line ++ take count w.session.pending
-    → IsInStep (says tables) w → IsInStep (says new.tables) (record w { session = new.session; line = line })
-send_call {D} says tables w new count line is behind was = rw (is, behind) (sent (says tables) w count was)
+    → IsInStep (ucd tables) w → IsInStep (ucd new.tables) (record w { session = new.session; line = line })
+send_call {D} ucd tables w new count line is behind was = rw (is, behind) (sent (ucd tables) w count was)
 
 pub send_steps : {D : Type 0} (tables : D) (w : World) (new : SessionState D) (count : ℕ) (line : List ℕ)
     → new ≡ record { tables = tables; session = after_sending w.session count } → line ≡ w.line ++ take count w.session.pending

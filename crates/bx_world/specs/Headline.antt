@@ -1,7 +1,7 @@
 -- The headline of the proofs: what a schedule makes of a file, from the keys typed to the text, the store, and the picture seen.
 -- `d` is Unicode's data.
 use Rattle.std.specs.Prelude.{◌≡◌, ℕ, ◌+◌, ◌<◌, Bool, true, false, List, [], Result, IfSome, IsSome}
-use Rattle.bx_terms.specs.declared.base.Base.{Base}
+use Rattle.bx_common.specs.declared.base.Base.{Base}
 use Rattle.bx_grid.specs.Picture.{Shows}
 use Rattle.bx_store.specs.Faults.{greatest}
 use Rattle.bx_ucd.specs.Data.{Data}

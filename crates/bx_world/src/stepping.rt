@@ -140,7 +140,7 @@ impl<D: BidiData + Drop> World<D> {
         ensures tables { self.new.tables ≡ self.old.tables }
     {
         let told = is_window(self.height, self.width, height, width);
-        let answer = self.session.told(height, width);
+        let answer = self.session.set_window_size(height, width);
         mark_after(&mut self.told, told, &answer);
         answer_of(answer)
     }

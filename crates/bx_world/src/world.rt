@@ -1,7 +1,7 @@
 //! The world's state, and what can be read of it.
 
 ghost use Rattle.std.specs.Prelude.{◌≡◌, ◌≤◌, ◌↔◌, true, false, IfErr, IfOk, IsTrue, IsUtf8, OnOk, length};
-ghost use Rattle.bx_terms.specs.Characters.{largest_text};
+ghost use Rattle.bx_common.specs.Characters.{largest_text};
 ghost use Rattle.bx_grid.specs.Picture.{is_size};
 ghost use Rattle.bx_terminal.specs.Screens.{IfShown};
 ghost use Rattle.bx_editor.specs.Editor.{Causes};
@@ -9,9 +9,9 @@ ghost use Rattle.bx_world.specs.Showing.{IsInStep, IsShownOn, StaysWhole, WillSh
 ghost use Rattle.bx_session.specs.Session.{at_opening, with_clipboard};
 ghost use Rattle.bx_world.specs.World.{around};
 
+use bx_common::Base;
 use bx_session::{OpenError, Session};
 use bx_terminal::Screen;
-use bx_terms::Base;
 use bx_ucd::BidiData;
 use std::alloc::Global;
 use std::marker::Model;

@@ -63,7 +63,7 @@ impl<D: BidiData + Drop> Alone<D> {
     fn take(&mut self, step: Step, answers: &mut Answers) -> Result<(), AllocError> {
         let letter = match step {
             Step::Byte(byte) => self.type_byte(byte),
-            Step::Told(height, width) => match self.session.told(height, width) {
+            Step::Told(height, width) => match self.session.set_window_size(height, width) {
                 Ok(()) => 'o',
                 Err(refused) => letter_of_refusal(refused),
             },

@@ -1,7 +1,7 @@
 //! A scene, parsed from a line.
 
+use bx_common::Base;
 use bx_store::MemoryStore;
-use bx_terms::Base;
 use bx_world::Step;
 use player_lines::{WordFault, byte_of, bytes_of, call_of, count_of, side_of, two_of};
 use std::alloc::{AllocError, Global};
@@ -31,13 +31,13 @@ pub enum Look<'a> {
     /// The text that is sought.
     Query,
     /// How far a search is.
-    Seek,
+    SearchState,
     /// What the search is for.
-    Aim,
+    SearchPurpose,
     /// The text that replaces matches.
     Other,
     /// Which question is asked.
-    Ask,
+    Prompt,
     /// The answer to it so far.
     Answer,
     /// Whether there are changes that are not saved.
@@ -112,10 +112,10 @@ pub fn look_of(word: &str) -> Result<Look<'_>, WordFault> {
         "mark" => Ok(Look::Mark),
         "held" => Ok(Look::Held),
         "query" => Ok(Look::Query),
-        "seek" => Ok(Look::Seek),
-        "aim" => Ok(Look::Aim),
+        "seek" => Ok(Look::SearchState),
+        "aim" => Ok(Look::SearchPurpose),
         "other" => Ok(Look::Other),
-        "ask" => Ok(Look::Ask),
+        "ask" => Ok(Look::Prompt),
         "answer" => Ok(Look::Answer),
         "changed" => Ok(Look::Changed),
         "ended" => Ok(Look::Ended),

@@ -3,8 +3,8 @@
 ghost use Rattle.std.specs.Prelude.{IsTrue};
 ghost use Rattle.bx_grid.specs.Grid.{IsWithin};
 
+use bx_common::{OutOfMemory, is_glyph, run_width};
 use bx_grid::{Cell, Grid, GridError, Picture};
-use bx_terms::{OutOfMemory, is_glyph, run_width};
 use std::alloc::Global;
 
 /// Errors of building a picture from rows.

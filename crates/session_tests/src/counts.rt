@@ -1,14 +1,13 @@
 //! An edit asks for the classes of the text that it touches, not of the whole text.
 
 ghost use Rattle.std.specs.Prelude.{◌≡◌, ℕ, List, Some, IsUtf8};
-ghost use Rattle.bx_index.specs.Paragraphs.{lengths};
+ghost use Rattle.bx_text.specs.index.Paragraphs.{lengths};
 ghost use Rattle.bx_text.specs.Changes.{IsChange};
 
 use crate::counting::Counting;
+use bx_common::Base;
 use bx_document::Document;
-use bx_index::Index;
-use bx_terms::Base;
-use bx_text::{Change, Text};
+use bx_text::{Change, Index, Text};
 use bx_ucd::BidiData;
 use bx_view::Move;
 use std::alloc::{AllocError, Global};

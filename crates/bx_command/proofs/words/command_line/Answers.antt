@@ -1,8 +1,8 @@
 use Rattle.std.proofs.Common.{◌≡◌, ◌∙◌, ap, subst, List}
 use Rattle.clap.specs.Words.{App, HasMatchesOf, Text, app_of, is_simple, matches_of}
 use Rattle.clap.specs.declared.parser.matches.ArgMatches.{ArgMatches}
-use Rattle.bx_cli.specs.Arguments.{rows_in}
-use Rattle.bx_cli.specs.Rules.{DirectionWords}
+use Rattle.bx_command.specs.shared.Arguments.{rows_in}
+use Rattle.bx_command.specs.shared.Rules.{DirectionWords}
 use Rattle.bx_command.specs.Command.{editor_app}
 use Rattle.bx_command.specs.Options.{AreOptionsIn}
 use Rattle.bx_command.proofs.words.command_line.Goals as goal

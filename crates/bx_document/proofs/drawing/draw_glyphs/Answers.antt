@@ -1,5 +1,5 @@
 use Rattle.std.proofs.Common.{◌≡◌, ◌+◌, ◌-◌, ◌*◌, ◌≤◌, ◌++◌, ◌∙◌, ap, arith, length, refl, replicate, subst, sym, take, take_all}
-use Rattle.bx_terms.specs.Glyphs.{run_width}
+use Rattle.bx_common.specs.Glyphs.{run_width}
 use Rattle.bx_grid.specs.Columns.{blank, run_columns}
 use Rattle.bx_grid.specs.Grid.{paste, GridState, HasRoom}
 use Rattle.bx_document.proofs.PutOn.{all_put, some_put}

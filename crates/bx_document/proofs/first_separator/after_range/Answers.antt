@@ -5,7 +5,7 @@ use Rattle.bx_document.proofs.first_separator.after_range.Goals as goal
 
 pub loop-at-preserved : goal.loop-at-preserved
 loop-at-preserved g c =
-    let says = g.D.BidiData.data c.args.tables.now in
+    let ucd = g.D.BidiData.data c.args.tables.now in
     let text = c.args.text.now.edited.text in
     let part = c.part_at-part.result.now in
     let left = chars (slice_range text (c.loop-at.at + length part) c.args.stop) in
@@ -13,9 +13,9 @@ loop-at-preserved g c =
       range = c.part_at-part.ensures.range;
       same = λ rest.
           c.loop-at.invariant.same rest
-          ∙ ap (λ cs. crlf_from says c.loop-at.seen (cs ++ rest))
+          ∙ ap (λ cs. crlf_from ucd c.loop-at.seen (cs ++ rest))
           (part-first text part c.loop-at.at c.args.stop c.part_at-part.utf8 c.part_at-part.ensures.bytes c.part_at-part.ensures.range.in_order)
-          ∙ ap (crlf_from says c.loop-at.seen) (append_assoc (chars part) left rest) ∙ c.after_part-seen.ensures (left ++ rest);
+          ∙ ap (crlf_from ucd c.loop-at.seen) (append_assoc (chars part) left rest) ∙ c.after_part-seen.ensures (left ++ rest);
     }
 
 pub returns : goal.returns

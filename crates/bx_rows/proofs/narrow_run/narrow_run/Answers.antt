@@ -13,7 +13,7 @@ less-if (suc n) (suc m) h d =
 
 pub loop-c-init : goal.loop-c-init
 loop-c-init g c =
-    let says = g.D.BidiData.data c.args.tables.now in
+    let ucd = g.D.BidiData.data c.args.tables.now in
     let body = c.args.body.now in
     let first = sym c.range_from.ensures.value ∙ c.in-Some.ensures.0 in
     let shorter = c.in-Some.ensures.1 in
@@ -24,7 +24,7 @@ loop-c-init g c =
     let not_all = c.if-run-most.false in
     record {
       text = IsUtf8-past_char (drop at body) _ c.in-Some.c (IsUtf8-drop body at c.utf8.body bounds.boundary) first;
-      cluster = open-narrow says body at c.in-Some.c c.is_blank-is_break.result _ first
+      cluster = open-narrow ucd body at c.in-Some.c c.is_blank-is_break.result _ first
           (c.in-Begins.ensures.0, c.in-Begins.ensures.1 ∙ c.if-columns-ne1.false) (c.is_blank-is_break.ensures ∙ ap is_blank c.class.ensures);
       within = omega (arith, shorter, whole, length-drop at body);
       most = less-if c.ascii_run-run.result.count c.args.most few not_all;
@@ -80,7 +80,7 @@ returns-then-run-most-2-clause-units g c =
 
 pub loop-c-preserved-else-run-most-2 : goal.loop-c-preserved-else-run-most-2
 loop-c-preserved-else-run-most-2 g c =
-    let says = g.D.BidiData.data c.args.tables.now in
+    let ucd = g.D.BidiData.data c.args.tables.now in
     let body = c.args.body.now in
     let rest = c.loop-c.rest.now in
     let i = c.loop-c.invariant in
@@ -89,11 +89,11 @@ loop-c-preserved-else-run-most-2 g c =
     let within = i.within in
     let stop = length body - length rest in
     let e : stop + length rest ≡ length body = omega arith in
-    let longer = longer-next says body c.args.at c.loop-c.run c.grown-run.result c.loop-c.is_break rest _ stop c.in-Some-first_char.c c.utf8.body i.bounds
+    let longer = longer-next ucd body c.args.at c.loop-c.run c.grown-run.result c.loop-c.is_break rest _ stop c.in-Some-first_char.c c.utf8.body i.bounds
     i.units i.cluster e next.0 c.in-Begins-simple_kind.ensures.0 c.grown-run.ensures in
     record {
       text = IsUtf8-past_char rest _ c.in-Some-first_char.c i.text next.0;
-      cluster = open-behind says body c.loop-c.run c.grown-run.result c.loop-c.is_break c.is_blank-is_break-in-Begins-simple_kind.result rest _ stop
+      cluster = open-behind ucd body c.loop-c.run c.grown-run.result c.loop-c.is_break c.is_blank-is_break-in-Begins-simple_kind.result rest _ stop
           c.in-Some-first_char.c c.utf8.body i.bounds.boundary i.cluster e next.0
           (c.in-Begins-simple_kind.ensures.0, c.in-Begins-simple_kind.ensures.1 ∙ c.if-columns-ne1-2.false)
           (c.is_blank-is_break-in-Begins-simple_kind.ensures ∙ ap is_blank c.class-in-Begins-simple_kind.ensures) c.grown-run.ensures;

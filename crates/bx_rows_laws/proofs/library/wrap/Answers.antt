@@ -8,6 +8,6 @@ returns-clause-fit g c = fit_if_wrapped (g.D.BidiData.data c.args.tables.now) c.
 
 pub returns-clause-cut : goal.returns-clause-cut
 returns-clause-cut g c some =
-    let says = g.D.BidiData.data c.args.tables.now in
+    let ucd = g.D.BidiData.data c.args.tables.now in
     let us = c.args.units.now in
-    cut_if_wrapped says c.args.w c.args.body.now us _ some (faces-fit says c.args.w c.args.body.now us c.requires.faces) c.in_ok-all_rows.ensures
+    cut_if_wrapped ucd c.args.w c.args.body.now us _ some (faces-fit ucd c.args.w c.args.body.now us c.requires.faces) c.in_ok-all_rows.ensures

@@ -1,8 +1,8 @@
 use Rattle.std.proofs.Common.{◌≡◌, ap, sym, ◌∙◌}
 use Rattle.std.specs.Prelude.{if◌then◌else◌}
 use Rattle.std.proofs.lemmas.Bool.{eq-eqb}
-use Rattle.bx_asking.specs.Answers.{lengthened}
-use Rattle.bx_asking.specs.Names.{coded, is_code_letter}
+use Rattle.bx_editor.specs.questions.Answers.{lengthened}
+use Rattle.bx_editor.specs.questions.Names.{coded, is_code_letter}
 use Rattle.bx_editor.specs.Asking.{after_code, longest_code, with_answer, without_ask}
 use Rattle.bx_editor.specs.Editor.{Editor, cleared}
 use Rattle.bx_editor.specs.Functions.{EditorState}

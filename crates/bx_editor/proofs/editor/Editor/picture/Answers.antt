@@ -23,8 +23,8 @@ pub put_status-requires-clause-position : goal.put_status-requires-clause-positi
 put_status-requires-clause-position g c =
     let i = c.self.inside in
     subst (λ t. (let s = value_with g.D.BidiData i t in
-    let says : Data = g.D.BidiData.data s.tables in
-    IsPosition says s.editor.width s.editor.content.text (rows says s.editor) s.editor.place c.in_ok-shown.shown.position))
+    let ucd : Data = g.D.BidiData.data s.tables in
+    IsPosition ucd s.editor.width s.editor.content.text (rows ucd s.editor) s.editor.place c.in_ok-shown.shown.position))
     (sym c.show.ensures.same) c.in_ok-shown.ensures.position
 
 pub returns-clause-top : goal.returns-clause-top

@@ -21,9 +21,9 @@ returns-in-Err-clause-err g c =
     let i = c.self.inside in
     let taken : i.pasted ≡ Some c.in-Some.list = sym c.take.ensures.value ∙ c.in-Some.is in
     let with : List ℕ → Option (List ℕ) → EditorState g.row.D.Denot = λ runs pasted. (let s = with_document g.D.BidiData i c.self-2.inside c.restore.new.self in
-    record s { editor = record s.editor { runs = runs; pasted = pasted } }) in
+    record s { editor = record s.editor { undo_groups = runs; pasted = pasted } }) in
     ap (λ runs. with runs (Some (string_bytes c.in-Some.list))) c.in_ok-runs.ensures
-    ∙ ap (λ pasted. with i.past.runs.numbers (option_map string_bytes pasted)) (sym taken)
+    ∙ ap (λ pasted. with i.past.undo_groups.numbers (option_map string_bytes pasted)) (sym taken)
     ∙ all-restored g.D.BidiData i c.self-2.inside _ _ _ _ c.restore.ensures c.in_ok-document.ensures.text c.self-2.view_is c.in-Err.ensures.err
     c.in-Err.ensures.tables
     ∙ c.self.view_is

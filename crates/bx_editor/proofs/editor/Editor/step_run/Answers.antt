@@ -1,6 +1,6 @@
 use Rattle.std.proofs.Common.{rules, ◌≡◌, ◌≤◌, true, length, chars, string_bytes, IfSome, sym, ap, ap₂, subst, ◌∙◌}
 use Rattle.std.specs.Prelude.{None, Some}
-use Rattle.bx_terms.specs.Characters.{is_side}
+use Rattle.bx_common.specs.Characters.{is_side}
 use Rattle.bx_document.specs.Document.{DocumentState}
 use Rattle.bx_document.specs.History.{next_changes}
 use Rattle.bx_view.specs.Places.{IsTextPlace}

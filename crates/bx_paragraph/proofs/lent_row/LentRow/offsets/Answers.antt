@@ -1,5 +1,5 @@
 use Rattle.std.proofs.Common.{◌++◌, ◌∷◌, ◌∙◌, [], ap, false, length, map, true}
-use Rattle.bx_cells.specs.declared.unit.Unit.{Unit}
+use Rattle.bx_rows.specs.declared.cells.unit.Unit.{Unit}
 use Rattle.bx_paragraph.proofs.LentRows.{lent_offsets}
 use Rattle.bx_paragraph.proofs.lent_row.LentRow.offsets.Goals as goal
 

@@ -7,10 +7,10 @@ use Rattle.bx_session.proofs.session.Session.press.Goals as goal
 
 pub invariant_of-self-else-ended : goal.invariant_of-self-else-ended
 invariant_of-self-else-ended g c =
-    let says : g.row.D.Denot → Data = g.D.BidiData.data in
+    let ucd : g.row.D.Denot → Data = g.D.BidiData.data in
     let old = c.self.inside in (
       c.self.invariant.0,
-      still_fits (says old.editor.tables) None (known_if old.is_known old.painted) old.editor.editor c.apply.new.editor.editor c.args.key
+      still_fits (ucd old.editor.tables) None (known_if old.is_known old.painted) old.editor.editor c.apply.new.editor.editor c.args.key
           (sym c.asks_for_whole.ensures ∙ c.if-asks_for_whole.false) (ap (λ (x : EditorState g.row.D.Denot). x.editor) c.in_ok-apply.ensures.after_key)
           c.self.invariant.1,
     )

@@ -7,9 +7,9 @@ use Rattle.bx_world.proofs.world.World.send.Goals as goal
 
 pub invariant_of-self-2 : goal.invariant_of-self-2
 invariant_of-self-2 g c =
-    let says : g.row.D.Denot → Data = g.D.BidiData.data in
+    let ucd : g.row.D.Denot → Data = g.D.BidiData.data in
     let w : World = value_of c.self.inside in
-    send_call says c.self.inside.session.tables w c.taken.new.self c.args.count c.append.new.line.items
+    send_call ucd c.self.inside.session.tables w c.taken.new.self c.args.count c.append.new.line.items
     (is_sent c.self.inside.session.tables c.self.inside.session.session c.taken.new.self c.args.count c.first_bytes-part.result.now c.pending.result.now
     c.pending.ensures c.first_bytes-part.ensures c.taken.ensures)
     (c.in_ok-append.ensures.ok

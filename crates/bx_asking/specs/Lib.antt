@@ -1,4 +1,0 @@
-pub mod Answers
-pub mod Names
-pub mod Told
-pub mod Laws
