@@ -1,9 +1,8 @@
 //! What a run reads, journals, writes and saves through: a reader, a journal, a writer and a store as one, so that the order among
 //! them is told.
 
-use crate::status::Refused;
 use crate::session::Session;
-use crate::status::Status;
+use crate::status::{Refused, Status};
 use bx_bytes::WriteFault;
 use bx_ucd::BidiData;
 use thiserror::Error;

@@ -3,10 +3,9 @@
 ghost use Rattle.std.specs.Prelude.{◌≡◌};
 
 use crate::device::{Device, DeviceFault};
-use crate::status::Refused;
 use crate::journal::{Journal, Recorder};
 use crate::session::Session;
-use crate::status::Status;
+use crate::status::{Refused, Status};
 use bx_bytes::{WriteFault, write_all};
 use bx_store::Store;
 use bx_ucd::BidiData;
