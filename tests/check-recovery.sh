@@ -1,8 +1,8 @@
 #!/bin/sh
 # check-recovery.sh [COUNT [SEED]]: kills sessions in tmux at a random key, by KILL, HUP and TERM to the host, to the program or
 # to both, and recovers each: all bytes that the program had read must be there. Most sessions end in a search or just after one,
-# while matches are replaced, in a question, after what it put in or told, in a paste, with a selection or between runs of
-# changes, and what is typed after the recovery goes into the text, also if the session is killed and recovered once more.
+# while matches are replaced, in a question, after what it put in or told, in a paste, with a selection or between undo
+# groups, and what is typed after the recovery goes into the text, also if the session is killed and recovered once more.
 # recovery/sessions.py makes the keys, and the text after each by a plain model. The script also checks the messages and
 # questions, a full disk under the journal, a replay of 100,000 keys, and the journal's cost for a key.
 # COUNT is the number of sessions, by default 200, and SEED that of the random keys, by default 1. The last line has the totals.

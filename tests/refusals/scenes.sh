@@ -97,7 +97,7 @@ check_worked() { # NAME ROWS COLS FILE STEPS WAY WANTED [BEFORE]
     [ ! -s odd ] || fail "$1: $(head -n 1 odd)"
 }
 
-# Bytes of sequences are those of crates/bx_keys/specs/Keys.antt: B1b B5b B38 B32 B7e is CSI 82~, which undoes a run.
+# Bytes of sequences are those of crates/bx_keys/specs/Keys.antt: B1b B5b B38 B32 B7e is CSI 82~, which undoes an undo group.
 check_all_scenes() {
     # all is sent and read
     rest='S1000 R1000'
