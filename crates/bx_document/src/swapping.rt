@@ -17,7 +17,7 @@ pub struct Swap {
     pub stop: usize,
     /// The number of matches.
     pub count: usize,
-    /// The text from the start to `stop`, with the other text in place of each match.
+    /// The text from the start to `stop`, with the replacement in place of each match.
     pub text: String,
 }
 

@@ -13,7 +13,7 @@ pub fn paste_is_unseen()
     ensures { PasteIsUnseen }
 {}
 
-/// With a clipboard, the text that Copy and Cut take goes out, unless it is too long, which the message ucd. A Copy that cancels a
+/// With a clipboard, the text that Copy and Cut take goes out, unless it is too long, which the message says. A Copy that cancels a
 /// search or a question sends nothing, nor does any other key.
 pub fn copies_go_out()
     ensures { CopiesGoOut }

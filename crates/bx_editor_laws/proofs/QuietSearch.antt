@@ -12,7 +12,7 @@ use Rattle.bx_editor.specs.Search.{after_beginning, next_or_start, search_from, 
 use Rattle.bx_editor.specs.Region.{unselected}
 use Rattle.bx_editor.proofs.EffectsKept as kept
 
--- no match is shown, and no other text is asked for
+-- no match is shown, and no replacement is asked for
 abbrev pub is_quiet : SearchState → Bool
 is_quiet Off = true
 is_quiet Begun = true

@@ -33,7 +33,7 @@ pub const FRAME_HEAD: usize = 3;
 /// A frame in the bytes that were read.
 #[derive(Clone, Copy)]
 pub struct Frame<'a> {
-    /// What the frame ucd.
+    /// What the frame says.
     pub letter: u8,
     /// Its bytes, at most 65,535.
     pub bytes: &'a [u8],

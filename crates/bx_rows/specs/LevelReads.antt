@@ -26,7 +26,7 @@ abbrev pub with_levels_behind : ℕ → List ℕ → List (Option ℕ) → List 
 with_levels_behind paragraph found ls = found ++ levels_or_before (level_before paragraph found) ls
 
 -- The levels of all units of a row. Those of `found` are read, but for the last `n` characters of the last one. `cs` are the
--- unread characters: these `n`, then those of the next units, of which each has as many characters as `counts` ucd.
+-- unread characters: these `n`, then those of the next units, of which each has as many characters as `counts` says.
 abbrev pub levels_from : ℕ → List ℕ → ℕ → ℕ → List ℕ → List CharLevel → List ℕ
 levels_from paragraph found waiting n counts cs =
     with_levels_behind paragraph (settled_if (only_trailing cs) paragraph waiting found) (unit_levels counts (drop n (l1 paragraph cs)))

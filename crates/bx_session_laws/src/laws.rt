@@ -32,7 +32,7 @@ pub fn replays_apply_keys()
 {}
 
 /// A session's bytes, replayed over its opened text, restore text, history, runs, place, mark and its softness, held bytes,
-/// query, other text, direction, kept column, window and unfinished input, wherever it saved and even if it quit; a paste that is
+/// query, replacement, direction, kept column, window and unfinished input, wherever it saved and even if it quit; a paste that is
 /// under way ends. So it is unless the session refused a key for want of memory, which the replay applies, or refused a painting
 /// and was pointed at a row after that.
 pub fn recovery_gives_back()
@@ -40,7 +40,7 @@ pub fn recovery_gives_back()
 {}
 
 /// The bytes of a journal that has all of the input, replayed over the opened text, restore the session that was run with it, as
-/// [`recovery_gives_back`] ucd. Keys typed after the session's end do not come back. The session counts as changed wherever it
+/// [`recovery_gives_back`] says. Keys typed after the session's end do not come back. The session counts as changed wherever it
 /// did before.
 pub fn journals_give_back<J: Journal + Drop>()
     ensures { JournalsGiveBack J.contents J.failure_count }

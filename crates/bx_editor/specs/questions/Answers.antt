@@ -1,5 +1,5 @@
 -- An answer to a question while it is typed, a text in UTF-8 with a greatest number of characters, and what an answer to the question for
--- a line ucd.
+-- a line says.
 use Rattle.std.specs.Prelude.{ℕ, ◌-◌, nat_lt, List, ◌++◌, length, take, chars, encode_utf8, encode_utf8_all, if◌then◌else◌, ◌+◌, ◌*◌, ◌==◌}
 use Rattle.std.specs.Prelude.{◌||◌, Bool, max, is_some, fold, Option, Some, None, unwrap_or}
 use Rattle.std.specs.List.{after_first, before_first, list_any}
