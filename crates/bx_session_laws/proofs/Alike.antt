@@ -93,14 +93,14 @@ either_alike false e p q f p' q' h k = k
 
 -- no deed
 pub idle : (e new f new' : Editor) → lasting new ≡ lasting new' → work new ≡ work e → work new' ≡ work f → Alike e new f new'
-idle e new f new' lasts first other = record { lasts = lasts; deeds = []; first = first; replacement = other }
+idle e new f new' lasts first other = record { lasts = lasts; deeds = []; first = first; other = other }
 
 pub going_on : (typing : Typing) (e new f new' : Editor) → Alike e new f new' → Alike e (with_typing new typing) f (with_typing new' typing)
 going_on typing e new f new' h = record {
   lasts = ap (λ (l : Lasting). record l { typing = typing }) h.lasts;
   deeds = h.deeds;
   first = h.first;
-  replacement = h.replacement;
+  other = h.other;
 }
 
 -- ---- edits
@@ -109,13 +109,13 @@ pub insertion_alike : (d : Data) (e f : Editor) (new : List ℕ) (goes_on : Bool
     → Alike e (with_insertion d e new goes_on) (having (lasting e) f) (with_insertion d (having (lasting e) f) new goes_on)
 insertion_alike d e f new goes_on =
     let after = place_after d e (splice e.content.text e.place e.place new) (e.place + length new) in
-    record { lasts = refl; deeds = Edits e.place e.place new e.place after goes_on ∷ []; first = refl; replacement = refl }
+    record { lasts = refl; deeds = Edits e.place e.place new e.place after goes_on ∷ []; first = refl; other = refl }
 
 pub removal_alike : (d : Data) (e f : Editor) (start stop : ℕ) (goes_on : Bool)
     → Alike e (with_removal d e start stop goes_on) (having (lasting e) f) (with_removal d (having (lasting e) f) start stop goes_on)
 removal_alike d e f start stop goes_on =
     let after = place_after d e (splice e.content.text start stop []) start in
-    record { lasts = refl; deeds = Edits start stop [] e.place after goes_on ∷ []; first = refl; replacement = refl }
+    record { lasts = refl; deeds = Edits start stop [] e.place after goes_on ∷ []; first = refl; other = refl }
 
 replaced_alike : (d : Data) (e f : Editor) (new : List ℕ)
     → Alike e (with_selection_replaced d e new) (having (lasting e) f) (with_selection_replaced d (having (lasting e) f) new)
@@ -127,7 +127,7 @@ replaced_alike d e f new =
       lasts = refl;
       deeds = Edits part.0 part.1 [] e.place cut.place false ∷ Edits cut.place cut.place new cut.place after true ∷ [];
       first = refl;
-      replacement = refl;
+      other = refl;
     }
 
 pub put_in_alike : (d : Data) (e f : Editor) (new : List ℕ) (goes_on : Bool)
@@ -196,11 +196,11 @@ word_alike d e f start stop =
 
 undo_alike : (e f : Editor) (past : List Edit) → Alike e (after_undo e past) (having (lasting e) f) (after_undo (having (lasting e) f) past)
 undo_alike e f [] = idle e (after_undo e []) (having (lasting e) f) (after_undo (having (lasting e) f) []) refl refl refl
-undo_alike e f (edit ∷ past) = record { lasts = refl; deeds = TakesStep history.Undo ∷ []; first = refl; replacement = refl }
+undo_alike e f (edit ∷ past) = record { lasts = refl; deeds = TakesStep history.Undo ∷ []; first = refl; other = refl }
 
 redo_alike : (e f : Editor) (future : List Edit) → Alike e (after_redo e future) (having (lasting e) f) (after_redo (having (lasting e) f) future)
 redo_alike e f [] = idle e (after_redo e []) (having (lasting e) f) (after_redo (having (lasting e) f) []) refl refl refl
-redo_alike e f (edit ∷ future) = record { lasts = refl; deeds = TakesStep history.Redo ∷ []; first = refl; replacement = refl }
+redo_alike e f (edit ∷ future) = record { lasts = refl; deeds = TakesStep history.Redo ∷ []; first = refl; other = refl }
 
 step_alike : (step : HistoryStep) (e f : Editor) → Alike e (after_step step e) (having (lasting e) f) (after_step step (having (lasting e) f))
 step_alike history.Undo e f = undo_alike e f e.content.past
@@ -209,8 +209,8 @@ step_alike history.Redo e f = redo_alike e f e.content.future
 run_alike : (step : HistoryStep) (e f : Editor) (change : Option Change)
     → Alike e (by_run step e change) (having (lasting e) f) (by_run step (having (lasting e) f) change)
 run_alike step e f None = idle e (by_run step e None) (having (lasting e) f) (by_run step (having (lasting e) f) None) refl refl refl
-run_alike history.Undo e f (Some change) = record { lasts = refl; deeds = TakesRun history.Undo ∷ []; first = refl; replacement = refl }
-run_alike history.Redo e f (Some change) = record { lasts = refl; deeds = TakesRun history.Redo ∷ []; first = refl; replacement = refl }
+run_alike history.Undo e f (Some change) = record { lasts = refl; deeds = TakesRun history.Undo ∷ []; first = refl; other = refl }
+run_alike history.Redo e f (Some change) = record { lasts = refl; deeds = TakesRun history.Redo ∷ []; first = refl; other = refl }
 
 runs_alike : (step : HistoryStep) (e f : Editor)
     → Alike e (by_run step e (next_changes step (run_length step e) e.content)) (having (lasting e) f)
@@ -230,10 +230,10 @@ mark_alike e f =
 
 select_alike : (e f : Editor) (mark : Option ℕ) (soft : Soft)
     → Alike e (selecting e mark soft) (having (lasting e) f) (selecting (having (lasting e) f) mark soft)
-select_alike e f None soft = record { lasts = refl; deeds = []; first = refl; replacement = refl }
-select_alike e f (Some mark) softness.Off = record { lasts = refl; deeds = []; first = refl; replacement = refl }
-select_alike e f (Some mark) softness.Fresh = record { lasts = refl; deeds = []; first = refl; replacement = refl }
-select_alike e f (Some mark) softness.Old = record { lasts = refl; deeds = []; first = refl; replacement = refl }
+select_alike e f None soft = record { lasts = refl; deeds = []; first = refl; other = refl }
+select_alike e f (Some mark) softness.Off = record { lasts = refl; deeds = []; first = refl; other = refl }
+select_alike e f (Some mark) softness.Fresh = record { lasts = refl; deeds = []; first = refl; other = refl }
+select_alike e f (Some mark) softness.Old = record { lasts = refl; deeds = []; first = refl; other = refl }
 
 copy_alike : (d : Data) (e f : Editor) → Alike e (after_copy d e) (having (lasting e) f) (after_copy d (having (lasting e) f))
 copy_alike d e f =
@@ -254,7 +254,7 @@ cut_alike d e f =
     let cut : Editor = record (with_removal d e part.0 part.1 false) { held = bytes; message = held_message e.clipboard bytes e.message } in
     let cut' : Editor = record (with_removal d g part.0 part.1 false) { held = bytes; message = held_message g.clipboard bytes g.message } in
     either_alike (is_empty part) e (after_copy d e) cut g (after_copy d g) cut' (copy_alike d e f)
-    (record { lasts = ap (λ (l : Lasting). record l { held = bytes }) out.lasts; deeds = out.deeds; first = out.first; replacement = out.replacement })
+    (record { lasts = ap (λ (l : Lasting). record l { held = bytes }) out.lasts; deeds = out.deeds; first = out.first; other = out.other })
 
 next_alike : (d : Data) (e f : Editor) → let g = having (lasting e) f in
     Alike e (by d None (before e) e SeeksNext) g (by d None (before g) g SeeksNext)
@@ -279,23 +279,23 @@ by_alike d fault was was' e f (Removes how start stop) s q = erasing_alike d was
 by_alike d fault was was' e f (RemovesWord start stop) s q = word_alike d e f start stop
 by_alike d fault was was' e f (Steps step) s q = step_alike step e f
 by_alike d fault was was' e f (StepsRun step) s q = runs_alike step e f
-by_alike d fault was was' e f (Goes place) s q = record { lasts = refl; deeds = []; first = refl; replacement = refl }
-by_alike d fault was was' e f (GoesByRows way n) s q = record { lasts = refl; deeds = []; first = refl; replacement = refl }
+by_alike d fault was was' e f (Goes place) s q = record { lasts = refl; deeds = []; first = refl; other = refl }
+by_alike d fault was was' e f (GoesByRows way n) s q = record { lasts = refl; deeds = []; first = refl; other = refl }
 by_alike d fault was was' e f Marks s q = mark_alike e f
 by_alike d fault was was' e f Selects s q = select_alike e f e.mark e.soft
-by_alike d fault was was' e f Unmarks s q = record { lasts = refl; deeds = []; first = refl; replacement = refl }
+by_alike d fault was was' e f Unmarks s q = record { lasts = refl; deeds = []; first = refl; other = refl }
 by_alike d fault was was' e f Copies s q = copy_alike d e f
 by_alike d fault was was' e f Cuts s q = cut_alike d e f
-by_alike d fault was was' e f (Seeks aim) s q = record { lasts = refl; deeds = []; first = refl; replacement = refl }
+by_alike d fault was was' e f (Seeks aim) s q = record { lasts = refl; deeds = []; first = refl; other = refl }
 by_alike d fault was was' e f SeeksNext s q = next_alike d e f
 by_alike d fault was was' e f Saves s q = absurd (cc s)
 by_alike d fault was was' e f Quits s q = absurd (cc q)
-by_alike d fault was was' e f Turns s q = record { lasts = refl; deeds = []; first = refl; replacement = refl }
-by_alike d fault was was' e f Helps s q = record { lasts = refl; deeds = []; first = refl; replacement = refl }
-by_alike d fault was was' e f AsksLine s q = record { lasts = refl; deeds = []; first = refl; replacement = refl }
-by_alike d fault was was' e f AsksName s q = record { lasts = refl; deeds = []; first = refl; replacement = refl }
-by_alike d fault was was' e f Tells s q = record { lasts = refl; deeds = []; first = refl; replacement = refl }
-by_alike d fault was was' e f Rests s q = record { lasts = refl; deeds = []; first = refl; replacement = refl }
+by_alike d fault was was' e f Turns s q = record { lasts = refl; deeds = []; first = refl; other = refl }
+by_alike d fault was was' e f Helps s q = record { lasts = refl; deeds = []; first = refl; other = refl }
+by_alike d fault was was' e f AsksLine s q = record { lasts = refl; deeds = []; first = refl; other = refl }
+by_alike d fault was was' e f AsksName s q = record { lasts = refl; deeds = []; first = refl; other = refl }
+by_alike d fault was was' e f Tells s q = record { lasts = refl; deeds = []; first = refl; other = refl }
+by_alike d fault was was' e f Rests s q = record { lasts = refl; deeds = []; first = refl; other = refl }
 
 pub pressed_alike : (d : Data) (fault : Option StoreFault) (was was' : Before) (e f : Editor) (key : Key) → Serves e f key
     → let g = having (lasting e) f in

@@ -29,12 +29,12 @@ use Rattle.bx_session_laws.proofs.Alike.{Alike, either_alike, idle, going_on, in
 
 -- nothing is asked any more
 unasked_alike : (e new f new' : Editor) → Alike (without_ask e) new (without_ask f) new' → Alike e new f new'
-unasked_alike e new f new' h = record { lasts = h.lasts; deeds = h.deeds; first = h.first; replacement = h.replacement }
+unasked_alike e new f new' h = record { lasts = h.lasts; deeds = h.deeds; first = h.first; other = h.other }
 
 going_alike : (d : Data) (e f : Editor) (target : Option Target)
     → Alike e (gone_to d e target) (having (lasting e) f) (gone_to d (having (lasting e) f) target)
-going_alike d e f None = record { lasts = refl; deeds = []; first = refl; replacement = refl }
-going_alike d e f (Some target) = record { lasts = refl; deeds = []; first = refl; replacement = refl }
+going_alike d e f None = record { lasts = refl; deeds = []; first = refl; other = refl }
+going_alike d e f (Some target) = record { lasts = refl; deeds = []; first = refl; other = refl }
 
 line_letter_alike : (d : Data) (typing : Typing) (e f : Editor) (c : ℕ)
     → Alike e (after_line_letter d typing e c) (having (lasting e) f) (after_line_letter d typing (having (lasting e) f) c)
@@ -73,7 +73,7 @@ wrap_alike d e f opener closer =
       lasts = refl;
       deeds = Edits stop stop closer e.place between false ∷ Edits start start opener between after true ∷ [];
       first = ap₂ (λ rs stored. record (work (with_wrap d e opener closer)) { undo_groups = rs; stored = stored }) runs (sym (stored-of-two n e.stored));
-      replacement = ap₂ (λ rs stored. record (work (with_wrap d g opener closer)) { undo_groups = rs; stored = stored }) runs (sym (stored-of-two n f.stored));
+      other = ap₂ (λ rs stored. record (work (with_wrap d g opener closer)) { undo_groups = rs; stored = stored }) runs (sym (stored-of-two n f.stored));
     }
 
 wrapping_alike : (d : Data) (e f : Editor) (opener closer : ℕ)
@@ -112,7 +112,7 @@ name_letter_alike d e f letter None =
     (idle e e g g refl refl refl))
 
 code_alike : (d : Data) (e f : Editor) (c : Option ℕ) → Alike e (after_code d e c) (having (lasting e) f) (after_code d (having (lasting e) f) c)
-code_alike d e f None = record { lasts = refl; deeds = []; first = refl; replacement = refl }
+code_alike d e f None = record { lasts = refl; deeds = []; first = refl; other = refl }
 code_alike d e f (Some c) = coded_alike d e f c
 
 code_letter_alike : (d : Data) (e f : Editor) (letter : ℕ)
@@ -134,7 +134,7 @@ unless_paste_alike typing e new f new' same h =
 
 answer_letter_alike : (d : Data) (typing : Typing) (ask : Prompt) (e f : Editor) (c : ℕ)
     → Alike e (after_answer_letter d typing ask e c) (having (lasting e) f) (after_answer_letter d typing ask (having (lasting e) f) c)
-answer_letter_alike d typing asks.Off e f c = record { lasts = refl; deeds = []; first = refl; replacement = refl }
+answer_letter_alike d typing asks.Off e f c = record { lasts = refl; deeds = []; first = refl; other = refl }
 answer_letter_alike d typing asks.Line e f c =
     let g = having (lasting e) f in
     going_on (only_paste typing) e (after_line_letter d typing e c) g (after_line_letter d typing g c) (line_letter_alike d typing e f c)
@@ -146,9 +146,9 @@ answer_letter_alike d typing asks.Code e f c =
     unless_paste_alike typing e (after_code_letter d e c) g (after_code_letter d g c) refl (code_letter_alike d e f c)
 
 shorter_alike : (ask : Prompt) (e f : Editor) → Alike e (after_shorter_answer ask e) (having (lasting e) f) (after_shorter_answer ask (having (lasting e) f))
-shorter_alike asks.Off e f = record { lasts = refl; deeds = []; first = refl; replacement = refl }
-shorter_alike asks.Line e f = record { lasts = refl; deeds = []; first = refl; replacement = refl }
-shorter_alike asks.Name e f = record { lasts = refl; deeds = []; first = refl; replacement = refl }
+shorter_alike asks.Off e f = record { lasts = refl; deeds = []; first = refl; other = refl }
+shorter_alike asks.Line e f = record { lasts = refl; deeds = []; first = refl; other = refl }
+shorter_alike asks.Name e f = record { lasts = refl; deeds = []; first = refl; other = refl }
 shorter_alike asks.Code e f =
     let g = having (lasting e) f in
     let name : Editor → Editor = λ x. record x { ask = asks.Name } in
@@ -169,9 +169,9 @@ pub question_alike : (d : Data) (fault : Option StoreFault) (was was' : Before) 
     (answered_question d None (record was' { typing = was.typing }) (having (lasting e) f) key answer)
 question_alike d fault was was' e f key (Letter c) other = answer_letter_alike d was.typing e.ask e f c
 question_alike d fault was was' e f key Shortens other = shorter_alike e.ask e f
-question_alike d fault was was' e f key GoesBack other = record { lasts = refl; deeds = []; first = refl; replacement = refl }
+question_alike d fault was was' e f key GoesBack other = record { lasts = refl; deeds = []; first = refl; other = refl }
 question_alike d fault was was' e f key Next other = ends_alike d fault was was' e f key other
 question_alike d fault was was' e f key Previous other = ends_alike d fault was was' e f key other
 question_alike d fault was was' e f key Replaces other = ends_alike d fault was was' e f key other
-question_alike d fault was was' e f key Stays other = record { lasts = refl; deeds = []; first = refl; replacement = refl }
+question_alike d fault was was' e f key Stays other = record { lasts = refl; deeds = []; first = refl; other = refl }
 question_alike d fault was was' e f key Ends other = ends_alike d fault was was' e f key other

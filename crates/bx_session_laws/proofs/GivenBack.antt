@@ -184,7 +184,7 @@ over_tells d e f h =
     let g = having (lasting e) f in
     let alike = ended_alike d e f in
     subst (λ (w : Work). Tells w (work (paste_ended d g))) (sym alike.first)
-    (subst (Tells (after_deeds alike.deeds (work e))) (sym alike.replacement) (deeds_tell alike.deeds (work e) (work g) h))
+    (subst (Tells (after_deeds alike.deeds (work e))) (sym alike.other) (deeds_tell alike.deeds (work e) (work g) h))
 
 -- the same of two editors of which the same lasts
 both_tell : (d : Data) (e f : Editor) → lasting e ≡ lasting f → Tells (work e) (work f) → Tells (work (paste_ended d e)) (work (paste_ended d f))
@@ -215,7 +215,7 @@ like_tells d fault e f key points h =
     (save_tells fault (paste_ended d e) y (over_tells d e f h))) (λ points. quit_tells d fault e f h)
     (λ k other points. (let alike = key_alike d fault e f k (other, points) in
     subst (λ (w : Work). Tells w (work (after_key d None g k))) (sym alike.first)
-    (subst (Tells (after_deeds alike.deeds (work e))) (sym alike.replacement) (deeds_tell alike.deeds (work e) (work g) h)))) key points
+    (subst (Tells (after_deeds alike.deeds (work e))) (sym alike.other) (deeds_tell alike.deeds (work e) (work g) h)))) key points
 
 any_tells : (d : Data) (fault : Option StoreFault) (e f : Editor) (key : Option Key) → lasting e ≡ lasting f
     → PointsAny e.top (scrolled d f).top key → Tells (work e) (work f)

@@ -60,7 +60,7 @@ over e new f new' h = record {
   lasts = ap (λ (l : Lasting). record l { seek = Off }) h.lasts;
   deeds = h.deeds;
   first = h.first;
-  replacement = h.replacement;
+  other = h.other;
 }
 
 answered_alike : (d : Data) (fault : Option StoreFault) (was was' : Before) (e f : Editor) (key : Key) (answer : Answer) → Serves e f key
@@ -69,12 +69,12 @@ answered_alike : (d : Data) (fault : Option StoreFault) (was was' : Before) (e f
 answered_alike d fault was was' e f key (Letter c) other =
     let g = having (lasting e) f in
     going_on (only_paste was.typing) e (after_sought_letter d was.typing e c) g (after_sought_letter d was.typing g c) (sought_letter_alike d was.typing e f c)
-answered_alike d fault was was' e f key Shortens other = record { lasts = refl; deeds = []; first = refl; replacement = refl }
-answered_alike d fault was was' e f key GoesBack other = record { lasts = refl; deeds = []; first = refl; replacement = refl }
-answered_alike d fault was was' e f key Next other = record { lasts = refl; deeds = []; first = refl; replacement = refl }
-answered_alike d fault was was' e f key Previous other = record { lasts = refl; deeds = []; first = refl; replacement = refl }
+answered_alike d fault was was' e f key Shortens other = record { lasts = refl; deeds = []; first = refl; other = refl }
+answered_alike d fault was was' e f key GoesBack other = record { lasts = refl; deeds = []; first = refl; other = refl }
+answered_alike d fault was was' e f key Next other = record { lasts = refl; deeds = []; first = refl; other = refl }
+answered_alike d fault was was' e f key Previous other = record { lasts = refl; deeds = []; first = refl; other = refl }
 answered_alike d fault was was' e f key Replaces other = asking_alike d e f
-answered_alike d fault was was' e f key Stays other = record { lasts = refl; deeds = []; first = refl; replacement = refl }
+answered_alike d fault was was' e f key Stays other = record { lasts = refl; deeds = []; first = refl; other = refl }
 answered_alike d fault was was' e f key Ends other = over e _ (having (lasting e) f) _ (pressed_alike d fault was was' e f key other)
 
 -- ---- whether a search or a question is on or not
@@ -101,7 +101,7 @@ user_alike d fault e f key other =
       lasts = ap (λ (l : Lasting). record l { goal = goal_behind key l.goal; soft = soft_behind key l.soft }) h.lasts;
       deeds = h.deeds;
       first = h.first;
-      replacement = h.replacement;
+      other = h.other;
     }
 
 -- ---- a paste
@@ -114,7 +114,7 @@ list_alike d e f list =
     let left' = without_paste g in
     let put = put_in_alike d left (without_paste f) list false in
     either_alike (length list == 0) e left (put_in d left list false) g left' (put_in d left' list false) (idle e left g left' refl refl refl)
-    (record { lasts = put.lasts; deeds = put.deeds; first = put.first; replacement = put.replacement })
+    (record { lasts = put.lasts; deeds = put.deeds; first = put.first; other = put.other })
 
 ended_by : (d : Data) (e f : Editor) (pasted : Option (List ℕ)) → Alike e (ended_with d e pasted) (having (lasting e) f) (ended_with d (having (lasting e) f) pasted)
 ended_by d e f None = idle e e (having (lasting e) f) (having (lasting e) f) refl refl refl
@@ -139,16 +139,16 @@ top_by d e (Some list) =
 
 begun_alike : (e f : Editor) (ask : Prompt) (seek : SearchState) (pasted : Option (List ℕ))
     → Alike e (paste_begun ask seek pasted e) (having (lasting e) f) (paste_begun ask seek pasted (having (lasting e) f))
-begun_alike e f asks.Off Off None = record { lasts = refl; deeds = []; first = refl; replacement = refl }
-begun_alike e f asks.Off Off (Some list) = record { lasts = refl; deeds = []; first = refl; replacement = refl }
-begun_alike e f asks.Off Begun pasted = record { lasts = refl; deeds = []; first = refl; replacement = refl }
-begun_alike e f asks.Off Typed pasted = record { lasts = refl; deeds = []; first = refl; replacement = refl }
-begun_alike e f asks.Off WithBegun pasted = record { lasts = refl; deeds = []; first = refl; replacement = refl }
-begun_alike e f asks.Off WithTyped pasted = record { lasts = refl; deeds = []; first = refl; replacement = refl }
-begun_alike e f asks.Off Replacing pasted = record { lasts = refl; deeds = []; first = refl; replacement = refl }
-begun_alike e f asks.Line seek pasted = record { lasts = refl; deeds = []; first = refl; replacement = refl }
-begun_alike e f asks.Name seek pasted = record { lasts = refl; deeds = []; first = refl; replacement = refl }
-begun_alike e f asks.Code seek pasted = record { lasts = refl; deeds = []; first = refl; replacement = refl }
+begun_alike e f asks.Off Off None = record { lasts = refl; deeds = []; first = refl; other = refl }
+begun_alike e f asks.Off Off (Some list) = record { lasts = refl; deeds = []; first = refl; other = refl }
+begun_alike e f asks.Off Begun pasted = record { lasts = refl; deeds = []; first = refl; other = refl }
+begun_alike e f asks.Off Typed pasted = record { lasts = refl; deeds = []; first = refl; other = refl }
+begun_alike e f asks.Off WithBegun pasted = record { lasts = refl; deeds = []; first = refl; other = refl }
+begun_alike e f asks.Off WithTyped pasted = record { lasts = refl; deeds = []; first = refl; other = refl }
+begun_alike e f asks.Off Replacing pasted = record { lasts = refl; deeds = []; first = refl; other = refl }
+begun_alike e f asks.Line seek pasted = record { lasts = refl; deeds = []; first = refl; other = refl }
+begun_alike e f asks.Name seek pasted = record { lasts = refl; deeds = []; first = refl; other = refl }
+begun_alike e f asks.Code seek pasted = record { lasts = refl; deeds = []; first = refl; other = refl }
 
 -- deeds after deeds
 deeds_on : (one more : List Deed) (w : Work) → after_deeds (one ++ more) w ≡ after_deeds more (after_deeds one w)
@@ -160,7 +160,7 @@ then_alike e mid new f mid' new' one more = record {
   lasts = more.lasts;
   deeds = one.deeds ++ more.deeds;
   first = more.first ∙ ap (after_deeds more.deeds) one.first ∙ sym (deeds_on one.deeds more.deeds (work e));
-  replacement = more.replacement ∙ ap (after_deeds more.deeds) one.replacement ∙ sym (deeds_on one.deeds more.deeds (work f));
+  other = more.other ∙ ap (after_deeds more.deeds) one.other ∙ sym (deeds_on one.deeds more.deeds (work f));
 }
 
 -- a key that ends a paste
@@ -178,7 +178,7 @@ ends_alike d fault e f key other =
 
 in_paste_alike : (d : Data) (fault : Option StoreFault) (e f : Editor) (key : Key) → Serves e f key
     → Alike e (after_in_paste d fault e key) (having (lasting e) f) (after_in_paste d None (having (lasting e) f) key)
-in_paste_alike d fault e f (Insert c) other = record { lasts = refl; deeds = []; first = refl; replacement = refl }
+in_paste_alike d fault e f (Insert c) other = record { lasts = refl; deeds = []; first = refl; other = refl }
 in_paste_alike d fault e f Repaint other = user_alike d fault e f Repaint other
 in_paste_alike d fault e f key other = ends_alike d fault e f key other
 
@@ -194,8 +194,8 @@ pub key_alike : (d : Data) (fault : Option StoreFault) (e f : Editor) (key : Key
 key_alike d fault e f =
     let g = having (lasting e) f in
     each-key d fault e (λ key new. Serves e f key → Alike e new g (after_key d None g key))
-    (λ height width other. record { lasts = refl; deeds = []; first = refl; replacement = refl })
-    (λ notice other. record { lasts = refl; deeds = []; first = refl; replacement = refl }) (
+    (λ height width other. record { lasts = refl; deeds = []; first = refl; other = refl })
+    (λ notice other. record { lasts = refl; deeds = []; first = refl; other = refl }) (
       λ other.
           going_on typings.Paste e (paste_begun e.ask e.seek e.pasted e) g (paste_begun e.ask e.seek e.pasted g) (begun_alike e f e.ask e.seek e.pasted),
       λ other. going_on typings.Off e (paste_ended d e) g (paste_ended d g) (ended_alike d e f),

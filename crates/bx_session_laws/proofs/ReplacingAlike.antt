@@ -37,7 +37,7 @@ exchange_alike d e f start stop (b ∷ bs) =
       lasts = refl;
       deeds = Edits start stop [] e.place cut.place false ∷ Edits start start (b ∷ bs) cut.place after true ∷ [];
       first = refl;
-      replacement = refl;
+      other = refl;
     }
 
 matches_alike : (d : Data) (e f : Editor) (stop : ℕ) (new : List ℕ) (n : ℕ)
@@ -48,7 +48,7 @@ matches_alike d e f stop new n =
       lasts = ap (λ (l : Lasting). record l { origin = 0; count = e.count + n }) out.lasts;
       deeds = out.deeds;
       first = out.first;
-      replacement = out.replacement;
+      other = out.other;
     }
 
 -- ---- the next match
@@ -58,7 +58,7 @@ ended_alike e new f new' h = record {
   lasts = ap (λ (l : Lasting). record l { seek = Off }) h.lasts;
   deeds = h.deeds;
   first = h.first;
-  replacement = h.replacement;
+  other = h.other;
 }
 
 at_alike : (d : Data) (at : Option ℕ) (e new f new' : Editor) → Alike e new f new' → Alike e (at_match d new at) f (at_match d new' at)
@@ -67,7 +67,7 @@ at_alike d (Some at) e new f new' h = record {
   lasts = ap (λ (l : Lasting). record l { seek = Replacing; at = at; place = place_at (text_rows d l.base l.width l.content.text) at }) h.lasts;
   deeds = h.deeds;
   first = h.first;
-  replacement = h.replacement;
+  other = h.other;
 }
 
 on_alike : (d : Data) (z : ℕ) (e new f new' : Editor) → Alike e new f new' → Alike e (on_from d z new) f (on_from d z new')
@@ -116,12 +116,12 @@ passing_alike d e f =
 
 shown_alike : (e f : Editor) (at : Option ℕ) → Alike e (shown_at e at) (having (lasting e) f) (shown_at (having (lasting e) f) at)
 shown_alike e f None = same e f
-shown_alike e f (Some at) = record { lasts = refl; deeds = []; first = refl; replacement = refl }
+shown_alike e f (Some at) = record { lasts = refl; deeds = []; first = refl; other = refl }
 
 asked_alike : (e f : Editor) (landing : Landing) (place : Option ℕ) → let g = having (lasting e) f in
     Alike e (asked_at place (landed (record e { aim = Replace }) landing)) g (asked_at place (landed (record g { aim = Replace }) landing))
-asked_alike e f landing None = record { lasts = refl; deeds = []; first = refl; replacement = refl }
-asked_alike e f landing (Some place) = record { lasts = refl; deeds = []; first = refl; replacement = refl }
+asked_alike e f landing None = record { lasts = refl; deeds = []; first = refl; other = refl }
+asked_alike e f landing (Some place) = record { lasts = refl; deeds = []; first = refl; other = refl }
 
 pub asking_alike : (d : Data) (e f : Editor) → Alike e (after_asking_replacement d e) (having (lasting e) f) (after_asking_replacement d (having (lasting e) f))
 asking_alike d e f =
@@ -136,7 +136,7 @@ asking_alike d e f =
 
 -- the search that is left makes no difference
 unsought_alike : (e new f new' : Editor) → Alike (without_search e) new (without_search f) new' → Alike e new f new'
-unsought_alike e new f new' h = record { lasts = h.lasts; deeds = h.deeds; first = h.first; replacement = h.replacement }
+unsought_alike e new f new' h = record { lasts = h.lasts; deeds = h.deeds; first = h.first; other = h.other }
 
 replacement_letter_alike : (d : Data) (typing : Typing) (e f : Editor) (c : ℕ)
     → Alike e (after_replacement_letter d typing e c) (having (lasting e) f) (after_replacement_letter d typing (having (lasting e) f) c)
@@ -160,12 +160,12 @@ pub replacement_alike : (d : Data) (fault : Option StoreFault) (was was' : Befor
 replacement_alike d fault was was' e f key (Letter c) other =
     let g = having (lasting e) f in
     going_on (only_paste was.typing) e (after_replacement_letter d was.typing e c) g (after_replacement_letter d was.typing g c) (replacement_letter_alike d was.typing e f c)
-replacement_alike d fault was was' e f key Shortens other = record { lasts = refl; deeds = []; first = refl; replacement = refl }
-replacement_alike d fault was was' e f key GoesBack other = record { lasts = refl; deeds = []; first = refl; replacement = refl }
-replacement_alike d fault was was' e f key Next other = record { lasts = refl; deeds = []; first = refl; replacement = refl }
-replacement_alike d fault was was' e f key Previous other = record { lasts = refl; deeds = []; first = refl; replacement = refl }
+replacement_alike d fault was was' e f key Shortens other = record { lasts = refl; deeds = []; first = refl; other = refl }
+replacement_alike d fault was was' e f key GoesBack other = record { lasts = refl; deeds = []; first = refl; other = refl }
+replacement_alike d fault was was' e f key Next other = record { lasts = refl; deeds = []; first = refl; other = refl }
+replacement_alike d fault was was' e f key Previous other = record { lasts = refl; deeds = []; first = refl; other = refl }
 replacement_alike d fault was was' e f key Replaces other = shown_alike e f (next_match d e e.place)
-replacement_alike d fault was was' e f key Stays other = record { lasts = refl; deeds = []; first = refl; replacement = refl }
+replacement_alike d fault was was' e f key Stays other = record { lasts = refl; deeds = []; first = refl; other = refl }
 replacement_alike d fault was was' e f key Ends other =
     unsought_alike e _ (having (lasting e) f) _ (pressed_alike d fault was was' (without_search e) f key other)
 
@@ -178,8 +178,8 @@ match_alike d fault was was' e f key (Letter c) other =
 match_alike d fault was was' e f key Shortens other = same e f
 match_alike d fault was was' e f key GoesBack other = ended_alike e e (having (lasting e) f) (having (lasting e) f) (same e f)
 match_alike d fault was was' e f key Next other = passing_alike d e f
-match_alike d fault was was' e f key Previous other = record { lasts = refl; deeds = []; first = refl; replacement = refl }
+match_alike d fault was was' e f key Previous other = record { lasts = refl; deeds = []; first = refl; other = refl }
 match_alike d fault was was' e f key Replaces other = all_alike d e f
-match_alike d fault was was' e f key Stays other = record { lasts = refl; deeds = []; first = refl; replacement = refl }
+match_alike d fault was was' e f key Stays other = record { lasts = refl; deeds = []; first = refl; other = refl }
 match_alike d fault was was' e f key Ends other =
     unsought_alike e _ (having (lasting e) f) _ (pressed_alike d fault was was' (without_search e) f key other)

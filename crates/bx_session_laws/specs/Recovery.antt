@@ -66,7 +66,7 @@ pub record HasBack (had replayed : Session) : Type 0 where
   pub held : replayed.editor.held ≡ had.editor.held
   pub query : replayed.editor.query ≡ had.editor.query
   pub aim : replayed.editor.aim ≡ had.editor.aim
-  pub other : replayed.editor.replacement ≡ had.editor.replacement
+  pub replacement : replayed.editor.replacement ≡ had.editor.replacement
   pub pasted : replayed.editor.pasted ≡ had.editor.pasted
   pub base : replayed.editor.base ≡ had.editor.base
   pub goal : replayed.editor.goal ≡ had.editor.goal

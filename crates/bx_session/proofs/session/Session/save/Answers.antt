@@ -30,7 +30,7 @@ returns-clause-saved g c =
     c.pieces.ensures.text ∙ ap (λ (x : EditorState g.row.D.Denot). x.editor.content.text) c.in-Ok.ensures.ok in
     let ends = save_ends c.save_pieces.result c.err-fault.result c.pieces.result before after c.err-fault.ensures.value c.save_pieces.ensures.ok
     c.save_pieces.ensures.stored c.save_pieces.ensures.failure in
-    let runs = ap (λ (x : SessionState g.row.D.Denot). x.session.editor.ended) c.self.view_is ∙ c.requires.undo_groups in
+    let runs = ap (λ (x : SessionState g.row.D.Denot). x.session.editor.ended) c.self.view_is ∙ c.requires.runs in
     let new : Session = record s.session { editor = c.finish_save.new.self.editor } in
     subst (λ (x : SessionState g.row.D.Denot). (fault : Option StoreFault) × SaveEnds fault (text_to_save (ucd x.tables) x.session.editor) before after
     × (record { tables = c.finish_save.new.self.tables; session = new } ≡ record x { session = session_after_key (ucd x.tables) fault x.session Save }))
