@@ -45,7 +45,7 @@ format_letter ucd (Some c) = letter_of (ucd.class c)
 abbrev pub columns_of : List ℕ → ℕ
 columns_of cs = str_width false cs
 
--- the face of a text of n columns: the mark `~` for none, the mark `#` for more than the window has, else the text itself
+-- the face of a text of n columns: the placeholder `~` for none, `#` for more than the window has, else the text itself
 abbrev pub sized_face : ℕ → ℕ → Face
 sized_face w n = elim (n == 0) [ true ↦ Placeholder 126 | false ↦ elim (nat_lt w n) [ true ↦ Placeholder 35 | false ↦ Own n ] ]
 
