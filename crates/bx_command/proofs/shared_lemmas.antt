@@ -1,3 +1,3 @@
 -- Shared by the programs that lay out a text: command-line options, input files, and exit statuses: lemmas.
 pub mod Commands
-mod Examples
+pub mod Examples

@@ -4,5 +4,5 @@ pub mod Hexadecimal
 pub mod Numbers
 pub mod Others
 pub mod Printable
-mod Examples
-mod TellExamples
+pub mod Examples
+pub mod TellExamples

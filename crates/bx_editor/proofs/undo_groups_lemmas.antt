@@ -2,4 +2,4 @@
 pub mod Bisected
 pub mod Steps
 pub mod RunLaws
-mod Examples
+pub mod Examples

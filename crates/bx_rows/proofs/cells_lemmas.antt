@@ -11,5 +11,5 @@ pub mod BreakTables
 pub mod Locality
 pub mod Rest
 pub mod OpenCluster
-mod Examples
-mod Blocks
+pub mod Examples
+pub mod Blocks
