@@ -1,4 +1,4 @@
-/* Questions to the user, and lists of sessions. */
+/* Questions to the user, and lists of sessions. edit.h says what each call promises. */
 #include <ctype.h>
 #include <errno.h>
 #include <poll.h>

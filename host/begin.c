@@ -1,4 +1,4 @@
-/* FILE's checks, the session that begins or goes on, and the program while it runs. */
+/* FILE's checks, the session that begins or goes on, and the program while it runs. edit.h says what each call promises. */
 #include <errno.h>
 #include <fcntl.h>
 #include <stdio.h>
@@ -305,6 +305,8 @@ static bool on_second(void *whose) {
     return edit->facts.is_journal_lost;
 }
 
+/* Sets what is known of the session before the program starts. `told` is the notice that the user has seen already, so tell_trouble does
+ * not repeat it. */
 static void begin_facts(struct edit *edit) {
     struct session *session = &edit->session;
     bool has_session = !session_is_none(session), is_waiting = has_session && session->is_waiting;

@@ -1,4 +1,5 @@
-/* Keeping a session's files: the copy of FILE, the child that writes, and the files that are written again if something removes them. */
+/* Keeping a session's files: the copy of FILE, the child that writes, and the files that are written again if something removes them.
+ * session.h and parts.h say what each call promises. */
 #include <errno.h>
 #include <fcntl.h>
 #include <poll.h>
@@ -327,6 +328,8 @@ static void await_child(struct session *session, int milliseconds) {
     end_child(session);
 }
 
+/* For ending.c, after the program's end. Nobody types any more, so this may wait for a child, and without one writes the files itself. What
+ * the user is told about unsaved text depends on the answer. */
 bool session_settle(struct session *session, int milliseconds) {
     if (!session_is_there(session)) return false;
     await_child(session, milliseconds);

@@ -1,3 +1,5 @@
+/* Drafts: the new files that a save writes and then puts in FILE's place. Where a new file must not replace FILE, the draft becomes the
+ * mark, and its text overwrites FILE. All of this runs in the child that serves the save. saving.h says what each call promises. */
 #include "saving.h"
 
 #include <errno.h>

@@ -1,4 +1,5 @@
-/* The end of a session: what is kept of unsaved text, what becomes of the session, and what the user is told. */
+/* The end of a session: what is kept of unsaved text, what becomes of the session, and what the user is told. edit.h says what each call
+ * promises. */
 #include <errno.h>
 #include <fcntl.h>
 #include <poll.h>

@@ -1,3 +1,5 @@
+/* What the system says about an open file or folder: access, access lists, labels, mounts. By these facts file.c refuses FILE, and
+ * save_judge.c decides whether a new file may replace it. file.h says what each call promises. */
 #include "file.h"
 
 #include <endian.h>
@@ -73,6 +75,8 @@ static struct network_list read_network_list(const char *list, size_t length) {
     return read;
 }
 
+/* What the access list of an open file says, on a disk of NFS, version 4. Without such a list both answers are NO. After a fault both are
+ * UNKNOWN, and then no save takes FILE's mode for all of its permissions. */
 static struct network_list find_network_list(int at) {
     struct network_list none = {NO, NO}, unknown = {UNKNOWN, UNKNOWN};
     ssize_t length = get_attribute(at, "system.nfs4_acl", value);

@@ -1,3 +1,5 @@
+/* FILE: its opening, its paths, the messages that refuse it, and the names of the files that saves make beside it. file.h says what each
+ * call promises. */
 #include "file.h"
 
 #include <errno.h>

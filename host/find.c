@@ -1,4 +1,5 @@
-/* The search for sessions: of a file, of all; those that are removed; the repair of FILE by them. */
+/* The search for sessions: of a file, of all; those that are removed; the repair of FILE by them. session.h says what each call
+ * promises. */
 #include <dirent.h>
 #include <errno.h>
 #include <fcntl.h>

@@ -1,3 +1,5 @@
+/* Frames between the host and the program: how the host writes and queues them, and how it tells the program's frames from other text
+ * on standard error. frames.h says what each call promises. */
 #include "frames.h"
 
 #include <errno.h>

@@ -1,3 +1,5 @@
+/* The kinds of terminals: how the host recognizes one, how it keeps the terminal around tmux from reordering rows, and when it warns of a
+ * terminal that reorders anyway. terminal.h says what each call promises. */
 #include "terminal.h"
 #include "util.h"
 #include "words.h"

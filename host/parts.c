@@ -1,3 +1,5 @@
+/* The parts of a session, which are the files in its folder: how each is read, written and removed, and the facts that they give.
+ * session.h and parts.h say what each call promises. */
 #include "parts.h"
 
 #include <errno.h>
@@ -225,6 +227,7 @@ uint64_t session_kilobytes(const struct session *session) {
     return (blocks + 1) / 2;
 }
 
+/* For read_pieces: counts the keys in a piece of the journal. `count` is the struct key_count. */
 static void count_piece(void *count, const char *bytes, size_t size) {
     count_more(count, bytes, size);
 }

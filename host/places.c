@@ -1,3 +1,5 @@
+/* The folders of sessions: where FILE's sessions are kept, whether that folder is safe from other users, and which other folders may have
+ * sessions of the user. session.h says what each call promises. */
 #include <errno.h>
 #include <fcntl.h>
 #include <mntent.h>

@@ -1,3 +1,5 @@
+/* The program as a child of the host: its pipes, its arguments, its start, and what it says. run.c starts it in the terminal, ending.c
+ * without one. run.h says what each call promises. */
 #include "run.h"
 
 #include <errno.h>
@@ -65,6 +67,8 @@ static void hand_on_files(const struct run *run) {
         if (run->handed[i] >= 0) fcntl(run->handed[i], F_SETFD, 0);
 }
 
+/* Becomes the program: the last step of both ways to start it. `mask` is added to the umask. A fault goes to the pipe of standard error,
+ * and the host shows it at its end (tell_foreign). */
 static _Noreturn void become(char *const *words, mode_t mask) {
     umask(umask(0) | mask);
     give_back_signals();
@@ -87,6 +91,8 @@ static _Noreturn void become_program(const struct run *run, const struct pipes *
     become(words, (mode_t)run->mask);
 }
 
+/* The host's own arguments come first, and those of the run after them, since FILE has to be the last one. OWN_WORDS is the number of the
+ * host's own; --clipboard stays the last of these. */
 pid_t start_program(const struct run *run, const struct pipes *ends, unsigned rows, unsigned columns) {
     char saves[32], side[2][16], erase[4], *words[OWN_WORDS + WORDS_MOST + 2];
     snprintf(saves, sizeof saves, "%d,%d", ends->requests, ends->answers);

@@ -1,4 +1,5 @@
-/* Sessions that earlier starts left of FILE: questions about them, their replay, and how one is continued or stored as another file. */
+/* Sessions that earlier starts left of FILE: questions about them, their replay, and how one is continued or stored as another file.
+ * edit.h says what each call promises. */
 #include <errno.h>
 #include <fcntl.h>
 #include <stdlib.h>

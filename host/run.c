@@ -1,3 +1,5 @@
+/* A run of the program in the terminal: the loop that waits for typed bytes, frames, saves and signals, and serves each without waiting
+ * for a disk. run.h says what each call promises. */
 #include "run.h"
 
 #include <errno.h>

@@ -1,3 +1,5 @@
+/* One save of FILE: the child that serves it, from the program's BEGIN frame to the answer, and what the host learns of it. save.h and
+ * saving.h say what each call promises. */
 #include "saving.h"
 
 #include <errno.h>

@@ -1,3 +1,5 @@
+/* Decisions about saves, by plain facts, without system calls. save_judge.h says what each one means, file.h the comparisons of stamps;
+ * their cases are in tests/host/judge_save.c. */
 #include "save_judge.h"
 
 #include <errno.h>

@@ -1,3 +1,5 @@
+/* What the host says: texts in memory, names quoted for a shell so that no terminal obeys them, and lines on standard output and error.
+ * say.h says what each call promises. */
 #include "say.h"
 
 #include <errno.h>
@@ -157,6 +159,7 @@ static enum style style_of(const char *name, size_t length) {
     return style;
 }
 
+/* Writes bytes as a shell's $'..' has them, a backslash and three octal digits each, and returns the end. */
 static char *put_numbers(char *at, const char *bytes, size_t count) {
     for (size_t i = 0; i < count; i++) {
         unsigned byte = (unsigned char)bytes[i];

@@ -1,3 +1,5 @@
+/* A session: how it is created, locked, continued and removed. parts.c and copying.c write the files in its folder. session.h and parts.h
+ * say what each call promises. */
 #include "session.h"
 
 #include <errno.h>
@@ -315,6 +317,8 @@ int session_remove(struct session *session) {
     return 0;
 }
 
+/* For find.c, which removes a session without unsaved text, and one whose changes were dropped. The lock keeps a session that an editor
+ * opened meanwhile. */
 bool session_remove_unless_locked(struct session *session) {
     return session_lock(session, PART_PATH) == LOCK_TAKEN && session_remove(session) == 0;
 }

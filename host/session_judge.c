@@ -1,3 +1,5 @@
+/* Decisions about sessions, and the content of their short files, by plain facts, without system calls. session_judge.h says what each
+ * call means; their cases are in tests/host/judge_session.c. */
 #include "session_judge.h"
 
 #include <inttypes.h>

@@ -1,3 +1,5 @@
+/* Signals, the time, and calls with a time limit. A handler only sets flags, which the host reads where it waits. signals.h says what
+ * each call promises. */
 #include "signals.h"
 
 #include <errno.h>

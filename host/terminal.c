@@ -1,3 +1,5 @@
+/* The terminal: its settings and size, the sequences that the host sends, pastes, and the watcher, which restores the terminal if the
+ * host is killed. terminal.h says what each call promises. */
 #include "terminal.h"
 
 #include <errno.h>

@@ -1,3 +1,4 @@
+/* Small functions for all of the host: descriptors, paths, copies of files, locks. util.h says what each one promises. */
 #include "util.h"
 
 #include <errno.h>

@@ -1,3 +1,4 @@
+/* The command line, read into a call; the help and the version; and the arguments of the program. words.h says what each call promises. */
 #include "words.h"
 
 #include <fcntl.h>

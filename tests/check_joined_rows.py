@@ -84,7 +84,9 @@ def ordered(looks, levels):
 
 
 def check_rows():
-    """Compares the rows of ROWS. The fields of a line are told by check-joined-rows.sh."""
+    """Compares each row of ROWS with what bidi_print prints, and with what its units are shown as, set in order by their levels.
+
+    The first lines of check-joined-rows.sh describe the fields of a line."""
     cases, ours = {}, []
     with (gzip.open if rows.endswith(".gz") else open)(rows, "rt", encoding="utf-8") as file:
         for line in file:
