@@ -53,6 +53,7 @@ struct network_list {
     enum answer is_more, is_given;
 };
 
+/* Reads such a list. Bytes that break its form make both answers UNKNOWN. */
 static struct network_list read_network_list(const char *list, size_t length) {
     static const char *const whos[] = {"OWNER@", "GROUP@", "EVERYONE@"};
     bool was_there[3][2] = {{false}}; /* by the name in `whos`, and by the type */
@@ -125,6 +126,8 @@ static enum answer is_own(int at, int folder, const char *name) {
     return length == folder_length && memcmp(value, other, (size_t)length) == 0 ? NO : YES;
 }
 
+/* Whether a file has a label or another attribute that a new file would not get. One that cannot be judged makes it UNKNOWN, unless another
+ * is found. */
 static enum answer has_label(int at, int folder) {
     ssize_t length = listxattr(link_of(at).path, names, sizeof names);
     if (length < 0) return is_none(length) ? NO : UNKNOWN;
@@ -164,6 +167,7 @@ uint64_t free_room(int at) {
     return __builtin_mul_overflow(blocks, (uint64_t)look.f_frsize, &room) ? UINT64_MAX : room;
 }
 
+/* Whether the sticky bit of the folder keeps the user from replacing the file. */
 static bool is_held_by_folder(int at, int folder) {
     struct stat own, above;
     uid_t user = geteuid();
@@ -171,6 +175,7 @@ static bool is_held_by_folder(int at, int folder) {
     return user != own.st_uid && user != above.st_uid;
 }
 
+/* The facts that files and folders have both; all others are false. */
 static void find_common_facts(int at, struct facts *facts) {
     struct statvfs look;
     *facts = (struct facts){.longest_name = USUAL_NAME};

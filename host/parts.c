@@ -51,6 +51,7 @@ static int sync_part(int file, bool is_needed) {
     return 0;
 }
 
+/* Creates a part, all or nothing: after a fault its name is gone. */
 static int write_new(int folder, const char *name, const void *bytes, size_t size, bool is_needed) {
     int file = part_open(folder, name, O_WRONLY | O_CREAT | O_EXCL);
     if (file < 0) return errno;

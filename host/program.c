@@ -30,6 +30,7 @@ void close_pipes(struct pipes *pipes) {
     close_one(&pipes->answers);
 }
 
+/* Opens a pipe. O_CLOEXEC: the program gets only the ends that are handed on. */
 static bool open_pipe(int *reading, int *writing) {
     int ends[2];
     if (pipe2(ends, O_CLOEXEC) != 0) return false;
@@ -164,6 +165,7 @@ static _Noreturn void become_aside(const struct run *run, char *const *words, in
     become(words, (mode_t)run->mask);
 }
 
+/* Reads what the program says until its end, until the time `end`, or until a signal's last moment. */
 static void hear_aside(struct run *run, int words, int64_t end) {
     struct word_reader reader = {.length = 0};
     struct pollfd wanted = {.fd = words, .events = POLLIN};

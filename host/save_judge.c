@@ -6,6 +6,7 @@
 
 enum { SET_IDS = 06000, ALL_BITS = 07777, GROUP_BITS = 070, OTHERS_BITS = 07 };
 
+/* Why a new file must not replace a file that the user can write. The first reason counts, as messages tell only one. */
 static enum reason reason_for(const struct facts *file, nlink_t names, const struct facts *folder) {
     if (!folder->writable || file->is_held_by_folder) return REASON_PROTECTED;
     if (file->is_mount) return REASON_MOUNTED;
