@@ -182,6 +182,9 @@ def taken_apart(match):
 
 
 def check_words(lists):
+    """Compares lines of random words with fribidi's rows, once what differs by definition is made alike.
+
+    What never occurred fails the check."""
     unjoined = {forms[c]["<isolated>"]: c for c in forms if types.get(c, "U") == "U" and "<isolated>" in forms[c]}
     lines = list(random_lines(lists))
     text = "\n".join(lines)
