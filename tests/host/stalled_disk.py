@@ -50,6 +50,7 @@ def answer_to(call, node, body):
 
 
 def serve(device, stalled):
+    """Answers the kernel, until the stalled call comes; from then on it answers nothing but an interrupt of a call that waits."""
     is_stalled = False
     while True:
         try:
