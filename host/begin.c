@@ -1,4 +1,4 @@
-/* FILE's checks, the session that begins or goes on, and the program while it runs. */
+/* FILE's checks, the session that begins or goes on, and the program while it runs. edit.h says what each call promises. */
 #include <errno.h>
 #include <fcntl.h>
 #include <stdio.h>
@@ -62,6 +62,7 @@ struct mended_file {
     bool is_put_back;
 };
 
+/* For sessions_mend: tells the user, and notes whether FILE got its text back, so that FILE is opened again. */
 static void take_mended(void *context, const struct mending *mending) {
     struct mended_file *mended = context;
     tell_mended(mended->edit, mending, warn);
@@ -204,6 +205,8 @@ const char *handed_path(struct run *run, int file) {
     return text_of("%s", link_of(file).path);
 }
 
+/* Adds what the program opens: the session's text and keys, the copy of FILE, FILE itself, or an empty text; and the journal to append
+ * to. */
 static void add_text(struct edit *edit, struct words *words) {
     const struct session *session = &edit->session;
     struct run *run = &edit->run;
@@ -224,6 +227,7 @@ static void add_text(struct edit *edit, struct words *words) {
     if (journal) add_option(words, "--journal", journal);
 }
 
+/* The program's arguments for this session. FILE's name comes last, as struct run has it. */
 static void make_words(struct edit *edit, struct words *words) {
     add_option(words, "--direction", edit->begin.direction);
     if (edit->begin.line > 0) add_option(words, "--line", text_of("%u", edit->begin.line));
@@ -299,12 +303,15 @@ static void tell_trouble(struct edit *edit) {
     edit->notice = (struct notice_facts){0};
 }
 
+/* For struct run: looks after the session, and returns whether the program shall try its journal again. */
 static bool on_second(void *whose) {
     struct edit *edit = whose;
     if (edit->facts.has_session) tell_trouble(edit);
     return edit->facts.is_journal_lost;
 }
 
+/* Sets what is known of the session before the program starts. `told` is the notice that the user has seen already, so tell_trouble does
+ * not repeat it. */
 static void begin_facts(struct edit *edit) {
     struct session *session = &edit->session;
     bool has_session = !session_is_none(session), is_waiting = has_session && session->is_waiting;
@@ -316,6 +323,7 @@ static void begin_facts(struct edit *edit) {
     if (edit->unkept && !edit->facts.is_unwanted) edit->facts.told = edit->unkept_notice;
 }
 
+/* Prepares the saver. With a session, a save keeps the lock open, and if it overwrites FILE, its mark is in the session's folder. */
 static void begin_saves(struct edit *edit) {
     if (!saver_open(&edit->saver, &edit->file)) tell_no_memory();
     edit->saver.is_itself = edit->is_itself;

@@ -1,3 +1,5 @@
+/* Drafts: the new files that a save writes and then puts in FILE's place. Where a new file must not replace FILE, the draft becomes the
+ * mark, and its text overwrites FILE. All of this runs in the child that serves the save. saving.h says what each call promises. */
 #include "saving.h"
 
 #include <errno.h>
@@ -20,6 +22,7 @@ static unsigned char buffer[BUFFER];
 
 /* ---- names */
 
+/* A name for a draft beside FILE, as file.h describes it. */
 static bool make_draft_name(const struct file *file, char name[NAME_MAX + 1]) {
     char random[DRAFT_LETTERS + 1];
     if (!make_letters(random, DRAFT_LETTERS, DRAFT_ALPHABET)) return false;
@@ -35,6 +38,8 @@ static int link_nameless(const struct draft *draft, const char *name) {
     return linkat(AT_FDCWD, link_of(draft->file).path, draft->folder, name, AT_SYMLINK_FOLLOW) == 0 ? 0 : errno;
 }
 
+/* Renames where nothing may be at the new name, by the surest call that the disk has. The last way leaves a moment in which another
+ * program could create the name. */
 static int move_to_free(int folder, const char *from, const char *to) {
     struct file_stamp there;
     int error = rename_by(folder, from, to, RENAME_NOREPLACE);
@@ -65,6 +70,7 @@ int draft_name(struct draft *draft, const struct file *file) {
 
 /* ---- the opening */
 
+/* Creates a draft of this name. O_EXCL and O_NOFOLLOW: nothing that another program put there is written. */
 static int open_at(struct draft *draft, int folder, const char *name, mode_t mode) {
     *draft = (struct draft){.folder = folder, .file = openat(folder, name, O_RDWR | O_CREAT | O_EXCL | O_NOFOLLOW | O_CLOEXEC, mode)};
     if (draft->file < 0) return errno;

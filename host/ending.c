@@ -1,4 +1,5 @@
-/* The end of a session: what is kept of unsaved text, what becomes of the session, and what the user is told. */
+/* The end of a session: what is kept of unsaved text, what becomes of the session, and what the user is told. edit.h says what each call
+ * promises. */
 #include <errno.h>
 #include <fcntl.h>
 #include <poll.h>
@@ -18,6 +19,7 @@
 
 /* ---- replays of a session's keys by the program, and comparisons with FILE */
 
+/* What a replay found, by what the program said. A status of 0 without an answer is a failure too. */
 static enum replayed replayed_of(const struct said *said, int status) {
     static const char *const unreadable[] = {"not-utf8", "too-long", "unreadable"};
     static const struct {
@@ -61,6 +63,7 @@ enum replayed replay(struct edit *edit, const struct session *session, int *text
     return replayed;
 }
 
+/* Whether FILE has exactly the text of a session's part. */
 static bool is_in_part(const struct edit *edit, const struct session *session, enum part part) {
     int file = session_open(session, part);
     bool is_same = file >= 0 && judge_file(file, edit->file.text) == FILE_WHOLE;
@@ -166,6 +169,7 @@ static bool had_all_crlf(const struct edit *edit) {
     return text >= 0 && has_all_crlf(text);
 }
 
+/* Warns if all of FILE's line ends were CR LF, and a save has left a mixture. */
 static void tell_line_ends(const struct edit *edit) {
     struct stat look;
     struct line_ends ends;
@@ -198,12 +202,14 @@ static void tell_lost(enum left_how how, const char *cause) {
     if (may_be_unsaved(how)) warn("any unsaved text is lost, since %s", cause);
 }
 
+/* Tells that the session's folder is gone, so that nothing unsaved can be recovered. */
 static void tell_gone(const struct edit *edit, enum left_how how) {
     const char *cause = text_of("the session's folder %s is gone", shown(edit->session.path));
     if (how == LEFT_DROPPED) warn("only what was saved is kept, since %s", cause);
     else tell_lost(how, cause);
 }
 
+/* Why unsaved text is lost, as the message says it. */
 static const char *cause_of_lost(const struct edit *edit) {
     if (edit->unkept) return edit->unkept;
     if (edit->session.is_changed) return text_of("%s was changed before it could be copied", shown(edit->file.typed));
@@ -262,6 +268,8 @@ static void note_moved(struct edit *edit) {
     session_note_file(&edit->session, &edit->target);
 }
 
+/* Waits for the child that copies, as long as no signal asks for the end, and then settles the session. Returns whether it can be
+ * recovered. */
 static bool settle(struct session *session) {
     int64_t end = now() + COPY_MS;
     struct pollfd copied = {.fd = session->report, .events = POLLIN};
@@ -286,6 +294,7 @@ static struct left left_of(struct edit *edit, enum left_how how) {
     return left;
 }
 
+/* Whether this name of FILE leads to this path. Opens it anew, since folders may have changed during the session. */
 static bool leads_to_path(const char *typed, const char *path) {
     static struct file again;
     if (open_lost_file(&again, typed)) return false;
@@ -306,6 +315,7 @@ static void tell_kept(const struct edit *edit, const char *what, const char *beh
     warn("%s%s%s: bidi-edit --recover %s%s", what, cut, where, shown(is_found ? typed : path), behind);
 }
 
+/* Keeps a session whose changes were dropped, as the only one of its kind, so that a hasty Quit can be undone. */
 static void drop_changes(struct edit *edit) {
     if (edit->facts.is_journal_lost) session_note_cut(&edit->session);
     sessions_forget_dropped(&edit->sessions, &edit->session);
@@ -314,6 +324,7 @@ static void drop_changes(struct edit *edit) {
     tell_kept(edit, "the dropped changes can be recovered", "");
 }
 
+/* Removes a session whose changes were dropped, as it has text that only root could read. */
 static void wipe_changes(struct edit *edit) {
     int error = session_remove(&edit->session);
     if (error == 0) warn("the dropped changes are not kept, since only root can read %s", shown(edit->file.typed));
@@ -325,6 +336,7 @@ static void leave_session(struct edit *edit) {
     tell_kept(edit, "unsaved text is kept", " restores it");
 }
 
+/* Ends a session that was kept, by its fate, and tells what is lost. FATE_REMOVED is silent unless keys were lost. */
 static void end_kept(struct edit *edit, enum left_how how) {
     struct session *session = &edit->session;
     struct left left = left_of(edit, how);

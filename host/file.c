@@ -1,3 +1,5 @@
+/* FILE: its opening, its paths, the messages that refuse it, and the names of the files that saves make beside it. file.h says what each
+ * call promises. */
 #include "file.h"
 
 #include <errno.h>
@@ -84,6 +86,7 @@ static bool is_handed_over(const char *path) {
     return strncmp(path, "/proc/", 6) == 0 && strstr(path + 6, "/fd/");
 }
 
+/* Why a path that leads to an open descriptor is refused. */
 static const char *handed_over_cause(const char *path) {
     const char *name = strrchr(path, '/');
     bool is_input = name && (strcmp(name, "/stdin") == 0 || strcmp(name, "/0") == 0);
@@ -91,6 +94,7 @@ static const char *handed_over_cause(const char *path) {
                     : "is a descriptor that the caller opened, not a file: write its content to a file, and edit that";
 }
 
+/* The message for a folder that cannot be opened, by what stat says of it. Sets is_lost, unless there is another kind of file. */
 static const char *refuse_folder(struct file *file, const char *folder) {
     struct stat found;
     const char *name = shown(folder);
@@ -136,6 +140,8 @@ static const char *take_step(struct file *file, const char *path) {
     return NULL;
 }
 
+/* Opens FILE's folder, and follows links from there one by one, so that what is examined is what is opened. Returns the refusal, or
+ * NULL. */
 static const char *walk(struct file *file) {
     char path[PATH_MAX];
     bool is_of_folder = false;
@@ -166,6 +172,7 @@ static bool open_text(struct file *file) {
     return false;
 }
 
+/* Sets the paths for messages and sessions, by what the open folder is called now. */
 static void name_paths(struct file *file) {
     struct stat folder, there;
     if (!path_of(file->folder, file->folder_path)) put_path(file->folder_path, "%s", file->folder_name);
@@ -263,6 +270,7 @@ bool is_closed(const struct file *file) {
     return file->stamp.is_there && !file->facts.readable;
 }
 
+/* The message for a name that leaves no room for a draft's name; NULL if there is room. */
 static const char *refuse_long_name(const struct file *file) {
     uint64_t longest = file->folder_facts.longest_name, most = longest > END_BYTES ? longest - END_BYTES : 0;
     size_t length = strlen(file->name);
@@ -302,18 +310,21 @@ void mark_name(const struct file *file, int number, char name[PATH_MAX + 8]) {
     snprintf(name, PATH_MAX + 8, number ? "%s" DRAFT_END "%d" : "%s" DRAFT_END, file->name, number);
 }
 
+/* Whether a name is that of a draft of FILE, as draft_stem and DRAFT_END make it. */
 static bool is_draft(const struct file *file, size_t stem, const char *name) {
     if (strncmp(name, file->name, stem) != 0 || name[stem] != '.') return false;
     name += stem + 1;
     return strspn(name, DRAFT_ALPHABET) == DRAFT_LETTERS && strcmp(name + DRAFT_LETTERS, DRAFT_END) == 0;
 }
 
+/* Adds a name beside FILE to a list for a message, by the path that the user has typed, unless links lead elsewhere. */
 static char *add_name(const struct file *file, char *names, const char *name) {
     const char *slash = strrchr(file->typed, '/');
     if (file->is_linked) return text_of("%s %s", names, shown(text_of("%s/%s", before_slash(file->folder_path), name)));
     return text_of("%s %s", names, shown(text_of("%.*s%s", slash ? (int)(slash - file->typed) + 1 : 0, file->typed, name)));
 }
 
+/* Adds the drafts beside FILE. Reads at most MOST_NAMES names, so that a large folder does not hold up a start. */
 static char *add_drafts(const struct file *file, char *names) {
     const char *name;
     int count = 0, drafts = 0;

@@ -1,4 +1,5 @@
-/* The search for sessions: of a file, of all; those that are removed; the repair of FILE by them. */
+/* The search for sessions: of a file, of all; those that are removed; the repair of FILE by them. session.h says what each call
+ * promises. */
 #include <dirent.h>
 #include <errno.h>
 #include <fcntl.h>
@@ -60,12 +61,14 @@ void target_look(struct target *target, const char *path, int folder, const char
     target->is_there = folder >= 0 && file_id_at(folder, name, O_NOFOLLOW, &target->id);
 }
 
+/* Whether a path leads to FILE, by device and inode; and whether it leads to anything. */
 static bool leads_there(const struct target *target, const char *path, bool *leads_anywhere) {
     struct file_id id;
     *leads_anywhere = file_id_at(AT_FDCWD, path, 0, &id);
     return *leads_anywhere && target->is_there && is_same_id(&id, &target->id);
 }
 
+/* Whether the session noted this very file, also if its name has changed. */
 static bool is_of_file(const struct session *session, const struct target *target) {
     struct file_id id;
     char *words = target->is_there ? session_note(session, PART_FILE) : NULL;
@@ -74,6 +77,7 @@ static bool is_of_file(const struct session *session, const struct target *targe
     return is_file;
 }
 
+/* How a session belongs to FILE: gathers the facts, of which judge_belonging decides. */
 static enum belonging session_belonging(const struct session *session, const struct target *target) {
     struct belonging_facts facts = {.has_path = false};
     char *path = session_file_path(session);
@@ -133,6 +137,7 @@ static void take_missing(struct session *to, struct session *from) {
     if (session_is_none(to)) session_move(to, from);
 }
 
+/* Makes all four none, as found_close expects. */
 static void found_clear(struct found *found) {
     session_clear(&found->live);
     session_clear(&found->elsewhere);
@@ -168,6 +173,7 @@ int sessions_of(struct found *found, const struct sessions *sessions, const stru
 
 /* ---- sessions that are removed */
 
+/* Whether a folder is an hour old, so that no start that still runs can be about to use it. */
 static bool is_old(const struct session *session) {
     struct stat found;
     struct timespec now;
@@ -198,6 +204,7 @@ void sessions_forget_dropped(const struct sessions *sessions, const struct sessi
     walk_end(&walk);
 }
 
+/* Whether --forget means this session: each one without a target, else those that FILE's path, name or lost file leads to. */
 static bool is_meant(const struct session *session, const struct target *target) {
     if (!target) return true;
     enum belonging belonging = session_belonging(session, target);
@@ -237,6 +244,7 @@ struct comparing {
     struct mark_comparison comparison;
 };
 
+/* For read_pieces: compares a piece of FILE with the bytes of the mark at the same place. */
 static void compare_piece(void *context, const char *bytes, size_t size) {
     struct comparing *comparing = context;
     while (size > 0 && comparing->is_read) {
@@ -267,6 +275,7 @@ static int open_target(const struct target *target, int flags) {
     return target->folder < 0 ? -1 : part_open(target->folder, target->name, flags);
 }
 
+/* Compares FILE, as it is now, with an open mark. FILE_OTHER if FILE cannot be opened. */
 static enum verdict judge_target(const struct target *target, int mark) {
     int file = open_target(target, O_RDONLY);
     if (file < 0) return FILE_OTHER;
@@ -321,6 +330,7 @@ static bool is_being_saved(const struct sessions *sessions, const struct session
 
 /* ---- the repair */
 
+/* Repairs FILE from the session's mark, only if a save was interrupted in it. Without a mark FILE counts as whole. */
 static enum mended mend_by(const struct session *session, const struct target *target) {
     int mark = session_open(session, PART_MARK);
     if (mark < 0) return MENDED_WHOLE;

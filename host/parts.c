@@ -1,3 +1,5 @@
+/* The parts of a session, which are the files in its folder: how each is read, written and removed, and the facts that they give.
+ * session.h and parts.h say what each call promises. */
 #include "parts.h"
 
 #include <errno.h>
@@ -49,6 +51,7 @@ static int sync_part(int file, bool is_needed) {
     return 0;
 }
 
+/* Creates a part, all or nothing: after a fault its name is gone. */
 static int write_new(int folder, const char *name, const void *bytes, size_t size, bool is_needed) {
     int file = part_open(folder, name, O_WRONLY | O_CREAT | O_EXCL);
     if (file < 0) return errno;
@@ -225,6 +228,7 @@ uint64_t session_kilobytes(const struct session *session) {
     return (blocks + 1) / 2;
 }
 
+/* For read_pieces: counts the keys in a piece of the journal. `count` is the struct key_count. */
 static void count_piece(void *count, const char *bytes, size_t size) {
     count_more(count, bytes, size);
 }

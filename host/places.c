@@ -1,3 +1,5 @@
+/* The folders of sessions: where FILE's sessions are kept, whether that folder is safe from other users, and which other folders may have
+ * sessions of the user. session.h says what each call promises. */
 #include <errno.h>
 #include <fcntl.h>
 #include <mntent.h>
@@ -38,6 +40,7 @@ static int open_nearest(const char *path) {
 
 /* Opens the folder above an open one. AT_ROOT: there is none. UNSEEN: it cannot be examined. */
 enum { UNSEEN = -1, AT_ROOT = -2 };
+/* Opens the folder above an open one, and looks at it. Returns AT_ROOT if there is none, UNSEEN at a fault. */
 static int open_above(int folder, struct stat *found) {
     struct stat below;
     int above = open_folder(folder, "..");
@@ -79,6 +82,7 @@ static void judge_above(struct sessions *sessions, int folder) {
     if (above == UNSEEN && sessions->state == FOLDER_READY) fail_with(sessions, EACCES);
 }
 
+/* Judges the folder of sessions by its own owner and mode, then by those of the folders above, and opens it only if all are safe. */
 static void judge_at(struct sessions *sessions, int above, const char *name) {
     struct stat found;
     char real[PATH_MAX];
@@ -102,6 +106,7 @@ static void judge_at(struct sessions *sessions, int above, const char *name) {
     close(folder);
 }
 
+/* Judges the folder at `path`. Only the folder above is found by its path; all else is asked of what is then open. */
 static void sessions_judge(struct sessions *sessions) {
     char above[PATH_MAX];
     put_path(above, "%s", sessions->path);
@@ -199,6 +204,7 @@ static int temporary_above(int folder) {
     return first < TEMPORARY ? first : -1;
 }
 
+/* How long the files in a folder stay. Sets `temporary`, the number of the folder for temporary files that it lies in, or -1. */
 static enum stay stay_of(int folder, int *temporary) {
     if (is_in_memory(folder)) return IN_MEMORY;
     *temporary = temporary_above(folder);
@@ -217,6 +223,7 @@ static bool own_folder_at(int folder, const char *name, char path[PATH_MAX]) {
     return own_folder_in(path_of(folder, real) ? real : name, path);
 }
 
+/* The path of the user's own folder in a folder for temporary files, which the user shares with others. */
 static bool own_folder_in_temporary(int at, char path[PATH_MAX]) {
     const char *folders[TEMPORARY];
     list_temporary(folders);
@@ -238,6 +245,7 @@ static bool below_home(const char *home, char path[PATH_MAX]) {
     return put_path(path, "%s/.local/state/%s", home, OWN_NAME);
 }
 
+/* Whether the nearest existing folder of a path belongs to another user, or cannot be examined. */
 static bool is_of_another(const char *path) {
     struct stat found;
     int folder = open_nearest(path);
@@ -308,6 +316,8 @@ static bool memory_folder(int folder_of_file, char path[PATH_MAX]) {
 
 /* ---- which folder is a file's */
 
+/* Where the sessions of a file are kept: in the state folder, or where FILE is, if files there are forgotten sooner than in the state
+ * folder. So no copy of a text outlasts FILE. */
 static bool find_place(int folder_of_file, char path[PATH_MAX]) {
     int temporary_of_state = -1, temporary = -1;
     bool has_state = state_folder(path);
@@ -340,6 +350,7 @@ struct list {
     size_t count;
 };
 
+/* Whether a folder is in the list already, perhaps under another path, so that no session is listed twice. */
 static bool is_listed(const struct list *list, const struct sessions *sessions) {
     struct stat found, other;
     for (size_t at = 0; at < list->count; at++) {
@@ -351,6 +362,7 @@ static bool is_listed(const struct list *list, const struct sessions *sessions) 
     return false;
 }
 
+/* Adds the folder at a path, if it may have sessions and is not in the list. Without memory it is left out. */
 static void add_folder(struct list *list, const char *path) {
     struct sessions sessions;
     sessions_clear(&sessions);
@@ -372,6 +384,7 @@ static void add_own_folder_in(struct list *list, const char *folder) {
     if (folder && own_folder_in(folder, path)) add_folder(list, path);
 }
 
+/* Adds the places where find_place puts sessions, but for those in memory. */
 static void add_state_and_temporary(struct list *list) {
     char path[PATH_MAX];
     const char *folders[TEMPORARY];

@@ -1,3 +1,5 @@
+/* A run of the program in the terminal: the loop that waits for typed bytes, frames, saves and signals, and serves each without waiting
+ * for a disk. run.h says what each call promises. */
 #include "run.h"
 
 #include <errno.h>
@@ -74,6 +76,7 @@ static void hear_words(struct run *run) {
     close_one(&now_running.pipes.words);
 }
 
+/* Notes which children have ended. The end of a saver ends its save: it is answered, or if it was killed, the rest of it is dropped. */
 static void reap(struct run *run) {
     int status = 0;
     if (now_running.program > 0 && waitpid(now_running.program, &now_running.program_status, WNOHANG) == now_running.program) {
@@ -101,6 +104,7 @@ static void mind_dropped(struct run *run) {
     if (run->on_saved) run->on_saved(run->whose);
 }
 
+/* Starts a child for the save that the program begins, unless a killed save's rest is still being dropped. */
 static void mind_request(struct run *run) {
     int waiting = 0;
     /* without bytes this is the end of the program, not a request */
@@ -142,6 +146,7 @@ static void read_typing(struct run *run) {
     now_running.is_typed = true;
 }
 
+/* Closes the program's input, which asks it to end. From then on no size is owed to it, and no pause. */
 static void close_input(void) {
     close_one(&now_running.pipes.keys);
     now_running.is_size_owed = false;
@@ -180,6 +185,7 @@ static void mind_size(void) {
     now_running.is_size_owed = !put_frame(&now_running.queue, FRAME_SIZE, bytes, sizeof bytes);
 }
 
+/* Sets the terminal again after a stop, and owes the program a size then and after a resize, so that it paints anew. */
 static void mind_terminal(void) {
     bool is_input = now_running.pipes.keys >= 0;
     if (is_input && is_continued) take_up_screen();

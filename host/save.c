@@ -1,3 +1,5 @@
+/* One save of FILE: the child that serves it, from the program's BEGIN frame to the answer, and what the host learns of it. save.h and
+ * saving.h say what each call promises. */
 #include "saving.h"
 
 #include <errno.h>
@@ -19,6 +21,7 @@ enum { FOLDER_LOCK_TRIES = 50, LOCK_MS = 10 };
 
 /* ---- FILE and its folder, as they are now */
 
+/* Takes what is at FILE's name for what was seen last. Only a plain file is also noted as the one whose owner and mode a new file gets. */
 static void note(struct save *save, const struct file_stamp *now, int itself) {
     save->state.seen = *now;
     save->state.is_assumed_changed = false;
@@ -71,6 +74,7 @@ static bool adopt(struct save *save, int folder) {
     return true;
 }
 
+/* Finds FILE's folder by its path, after it was removed, and adopts the new one. Returns false if there is none. */
 static bool find_folder_again(struct save *save) {
     int folder = open_folder_path(save);
     if (folder < 0) return false;
@@ -118,6 +122,7 @@ static int check_place(struct save *save) {
 
 /* ---- the beginning */
 
+/* Why FILE cannot be replaced now, by fresh facts: another program may have changed them since the last save. */
 static enum reason find_reason(struct save *save, int itself) {
     struct facts facts, of_folder;
     find_facts(itself, save->folder, &facts);
@@ -126,6 +131,7 @@ static enum reason find_reason(struct save *save, int itself) {
     return find_in_place(&facts, &save->state.seen, &of_folder);
 }
 
+/* Decides whether this save overwrites FILE. Returns 0, or the cause for which it cannot be made at all. */
 static int settle_way(struct save *save, int itself) {
     const struct saver *saver = save->saver;
     save->is_in_place = save->is_listless = false;
@@ -149,6 +155,7 @@ static int open_draft(struct save *save) {
     return draft_open(&save->draft, save->file, save->folder, mode, true);
 }
 
+/* Begins a save in the folder that is open: looks at FILE, decides the way, and opens the draft. */
 static int begin_here(struct save *save) {
     int itself, cause = stamp_now(save, &itself);
     if (cause == 0) cause = settle_way(save, itself);
@@ -191,6 +198,7 @@ static void note_replaced(struct save *save, const struct stat *before) {
     state->has_id = find_id(file, &state->id);
 }
 
+/* Puts the draft at FILE's name. If what was there is gone meanwhile, it is created there instead. */
 static enum placed place(struct save *save) {
     struct draft *draft = &save->draft;
     if (!save->is_there) return draft_create(draft, save->file->name);
@@ -200,6 +208,7 @@ static enum placed place(struct save *save) {
     return placed == PLACE_OTHER ? draft_create(draft, save->file->name) : placed;
 }
 
+/* Replaces FILE by the draft, all or nothing. If FILE is not what was seen last, the save fails, and the next one may replace it. */
 static int replace(struct save *save) {
     struct stat before;
     if (fstat(save->draft.file, &before) != 0) return cause_of(errno);
@@ -221,6 +230,7 @@ static int replace(struct save *save) {
 
 /* ---- the end */
 
+/* Writes what is held, gives the draft FILE's owner and mode, and syncs it. Only after this may it take FILE's place. */
 static int complete(struct save *save) {
     const struct state *state = &save->state;
     int error = draft_flush(&save->draft);
@@ -297,6 +307,7 @@ static _Noreturn void give_up(struct save *save) {
     _exit(1);
 }
 
+/* Obeys a frame of the program. `end` ends the child, so COMMIT, and BEGIN with a cause, do not return. */
 static void obey_frame(struct save *save, const struct frame *frame, int answer) {
     int cause = 0;
     switch (frame->letter) {

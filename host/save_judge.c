@@ -1,9 +1,12 @@
+/* Decisions about saves, by plain facts, without system calls. save_judge.h says what each one means, file.h the comparisons of stamps;
+ * their cases are in tests/host/judge_save.c. */
 #include "save_judge.h"
 
 #include <errno.h>
 
 enum { SET_IDS = 06000, ALL_BITS = 07777, GROUP_BITS = 070, OTHERS_BITS = 07 };
 
+/* Why a new file must not replace a file that the user can write. The first reason counts, as messages tell only one. */
 static enum reason reason_for(const struct facts *file, nlink_t names, const struct facts *folder) {
     if (!folder->writable || file->is_held_by_folder) return REASON_PROTECTED;
     if (file->is_mount) return REASON_MOUNTED;

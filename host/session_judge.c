@@ -1,3 +1,5 @@
+/* Decisions about sessions, and the content of their short files, by plain facts, without system calls. session_judge.h says what each
+ * call means; their cases are in tests/host/judge_session.c. */
 #include "session_judge.h"
 
 #include <inttypes.h>
@@ -215,6 +217,7 @@ enum verdict compare_end(const struct mark_comparison *comparison, uint64_t size
 
 /* ---- keys */
 
+/* The state after the first byte of a key. A Save is noted, since a size may follow that was recorded with it. */
 static enum after behind_first(unsigned char byte) {
     enum { SAVE = 0x13, ESCAPE = 0x1b };
     if (byte == SAVE) return AFTER_SAVE;
@@ -239,6 +242,7 @@ static void take_back(struct key_count *count, size_t keys) {
     count->keys = count->keys > keys ? count->keys - keys : 0;
 }
 
+/* Reads a byte of a control sequence. One that ends in t is a size of the window, and no key. */
 static void in_sequence(struct key_count *count, unsigned char byte) {
     if (is_parameter(byte)) return;
     if (byte == '>') {
@@ -252,6 +256,7 @@ static void in_sequence(struct key_count *count, unsigned char byte) {
     }
 }
 
+/* Reads a byte of a sequence with >. One that ends in ~ is a notice, and no key. */
 static void in_notice(struct key_count *count, unsigned char byte) {
     if (is_parameter(byte)) return;
     if (is_final(byte)) {
@@ -262,6 +267,7 @@ static void in_notice(struct key_count *count, unsigned char byte) {
     }
 }
 
+/* Reads a byte of a journal. `after` carries the state on to the next one, so the journal may come in any pieces. */
 static void count_byte(struct key_count *count, unsigned char byte) {
     enum after after = count->after;
     switch (after) {

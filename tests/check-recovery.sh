@@ -337,6 +337,7 @@ has_session() {
     [ -n "$(find "$shell/state" -name path)" ]
 }
 
+# A second editor on an open file asks first, and at no leaves the file to the other one.
 scene_two_editors() {
     open_shell
     printf 'ab\n' >"$shell/other"

@@ -74,6 +74,7 @@ take() { # MODE SOURCE PATH
     chmod "$1" "$beside/tree/$3"
 }
 
+# Copies all files into the new tree; `exchange` renames them into place later.
 copy_all() {
     for program in $programs; do
         built=$top/crates/$program/out/$program

@@ -224,6 +224,7 @@ in_root() { # WORD..
     PATH=$PATH:/usr/sbin:/sbin dpkg --root="$folder/tree" --force-not-root --force-depends --force-script-chrootless --log=/dev/null "$@" >"$folder/dpkg" 2>&1
 }
 
+# Installs the package by dpkg in a tree of its own, uses it, and removes it again: nothing may stay.
 check_package() {
     has_tool 'package, installed' dpkg && has_tool 'package, installed' update-alternatives || return 0
     for each in var/lib/dpkg/info var/lib/dpkg/updates var/lib/dpkg/alternatives etc/alternatives var/log; do mkdir -p "$folder/tree/$each"; done

@@ -51,6 +51,7 @@ make_repository() {
     tree=$folder/tree
 }
 
+# Makes a source of a host that prints WORD and starts the program of its own installation.
 make_host_source() { # FILE WORD
     cat >"$1" <<END
 #include <stdio.h>

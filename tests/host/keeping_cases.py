@@ -130,6 +130,7 @@ def told_words(place):
 
 
 def refusals(place):
+    """What is refused before a session: no terminal, paths that lead to no file, tables that are missing, a text that is not UTF-8."""
     no_terminal = 'bidi-edit: there is no terminal: start the editor in one (over ssh, use ssh -t)\n'
     assert place.tells('a.txt') == (2, '', no_terminal), place.tells('a.txt')
     assert 'the terminal is dumb' in place.tells('a.txt', TERM='dumb')[2]
@@ -439,6 +440,7 @@ def lost_folder(place):
 
 
 def printing(place):
+    """What --print hands to the printing program, and what it refuses."""
     place.put('a.txt', b'text\n')
     place.put('latin', b'a\n\xe9')
     status, out, _ = place.tells('--print', 'a.txt')

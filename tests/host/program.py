@@ -86,6 +86,7 @@ class Saves:
         return 0 if answer[0] == b'k' else answer[1][0]
 
     def save(self, text):
+        """Saves by the host, in pieces. Returns 0, or the cause of the failure."""
         cause = self.ask(b'B')
         if cause:
             return cause

@@ -448,6 +448,7 @@ def draft_is_closed(check):
 # ---- folders
 
 def exchange_for_ever(inner, theirs, away):
+    """Exchanges FILE's folder with another one again and again, so that a save meets it at any moment."""
     while True:
         os.rename(inner, away)
         os.rename(theirs, inner)

@@ -129,6 +129,7 @@ class Scene:
                 self.same("FILE", state, self.before())
 
     def check_place(self):
+        """What no save may change, whatever became of the text: FILE's mode and owner, its links, its other name, and others' files."""
         if os.path.lexists(self.kept):
             found = os.lstat(self.kept)
             self.same("the mode", oct(stat.S_IMODE(found.st_mode)), oct(self.mode))
@@ -203,6 +204,7 @@ def check_usual(name, way, lacks):
 
 
 def check_kill(name, way, lacks, number, call, is_after):
+    """Kills a save at one call, or after it: no text is lost, and one that was told to be saved is in FILE."""
     scene = Scene(name, way)
     answers, calls = play(scene, 1, number, -1 if is_after else 0, lacks)
     scene.same("whether the call was met", "FAULT" in calls, True)
@@ -224,6 +226,7 @@ def check_kill_and_saves(name, way, lacks, number, call):
 
 
 def check_error(name, way, lacks, number, call, error):
+    """Lets one call of a save fail: what is told is so, and nothing is left but what could not be removed."""
     scene = Scene(name, way)
     answers, calls = play(scene, 1, number, error, lacks)
     scene.same("whether the call was met", "FAULT" in calls, True)
@@ -247,6 +250,7 @@ def check_error(name, way, lacks, number, call, error):
 
 
 def check_error_and_saves(name, way, lacks, number, call, error):
+    """Lets one call fail, and saves twice more: the last save has gone through, and FILE counts as another's at most once."""
     scene = Scene(name, way)
     answers, _ = play(scene, 3, number, error, lacks)
     scene.same("the last answer", answers[-1:], ["saved"])

@@ -66,6 +66,7 @@ check_told_words() {
     rm -r "$folder/newer"
 }
 
+# Paths that lead to no plain file in a folder: each message says what to do instead.
 check_refused_places() {
     mkdir f.d
     refused 'checks, a folder' '1 bidi-edit: f.d is a folder: name a file in it' f.d
@@ -119,6 +120,7 @@ refused_at_opening() { # NAME WANTED WORD..
 # What is told last of a text that is not UTF-8.
 windows='if it is Hebrew text from Windows, iconv -f CP1255 -t UTF-8 converts it (Arabic: -f CP1256)'
 
+# Texts that the program refuses at opening: each message names the line, or the kind of file.
 check_refused_texts() {
     printf 'one\ntwo \377\n' >bytes
     refused_at_opening 'opening, not UTF-8' "1 bidi-edit: bytes is not UTF-8 (line 2): $windows" bytes

@@ -222,6 +222,7 @@ class Editor(Search):
                 break
 
     def move(self, name):
+        """Back, Forward, TextStart and TextEnd: a letter on, or to an end of the text. The mark of a selection is taken off."""
         self.unselect()
         end = len(self.text)
         self.place = {"back": max(0, self.place - 1), "forward": min(end, self.place + 1), "text start": 0, "text end": end}[name]

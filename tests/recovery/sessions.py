@@ -138,6 +138,7 @@ class Session(Editor):
         self.enter()
 
     def wrap_letters(self):
+        """Types letters, selects the last ones by a mark, and puts a pair around them by its closer's letter."""
         for letter in random.sample(LETTERS, 4):
             self.insert(letter)
         self.key("mark")

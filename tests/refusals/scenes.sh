@@ -117,6 +117,7 @@ check_all_scenes() {
     check_scenes 'down' 3 4 310a320a33 "B1b B5b B42 B1b B5b B42 $rest"
 }
 
+# The worked scenes: after a refusal, which key or byte paints what is owed, and what an answer has then.
 check_all_worked() {
     # the painting at opening, and the bytes that show `xyab` in its place
     opening=1b5b306d1b5b324a1b5b313b314861621b5b313b3148

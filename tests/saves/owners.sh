@@ -44,6 +44,7 @@ empty_texts() {
     put_old "$kept" 600
 }
 
+# Saves by root, and of files with another owner or group: whose FILE is afterwards, and who may do what with it.
 check_owners() {
     begin_kind 'other users'
     if ! is_root; then
@@ -107,6 +108,7 @@ check_owners() {
 
 # ---- full disks
 
+# Saves to a disk that is read-only or full, and to a file that is mounted by itself.
 check_disks() {
     begin_kind 'disks that take no text'
     mkdir -m 755 "$folder/disk"

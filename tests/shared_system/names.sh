@@ -193,6 +193,7 @@ program_tells() { # CHECK WANTED WORD..
     has "names, $checked: the name" "$(cat "$folder/told")" "$wanted_words"
 }
 
+# The programs alone, without the host, quote a name in their messages too.
 check_program_names() { # TOLD
     name_of_told "$1"
     for built in "$editor" "$printer"; do

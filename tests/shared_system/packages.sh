@@ -149,6 +149,7 @@ make_commands() {
     rm -f "$folder/commands/lintian" "$folder/commands/tmux"
 }
 
+# make-deb.sh without the tools of its checks: what the package has, and that nothing else stays.
 check_deb() {
     command -v dpkg-deb >/dev/null || {
         skip 'packages, deb' 'there is no dpkg-deb'

@@ -229,6 +229,7 @@ check_no_host() { # NAME
         "bidi-edit: the host is not built, and cannot be built here, since nothing can be written in $clone/host: build it in your own copy"
 }
 
+# A repository where nothing can be written: the start says that the editor, or the host, cannot be built there.
 check_closed_clone() {
     make_clone
     chown -R "$(id -u)" "$clone"

@@ -1,4 +1,4 @@
-//! The editor.
+//! The editor's state, which each key changes, and the calls that read it and set the window's size and its first row.
 ghost use Rattle.std.specs.Prelude.{◌≡◌, ℕ, List, true, None};
 ghost use Rattle.std.specs.Borrow.{Bor};
 ghost use Rattle.std.specs.Iterator.{Drains};
@@ -21,7 +21,8 @@ use std::marker::Model;
 
 /// A text under edit, the cursor's place in it, the mark, the text copied or cut last, the query of a search, and the message
 /// of the last key, in a window of rows and columns. `specs/Editor.antt` says what each field means and counts; `view` says which
-/// of its fields are in `document`, `cursor` and `past`. 64: `LONGEST_QUERY`.
+/// of its fields are in `document`, `cursor` and `past`. `invariant` says what holds of them between any two calls: whoever sets a field
+/// has to keep it. 64: `LONGEST_QUERY`.
 #[derive(Drop)]
 pub struct Editor<D: BidiData + Drop> {
     pub(crate) document: Document<D>,

@@ -1,4 +1,5 @@
-//! The filter's next state and output for a byte.
+//! One step of the filter, which turns what a terminal sends for a key into what the editor reads for it: the next state and output for
+//! a byte.
 
 ghost use Rattle.std.specs.Prelude.{◌≡◌, ◌≢◌, ◌||◌, false, not, ◌∷◌, [], ◌++◌, option_to_list};
 ghost use Rattle.bx_input.specs.Filter as spec;

@@ -1,4 +1,5 @@
-//! One step of the world: a byte, a size of the window or told to the session, a send to the line, a read from it.
+//! One step of a world, which is a session, the line to its terminal, the window and the terminal. A step is a byte of input, a size that
+//! the window gets or the session is told, a send to the line, or a read from it.
 
 ghost use Rattle.std.specs.Prelude.{◌≡◌, ◌≢◌, ◌≤◌, ◌++◌, ◌==◌, ◌&&◌, [], true, false, Option, IsSome, OnErr, OnOk, drop, length, option_map, take};
 ghost use Rattle.bx_grid.specs.Terminal.{reads};

@@ -1,4 +1,4 @@
-//! A scene played in a session without a world.
+//! A scene in the mode `alone`: a session takes its steps, without the window, the line and the terminal that a world has.
 
 use crate::answers::{Answers, letter_of_refusal};
 use crate::looks::Seen;
@@ -20,7 +20,8 @@ pub struct Alone<D: BidiData + Drop> {
     pub may_fail: bool,
 }
 
-/// The letter for the answer to a byte.
+/// The letter for the answer to a byte, one of those that the head of `main.rt` lists. `has_failed`: the store ran out of memory in a
+/// Save.
 fn letter_of_byte(answer: Result<Status, Refused>, has_failed: bool) -> char {
     match answer {
         Ok(_) if has_failed => 'f',

@@ -1,4 +1,4 @@
-//! A scene, parsed from a line.
+//! Parses a scene: a line of input that has a text, a window and steps. The head of `main.rt` describes its fields.
 
 use bx_common::Base;
 use bx_store::MemoryStore;
@@ -105,7 +105,7 @@ fn rows_of(word: &str) -> Result<Look<'_>, WordFault> {
     Ok(Look::Rows { line, column, rows })
 }
 
-/// Parses a word that looks.
+/// Parses a word of STEPS that only looks, such as `place`: it takes no step, and the line of answers says what it finds.
 pub fn look_of(word: &str) -> Result<Look<'_>, WordFault> {
     match word {
         "place" => Ok(Look::Place),

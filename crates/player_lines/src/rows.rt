@@ -1,4 +1,5 @@
-//! The picture of the rows in a scene.
+//! Makes a picture of the rows that a line of `player` gives by `rows=`: a scene compares it with the terminal, and `paint` paints it.
+//! The head of its `main.rt` describes the notation.
 
 ghost use Rattle.std.specs.Prelude.{IsTrue};
 ghost use Rattle.bx_grid.specs.Grid.{IsWithin};
