@@ -152,6 +152,7 @@ check_all_worked() {
     check_worked 'a match replaced without memory' 2 60 61626162 \
         'S1000 B1b5b38357e620a780a S1000 B0a pending text place seek B0a text place seek' alone \
         'oooooooooooEo\t- 61626162 1 replacing 61786162 3 replacing'
+    # the terminal reads five bytes at a time (R5), and then all (R1000), in windows of 1x4 and 1x5
     check_worked 'the terminal without memory' 1 5 6162 'S1000 R5 R5 W1,4 R1000 R1000 W1,5 shown' step 'oMMMMoM\t0'
 }
 
