@@ -126,7 +126,7 @@ cr_lf_goes_before_cr_lf law =
 pub lf_goes_before_lf : NewLinePutsSeparator → (after lf_start (NewLine ∷ [])).content.text ≡ 0xA ∷ lf_text
 unfolding unicode_segmentation unicode_width digits
 lf_goes_before_lf law =
-    let few : 4 ≤ largest_text = omega arith in (((law tables lf_start plain_lf).replacement (λ is. cc is)).fits few).text_is
+    let few : 4 ≤ largest_text = omega arith in (((law tables lf_start plain_lf).other (λ is. cc is)).fits few).text_is
 
 -- ---- Cancel
 
@@ -183,7 +183,7 @@ undone_to_the_saved_text_it_is_unchanged law =
 pub before_that_it_is_changed : StoredIsUnchanged → (after behind_ab (Save ∷ one_run_undone)).changed ≡ true
 unfolding unicode_segmentation unicode_width digits
 before_that_it_is_changed law =
-    ((law.saved tables behind_ab (typed (letters (codes " cd"))) letters_in_reach refl).0.replacement
+    ((law.saved tables behind_ab (typed (letters (codes " cd"))) letters_in_reach refl).0.other
     (λ none. let five : 5 ≡ 0 = ap length none in cc five)) (λ is. let apart : 3 ≡ 2 = is in cc apart)
 
 undone_in_reach : StaysInReach tables 2 saved_ab (typed (UndoRun ∷ []))

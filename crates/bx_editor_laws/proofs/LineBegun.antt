@@ -108,5 +108,5 @@ module _ (d : Data) (e : Editor) (plain : IsPlain e) where
 pub new-line-puts-separator : NewLinePutsSeparator
 new-line-puts-separator d e plain = record {
   crlf = λ same. if-room d e plain cr_lf (ap (λ s. line_by (is_cr_lf s)) same);
-  replacement = λ other. if-room d e plain (0xA ∷ []) (ap line_by (not-crlf (first_separator d e) other));
+  other = λ other. if-room d e plain (0xA ∷ []) (ap line_by (not-crlf (first_separator d e) other));
 }

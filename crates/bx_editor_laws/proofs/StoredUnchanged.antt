@@ -35,7 +35,7 @@ module _ (n : ℕ) (d : Data) where
   counts : (edits : List Edit) (new : Editor) → (edits ≢ [] → new.changed ≡ not (length new.content.past == n)) → CountsChanges n edits new
   counts edits new is = record {
     stored = λ some same. is some ∙ alike (length new.content.past) same;
-    replacement = λ some apart. is some ∙ ap not (ne_eqb (length new.content.past) n apart);
+    other = λ some apart. is some ∙ ap not (ne_eqb (length new.content.past) n apart);
   }
 
   runs-count : (e : Editor) → InReach n d e → RunsCountChanges d n e

@@ -1,4 +1,4 @@
--- The bytes of a tree at an offset: those of its left side, of its own piece and of its right side in turn.
+-- A tree's bytes from an offset on are bytes of its left side, then of its own piece, then of its right side.
 use Rattle.std.proofs.Common.{◌≡◌, ℕ, zero, suc, ◌+◌, ◌-◌, ◌<◌, ◌≤◌, List, [], ◌∷◌, ◌++◌, length, take, drop, min, refl, ap, sym, ◌∙◌, append_assoc, length-append, arith, ⊎_elim}
 use Rattle.std.proofs.lemmas.Bool.{cases_lt}
 use Rattle.std.proofs.lemmas.List.{length-take-le, length-drop, take_all, take-append-drop, take-take, drop-drop, drop-take}
