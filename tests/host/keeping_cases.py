@@ -382,7 +382,7 @@ def all_is_there(place):
 
 
 def another_version(place):
-    """What another version kept is not replayed unasked: its text is had back, or the user is asked."""
+    """What another version kept is not replayed unasked: its text is restored, or the user is asked."""
     place.put('a.txt', b'text\n')
     place.leave()
     place.put_part('versions', b'bidi-edit 0.0.0\n')
