@@ -189,11 +189,11 @@ static bool mend_now(struct edit *edit) {
     const char *name;
     if (edit->is_itself && saver_is_torn(&edit->saver, &name) && name) {
         mending.mended = MENDED_STILL_TORN;
-        snprintf(mending.mark, sizeof mending.mark, "%s", name);
+        snprintf(mending.backup, sizeof mending.backup, "%s", name);
         tell_mended(edit, &mending, warn);
     }
     if (!edit->is_in_place) return false;
-    if (session_mend(&edit->session, &edit->sessions, &edit->target, &mending) != 0) return session_has(&edit->session, PART_MARK);
+    if (session_mend(&edit->session, &edit->sessions, &edit->target, &mending) != 0) return session_has(&edit->session, PART_BACKUP);
     return tell_mended(edit, &mending, warn);
 }
 

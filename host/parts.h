@@ -53,8 +53,8 @@ void remove_folder(const struct session *session, const char *name);
 /* Ends the child that writes, at once. */
 void end_child(struct session *session);
 
-/* Compares an open file with an open mark. FILE_OTHER if one cannot be read or the file is not plain. A file longer than the mark is not
- * read. */
-enum verdict judge_file(int file, int mark);
+/* Compares an open file with an open backup. FILE_OTHER if one cannot be read or the file is not plain. A file longer than the backup is
+ * not read. */
+enum verdict judge_file(int file, int backup);
 
 #endif

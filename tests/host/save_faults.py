@@ -316,16 +316,16 @@ def written_after_the_exchange(check):
 # ---- FILE is written in place
 
 def in_place(check, **others):
-    """An editor whose saves overwrite FILE, with the mark in a folder of its own."""
+    """An editor whose saves overwrite FILE, with the backup in a folder of its own."""
     own = f"{check.folder}/own"
     os.mkdir(own)
     write(check.note, "old\n")
-    return open_file(check.note, "--mark", own, **others)
+    return open_file(check.note, "--backup", own, **others)
 
 
 def written_before_it_is_opened(check):
     """Another program writes FILE after the last look at it, before the save opens it for writing."""
-    # the mark gets its name between the two
+    # the backup gets its name between the two
     editor = in_place(check, under=slow("/^renameat2?$", 3))
     editor.start_save("new\n")
     wait_until_late(editor.process)
@@ -339,7 +339,7 @@ def written_before_it_is_opened(check):
 
 def written_while_it_is_synced(check):
     """Another program writes FILE once the save has filled it, while the disk takes it: the next save tells of it."""
-    # the first two are of the mark and its folder
+    # the first two are of the backup and its folder
     editor = in_place(check, under=slow("fsync", 3, which=":when=3"))
     editor.start_save("new\n")
     wait_until_late(editor.process)

@@ -700,7 +700,7 @@ static void note_mended(void *context, const struct mending *mending) {
     *(int *)context = (int)mending->mended;
 }
 
-/* FILE, of which a killed save left this, gets its whole text back from the mark; any other text stays. */
+/* FILE, of which a killed save left this, gets its whole text back from the backup; any other text stays. */
 static void check_mending(void) {
     static const struct {
         const char *which, *bytes;
@@ -719,7 +719,7 @@ static void check_mending(void) {
         int mended = -1;
         begin_filled(&session, &sessions, &target, "x");
         session_put(&session, PART_PLACE, target.path, strlen(target.path));
-        session_put(&session, PART_MARK, "hello", 5);
+        session_put(&session, PART_BACKUP, "hello", 5);
         put_file(path_in("note"), cases[at].bytes, cases[at].size);
         check(sessions_mend(&sessions, &target, note_mended, &mended) && mended == -1, "mending: not of a session that lives");
         session_put(&session, PART_PROCESS, "7 elsewhere other\n", 18);
