@@ -160,7 +160,7 @@ static bool is_there_now(const struct edit *edit) {
 /* Says where the recovered text is, if it was saved as another file. */
 static void tell_aside(const struct edit *edit) {
     if (edit->aside_of && is_there_now(edit))
-        warn("%s was changed by another program, so the recovered text is in %s", shown(edit->aside_of), shown(edit->file.typed));
+        warn("%s was changed on disk, so the recovered text is in %s", shown(edit->aside_of), shown(edit->file.typed));
 }
 
 /* Whether FILE's text, as it was opened, had CR LF at each line's end. */

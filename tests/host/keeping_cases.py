@@ -348,7 +348,7 @@ def changed_beside(place):
     assert 'has changed a.txt since; the session\'s text is recovered as a.txt.recovered\n' in started.out(), started.out()
     started.type(b'd').sees(b'<abcdtext|>').kill()
     started = place.start('a.txt').answers(CHOICE, 'r').sees(b'<abcdtext|>').type(SAVE).sees(b'saved').type(QUIT).ends(0)
-    assert started.err() == 'bidi-edit: a.txt was changed by another program, so the recovered text is in a.txt.recovered\n', started.err()
+    assert started.err() == 'bidi-edit: a.txt was changed on disk, so the recovered text is in a.txt.recovered\n', started.err()
     assert place.text('a.txt') == b'other\n' and place.text('a.txt.recovered') == b'abcdtext\n' and place.sessions() == []
 
 

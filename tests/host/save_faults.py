@@ -104,7 +104,7 @@ class OldEditor(Editor):
         self.press(b"\x13")
 
     def end_save(self):
-        causes = [b"changed by another program", b"folder gone", b"not permitted", b"disk error", b"not a plain file", b"file cut off"]
+        causes = [b"file changed on disk", b"folder gone", b"not permitted", b"disk error", b"not a plain file", b"file cut off"]
         return self.wait_for(*causes, b" saved").strip()
 
     def save(self, text):
@@ -217,7 +217,7 @@ def link_in_place(check):
     editor = open_file(check.note)
     os.remove(check.note)
     os.symlink("secret", check.note)
-    check.same("the first save", editor.save("new\n"), "changed by another program")
+    check.same("the first save", editor.save("new\n"), "file changed on disk")
     check.same("the second save", editor.save("new\n"), "saved")
     check.same("the other file", read(secret), "secret\n")
     check.same("whether FILE is a link", os.path.islink(check.note), False)
@@ -250,7 +250,7 @@ def link_led_elsewhere(check):
     editor = open_file(check.note)
     os.remove(check.note)
     os.symlink("secret", check.note)
-    check.same("the first save", editor.save("new\n"), "changed by another program")
+    check.same("the first save", editor.save("new\n"), "file changed on disk")
     check.same("the second save", editor.save("new\n"), "saved")
     check.same("the other file", read(secret), "secret\n")
     check.same("the first file", read(f"{check.folder}/real"), "new\n")
@@ -265,7 +265,7 @@ def both_save(check):
     first.start_save("first\n")
     wait_until_late(first.process)
     said = {"second\n": second.save("second\n"), "first\n": first.end_save()}
-    check.same("what is said", sorted(said.values()), ["changed by another program", "saved"])
+    check.same("what is said", sorted(said.values()), ["file changed on disk", "saved"])
     check.same("what is said of FILE's text", said.get(read(check.note)), "saved")
     check.same("what is there", os.listdir(check.folder), ["note"])
     first.end()
@@ -279,7 +279,7 @@ def replaced_meanwhile(check):
     editor.start_save("new\n")
     wait_until_late(editor.process)
     os.rename(write(f"{check.folder}/theirs", "theirs\n"), check.note)
-    check.same("the save", editor.end_save(), "changed by another program")
+    check.same("the save", editor.end_save(), "file changed on disk")
     check.same("FILE", read(check.note), "theirs\n")
     check.same("what is there", os.listdir(check.folder), ["note"])
     check.same("the second save", editor.save("new\n"), "saved")
@@ -293,7 +293,7 @@ def made_meanwhile(check):
     editor.start_save("new\n")
     wait_until_late(editor.process)
     write(check.note, "theirs\n")
-    check.same("the save", editor.end_save(), "changed by another program")
+    check.same("the save", editor.end_save(), "file changed on disk")
     check.same("FILE", read(check.note), "theirs\n")
     check.same("the second save", editor.save("new\n"), "saved")
     editor.end()
@@ -307,7 +307,7 @@ def written_after_the_exchange(check):
     wait_until_late(editor.process)
     write(check.note, "theirs\n")
     check.same("the save", editor.end_save(), "saved")
-    check.same("the second save", editor.save("newer\n"), "changed by another program")
+    check.same("the second save", editor.save("newer\n"), "file changed on disk")
     check.same("FILE", read(check.note), "theirs\n")
     check.same("the third save", editor.save("newer\n"), "saved")
     editor.end()
@@ -330,7 +330,7 @@ def written_before_it_is_opened(check):
     editor.start_save("new\n")
     wait_until_late(editor.process)
     write(check.note, "theirs\n")
-    check.same("the save", editor.end_save(), "changed by another program")
+    check.same("the save", editor.end_save(), "file changed on disk")
     check.same("FILE", read(check.note), "theirs\n")
     check.same("the second save", editor.save("new\n"), "saved")
     check.same("FILE after the second save", read(check.note), "new\n")
@@ -345,7 +345,7 @@ def written_while_it_is_synced(check):
     wait_until_late(editor.process)
     write(check.note, "theirs\n")
     check.same("the save", editor.end_save(), "saved")
-    check.same("the second save", editor.save("newer\n"), "changed by another program")
+    check.same("the second save", editor.save("newer\n"), "file changed on disk")
     check.same("FILE", read(check.note), "theirs\n")
     check.same("the third save", editor.save("newer\n"), "saved")
     check.same("FILE after the third save", read(check.note), "newer\n")
@@ -397,7 +397,7 @@ def list_amid_save(check):
     editor.start_save("new\n")
     wait_until_late(editor.process)
     set_list(check.note, "-m", f"u:{OTHER}:rw")
-    check.same("the save", editor.end_save(), "changed by another program")
+    check.same("the save", editor.end_save(), "file changed on disk")
     check.same("FILE", read(check.note), "old\n")
     check.same("the second save", editor.save("new\n"), "saved")
     said = subprocess.run(["getfacl", "-c", "-p", check.note], capture_output=True, text=True).stdout

@@ -254,7 +254,7 @@ def check_error_and_saves(name, way, lacks, number, call, error):
     scene = Scene(name, way)
     answers, _ = play(scene, 3, number, error, lacks)
     scene.same("the last answer", answers[-1:], ["saved"])
-    scene.same("whether a save after a fault says that FILE is another's", answers[1:].count("changed by another program") <= 1, True)
+    scene.same("whether a save after a fault says that FILE is another's", answers[1:].count("file changed on disk") <= 1, True)
     scene.same("FILE", scene.state(), "new")
     if call != "unlinkat":
         scene.check_nothing_left()

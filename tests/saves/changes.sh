@@ -63,7 +63,7 @@ check_foreign() { # NAME SCENE CHANGE
     open_session env
     "$3"
     save_all
-    says 'changed by another'
+    says 'file changed on disk'
     same "FILE after the first save" "$(state)" theirs
     save_all
     same "FILE after the second save" "$(state)" new
@@ -150,7 +150,7 @@ check_retargeted() {
     cp -p "$kept" "$place/links/other"
     ln -sf other "$file"
     save_all
-    says 'changed by another'
+    says 'file changed on disk'
     same "the new target after the first save" "$(cat "$place/links/other")" "$(cat "$folder/old")"
     save_all
     same "the new target after the second save" "$(cat "$place/links/other")" "$(cat "$folder/old")"

@@ -174,7 +174,7 @@ check_killed_saver() {
     stop_injecting
     # FILE was written, which counts as a change once
     terminal send-keys -t first y C-s
-    wait_for 60 shows_in first 'changed by another'
+    wait_for 60 shows_in first 'file changed on disk'
     terminal send-keys -t first C-s
     expect_in first 'in place, the child killed: the next save' 'saved'
     same 'in place, the child killed: FILE is whole' "$(cat note note.link | tr '\n' ' ')" 'xyab xyab '
