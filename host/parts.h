@@ -7,6 +7,13 @@
 
 enum { FILE_MODE = 0600 };
 
+/* Opens the folder above an open one, and looks at it. Returns AT_ROOT if there is none, UNSEEN at a fault. */
+enum { UNSEEN = -1, AT_ROOT = -2 };
+int open_above(int folder, struct stat *found);
+
+/* Judges the folder at `path`. Only the folder above is found by its path; all else is asked of what is then open. */
+void sessions_judge(struct sessions *sessions);
+
 /* Opens a part with these flags, never following a link or waiting for a pipe. */
 int part_open(int folder, const char *name, int flags);
 

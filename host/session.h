@@ -16,7 +16,7 @@
 /* The mode of folders of sessions; the space that must stay free for keys, in bytes. */
 enum { FOLDER_MODE = 0700, ROOM_FOR_KEYS = 8192 };
 
-/* ---- folders of sessions (places.c) */
+/* ---- folders of sessions (places.c, trust.c) */
 
 enum folder_state {
     /* Open, and found safe. */
