@@ -134,6 +134,16 @@ static void look_at_session(const struct session *session) {
     session_kilobytes(session);
 }
 
+/* Makes the top folder, once. */
+static void make_top(void) {
+    char path[PATH_MAX];
+    if (top[0]) return;
+    snprintf(top, sizeof top, "./fuzzed.XXXXXX");
+    require(mkdtemp(top) != NULL && realpath(top, path) != NULL);
+    snprintf(top, sizeof top, "%.*s", PATH_MAX - 1, path);
+    setenv("XDG_STATE_HOME", top, 1);
+}
+
 /* Takes these bytes as the files of a session, and does with the session all that a start does. */
 static void try_folder(const uint8_t *bytes, size_t size) {
     static const char name[] = "20200101000000.abcdef";
@@ -141,12 +151,7 @@ static void try_folder(const uint8_t *bytes, size_t size) {
     struct found found;
     struct target target;
     char path[PATH_MAX + 8];
-    if (!top[0]) {
-        snprintf(top, sizeof top, "./fuzzed.XXXXXX");
-        require(mkdtemp(top) != NULL && realpath(top, path) != NULL);
-        snprintf(top, sizeof top, "%.*s", PATH_MAX - 1, path);
-        setenv("XDG_STATE_HOME", top, 1);
-    }
+    make_top();
     int folder = open(top, O_RDONLY | O_DIRECTORY | O_CLOEXEC);
     sessions_find(&sessions, folder);
     require(sessions_make(&sessions));
