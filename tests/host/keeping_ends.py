@@ -1,6 +1,6 @@
 """Cases of keeping.py: what is kept while the program runs, and what is told at the end."""
 import os, re, shutil, signal, stat, subprocess, time
-from keeping_cases import CHOICE, QUIT, SAVE
+from keeping_scene import CHOICE, QUIT, SAVE
 
 
 def saved(place):

@@ -1,6 +1,6 @@
 """Cases of keeping.py: kinds of files, other names of FILE, full disks, and what is removed."""
 import glob, os, re, signal, subprocess, time
-from keeping_cases import CHOICE, QUIT, SAVE
+from keeping_scene import CHOICE, QUIT, SAVE
 
 NOBODY = ['setpriv', '--reuid', '65534', '--regid', '65534', '--clear-groups']
 
