@@ -1,4 +1,4 @@
-/* Questions to the user, and lists of sessions. */
+/* Questions to the user, and lists of sessions. edit.h says what each call promises. */
 #include <ctype.h>
 #include <errno.h>
 #include <poll.h>
@@ -41,6 +41,7 @@ static bool read_answer(char answer[MOST_LINE]) {
     return false;
 }
 
+/* An answer without blanks around it and in small letters, in the same memory. */
 static const char *small(char *answer) {
     size_t length = strlen(answer);
     while (length > 0 && isspace((unsigned char)answer[length - 1])) answer[--length] = 0;
@@ -154,6 +155,7 @@ const char *machine_text(const struct session *session) {
     return strcmp(process.machine, this_process()->machine) == 0 ? NULL : shown(process.machine);
 }
 
+/* What the list of sessions adds to a session that is not merely unfinished. */
 static const char *note_of(const struct session *session) {
     enum session_state state = session_state(session);
     if (state == SESSION_LIVE) return " (open now)";
@@ -161,7 +163,7 @@ static const char *note_of(const struct session *session) {
         const char *machine = machine_text(session);
         return text_of(" (on %s)", machine ? machine : THIS_MACHINE);
     }
-    if (session_has(session, PART_MARK)) return " (a save was interrupted)";
+    if (session_has(session, PART_BACKUP)) return " (a save was interrupted)";
     return state == SESSION_DROPPED ? " (dropped)" : "";
 }
 
@@ -203,6 +205,7 @@ struct counts {
     size_t removed, kept;
 };
 
+/* For sessions_forget: tells what became of a session, and counts it. */
 static void tell_forgotten(void *context, const struct forgotten *forgotten) {
     struct counts *counts = context;
     char time[32] = "";
@@ -217,6 +220,7 @@ static void tell_forgotten(void *context, const struct forgotten *forgotten) {
     }
 }
 
+/* Removes the sessions of all files in every folder that may have some. */
 static void forget_all_sessions(struct counts *counts) {
     struct sessions *all;
     size_t count = sessions_find_all(&all);

@@ -1,4 +1,4 @@
-/* FILE's checks, the session that begins or goes on, and the program while it runs. */
+/* FILE's checks, the session that begins or goes on, and the program while it runs. edit.h says what each call promises. */
 #include <errno.h>
 #include <fcntl.h>
 #include <stdio.h>
@@ -39,7 +39,7 @@ int find_file(struct edit *edit, const char *typed, bool is_lost) {
     sessions_find(&edit->sessions, file->folder);
     edit->target = (struct target){.path = file->path, .folder = -1, .name = file->name};
     if (!file->is_lost) target_look(&edit->target, file->path, file->folder, file->name);
-    edit->reason = find_in_place(&file->facts, &file->look, &file->folder_facts);
+    edit->reason = find_in_place(&file->facts, &file->stamp, &file->folder_facts);
     return GO_ON;
 }
 
@@ -52,7 +52,7 @@ bool tell_mended(const struct edit *edit, const struct mending *mending, void (*
     const char *file = shown(edit->file.typed);
     if (mending->mended == MENDED_PUT_BACK) say("a save of %s was interrupted; its whole text has been restored", file);
     if (mending->mended == MENDED_STILL_TORN)
-        say("a save of %s was interrupted, and its text cannot be restored: the whole text is in %s", file, shown(mending->mark));
+        say("a save of %s was interrupted, and its text cannot be restored: the whole text is in %s", file, shown(mending->backup));
     return mending->mended == MENDED_STILL_TORN;
 }
 
@@ -62,6 +62,7 @@ struct mended_file {
     bool is_put_back;
 };
 
+/* For sessions_mend: tells the user, and notes whether FILE got its text back, so that FILE is opened again. */
 static void take_mended(void *context, const struct mending *mending) {
     struct mended_file *mended = context;
     tell_mended(mended->edit, mending, warn);
@@ -106,10 +107,10 @@ const char *unkept_by(const struct sessions *sessions, enum notice *notice) {
 /* Makes the session. If that is impossible, `unkept` says why. */
 static void try_session(struct edit *edit) {
     const struct file *file = &edit->file;
-    const struct stat *found = &file->look.found;
+    const struct stat *found = &file->stamp.found;
     struct opening opening = {.target = &edit->target, .file = file->text, .mode = -1, .begin = edit->begin,
                               .is_joined = edit->is_joined, .versions = edit->versions};
-    if (file->look.is_there) {
+    if (file->stamp.is_there) {
         opening.mode = (int)(found->st_mode & PERMISSIONS);
         opening.is_secret = found->st_uid == 0 && (found->st_mode & READ_BY_OTHERS) == 0;
     }
@@ -193,7 +194,7 @@ int resume_session(struct edit *edit) {
     edit->is_joined = edit->is_joined && !session_has(session, PART_UNJOINED);
     session_resume(session, size.rows, size.columns);
     if (!edit->is_joined) session_put_empty(session, PART_UNJOINED);
-    if (!edit->file.look.is_there && session_has(session, PART_MODE)) edit->lost_mode = (int)session_mode(session);
+    if (!edit->file.stamp.is_there && session_has(session, PART_MODE)) edit->lost_mode = (int)session_mode(session);
     return settle_in_place(edit);
 }
 
@@ -204,6 +205,8 @@ const char *handed_path(struct run *run, int file) {
     return text_of("%s", link_of(file).path);
 }
 
+/* Adds what the program opens: the session's text and keys, the copy of FILE, FILE itself, or an empty text; and the journal to append
+ * to. */
 static void add_text(struct edit *edit, struct words *words) {
     const struct session *session = &edit->session;
     struct run *run = &edit->run;
@@ -216,7 +219,7 @@ static void add_text(struct edit *edit, struct words *words) {
         add_option(words, "--replay", journal);
     } else if (source >= 0) {
         add_option(words, "--text", handed_path(run, source));
-    } else if (edit->file.look.is_there) {
+    } else if (edit->file.stamp.is_there) {
         add_option(words, "--text", "/dev/null");
     } else {
         add_word(words, "--new");
@@ -224,6 +227,7 @@ static void add_text(struct edit *edit, struct words *words) {
     if (journal) add_option(words, "--journal", journal);
 }
 
+/* The program's arguments for this session. FILE's name comes last, as struct run has it. */
 static void make_words(struct edit *edit, struct words *words) {
     add_option(words, "--direction", edit->begin.direction);
     if (edit->begin.line > 0) add_option(words, "--line", text_of("%u", edit->begin.line));
@@ -257,11 +261,11 @@ static void on_journal(void *whose, bool is_kept) {
 /* A successful save replaces FILE by a new file. The session records that file, by which it is found later. */
 static void on_saved(void *whose) {
     struct edit *edit = whose;
-    struct look look;
+    struct file_stamp stamp;
     if (saver_cause(&edit->saver) != 0) return;
     edit->was_saved = true;
-    if (session_is_none(&edit->session) || !saver_look(&edit->saver, &look, &edit->target.id)) return;
-    edit->target.is_there = look.is_there;
+    if (session_is_none(&edit->session) || !saver_stamp(&edit->saver, &stamp, &edit->target.id)) return;
+    edit->target.is_there = stamp.is_there;
     session_note_file(&edit->session, &edit->target);
 }
 
@@ -299,12 +303,15 @@ static void tell_trouble(struct edit *edit) {
     edit->notice = (struct notice_facts){0};
 }
 
+/* For struct run: looks after the session, and returns whether the program shall try its journal again. */
 static bool on_second(void *whose) {
     struct edit *edit = whose;
     if (edit->facts.has_session) tell_trouble(edit);
     return edit->facts.is_journal_lost;
 }
 
+/* Sets what is known of the session before the program starts. `told` is the notice that the user has seen already, so tell_trouble does
+ * not repeat it. */
 static void begin_facts(struct edit *edit) {
     struct session *session = &edit->session;
     bool has_session = !session_is_none(session), is_waiting = has_session && session->is_waiting;
@@ -316,12 +323,13 @@ static void begin_facts(struct edit *edit) {
     if (edit->unkept && !edit->facts.is_unwanted) edit->facts.told = edit->unkept_notice;
 }
 
+/* Prepares the saver. With a session, a save keeps the lock open, and if it overwrites FILE, its backup is in the session's folder. */
 static void begin_saves(struct edit *edit) {
     if (!saver_open(&edit->saver, &edit->file)) tell_no_memory();
     edit->saver.is_itself = edit->is_itself;
     if (session_is_none(&edit->session)) return;
     edit->saver.lock = edit->session.lock;
-    if (edit->is_in_place) edit->saver.mark_folder = edit->session.folder;
+    if (edit->is_in_place) edit->saver.backup_folder = edit->session.folder;
 }
 
 int run_session(struct edit *edit) {

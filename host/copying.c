@@ -1,4 +1,5 @@
-/* Keeping a session's files: the copy of FILE, the child that writes, and the files that are written again if something removes them. */
+/* Keeping a session's files: the copy of FILE, the child that writes, and the files that are written again if something removes them.
+ * session.h and parts.h say what each call promises. */
 #include <errno.h>
 #include <fcntl.h>
 #include <poll.h>
@@ -35,11 +36,13 @@ static bool is_being_written(const struct stat *look) {
     return clock_gettime(CLOCK_REALTIME, &today) == 0 && today.tv_sec - look->st_mtim.tv_sec <= CALM;
 }
 
+/* Copies an open file over the session's text. Returns 0 or an errno. */
 static int copy_over(struct session *session, int file) {
     int error = ftruncate(session->text, 0) == 0 && lseek(session->text, 0, SEEK_SET) == 0 ? 0 : errno;
     return error ? error : copy_file(file, 0, session->text);
 }
 
+/* Creates the copy of FILE's text, unless it is open already. O_EXCL: nothing that another program put there is used. */
 static bool open_copy(struct session *session) {
     if (session->text < 0) session->text = part_open(session->folder, part_name(PART_TEXT), O_RDWR | O_CREAT | O_EXCL);
     if (session->text < 0) session->error = errno;
@@ -94,10 +97,12 @@ static int write_text(struct session *session, struct report *said) {
     return error;
 }
 
+/* Whether a part is to be kept and its file is not written. */
 static bool lacks_part(const struct session *session, enum part part) {
     return session->parts[part].is_kept && !session->parts[part].is_written;
 }
 
+/* Writes a part that is lacking. Returns 0 or an errno. */
 static int write_part(const struct session *session, enum part part) {
     const struct kept_part *kept = &session->parts[part];
     return lacks_part(session, part) ? put_part(session, part, kept->bytes, kept->size) : 0;
@@ -125,6 +130,7 @@ static struct report write_missing(struct session *session) {
 
 /* ---- the child */
 
+/* The child that writes: it keeps only what it needs, writes what is missing, and reports. No disk that stalls it holds up the host. */
 _Noreturn static void work(struct session *session, int report) {
     const int kept[] = {session->parent, session->folder, session->lock, session->text, session->source, named_journal(session), report};
     close_others(kept, sizeof kept / sizeof *kept);
@@ -173,6 +179,7 @@ static void renew_text(struct session *session) {
     session->parts[PART_PATH].is_written = false;
 }
 
+/* Takes in what the child reported. The parts that were sent count as written only without a fault. */
 static void take_report(struct session *session, const struct report *said) {
     session->error = said->error ? said->error : said->journal_error;
     session->is_journal_refused = said->journal_error != 0;
@@ -198,10 +205,12 @@ int write_session(struct session *session) {
     return said.error;
 }
 
+/* Takes the end of a child that has reported. */
 static void reap_writer(struct session *session) {
     if (session->child > 0 && session->report < 0 && waitpid(session->child, NULL, WNOHANG) != 0) session->child = -1;
 }
 
+/* Waits so long for the child's report, and takes it in. Returns at once without a child. */
 static void hear_child(struct session *session, int milliseconds) {
     struct report said;
     struct pollfd file = {.fd = session->report, .events = POLLIN};
@@ -252,6 +261,7 @@ static bool is_named(const struct session *session, enum part part, int file) {
     return fstatat(session->folder, part_name(part), &named, AT_SYMLINK_NOFOLLOW) == 0 && fstat(file, &open) == 0 && is_same_file(&named, &open);
 }
 
+/* Notes which parts something has removed or cut, so that the next write makes them again. */
 static void look_for_lost(struct session *session) {
     struct stat found;
     for (enum part part = 0; part < PARTS; part++) {
@@ -301,6 +311,7 @@ static void mirror_journal(struct session *session) {
     session->synced = session->syncing = -1;
 }
 
+/* Looks for what others removed: restores the journal's name and the lock, and, if no child is writing, notes which parts are gone. */
 static void look_after(struct session *session) {
     if (session->journal >= 0) mirror_journal(session);
     renew_lock(session);
@@ -322,11 +333,14 @@ enum keeping session_mind(struct session *session) {
     return judge_keeping(&facts);
 }
 
+/* Waits so long for the child, and then ends it. */
 static void await_child(struct session *session, int milliseconds) {
     hear_child(session, milliseconds);
     end_child(session);
 }
 
+/* For ending.c, after the program's end. Nobody types any more, so this may wait for a child, and without one writes the files itself. What
+ * the user is told about unsaved text depends on the answer. */
 bool session_settle(struct session *session, int milliseconds) {
     if (!session_is_there(session)) return false;
     await_child(session, milliseconds);

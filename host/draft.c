@@ -1,3 +1,5 @@
+/* Drafts: the new files that a save writes and then puts in FILE's place. Where a new file must not replace FILE, the draft becomes the
+ * backup, and its text overwrites FILE. All of this runs in the child that serves the save. saving.h says what each call promises. */
 #include "saving.h"
 
 #include <errno.h>
@@ -20,6 +22,7 @@ static unsigned char buffer[BUFFER];
 
 /* ---- names */
 
+/* A name for a draft beside FILE, as file.h describes it. */
 static bool make_draft_name(const struct file *file, char name[NAME_MAX + 1]) {
     char random[DRAFT_LETTERS + 1];
     if (!make_letters(random, DRAFT_LETTERS, DRAFT_ALPHABET)) return false;
@@ -35,8 +38,10 @@ static int link_nameless(const struct draft *draft, const char *name) {
     return linkat(AT_FDCWD, link_of(draft->file).path, draft->folder, name, AT_SYMLINK_FOLLOW) == 0 ? 0 : errno;
 }
 
+/* Renames where nothing may be at the new name, by the surest call that the disk has. The last way leaves a moment in which another
+ * program could create the name. */
 static int move_to_free(int folder, const char *from, const char *to) {
-    struct look there;
+    struct file_stamp there;
     int error = rename_by(folder, from, to, RENAME_NOREPLACE);
     if (!is_lacking(error)) return error;
     if (linkat(folder, from, folder, to, 0) == 0) {
@@ -45,7 +50,7 @@ static int move_to_free(int folder, const char *from, const char *to) {
     }
     if (errno != EPERM && !is_lacking(errno)) return errno;
     /* the system has neither call */
-    if (!look_at(folder, to, &there)) return errno;
+    if (!stamp_at(folder, to, &there)) return errno;
     if (there.is_there) return EEXIST;
     return renameat(folder, from, folder, to) == 0 ? 0 : errno;
 }
@@ -65,6 +70,7 @@ int draft_name(struct draft *draft, const struct file *file) {
 
 /* ---- the opening */
 
+/* Creates a draft of this name. O_EXCL and O_NOFOLLOW: nothing that another program put there is written. */
 static int open_at(struct draft *draft, int folder, const char *name, mode_t mode) {
     *draft = (struct draft){.folder = folder, .file = openat(folder, name, O_RDWR | O_CREAT | O_EXCL | O_NOFOLLOW | O_CLOEXEC, mode)};
     if (draft->file < 0) return errno;
@@ -134,10 +140,10 @@ int draft_take_over(const struct draft *draft, const struct stat *old, bool is_p
 /* ---- FILE's place */
 
 /* Whether what the exchange took from FILE's place is what was seen there. `is_listless`: it must not have got an access list since. */
-static bool came_out(const struct draft *draft, const struct look *seen, bool is_listless) {
-    struct look out;
+static bool came_out(const struct draft *draft, const struct file_stamp *seen, bool is_listless) {
+    struct file_stamp out;
     int itself;
-    bool is_right = look_and_open(draft->folder, draft->name, &out, &itself) && is_taken_out(seen, &out) &&
+    bool is_right = stamp_and_open(draft->folder, draft->name, &out, &itself) && is_taken_out(seen, &out) &&
                     (!is_listless || has_access_list(itself) != YES);
     close_one(&itself);
     return is_right;
@@ -146,11 +152,11 @@ static bool came_out(const struct draft *draft, const struct look *seen, bool is
 /* Undoes an exchange: puts back what it took from FILE's place. If another program put something newer in that place meanwhile, this
  * exchange takes that out, so it is put back in turn. Returns whether what has the draft's name at the end may be removed. */
 static bool exchange_back(const struct draft *draft, const char *name, struct stat last_in) {
-    struct look goes_in, out;
+    struct file_stamp goes_in, out;
     for (int tries = 0; tries < DRAFT_TRIES; tries++) {
-        if (!look_at(draft->folder, draft->name, &goes_in) || !goes_in.is_there) return false;
+        if (!stamp_at(draft->folder, draft->name, &goes_in) || !goes_in.is_there) return false;
         if (rename_by(draft->folder, draft->name, name, RENAME_EXCHANGE) != 0) return false;
-        if (!look_at(draft->folder, draft->name, &out) || !out.is_there) return false;
+        if (!stamp_at(draft->folder, draft->name, &out) || !out.is_there) return false;
         if (is_same_file(&out.found, &last_in)) return true;
         last_in = goes_in.found;
     }
@@ -164,7 +170,7 @@ static enum placed replace_by_rename(struct draft *draft, const char *name) {
     return PLACED;
 }
 
-enum placed draft_exchange(struct draft *draft, const char *name, const struct look *seen, bool is_listless) {
+enum placed draft_exchange(struct draft *draft, const char *name, const struct file_stamp *seen, bool is_listless) {
     struct stat own;
     if (fstat(draft->file, &own) != 0) return PLACE_FAILED;
     int error = rename_by(draft->folder, draft->name, name, RENAME_EXCHANGE);
@@ -196,8 +202,8 @@ void draft_close(struct draft *draft) {
 
 void draft_remove(struct draft *draft) {
     struct stat own;
-    struct look there;
-    if (draft->file >= 0 && draft->name[0] && fstat(draft->file, &own) == 0 && look_at(draft->folder, draft->name, &there) &&
+    struct file_stamp there;
+    if (draft->file >= 0 && draft->name[0] && fstat(draft->file, &own) == 0 && stamp_at(draft->folder, draft->name, &there) &&
         there.is_there && is_same_file(&own, &there.found))
         unlinkat(draft->folder, draft->name, 0);
     draft->name[0] = 0;
@@ -206,35 +212,35 @@ void draft_remove(struct draft *draft) {
 
 /* ---- saves into FILE itself */
 
-void save_drop_mark(struct save *save) {
-    int mark_folder = save->saver->mark_folder;
-    if (mark_folder >= 0) unlinkat(mark_folder, MARK_NAME, 0);
+void save_drop_backup(struct save *save) {
+    int backup_folder = save->saver->backup_folder;
+    if (backup_folder >= 0) unlinkat(backup_folder, BACKUP_NAME, 0);
     if (save->state.is_torn && save->state.torn[0]) unlinkat(save->folder, save->state.torn, 0);
     save->state.is_torn = false;
     save->state.torn[0] = 0;
 }
 
-/* Gives the mark beside FILE the first free name of those in the manual, else a random one. */
-static int name_mark(struct save *save) {
+/* Gives the backup beside FILE the first free name of those in the manual, else a random one. */
+static int name_backup(struct save *save) {
     char name[PATH_MAX + 8];
     int error = EEXIST;
-    for (int number = 0; error == EEXIST && number < MARK_NAMES; number++) {
-        mark_name(save->file, number, name);
+    for (int number = 0; error == EEXIST && number < BACKUP_NAMES; number++) {
+        backup_name(save->file, number, name);
         error = strlen(name) > NAME_MAX ? ENAMETOOLONG : draft_name_as(&save->draft, name);
     }
     return error == EEXIST || error == ENAMETOOLONG ? draft_name(&save->draft, save->file) : error;
 }
 
-/* Makes the draft the mark. The mark and its name are on the disk before FILE changes. */
-static int keep_mark(struct save *save) {
-    int mark_folder = save->saver->mark_folder, error = 0;
-    if (mark_folder < 0) {
-        error = name_mark(save);
+/* Makes the draft the backup. The backup and its name are on the disk before FILE changes. */
+static int keep_backup(struct save *save) {
+    int backup_folder = save->saver->backup_folder, error = 0;
+    if (backup_folder < 0) {
+        error = name_backup(save);
         return error == 0 ? save_sync_folder(save) : error;
     }
-    if (renameat(mark_folder, MARK_DRAFT_NAME, mark_folder, MARK_NAME) != 0) return errno;
-    snprintf(save->draft.name, sizeof save->draft.name, "%s", MARK_NAME);
-    int folder = openat(mark_folder, ".", O_RDONLY | O_DIRECTORY | O_CLOEXEC);
+    if (renameat(backup_folder, BACKUP_DRAFT_NAME, backup_folder, BACKUP_NAME) != 0) return errno;
+    snprintf(save->draft.name, sizeof save->draft.name, "%s", BACKUP_NAME);
+    int folder = openat(backup_folder, ".", O_RDONLY | O_DIRECTORY | O_CLOEXEC);
     if (folder < 0) return errno;
     error = sync_file(folder);
     close(folder);
@@ -255,10 +261,10 @@ static int open_to_write(const struct save *save, int *cause) {
     return -1;
 }
 
-/* Records that FILE may be torn, and which mark has its text. An older mark is removed. */
+/* Records that FILE may be torn, and which backup has its text. An older backup is removed. */
 static void note_torn(struct save *save) {
     struct state *state = &save->state;
-    const char *name = save->saver->mark_folder < 0 ? save->draft.name : "";
+    const char *name = save->saver->backup_folder < 0 ? save->draft.name : "";
     if (state->is_torn && state->torn[0] && strcmp(state->torn, name) != 0) unlinkat(save->folder, state->torn, 0);
     state->is_torn = true;
     snprintf(state->torn, sizeof state->torn, "%s", name);
@@ -281,7 +287,7 @@ static bool is_written_over(const struct save *save) {
 
 int save_in_place(struct save *save) {
     struct state *state = &save->state;
-    int cause = 0, error = keep_mark(save);
+    int cause = 0, error = keep_backup(save);
     if (error != 0) return cause_of(error);
     int file = open_to_write(save, &cause);
     if (file < 0) return cause;
@@ -290,15 +296,15 @@ int save_in_place(struct save *save) {
         note_torn(save);
         error = fill(save, file);
         state->seen.is_there = fstat(file, &state->seen.found) == 0;
-        if (error == 0) state->is_distrusted = !state->seen.is_there || is_written_over(save);
+        if (error == 0) state->is_assumed_changed = !state->seen.is_there || is_written_over(save);
         state->old = state->seen;
         state->has_id = find_id(file, &state->id);
-        /* the mark stays as long as FILE may need it */
+        /* the backup stays as long as FILE may need it */
         save->draft.name[0] = 0;
         draft_close(&save->draft);
     }
     close(file);
     if (error != 0) return cause_of(error);
-    save_drop_mark(save);
+    save_drop_backup(save);
     return 0;
 }

@@ -1,4 +1,5 @@
-/* The end of a session: what is kept of unsaved text, what becomes of the session, and what the user is told. */
+/* The end of a session: what is kept of unsaved text, what becomes of the session, and what the user is told. edit.h says what each call
+ * promises. */
 #include <errno.h>
 #include <fcntl.h>
 #include <poll.h>
@@ -18,6 +19,7 @@
 
 /* ---- replays of a session's keys by the program, and comparisons with FILE */
 
+/* What a replay found, by what the program said. A status of 0 without an answer is a failure too. */
 static enum replayed replayed_of(const struct said *said, int status) {
     static const char *const unreadable[] = {"not-utf8", "too-long", "unreadable"};
     static const struct {
@@ -52,7 +54,7 @@ enum replayed replay(struct edit *edit, const struct session *session, int *text
     add_option(&words, "--replay", handed_path(&run, session->journal));
     add_option(&words, "--to", handed_path(&run, made));
     if (edit->file.text >= 0) add_option(&words, "--against", handed_path(&run, edit->file.text));
-    else if (edit->file.look.is_there) add_option(&words, "--against", "/dev/null");
+    else if (edit->file.stamp.is_there) add_option(&words, "--against", "/dev/null");
     add_word(&words, edit->file.typed);
     int status = run_aside(&run, words.words, limit);
     enum replayed replayed = replayed_of(&run.said, status);
@@ -61,6 +63,7 @@ enum replayed replay(struct edit *edit, const struct session *session, int *text
     return replayed;
 }
 
+/* Whether FILE has exactly the text of a session's part. */
 static bool is_in_part(const struct edit *edit, const struct session *session, enum part part) {
     int file = session_open(session, part);
     bool is_same = file >= 0 && judge_file(file, edit->file.text) == FILE_WHOLE;
@@ -69,7 +72,7 @@ static bool is_in_part(const struct edit *edit, const struct session *session, e
 }
 
 enum replayed compare_text(const struct edit *edit, const struct session *session) {
-    if (!edit->file.look.is_there) return REPLAY_KNOWN;
+    if (!edit->file.stamp.is_there) return REPLAY_KNOWN;
     if (is_in_part(edit, session, PART_SNAPSHOT)) return REPLAY_SAME;
     bool is_known = is_in_part(edit, session, PART_TEXT) || is_in_part(edit, session, PART_SAVE);
     return is_known ? REPLAY_KNOWN : REPLAY_FOREIGN;
@@ -148,14 +151,16 @@ static void give_mode(const struct edit *edit) {
     close(file);
 }
 
+/* Whether FILE is there now. */
 static bool is_there_now(const struct edit *edit) {
-    struct look look;
-    return look_again(&edit->file, &look) && look.is_there;
+    struct file_stamp stamp;
+    return stamp_again(&edit->file, &stamp) && stamp.is_there;
 }
 
+/* Says where the recovered text is, if it was saved as another file. */
 static void tell_aside(const struct edit *edit) {
     if (edit->aside_of && is_there_now(edit))
-        warn("%s was changed by another program, so the recovered text is in %s", shown(edit->aside_of), shown(edit->file.typed));
+        warn("%s was changed on disk, so the recovered text is in %s", shown(edit->aside_of), shown(edit->file.typed));
 }
 
 /* Whether FILE's text, as it was opened, had CR LF at each line's end. */
@@ -166,6 +171,7 @@ static bool had_all_crlf(const struct edit *edit) {
     return text >= 0 && has_all_crlf(text);
 }
 
+/* Warns if all of FILE's line ends were CR LF, and a save has left a mixture. */
 static void tell_line_ends(const struct edit *edit) {
     struct stat look;
     struct line_ends ends;
@@ -183,11 +189,11 @@ static bool mend_now(struct edit *edit) {
     const char *name;
     if (edit->is_itself && saver_is_torn(&edit->saver, &name) && name) {
         mending.mended = MENDED_STILL_TORN;
-        snprintf(mending.mark, sizeof mending.mark, "%s", name);
+        snprintf(mending.backup, sizeof mending.backup, "%s", name);
         tell_mended(edit, &mending, warn);
     }
     if (!edit->is_in_place) return false;
-    if (session_mend(&edit->session, &edit->sessions, &edit->target, &mending) != 0) return session_has(&edit->session, PART_MARK);
+    if (session_mend(&edit->session, &edit->sessions, &edit->target, &mending) != 0) return session_has(&edit->session, PART_BACKUP);
     return tell_mended(edit, &mending, warn);
 }
 
@@ -198,12 +204,14 @@ static void tell_lost(enum left_how how, const char *cause) {
     if (may_be_unsaved(how)) warn("any unsaved text is lost, since %s", cause);
 }
 
+/* Tells that the session's folder is gone, so that nothing unsaved can be recovered. */
 static void tell_gone(const struct edit *edit, enum left_how how) {
     const char *cause = text_of("the session's folder %s is gone", shown(edit->session.path));
     if (how == LEFT_DROPPED) warn("only what was saved is kept, since %s", cause);
     else tell_lost(how, cause);
 }
 
+/* Why unsaved text is lost, as the message says it. */
 static const char *cause_of_lost(const struct edit *edit) {
     if (edit->unkept) return edit->unkept;
     if (edit->session.is_changed) return text_of("%s was changed before it could be copied", shown(edit->file.typed));
@@ -237,7 +245,7 @@ static bool leave_text(struct edit *edit) {
     /* FILE as it is now */
     if (edit->file.text >= 0) close(edit->file.text);
     edit->file.text = open_now(edit, &look);
-    edit->file.look.is_there = is_there_now(edit);
+    edit->file.stamp.is_there = is_there_now(edit);
     enum replayed found = replay(edit, session, &text, within(end_signal ? REPLAY_BY_SIGNAL_MS : REPLAY_MS));
     if (text < 0) return false;
     put_snapshot(session, text);
@@ -245,6 +253,7 @@ static bool leave_text(struct edit *edit) {
     return found == REPLAY_SAME;
 }
 
+/* Whether FILE's folder was removed. */
 static bool is_folder_gone(const struct file *file) {
     struct stat look;
     return fstat(file->folder, &look) == 0 && look.st_nlink == 0;
@@ -262,6 +271,8 @@ static void note_moved(struct edit *edit) {
     session_note_file(&edit->session, &edit->target);
 }
 
+/* Waits for the child that copies, as long as no signal asks for the end, and then settles the session. Returns whether it can be
+ * recovered. */
 static bool settle(struct session *session) {
     int64_t end = now() + COPY_MS;
     struct pollfd copied = {.fd = session->report, .events = POLLIN};
@@ -286,6 +297,7 @@ static struct left left_of(struct edit *edit, enum left_how how) {
     return left;
 }
 
+/* Whether this name of FILE leads to this path. Opens it anew, since folders may have changed during the session. */
 static bool leads_to_path(const char *typed, const char *path) {
     static struct file again;
     if (open_lost_file(&again, typed)) return false;
@@ -306,6 +318,7 @@ static void tell_kept(const struct edit *edit, const char *what, const char *beh
     warn("%s%s%s: bidi-edit --recover %s%s", what, cut, where, shown(is_found ? typed : path), behind);
 }
 
+/* Keeps a session whose changes were dropped, as the only one of its kind, so that a hasty Quit can be undone. */
 static void drop_changes(struct edit *edit) {
     if (edit->facts.is_journal_lost) session_note_cut(&edit->session);
     sessions_forget_dropped(&edit->sessions, &edit->session);
@@ -314,17 +327,20 @@ static void drop_changes(struct edit *edit) {
     tell_kept(edit, "the dropped changes can be recovered", "");
 }
 
+/* Removes a session whose changes were dropped, as it has text that only root could read. */
 static void wipe_changes(struct edit *edit) {
     int error = session_remove(&edit->session);
     if (error == 0) warn("the dropped changes are not kept, since only root can read %s", shown(edit->file.typed));
     else warn("the dropped changes cannot be deleted from %s%s", shown(edit->session.path), fault_words(error));
 }
 
+/* Leaves the session to be recovered, and says so. */
 static void leave_session(struct edit *edit) {
     if (edit->facts.is_journal_lost) session_note_cut(&edit->session);
     tell_kept(edit, "unsaved text is kept", " restores it");
 }
 
+/* Ends a session that was kept, by its fate, and tells what is lost. FATE_REMOVED is silent unless keys were lost. */
 static void end_kept(struct edit *edit, enum left_how how) {
     struct session *session = &edit->session;
     struct left left = left_of(edit, how);

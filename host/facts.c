@@ -1,3 +1,5 @@
+/* What the system says about an open file or folder: access, access lists, labels, mounts. By these facts file.c refuses FILE, and
+ * save_judge.c decides whether a new file may replace it. file.h says what each call promises. */
 #include "file.h"
 
 #include <endian.h>
@@ -51,6 +53,7 @@ struct network_list {
     enum answer is_more, is_given;
 };
 
+/* Reads such a list. Bytes that break its form make both answers UNKNOWN. */
 static struct network_list read_network_list(const char *list, size_t length) {
     static const char *const whos[] = {"OWNER@", "GROUP@", "EVERYONE@"};
     bool was_there[3][2] = {{false}}; /* by the name in `whos`, and by the type */
@@ -73,6 +76,8 @@ static struct network_list read_network_list(const char *list, size_t length) {
     return read;
 }
 
+/* What the access list of an open file says, on a disk of NFS, version 4. Without such a list both answers are NO. After a fault both are
+ * UNKNOWN, and then no save takes FILE's mode for all of its permissions. */
 static struct network_list find_network_list(int at) {
     struct network_list none = {NO, NO}, unknown = {UNKNOWN, UNKNOWN};
     ssize_t length = get_attribute(at, "system.nfs4_acl", value);
@@ -87,6 +92,7 @@ static enum answer has_attribute(int at, const char *name, size_t least) {
     return (size_t)length > least ? YES : NO;
 }
 
+/* Yes if one of the answers is yes; unknown if none is and one is unknown. */
 static enum answer either(enum answer one, enum answer another) {
     if (one == YES || another == YES) return YES;
     return one == UNKNOWN || another == UNKNOWN ? UNKNOWN : NO;
@@ -97,6 +103,7 @@ enum answer has_access_list(int at) {
     return own == YES ? YES : either(own, find_network_list(at).is_more);
 }
 
+/* Whether a folder gives an access list to new files in it. */
 static enum answer gives_access_lists(int folder) {
     enum answer given = has_attribute(folder, "system.posix_acl_default", POSIX_HEADER);
     return given == YES ? YES : either(given, find_network_list(folder).is_given);
@@ -121,6 +128,8 @@ static enum answer is_own(int at, int folder, const char *name) {
     return length == folder_length && memcmp(value, other, (size_t)length) == 0 ? NO : YES;
 }
 
+/* Whether a file has a label or another attribute that a new file would not get. One that cannot be judged makes it UNKNOWN, unless another
+ * is found. */
 static enum answer has_label(int at, int folder) {
     ssize_t length = listxattr(link_of(at).path, names, sizeof names);
     if (length < 0) return is_none(length) ? NO : UNKNOWN;
@@ -160,6 +169,7 @@ uint64_t free_room(int at) {
     return __builtin_mul_overflow(blocks, (uint64_t)look.f_frsize, &room) ? UINT64_MAX : room;
 }
 
+/* Whether the sticky bit of the folder keeps the user from replacing the file. */
 static bool is_held_by_folder(int at, int folder) {
     struct stat own, above;
     uid_t user = geteuid();
@@ -167,6 +177,7 @@ static bool is_held_by_folder(int at, int folder) {
     return user != own.st_uid && user != above.st_uid;
 }
 
+/* The facts that files and folders have both; all others are false. */
 static void find_common_facts(int at, struct facts *facts) {
     struct statvfs look;
     *facts = (struct facts){.longest_name = USUAL_NAME};

@@ -1,3 +1,5 @@
+/* FILE: its opening, its paths, the messages that refuse it, and the names of the files that saves make beside it. file.h says what each
+ * call promises. */
 #include "file.h"
 
 #include <errno.h>
@@ -14,25 +16,25 @@
  * END_BYTES: the length of DRAFT_END. */
 enum { MOST_LINKS = 40, OPEN_TRIES = 10, FRONT = 512, MOST_NAMES = 20000, MOST_DRAFTS = 10, END_BYTES = sizeof DRAFT_END - 1 };
 
-/* ---- looks */
+/* ---- file stamps */
 
-bool look_at(int folder, const char *name, struct look *look) {
-    memset(look, 0, sizeof *look);
-    look->is_there = fstatat(folder, name, &look->found, AT_SYMLINK_NOFOLLOW) == 0;
-    return look->is_there || errno == ENOENT;
+bool stamp_at(int folder, const char *name, struct file_stamp *stamp) {
+    memset(stamp, 0, sizeof *stamp);
+    stamp->is_there = fstatat(folder, name, &stamp->found, AT_SYMLINK_NOFOLLOW) == 0;
+    return stamp->is_there || errno == ENOENT;
 }
 
-bool look_and_open(int folder, const char *name, struct look *look, int *itself) {
-    memset(look, 0, sizeof *look);
+bool stamp_and_open(int folder, const char *name, struct file_stamp *stamp, int *itself) {
+    memset(stamp, 0, sizeof *stamp);
     *itself = open_itself(folder, name);
     if (*itself < 0) return errno == ENOENT;
-    look->is_there = fstat(*itself, &look->found) == 0;
-    if (!look->is_there) close_one(itself);
-    return look->is_there;
+    stamp->is_there = fstat(*itself, &stamp->found) == 0;
+    if (!stamp->is_there) close_one(itself);
+    return stamp->is_there;
 }
 
-bool look_again(const struct file *file, struct look *look) {
-    return look_at(file->folder, file->name, look);
+bool stamp_again(const struct file *file, struct file_stamp *stamp) {
+    return stamp_at(file->folder, file->name, stamp);
 }
 
 bool find_id(int at, struct file_id *id) {
@@ -84,6 +86,7 @@ static bool is_handed_over(const char *path) {
     return strncmp(path, "/proc/", 6) == 0 && strstr(path + 6, "/fd/");
 }
 
+/* Why a path that leads to an open descriptor is refused. */
 static const char *handed_over_cause(const char *path) {
     const char *name = strrchr(path, '/');
     bool is_input = name && (strcmp(name, "/stdin") == 0 || strcmp(name, "/0") == 0);
@@ -91,6 +94,7 @@ static const char *handed_over_cause(const char *path) {
                     : "is a descriptor that the caller opened, not a file: write its content to a file, and edit that";
 }
 
+/* The message for a folder that cannot be opened, by what stat says of it. Sets is_lost, unless there is another kind of file. */
 static const char *refuse_folder(struct file *file, const char *folder) {
     struct stat found;
     const char *name = shown(folder);
@@ -132,15 +136,17 @@ static const char *take_step(struct file *file, const char *path) {
     if (!file->is_linked) put_path(file->folder_name, "%s", folder_part);
     close_one(&file->folder);
     file->folder = folder;
-    look_and_open(folder, file->name, &file->look, &file->itself);
+    stamp_and_open(folder, file->name, &file->stamp, &file->itself);
     return NULL;
 }
 
+/* Opens FILE's folder, and follows links from there one by one, so that what is examined is what is opened. Returns the refusal, or
+ * NULL. */
 static const char *walk(struct file *file) {
     char path[PATH_MAX];
     bool is_of_folder = false;
     const char *message = take_step(file, file->typed);
-    for (int links = 0; !message && file->look.is_there && S_ISLNK(file->look.found.st_mode); links++) {
+    for (int links = 0; !message && file->stamp.is_there && S_ISLNK(file->stamp.found.st_mode); links++) {
         if (links >= MOST_LINKS) return refuse(file, "is a link in a circle of links: ls -l shows where it points");
         message = follow_link(file, path, &is_of_folder);
         if (message) break;
@@ -148,7 +154,7 @@ static const char *walk(struct file *file) {
         message = take_step(file, path);
     }
     if (message) return message;
-    if (file->look.is_there && S_ISDIR(file->look.found.st_mode)) return refuse(file, "is a folder: name a file in it");
+    if (file->stamp.is_there && S_ISDIR(file->stamp.found.st_mode)) return refuse(file, "is a folder: name a file in it");
     return is_of_folder ? refuse(file, leads_nowhere) : NULL;
 }
 
@@ -161,11 +167,12 @@ static bool open_text(struct file *file) {
     file->text = openat(file->folder, file->name, O_RDONLY | O_NONBLOCK | O_NOFOLLOW | O_CLOEXEC | O_NOCTTY);
     if (file->text < 0 && errno == EAGAIN) file->text = open(link_of(file->itself).path, O_RDONLY | O_CLOEXEC | O_NOCTTY);
     if (file->text < 0) return errno != ENOENT && errno != ELOOP && errno != ENXIO;
-    if (fstat(file->text, &opened) == 0 && is_same_file(&opened, &file->look.found)) return true;
+    if (fstat(file->text, &opened) == 0 && is_same_file(&opened, &file->stamp.found)) return true;
     close_one(&file->text);
     return false;
 }
 
+/* Sets the paths for messages and sessions, by what the open folder is called now. */
 static void name_paths(struct file *file) {
     struct stat folder, there;
     if (!path_of(file->folder, file->folder_path)) put_path(file->folder_path, "%s", file->folder_name);
@@ -180,7 +187,7 @@ static void forget_file(struct file *file, const char *typed) {
 
 /* Opens the plain file that was found. Returns false if another file has taken its place. */
 static bool open_found(struct file *file) {
-    if (!file->look.is_there) return true;
+    if (!file->stamp.is_there) return true;
     if (!open_text(file)) return false;
     find_id(file->itself, &file->id);
     find_facts(file->itself, file->folder, &file->facts);
@@ -198,7 +205,7 @@ static const char *try_to_open(struct file *file, bool *is_again) {
     if (is_handed) return refuse(file, handed_over_cause(file->typed));
     const char *message = walk(file);
     if (message) return message;
-    if (file->look.is_there && !S_ISREG(file->look.found.st_mode)) return refuse(file, no_plain);
+    if (file->stamp.is_there && !S_ISREG(file->stamp.found.st_mode)) return refuse(file, no_plain);
     find_id(file->folder, &file->folder_id);
     find_folder_facts(file->folder, &file->folder_facts);
     name_paths(file);
@@ -260,9 +267,10 @@ void close_file(struct file *file) {
 /* ---- refusals, and what is told */
 
 bool is_closed(const struct file *file) {
-    return file->look.is_there && !file->facts.readable;
+    return file->stamp.is_there && !file->facts.readable;
 }
 
+/* The message for a name that leaves no room for a draft's name; NULL if there is room. */
 static const char *refuse_long_name(const struct file *file) {
     uint64_t longest = file->folder_facts.longest_name, most = longest > END_BYTES ? longest - END_BYTES : 0;
     size_t length = strlen(file->name);
@@ -282,7 +290,7 @@ const char *refuse_access(const struct file *file, bool is_in_place) {
     if (!file->folder_facts.writable && !is_in_place)
         return text_of("you cannot write to the folder %s, so no save is possible: edit a copy elsewhere; --force opens the file anyway",
                        shown(file->folder_name));
-    if (file->look.is_there && !file->facts.writable)
+    if (file->stamp.is_there && !file->facts.writable)
         return refuse(file, "is write-protected: if it is yours, chmod u+w makes it writable; --force opens it anyway");
     return NULL;
 }
@@ -298,22 +306,25 @@ size_t draft_stem(const struct file *file) {
     return length;
 }
 
-void mark_name(const struct file *file, int number, char name[PATH_MAX + 8]) {
+void backup_name(const struct file *file, int number, char name[PATH_MAX + 8]) {
     snprintf(name, PATH_MAX + 8, number ? "%s" DRAFT_END "%d" : "%s" DRAFT_END, file->name, number);
 }
 
+/* Whether a name is that of a draft of FILE, as draft_stem and DRAFT_END make it. */
 static bool is_draft(const struct file *file, size_t stem, const char *name) {
     if (strncmp(name, file->name, stem) != 0 || name[stem] != '.') return false;
     name += stem + 1;
     return strspn(name, DRAFT_ALPHABET) == DRAFT_LETTERS && strcmp(name + DRAFT_LETTERS, DRAFT_END) == 0;
 }
 
+/* Adds a name beside FILE to a list for a message, by the path that the user has typed, unless links lead elsewhere. */
 static char *add_name(const struct file *file, char *names, const char *name) {
     const char *slash = strrchr(file->typed, '/');
     if (file->is_linked) return text_of("%s %s", names, shown(text_of("%s/%s", before_slash(file->folder_path), name)));
     return text_of("%s %s", names, shown(text_of("%.*s%s", slash ? (int)(slash - file->typed) + 1 : 0, file->typed, name)));
 }
 
+/* Adds the drafts beside FILE. Reads at most MOST_NAMES names, so that a large folder does not hold up a start. */
 static char *add_drafts(const struct file *file, char *names) {
     const char *name;
     int count = 0, drafts = 0;
@@ -330,9 +341,9 @@ static char *add_drafts(const struct file *file, char *names) {
 
 const char *leftovers_line(const struct file *file) {
     char *names = text_of("%s", ""), name[PATH_MAX + 8];
-    for (int number = 0; number < MARK_NAMES; number++) {
+    for (int number = 0; number < BACKUP_NAMES; number++) {
         struct stat found;
-        mark_name(file, number, name);
+        backup_name(file, number, name);
         if (fstatat(file->folder, name, &found, 0) == 0) names = add_name(file, names, name);
     }
     names = add_drafts(file, names);

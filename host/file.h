@@ -45,7 +45,7 @@ enum answer has_access_list(int at);
 /* ---- FILE (file.c) */
 
 /* What was at a name, the link itself if it was one. */
-struct look {
+struct file_stamp {
     bool is_there;
     struct stat found;
 };
@@ -59,7 +59,7 @@ struct file {
     /* FILE, opened by O_PATH, and opened for reading; -1 if FILE is not there, or cannot be read. */
     int itself, text;
     /* What was at the name at the opening. */
-    struct look look;
+    struct file_stamp stamp;
     /* Of FILE, if it was there, and of its folder. */
     struct file_id id, folder_id;
     struct facts facts, folder_facts;
@@ -99,10 +99,10 @@ const char *refuse_access(const struct file *file, bool is_in_place);
 enum { DRAFT_LETTERS = 8 };
 size_t draft_stem(const struct file *file);
 
-/* The mark is the file with the whole text while a save overwrites FILE. Beside FILE, MARK_NAMES names are tried for it: FILE.bx, and
+/* The backup is the file with the whole text while a save overwrites FILE. Beside FILE, BACKUP_NAMES names are tried for it: FILE.bx, and
  * FILE.bx1 to FILE.bx9. */
-enum { MARK_NAMES = 10 };
-void mark_name(const struct file *file, int number, char name[PATH_MAX + 8]);
+enum { BACKUP_NAMES = 10 };
+void backup_name(const struct file *file, int number, char name[PATH_MAX + 8]);
 
 /* The message that names files which killed saves left beside FILE; NULL if there are none. */
 const char *leftovers_line(const struct file *file);
@@ -113,14 +113,14 @@ const char *not_utf8_message(const struct file *file, unsigned long long line);
 const char *too_long_message(const struct file *file);
 
 /* Looks at a name in a folder. Returns false at a fault other than that nothing is there. */
-bool look_at(int folder, const char *name, struct look *look);
+bool stamp_at(int folder, const char *name, struct file_stamp *stamp);
 
 /* The same, and opens what is there by O_PATH, so that all later questions are about one file. `itself` is -1 if nothing is there, or
  * at a fault. */
-bool look_and_open(int folder, const char *name, struct look *look, int *itself);
+bool stamp_and_open(int folder, const char *name, struct file_stamp *stamp, int *itself);
 
 /* Looks at FILE's name now. */
-bool look_again(const struct file *file, struct look *look);
+bool stamp_again(const struct file *file, struct file_stamp *stamp);
 
 /* Whether both are the same file; whether it is also unchanged, by size, times, owner, permissions and number of names. */
 bool is_same_file(const struct stat *one, const struct stat *other);

@@ -1,3 +1,5 @@
+/* Frames between the host and the program: how the host writes and queues them, and how it tells the program's frames from other text
+ * on standard error. frames.h says what each call promises. */
 #include "frames.h"
 
 #include <errno.h>
@@ -6,6 +8,7 @@
 
 #include "util.h"
 
+/* Writes the letter and the length of a frame. */
 static void put_head(unsigned char *head, enum frame_letter letter, size_t length) {
     head[0] = (unsigned char)letter;
     head[1] = (unsigned char)(length >> 8);
@@ -95,6 +98,7 @@ static void keep_foreign(struct word_reader *reader, unsigned char byte) {
     if (reader->foreign_length < sizeof reader->foreign) reader->foreign[reader->foreign_length++] = (char)byte;
 }
 
+/* Hands on the words that are complete, in order, and keeps the rest. A byte that begins no word is other text. */
 static void hand_on(struct word_reader *reader, void (*hear)(const struct frame *, void *), void *whose) {
     size_t at = 0;
     while (at < reader->length) {

@@ -1,3 +1,5 @@
+/* Decisions about a session, by plain facts, without system calls. keep_judge.h says what each one means; their cases are in
+ * tests/host/judge_keep.c. */
 #include "keep_judge.h"
 
 #include <errno.h>

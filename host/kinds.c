@@ -1,3 +1,5 @@
+/* The kinds of terminals: how the host recognizes one, how it keeps the terminal around tmux from reordering rows, and when it warns of a
+ * terminal that reorders anyway. terminal.h says what each call promises. */
 #include "terminal.h"
 #include "util.h"
 #include "words.h"
@@ -101,6 +103,7 @@ static enum kind kind_by_answer(const char *answer) {
     return *answer == 0 && is_set("VTE_VERSION") ? VTE : OTHER_KIND;
 }
 
+/* The kind of the name that a terminal gives itself. */
 static enum kind kind_by_name(const char *name) {
     static const struct {
         const char *name;
@@ -133,6 +136,7 @@ static enum kind kind_by_variables(void) {
     return count == 0 && strcmp(value_of("WINDOWID"), "0") == 0 && is_started_with("qterminal") ? QTERMINAL : OTHER_KIND;
 }
 
+/* The kind of terminal. In GNU screen nothing can be known of it, and within tmux only what tmux answers. */
 static enum kind find_kind(const char *answer_to_tmux) {
     const char *term = value_of("TERM");
     if (is_set("TMUX")) return kind_by_answer(answer_to_tmux);
@@ -198,12 +202,14 @@ static bool reorders_in_konsole(void) {
            !files_have("/usr/share/konsole", ".profile", off);
 }
 
+/* Whether the user has told mlterm not to reorder, in its files or on its command line. */
 static bool reorders_not_in_mlterm(void) {
     static const char off[] = "use_ctl=false";
     char own[PATH_MAX];
     return file_has(own_path(own, "", ".mlterm", "main"), off) || file_has("/etc/mlterm/main", off) || is_started_with("--ctl=false");
 }
 
+/* Sets the sequences that keep the terminal from reordering, and that let it reorder again if it did before. */
 static void find_reordering(struct terminal_kind *found) {
     found->off = found->on = "";
     if (found->kind == KONSOLE) {
@@ -215,6 +221,7 @@ static void find_reordering(struct terminal_kind *found) {
     }
 }
 
+/* Warns that the terminal reverses words, and names the line of a setting that prevents it. */
 static void tell_setting(const char *terminal, const char *file, const char *wanted) {
     char text[256];
     int length = snprintf(text, sizeof text, "bidi-edit: %s shows right-to-left words reversed: the line '%s' in its %s prevents that\n", terminal,
@@ -236,6 +243,7 @@ static void tell_mirroring(enum kind kind) {
     }
 }
 
+/* Becomes a tmux that prints the device and the name of the terminal around it. */
 static _Noreturn void become_tmux(int out) {
     /* a client in control mode is a program that reads tmux's protocol, so it does not count */
     static char *const words[] = {"tmux", "display-message", "-p", "#{?client_control_mode,,#{client_tty} #{client_termtype}}", NULL};
@@ -246,6 +254,7 @@ static _Noreturn void become_tmux(int out) {
     _exit(127);
 }
 
+/* Reads what tmux prints, for at most TMUX_MS. Returns the bytes that were read. */
 static size_t read_tmux(int file, char *answer, size_t room) {
     int64_t end = now() + TMUX_MS;
     size_t length = 0;

@@ -29,6 +29,7 @@ static void open_standard_files(void) {
     if (file >= 0) close(file);
 }
 
+/* Cuts the last name off a path; returns false at the root. */
 static bool go_up(char *path) {
     char *slash = strrchr(path, '/');
     if (!slash || strcmp(path, "/") == 0) return false;
@@ -40,6 +41,7 @@ static char *below(const char *folder, const char *name) {
     return text_of("%s/%s", before_slash(folder), name);
 }
 
+/* Finds what belongs to this executable, by the executable's own path: the programs and tables of a checkout, or of an installation. */
 static bool find_programs(struct programs *programs) {
     static const char built[] = "/host/out";
     char top[PATH_MAX];
@@ -94,6 +96,7 @@ static const char *check_text(const struct file *file) {
     return count == 0 && valid < length ? not_utf8_message(file, text_line) : NULL;
 }
 
+/* The message that refuses FILE's text for printing; NULL if it may be printed. Files of other kinds are not looked into. */
 static const char *check_plain(const char *typed) {
     static struct file file;
     struct stat look;
@@ -106,6 +109,7 @@ static const char *check_plain(const char *typed) {
     return refusal;
 }
 
+/* The columns of a printed row, if the user gives none: those of standard output, if that is a terminal. */
 static unsigned terminal_columns(void) {
     struct winsize window = {0};
     if (ioctl(STDOUT_FILENO, TIOCGWINSZ, &window) != 0 || window.ws_col == 0) return USUAL_COLUMNS;
@@ -138,6 +142,7 @@ static int print_file(const struct call *call, const struct programs *programs) 
 
 /* ---- what a command line asks for */
 
+/* Refuses to start where no screen can be made. Returns GO_ON or the exit status. */
 static int check_terminal(void) {
     const char *name = getenv("TERM");
     if (name && strcmp(name, "dumb") == 0) {
@@ -163,6 +168,7 @@ static int run_editor(struct edit *edit, bool is_taken) {
     return status == GO_ON ? run_session(edit) : status;
 }
 
+/* A start with FILE: FILE's checks, a terminal, FILE's earlier sessions, and then the program. After a question FILE is checked anew. */
 static int edit_file(struct edit *edit) {
     int status = check_file(edit, edit->call->file);
     if (status == GO_ON) status = check_terminal();
@@ -176,6 +182,7 @@ static int edit_file(struct edit *edit) {
     return status == GO_ON ? run_editor(edit, false) : status;
 }
 
+/* A start with --recover: the session is taken without asking which; with --to its text is only stored. */
 static int edit_recovered(struct edit *edit) {
     bool is_taken = false;
     if (edit->call->other) return store_session(edit);
@@ -194,6 +201,7 @@ static void tell_variables(void) {
     if (temporary && strlen(temporary) >= PATH_MAX) warn("TMPDIR is ignored, since its %zu bytes are too many for a path", strlen(temporary));
 }
 
+/* Finds the tables and what a replay depends on, which all starts that open FILE need, and starts. */
 static int edit_by(const struct call *call, const struct programs *programs) {
     static struct edit edit;
     const char *cause = find_tables(&edit.tables, programs->tables);
@@ -216,6 +224,7 @@ static int edit_by(const struct call *call, const struct programs *programs) {
     return call->kind == CALL_EDIT ? edit_file(&edit) : edit_recovered(&edit);
 }
 
+/* What the file kit says of the toolchain that built the programs; NULL without that file. */
 static const char *noted_toolchain(const char *kit) {
     char words[256];
     FILE *stream = fopen(kit, "re");
@@ -225,6 +234,7 @@ static const char *noted_toolchain(const char *kit) {
     return is_noted ? text_of("%.*s", (int)strcspn(words, "\n"), words) : NULL;
 }
 
+/* Prints the versions of the editor, of its toolchain and of Unicode's tables. */
 static int tell_version(const struct programs *programs) {
     struct tables tables;
     const char *cause = find_tables(&tables, programs->tables);
@@ -236,6 +246,7 @@ static int tell_version(const struct programs *programs) {
     return 0;
 }
 
+/* Does what the command line asks for. Returns the exit status. */
 static int obey(const struct call *call, const struct programs *programs) {
     switch (call->kind) {
     case CALL_HELP: put_text(STDOUT_FILENO, help_text); return 0;
@@ -249,6 +260,7 @@ static int obey(const struct call *call, const struct programs *programs) {
     return edit_by(call, programs);
 }
 
+/* Reads the command line and obeys it. A fault of standard output, which may be a full disk, makes a success a fault. */
 static int obey_words(int count, char **words, const struct programs *programs) {
     struct call call;
     const char *cause;

@@ -1,3 +1,5 @@
+/* The parts of a session, which are the files in its folder: how each is read, written and removed, and the facts that they give.
+ * session.h and parts.h say what each call promises. */
 #include "parts.h"
 
 #include <errno.h>
@@ -19,9 +21,9 @@ const char *part_name(enum part part) {
         [PART_TEXT] = "text",         [PART_PATH] = "path",         [PART_OPENED] = "opened",     [PART_BESIDE] = "beside",
         [PART_BEGIN] = "begin",       [PART_PROCESS] = "process",   [PART_MODE] = "mode",         [PART_VERSIONS] = "versions",
         [PART_JOURNAL] = "journal",   [PART_LOCK] = "lock",         [PART_DROPPED] = "dropped",   [PART_CUT] = "cut",
-        [PART_UNSAVED] = "unsaved",   [PART_UNJOINED] = "unjoined", [PART_SNAPSHOT] = "snapshot", [PART_MARK] = MARK_NAME,
-        [PART_MARK_DRAFT] = MARK_DRAFT_NAME, [PART_PLACE] = "place",      [PART_SAVE] = "save",         [PART_FILE] = "file",
-        [PART_SECRET] = "secret",
+        [PART_UNSAVED] = "unsaved",   [PART_UNJOINED] = "unjoined", [PART_SNAPSHOT] = "snapshot", [PART_PLACE] = "place",
+        [PART_SAVE] = "save",         [PART_FILE] = "file",         [PART_SECRET] = "secret",     [PART_BACKUP] = BACKUP_NAME,
+        [PART_BACKUP_DRAFT] = BACKUP_DRAFT_NAME,
     };
     return names[part];
 }
@@ -49,6 +51,7 @@ static int sync_part(int file, bool is_needed) {
     return 0;
 }
 
+/* Creates a part, all or nothing: after a fault its name is gone. */
 static int write_new(int folder, const char *name, const void *bytes, size_t size, bool is_needed) {
     int file = part_open(folder, name, O_WRONLY | O_CREAT | O_EXCL);
     if (file < 0) return errno;
@@ -225,6 +228,7 @@ uint64_t session_kilobytes(const struct session *session) {
     return (blocks + 1) / 2;
 }
 
+/* For read_pieces: counts the keys in a piece of the journal. `count` is the struct key_count. */
 static void count_piece(void *count, const char *bytes, size_t size) {
     count_more(count, bytes, size);
 }
@@ -257,7 +261,7 @@ bool session_has_keys(const struct session *session) {
 }
 
 bool session_has_something(const struct session *session) {
-    return session_has_keys(session) || session_has(session, PART_UNSAVED) || session_has(session, PART_MARK);
+    return session_has_keys(session) || session_has(session, PART_UNSAVED) || session_has(session, PART_BACKUP);
 }
 
 bool session_process(const struct session *session, struct process *process) {

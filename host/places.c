@@ -1,4 +1,5 @@
-#include <errno.h>
+/* The folders of sessions: where FILE's sessions are kept, and which other folders may have sessions of the user. session.h says what each
+ * call promises. */
 #include <fcntl.h>
 #include <mntent.h>
 #include <pwd.h>
@@ -9,8 +10,7 @@
 #include <unistd.h>
 
 #include "file.h"
-#include "session.h"
-#include "util.h"
+#include "parts.h"
 
 /* The name of the folder of sessions in the user's state folder; the folder in memory that nearly every system has. */
 #define OWN_NAME "bidi_edit"
@@ -34,117 +34,6 @@ static int open_nearest(const char *path) {
         if (end == above) return open_folder(AT_FDCWD, "/");
         *end = '\0';
     }
-}
-
-/* Opens the folder above an open one. AT_ROOT: there is none. UNSEEN: it cannot be examined. */
-enum { UNSEEN = -1, AT_ROOT = -2 };
-static int open_above(int folder, struct stat *found) {
-    struct stat below;
-    int above = open_folder(folder, "..");
-    if (above < 0) return UNSEEN;
-    int refused = UNSEEN;
-    if (fstat(folder, &below) == 0 && fstat(above, found) == 0) {
-        if (!is_same_file(&below, found)) return above;
-        refused = AT_ROOT;
-    }
-    close(above);
-    return refused;
-}
-
-/* ---- one folder, judged */
-
-static void fail_with(struct sessions *sessions, int error) {
-    sessions->state = error == ENOENT ? FOLDER_MISSING : FOLDER_UNUSABLE;
-    sessions->error = error;
-}
-
-/* Looks at an open folder and all above it for one that another user could change. The topmost such folder is the one that is named. */
-static void judge_above(struct sessions *sessions, int folder) {
-    struct stat found;
-    int above = open_folder(folder, ".");
-    if (above >= 0 && fstat(above, &found) != 0) {
-        close(above);
-        above = UNSEEN;
-    }
-    while (above >= 0) {
-        if (!is_safe_above(found.st_uid, found.st_mode, sessions->user)) {
-            sessions->state = FOLDER_DISTRUSTED;
-            if (!path_of(above, sessions->distrusted)) put_path(sessions->distrusted, "%s", sessions->path);
-        }
-        int next = open_above(above, &found);
-        close(above);
-        above = next;
-    }
-    /* a folder that cannot be examined could be another user's */
-    if (above == UNSEEN && sessions->state == FOLDER_READY) fail_with(sessions, EACCES);
-}
-
-static void judge_at(struct sessions *sessions, int above, const char *name) {
-    struct stat found;
-    char real[PATH_MAX];
-    int folder = openat(above, name, O_PATH | O_NOFOLLOW | O_CLOEXEC);
-    if (folder < 0) {
-        fail_with(sessions, errno);
-        return;
-    }
-    if (path_of(above, real)) put_path(sessions->path, "%s/%s", before_slash(real), name);
-    if (fstat(folder, &found) != 0 || !S_ISDIR(found.st_mode) || !is_private(found.st_uid, found.st_mode, sessions->user)) {
-        sessions->state = FOLDER_DISTRUSTED;
-        memcpy(sessions->distrusted, sessions->path, sizeof sessions->distrusted);
-    } else {
-        sessions->state = FOLDER_READY;
-        judge_above(sessions, above);
-    }
-    if (sessions->state == FOLDER_READY) {
-        sessions->folder = openat(folder, ".", O_RDONLY | O_DIRECTORY | O_CLOEXEC);
-        if (sessions->folder < 0) fail_with(sessions, EACCES);
-    }
-    close(folder);
-}
-
-static void sessions_judge(struct sessions *sessions) {
-    char above[PATH_MAX];
-    put_path(above, "%s", sessions->path);
-    char *name = strrchr(above, '/');
-    if (!name || !name[1]) {
-        fail_with(sessions, EINVAL);
-        return;
-    }
-    *name++ = '\0';
-    int folder = open_folder(AT_FDCWD, above[0] ? above : "/");
-    if (folder < 0) {
-        fail_with(sessions, errno);
-        return;
-    }
-    judge_at(sessions, folder, name);
-    close(folder);
-}
-
-/* Creates a folder and those above it. Returns 0 if the folder exists in the end, otherwise the first fault. */
-static int make_folders(char *path) {
-    int first = 0;
-    for (char *end = path; end;) {
-        end = strchr(end + 1, '/');
-        if (end) *end = '\0';
-        int error = mkdir(path, FOLDER_MODE) == 0 || errno == EEXIST ? 0 : errno;
-        if (end) *end = '/';
-        /* for a folder that exists, the system may say first that the folder above cannot be written */
-        if (first == 0) first = error;
-        if (!end) return error ? first : 0;
-    }
-    return 0;
-}
-
-bool sessions_make(struct sessions *sessions) {
-    if (sessions->state != FOLDER_MISSING) return sessions->state == FOLDER_READY;
-    int error = make_folders(sessions->path);
-    if (error == 0) sessions_judge(sessions);
-    /* it was removed meanwhile, or could not be made */
-    if (sessions->state == FOLDER_MISSING) {
-        sessions->state = FOLDER_UNUSABLE;
-        sessions->error = error ? error : ENOENT;
-    }
-    return sessions->state == FOLDER_READY;
 }
 
 void sessions_close(struct sessions *sessions) {
@@ -199,6 +88,7 @@ static int temporary_above(int folder) {
     return first < TEMPORARY ? first : -1;
 }
 
+/* How long the files in a folder stay. Sets `temporary`, the number of the folder for temporary files that it lies in, or -1. */
 static enum stay stay_of(int folder, int *temporary) {
     if (is_in_memory(folder)) return IN_MEMORY;
     *temporary = temporary_above(folder);
@@ -212,11 +102,13 @@ static bool own_folder_in(const char *folder, char path[PATH_MAX]) {
     return put_path(path, "%.*s/%s.%u", (int)length, folder, OWN_NAME, (unsigned)geteuid());
 }
 
+/* The path of the user's folder of sessions in an open folder. */
 static bool own_folder_at(int folder, const char *name, char path[PATH_MAX]) {
     char real[PATH_MAX];
     return own_folder_in(path_of(folder, real) ? real : name, path);
 }
 
+/* The path of the user's own folder in a folder for temporary files, which the user shares with others. */
 static bool own_folder_in_temporary(int at, char path[PATH_MAX]) {
     const char *folders[TEMPORARY];
     list_temporary(folders);
@@ -234,10 +126,12 @@ bool is_state_home_relative(void) {
     return state && state[0] != '/';
 }
 
+/* The path of the folder of sessions in a home folder. */
 static bool below_home(const char *home, char path[PATH_MAX]) {
     return put_path(path, "%s/.local/state/%s", home, OWN_NAME);
 }
 
+/* Whether the nearest existing folder of a path belongs to another user, or cannot be examined. */
 static bool is_of_another(const char *path) {
     struct stat found;
     int folder = open_nearest(path);
@@ -263,6 +157,7 @@ static bool state_folder(char path[PATH_MAX]) {
 
 /* ---- folders in memory */
 
+/* The folder in memory: the user's own, or that of the system. */
 static const char *runtime_folder(void) {
     const char *runtime = variable("XDG_RUNTIME_DIR");
     return runtime ? runtime : SHARED_MEMORY;
@@ -308,6 +203,8 @@ static bool memory_folder(int folder_of_file, char path[PATH_MAX]) {
 
 /* ---- which folder is a file's */
 
+/* Where the sessions of a file are kept: in the state folder, or where FILE is, if files there are forgotten sooner than in the state
+ * folder. So no copy of a text outlasts FILE. */
 static bool find_place(int folder_of_file, char path[PATH_MAX]) {
     int temporary_of_state = -1, temporary = -1;
     bool has_state = state_folder(path);
@@ -323,6 +220,7 @@ static bool find_place(int folder_of_file, char path[PATH_MAX]) {
     return has_state;
 }
 
+/* No folder of sessions yet. */
 static void sessions_clear(struct sessions *sessions) {
     *sessions = (struct sessions){.state = FOLDER_NOWHERE, .folder = -1, .user = geteuid()};
 }
@@ -340,6 +238,7 @@ struct list {
     size_t count;
 };
 
+/* Whether a folder is in the list already, perhaps under another path, so that no session is listed twice. */
 static bool is_listed(const struct list *list, const struct sessions *sessions) {
     struct stat found, other;
     for (size_t at = 0; at < list->count; at++) {
@@ -351,6 +250,7 @@ static bool is_listed(const struct list *list, const struct sessions *sessions) 
     return false;
 }
 
+/* Adds the folder at a path, if it may have sessions and is not in the list. Without memory it is left out. */
 static void add_folder(struct list *list, const char *path) {
     struct sessions sessions;
     sessions_clear(&sessions);
@@ -367,11 +267,13 @@ static void add_folder(struct list *list, const char *path) {
     list->all[list->count++] = sessions;
 }
 
+/* Adds the user's folder of sessions in a folder that others may use too. */
 static void add_own_folder_in(struct list *list, const char *folder) {
     char path[PATH_MAX];
     if (folder && own_folder_in(folder, path)) add_folder(list, path);
 }
 
+/* Adds the places where find_place puts sessions, but for those in memory. */
 static void add_state_and_temporary(struct list *list) {
     char path[PATH_MAX];
     const char *folders[TEMPORARY];

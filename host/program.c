@@ -1,3 +1,5 @@
+/* The program as a child of the host: its pipes, its arguments, its start, and what it says. run.c starts it in the terminal, ending.c
+ * without one. run.h says what each call promises. */
 #include "run.h"
 
 #include <errno.h>
@@ -28,6 +30,7 @@ void close_pipes(struct pipes *pipes) {
     close_one(&pipes->answers);
 }
 
+/* Opens a pipe. O_CLOEXEC: the program gets only the ends that are handed on. */
 static bool open_pipe(int *reading, int *writing) {
     int ends[2];
     if (pipe2(ends, O_CLOEXEC) != 0) return false;
@@ -60,11 +63,14 @@ static bool add_words(char *all[OWN_WORDS + WORDS_MOST + 2], size_t count, char 
     return true;
 }
 
+/* In the child: lets the program keep the open files that its command line names. */
 static void hand_on_files(const struct run *run) {
     for (size_t i = 0; i < run->handed_count; i++)
         if (run->handed[i] >= 0) fcntl(run->handed[i], F_SETFD, 0);
 }
 
+/* Becomes the program: the last step of both ways to start it. `mask` is added to the umask. A fault goes to the pipe of standard error,
+ * and the host shows it at its end (tell_foreign). */
 static _Noreturn void become(char *const *words, mode_t mask) {
     umask(umask(0) | mask);
     give_back_signals();
@@ -87,6 +93,8 @@ static _Noreturn void become_program(const struct run *run, const struct pipes *
     become(words, (mode_t)run->mask);
 }
 
+/* The host's own arguments come first, and those of the run after them, since FILE has to be the last one. OWN_WORDS is the number of the
+ * host's own; --clipboard stays the last of these. */
 pid_t start_program(const struct run *run, const struct pipes *ends, unsigned rows, unsigned columns) {
     char saves[32], side[2][16], erase[4], *words[OWN_WORDS + WORDS_MOST + 2];
     snprintf(saves, sizeof saves, "%d,%d", ends->requests, ends->answers);
@@ -158,6 +166,7 @@ static _Noreturn void become_aside(const struct run *run, char *const *words, in
     become(words, (mode_t)run->mask);
 }
 
+/* Reads what the program says until its end, until the time `end`, or until a signal's last moment. */
 static void hear_aside(struct run *run, int words, int64_t end) {
     struct word_reader reader = {.length = 0};
     struct pollfd wanted = {.fd = words, .events = POLLIN};

@@ -1,4 +1,5 @@
-/* Sessions that earlier starts left of FILE: questions about them, their replay, and how one is continued or stored as another file. */
+/* Sessions that earlier starts left of FILE: questions about them, their replay, and how one is continued or stored as another file.
+ * edit.h says what each call promises. */
 #include <errno.h>
 #include <fcntl.h>
 #include <stdlib.h>
@@ -80,6 +81,7 @@ static int keep_parts(struct session *session, const char *typed) {
     return GO_ON;
 }
 
+/* Tells that a session cannot go on where it is, and how its text can be had all the same. Returns the exit status. */
 static int tell_unwritable(const struct edit *edit, int error) {
     warn("nothing can be written in %s%s. To store the text elsewhere: bidi-edit --recover --to OTHER %s", shown(edit->sessions.path),
          fault_words(error), shown(edit->call->file));
@@ -94,7 +96,7 @@ static void tell_cut(const struct session *session) {
 /* Decides which file the recovered text is saved to: FILE, or a new file beside FILE if another program has changed FILE. */
 static int settle_file(struct edit *edit, enum replayed found) {
     const char *typed = edit->call->file;
-    if (found != REPLAY_FOREIGN || !edit->file.look.is_there) {
+    if (found != REPLAY_FOREIGN || !edit->file.stamp.is_there) {
         /* the usual opening refuses a FILE whose folder is gone */
         if (edit->file.is_lost) return find_file(edit, typed, false);
         return check_access(edit);
@@ -108,6 +110,7 @@ static int settle_file(struct edit *edit, enum replayed found) {
     return status;
 }
 
+/* Whether the path that the session noted is FILE's present one. */
 static bool is_of_path(const struct edit *edit, const struct session *session) {
     char *path = session_note(session, PART_PATH);
     bool is_same = path && strcmp(path, edit->file.path) == 0;
@@ -127,6 +130,7 @@ static enum outcome go_on_with(struct edit *edit, struct session *session, enum 
     return OUTCOME_TAKEN;
 }
 
+/* Removes a session of which FILE has all, and has FILE opened. */
 static enum outcome end_where_same(const struct edit *edit, struct session *session) {
     tell("%s already contains everything that was typed in its last session", shown(edit->file.typed));
     session_remove(session);
@@ -146,6 +150,7 @@ static int tell_failed_replay(const struct edit *edit, const struct session *ses
     return STATUS_FAULT;
 }
 
+/* Recovers a session by replaying its keys over its text. What FILE has by the replay decides how it goes on. */
 static enum outcome take_by_keys(struct edit *edit, struct session *session, int *status) {
     int text;
     enum replayed found = replay(edit, session, &text, 0);
@@ -172,6 +177,8 @@ static enum outcome take_by_text(struct edit *edit, struct session *session, int
     return outcome;
 }
 
+/* Recovers a session that is locked. First FILE is repaired from its backup; then its keys are trusted only if editor and tables are the
+ * same. */
 static enum outcome take_locked(struct edit *edit, struct session *session, int *status) {
     struct mending mending;
     bool is_mended = session_mend(session, &edit->sessions, &edit->target, &mending) == 0;
@@ -186,6 +193,7 @@ static enum outcome take_locked(struct edit *edit, struct session *session, int 
     return end_with(status, STATUS_NO);
 }
 
+/* Locks a session and recovers it. MISSED: another start was faster, and the caller asks again. */
 static enum outcome take_over(struct edit *edit, struct session *session, int *status) {
     switch (session_lock(session, PART_PATH)) {
     case LOCK_TAKEN: return take_locked(edit, session, status);
@@ -237,6 +245,7 @@ static enum outcome delete_session(const struct edit *edit, struct session *sess
     return OUTCOME_MISSED;
 }
 
+/* Asks about an unfinished session, and does what the user chooses. */
 static enum outcome ask_what_to_do(struct edit *edit, struct session *session, int *status) {
     tell("%s has an unfinished session from %s (keys typed: %zu)", shown(edit->file.typed), time_text(session), session_count_keys(session));
     switch (ask_choice()) {
@@ -284,6 +293,7 @@ static struct session *pick(struct found *found, bool *is_elsewhere) {
     return session_is_none(&found->elsewhere) ? NULL : &found->elsewhere;
 }
 
+/* Asks whether a process of another machine has ended, which no lock can tell from here. */
 static bool ask_of_elsewhere(const struct edit *edit, const struct session *session) {
     const char *machine = machine_text(session);
     tell("the session of %s began on %s (process %s), which cannot be checked from here. Recover it only if that process has ended.",
@@ -291,12 +301,14 @@ static bool ask_of_elsewhere(const struct edit *edit, const struct session *sess
     return ask_to_go_on("Has it ended");
 }
 
+/* Finds FILE's sessions; returns GO_ON or the exit status. */
 static int find_sessions(struct edit *edit, struct found *found) {
     int error = sessions_of(found, &edit->sessions, &edit->target);
     if (error != 0) warn("%s cannot be read: %s", shown(edit->sessions.path), strerror(error));
     return error != 0 ? STATUS_FAULT : GO_ON;
 }
 
+/* For --recover: picks a session and takes it over, after the questions that only the user can answer. */
 static enum outcome recover_found(struct edit *edit, struct found *found, int *status) {
     bool is_elsewhere;
     struct session *session = pick(found, &is_elsewhere);
@@ -340,6 +352,7 @@ static int text_to_store(struct edit *edit, const struct session *session) {
     return text;
 }
 
+/* Writes a session's text to a new file, never over one that exists. Returns the exit status. */
 static int store(struct edit *edit, const struct session *session) {
     const char *other = edit->call->other;
     int text = text_to_store(edit, session);

@@ -1,3 +1,5 @@
+/* A run of the program in the terminal: the loop that waits for typed bytes, frames, saves and signals, and serves each without waiting
+ * for a disk. run.h says what each call promises. */
 #include "run.h"
 
 #include <errno.h>
@@ -69,11 +71,13 @@ bool was_typed(void) {
     return is_typed;
 }
 
+/* Reads the program's frames, and closes the pipe at its end. */
 static void hear_words(struct run *run) {
     if (now_running.pipes.words < 0 || read_words_of(run, &now_running.reader, now_running.pipes.words)) return;
     close_one(&now_running.pipes.words);
 }
 
+/* Notes which children have ended. The end of a saver ends its save: it is answered, or if it was killed, the rest of it is dropped. */
 static void reap(struct run *run) {
     int status = 0;
     if (now_running.program > 0 && waitpid(now_running.program, &now_running.program_status, WNOHANG) == now_running.program) {
@@ -101,6 +105,7 @@ static void mind_dropped(struct run *run) {
     if (run->on_saved) run->on_saved(run->whose);
 }
 
+/* Starts a child for the save that the program begins, unless a killed save's rest is still being dropped. */
 static void mind_request(struct run *run) {
     int waiting = 0;
     /* without bytes this is the end of the program, not a request */
@@ -117,6 +122,7 @@ static void mind_request(struct run *run) {
     else now_running.dropped = now() + SILENCE_MS;
 }
 
+/* Whether the terminal is read now: not while the queue is full, but always during an end, for which what is typed is dropped. */
 static bool takes_typing(void) {
     return !now_running.is_hung_up && (now_running.end != 0 || queue_length(&now_running.queue) < TYPED_MOST);
 }
@@ -142,6 +148,7 @@ static void read_typing(struct run *run) {
     now_running.is_typed = true;
 }
 
+/* Closes the program's input, which asks it to end. From then on no size is owed to it, and no pause. */
 static void close_input(void) {
     close_one(&now_running.pipes.keys);
     now_running.is_size_owed = false;
@@ -180,6 +187,7 @@ static void mind_size(void) {
     now_running.is_size_owed = !put_frame(&now_running.queue, FRAME_SIZE, bytes, sizeof bytes);
 }
 
+/* Sets the terminal again after a stop, and owes the program a size then and after a resize, so that it paints anew. */
 static void mind_terminal(void) {
     bool is_input = now_running.pipes.keys >= 0;
     if (is_input && is_continued) take_up_screen();
@@ -258,6 +266,7 @@ static void mind_second(struct run *run) {
     if (is_read && queue_length(&now_running.queue) == 0) give_notice(NOTICE_NONE);
 }
 
+/* Writes what the program takes. A program that reads no more gets no more. */
 static void mind_queue(void) {
     if (now_running.pipes.keys >= 0 && !write_queue(&now_running.queue, now_running.pipes.keys)) close_input();
 }

@@ -1,3 +1,5 @@
+/* One save of FILE: the child that serves it, from the program's BEGIN frame to the answer, and what the host learns of it. save.h and
+ * saving.h say what each call promises. */
 #include "saving.h"
 
 #include <errno.h>
@@ -19,40 +21,43 @@ enum { FOLDER_LOCK_TRIES = 50, LOCK_MS = 10 };
 
 /* ---- FILE and its folder, as they are now */
 
-static void note(struct save *save, const struct look *now, int itself) {
+/* Takes what is at FILE's name for what was seen last. Only a plain file is also noted as the one whose owner and mode a new file gets. */
+static void note(struct save *save, const struct file_stamp *now, int itself) {
     save->state.seen = *now;
-    save->state.is_distrusted = false;
+    save->state.is_assumed_changed = false;
     if (!now->is_there || !S_ISREG(now->found.st_mode)) return;
     save->state.old = *now;
     save->state.is_old_plain = has_access_list(itself) == NO;
 }
 
 /* Notes what is at FILE's name in a folder. */
-static void look_and_note(struct save *save, int folder) {
-    struct look now;
+static void stamp_and_note(struct save *save, int folder) {
+    struct file_stamp now;
     int itself;
-    if (look_and_open(folder, save->file->name, &now, &itself)) note(save, &now, itself);
+    if (stamp_and_open(folder, save->file->name, &now, &itself)) note(save, &now, itself);
     close_one(&itself);
 }
 
 /* Looks at FILE's name, and opens what is there. Returns 0, or the cause why the save must not go on. Sets `is_there`: FILE exists,
  * and is as it was last seen. */
-static int look_now(struct save *save, int *itself) {
-    struct look now;
-    if (!look_and_open(save->folder, save->file->name, &now, itself)) return cause_of(errno);
-    enum look_verdict verdict = judge_look(&save->state.seen, &now, save->state.is_distrusted);
-    save->is_there = verdict == LOOK_SAME;
-    if (verdict == LOOK_NOT_PLAIN) return SAVE_NOT_PLAIN;
-    if (verdict != LOOK_CHANGED) return 0;
+static int stamp_now(struct save *save, int *itself) {
+    struct file_stamp now;
+    if (!stamp_and_open(save->folder, save->file->name, &now, itself)) return cause_of(errno);
+    enum stamp_verdict verdict = judge_stamp(&save->state.seen, &now, save->state.is_assumed_changed);
+    save->is_there = verdict == STAMP_SAME;
+    if (verdict == STAMP_NOT_PLAIN) return SAVE_NOT_PLAIN;
+    if (verdict != STAMP_CHANGED) return 0;
     note(save, &now, *itself);
     return SAVE_CHANGED;
 }
 
+/* Whether an open folder is this one. */
 static bool is_folder_at(int folder, dev_t device, ino_t inode) {
     struct stat found;
     return fstat(folder, &found) == 0 && found.st_dev == device && found.st_ino == inode;
 }
 
+/* Opens the folder that is now at the path of FILE's folder. */
 static int open_folder_path(const struct save *save) {
     return open_folder(AT_FDCWD, save->file->folder_path);
 }
@@ -71,6 +76,7 @@ static bool adopt(struct save *save, int folder) {
     return true;
 }
 
+/* Finds FILE's folder by its path, after it was removed, and adopts the new one. Returns false if there is none. */
 static bool find_folder_again(struct save *save) {
     int folder = open_folder_path(save);
     if (folder < 0) return false;
@@ -111,13 +117,14 @@ static int check_place(struct save *save) {
     if (folder < 0) return errno == ENOENT || errno == ENOTDIR || errno == ELOOP ? SAVE_FOLDER_GONE : 0;
     bool is_same = fstat(folder, &there) == 0 && fstat(save->folder, &own) == 0 && is_same_file(&there, &own);
     bool is_new = !is_same && adopt(save, folder);
-    if (is_new) look_and_note(save, folder);
+    if (is_new) stamp_and_note(save, folder);
     else close(folder);
     return is_same ? 0 : is_new ? SAVE_CHANGED : SAVE_FOLDER_GONE;
 }
 
 /* ---- the beginning */
 
+/* Why FILE cannot be replaced now, by fresh facts: another program may have changed them since the last save. */
 static enum reason find_reason(struct save *save, int itself) {
     struct facts facts, of_folder;
     find_facts(itself, save->folder, &facts);
@@ -126,31 +133,33 @@ static enum reason find_reason(struct save *save, int itself) {
     return find_in_place(&facts, &save->state.seen, &of_folder);
 }
 
+/* Decides whether this save overwrites FILE. Returns 0, or the cause for which it cannot be made at all. */
 static int settle_way(struct save *save, int itself) {
     const struct saver *saver = save->saver;
     save->is_in_place = save->is_listless = false;
     if (!save->is_there || !S_ISREG(save->state.seen.found.st_mode)) return 0;
     enum reason reason = find_reason(save, itself);
-    bool is_itself = save->state.is_held || (saver->is_itself && !save->state.is_replaced);
-    save->is_in_place = saver->mark_folder >= 0 || is_itself || reason != NO_REASON;
-    /* without a session there is no place for a mark, since nothing can be created beside FILE */
-    return reason == REASON_PROTECTED && saver->mark_folder < 0 ? SAVE_NOT_PERMITTED : 0;
+    bool is_itself = save->state.is_overwritten_in_place || (saver->is_itself && !save->state.is_replaced);
+    save->is_in_place = saver->backup_folder >= 0 || is_itself || reason != NO_REASON;
+    /* without a session there is no place for a backup, since nothing can be created beside FILE */
+    return reason == REASON_PROTECTED && saver->backup_folder < 0 ? SAVE_NOT_PERMITTED : 0;
 }
 
 /* Opens the draft. A FILE that did not exist gets the usual mode, reduced by the user's umask. */
 static int open_draft(struct save *save) {
-    int mark_folder = save->saver->mark_folder;
+    int backup_folder = save->saver->backup_folder;
     mode_t mode = save->is_in_place || save->state.old.is_there ? 0600 : 0666;
-    if (save->is_in_place && mark_folder >= 0) {
-        /* FILE may be torn, and need the mark that exists */
-        if (faccessat(mark_folder, MARK_NAME, F_OK, AT_SYMLINK_NOFOLLOW) == 0) save->state.is_torn = true;
-        return draft_open_own(&save->draft, mark_folder, MARK_DRAFT_NAME, mode);
+    if (save->is_in_place && backup_folder >= 0) {
+        /* FILE may be torn, and need the backup that exists */
+        if (faccessat(backup_folder, BACKUP_NAME, F_OK, AT_SYMLINK_NOFOLLOW) == 0) save->state.is_torn = true;
+        return draft_open_own(&save->draft, backup_folder, BACKUP_DRAFT_NAME, mode);
     }
     return draft_open(&save->draft, save->file, save->folder, mode, true);
 }
 
+/* Begins a save in the folder that is open: looks at FILE, decides the way, and opens the draft. */
 static int begin_here(struct save *save) {
-    int itself, cause = look_now(save, &itself);
+    int itself, cause = stamp_now(save, &itself);
     if (cause == 0) cause = settle_way(save, itself);
     close_one(&itself);
     return cause == 0 ? cause_of(open_draft(save)) : cause;
@@ -183,14 +192,15 @@ static void note_replaced(struct save *save, const struct stat *before) {
     struct state *state = &save->state;
     int file = save->draft.file;
     state->seen.is_there = fstat(file, &state->seen.found) == 0;
-    state->is_distrusted = !state->seen.is_there || !has_same_text(&state->seen.found, before);
+    state->is_assumed_changed = !state->seen.is_there || !has_same_text(&state->seen.found, before);
     state->old = state->seen;
     state->is_old_plain = has_access_list(file) == NO;
-    state->is_held = false;
+    state->is_overwritten_in_place = false;
     state->is_replaced = true;
     state->has_id = find_id(file, &state->id);
 }
 
+/* Puts the draft at FILE's name. If what was there is gone meanwhile, it is created there instead. */
 static enum placed place(struct save *save) {
     struct draft *draft = &save->draft;
     if (!save->is_there) return draft_create(draft, save->file->name);
@@ -200,14 +210,15 @@ static enum placed place(struct save *save) {
     return placed == PLACE_OTHER ? draft_create(draft, save->file->name) : placed;
 }
 
+/* Replaces FILE by the draft, all or nothing. If FILE is not what was seen last, the save fails, and the next one may replace it. */
 static int replace(struct save *save) {
     struct stat before;
     if (fstat(save->draft.file, &before) != 0) return cause_of(errno);
     enum placed placed = place(save);
     if (placed == PLACE_FAILED) return cause_of(errno);
-    if (placed == PLACE_MOUNTED) save->state.is_held = true;
+    if (placed == PLACE_MOUNTED) save->state.is_overwritten_in_place = true;
     if (placed != PLACED) {
-        look_and_note(save, save->folder);
+        stamp_and_note(save, save->folder);
         return SAVE_CHANGED;
     }
     /* the new name is on the disk before the old file goes */
@@ -215,12 +226,13 @@ static int replace(struct save *save) {
     if (save->draft.name[0]) unlinkat(save->folder, save->draft.name, 0);
     save->draft.name[0] = 0;
     note_replaced(save, &before);
-    save_drop_mark(save);
+    save_drop_backup(save);
     return 0;
 }
 
 /* ---- the end */
 
+/* Writes what is held, gives the draft FILE's owner and mode, and syncs it. Only after this may it take FILE's place. */
 static int complete(struct save *save) {
     const struct state *state = &save->state;
     int error = draft_flush(&save->draft);
@@ -234,7 +246,7 @@ static int save_commit(struct save *save) {
     int error = complete(save);
     if (error != 0) return cause_of(error);
     lock_folder(save);
-    int itself, cause = look_now(save, &itself);
+    int itself, cause = stamp_now(save, &itself);
     close_one(&itself);
     if (cause == 0) cause = check_place(save);
     if (cause != 0) return cause;
@@ -243,7 +255,7 @@ static int save_commit(struct save *save) {
     if (!save->is_in_place) return replace(save);
     cause = save_in_place(save);
     /* FILE was changed after the look at it: it is told once */
-    if (cause == SAVE_CHANGED) look_and_note(save, save->folder);
+    if (cause == SAVE_CHANGED) stamp_and_note(save, save->folder);
     return cause;
 }
 
@@ -271,14 +283,14 @@ void save_publish(const struct save *save) {
 
 /* ---- the child serves a save */
 
-/* The cause to report: while FILE is torn and its mark is beside it, the user must know that first. */
+/* The cause to report: while FILE is torn and its backup is beside it, the user must know that first. */
 static int cause_to_tell(const struct save *save, int cause) {
     return cause != 0 && save->state.is_torn && save->state.torn[0] ? SAVE_CUT_OFF : cause;
 }
 
-/* Removes the draft of a failed save, even if it is the mark already, unless FILE needs the mark. */
+/* Removes the draft of a failed save, even if it is the backup already, unless FILE needs the backup. */
 static void clean_up(struct save *save) {
-    if (save->state.is_torn && strcmp(save->draft.name, MARK_NAME) == 0 && save->saver->mark_folder >= 0) save->draft.name[0] = 0;
+    if (save->state.is_torn && strcmp(save->draft.name, BACKUP_NAME) == 0 && save->saver->backup_folder >= 0) save->draft.name[0] = 0;
     draft_remove(&save->draft);
 }
 
@@ -297,6 +309,7 @@ static _Noreturn void give_up(struct save *save) {
     _exit(1);
 }
 
+/* Obeys a frame of the program. `end` ends the child, so COMMIT, and BEGIN with a cause, do not return. */
 static void obey_frame(struct save *save, const struct frame *frame, int answer) {
     int cause = 0;
     switch (frame->letter) {
@@ -338,7 +351,7 @@ static _Noreturn void serve(struct save *save, int request, int answer) {
 static void become_child(const struct saver *saver, int request, int answer) {
     static const int ignored[] = {SIGHUP, SIGINT, SIGQUIT, SIGTERM, SIGTSTP, SIGTTIN, SIGTTOU, SIGPIPE, SIGXFSZ};
     const struct file *file = saver->file;
-    const int kept[] = {request, answer, file->folder, saver->mark_folder, saver->lock};
+    const int kept[] = {request, answer, file->folder, saver->backup_folder, saver->lock};
     prctl(PR_SET_NAME, "bidi-saver");
     for (size_t i = 0; i < sizeof ignored / sizeof *ignored; i++) signal(ignored[i], SIG_IGN);
     close_others(kept, sizeof kept / sizeof *kept);
@@ -346,13 +359,13 @@ static void become_child(const struct saver *saver, int request, int answer) {
 
 bool saver_open(struct saver *saver, struct file *file) {
     void *shared = mmap(NULL, sizeof(struct saved), PROT_READ | PROT_WRITE, MAP_SHARED | MAP_ANONYMOUS, -1, 0);
-    *saver = (struct saver){.file = file, .mark_folder = -1, .lock = -1, .answer = -1};
+    *saver = (struct saver){.file = file, .backup_folder = -1, .lock = -1, .answer = -1};
     if (shared == MAP_FAILED) return false;
     saver->saved = shared;
     atomic_init(&saver->saved->current, 0);
     struct state *state = current(saver);
-    state->seen = file->look;
-    state->old = file->look;
+    state->seen = file->stamp;
+    state->old = file->stamp;
     state->is_old_plain = !file->facts.has_access_list && !file->facts.is_unsure;
     return true;
 }
@@ -385,9 +398,9 @@ int saver_cause(const struct saver *saver) {
     return current(saver)->cause;
 }
 
-bool saver_look(const struct saver *saver, struct look *look, struct file_id *id) {
+bool saver_stamp(const struct saver *saver, struct file_stamp *stamp, struct file_id *id) {
     const struct state *state = current(saver);
-    *look = state->seen;
+    *stamp = state->seen;
     *id = state->id;
     return state->has_id;
 }

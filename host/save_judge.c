@@ -1,9 +1,12 @@
+/* Decisions about saves, by plain facts, without system calls. save_judge.h says what each one means, file.h the comparisons of stamps;
+ * their cases are in tests/host/judge_save.c. */
 #include "save_judge.h"
 
 #include <errno.h>
 
 enum { SET_IDS = 06000, ALL_BITS = 07777, GROUP_BITS = 070, OTHERS_BITS = 07 };
 
+/* Why a new file must not replace a file that the user can write. The first reason counts, as messages tell only one. */
 static enum reason reason_for(const struct facts *file, nlink_t names, const struct facts *folder) {
     if (!folder->writable || file->is_held_by_folder) return REASON_PROTECTED;
     if (file->is_mount) return REASON_MOUNTED;
@@ -13,9 +16,9 @@ static enum reason reason_for(const struct facts *file, nlink_t names, const str
     return folder->gives_access_lists ? REASON_GIVEN_LIST : NO_REASON;
 }
 
-enum reason find_in_place(const struct facts *file, const struct look *look, const struct facts *folder) {
-    if (!look->is_there || !S_ISREG(look->found.st_mode) || !file->writable) return NO_REASON;
-    return reason_for(file, look->found.st_nlink, folder);
+enum reason find_in_place(const struct facts *file, const struct file_stamp *stamp, const struct facts *folder) {
+    if (!stamp->is_there || !S_ISREG(stamp->found.st_mode) || !file->writable) return NO_REASON;
+    return reason_for(file, stamp->found.st_nlink, folder);
 }
 
 const char *reason_text(enum reason reason) {
@@ -54,11 +57,11 @@ mode_t mode_of_new(struct taken taken, mode_t old) {
     return (mode & ~(mode_t)GROUP_BITS) | (mode & OTHERS_BITS) << 3;
 }
 
-enum look_verdict judge_look(const struct look *seen, const struct look *now, bool is_distrusted) {
-    if (!now->is_there) return LOOK_GONE;
-    if (!S_ISREG(now->found.st_mode) && !S_ISLNK(now->found.st_mode)) return LOOK_NOT_PLAIN;
-    if (!seen->is_there || is_distrusted) return LOOK_CHANGED;
-    return is_unchanged(&seen->found, &now->found) ? LOOK_SAME : LOOK_CHANGED;
+enum stamp_verdict judge_stamp(const struct file_stamp *seen, const struct file_stamp *now, bool is_assumed_changed) {
+    if (!now->is_there) return STAMP_GONE;
+    if (!S_ISREG(now->found.st_mode) && !S_ISLNK(now->found.st_mode)) return STAMP_NOT_PLAIN;
+    if (!seen->is_there || is_assumed_changed) return STAMP_CHANGED;
+    return is_unchanged(&seen->found, &now->found) ? STAMP_SAME : STAMP_CHANGED;
 }
 
 bool is_same_file(const struct stat *one, const struct stat *other) {
@@ -82,7 +85,7 @@ bool is_unchanged(const struct stat *one, const struct stat *other) {
     return is_alike(one, other) && is_same_time(one->st_ctim, other->st_ctim);
 }
 
-bool is_taken_out(const struct look *seen, const struct look *out) {
+bool is_taken_out(const struct file_stamp *seen, const struct file_stamp *out) {
     return seen->is_there && out->is_there && is_alike(&seen->found, &out->found);
 }
 

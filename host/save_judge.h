@@ -21,7 +21,7 @@ enum reason {
 
 /* Why a new file must not replace a file; NO_REASON if it may, if it is not a plain file, or if the user cannot write it. By the
  * facts about the file, the look at it, and the facts about its folder. */
-enum reason find_in_place(const struct facts *file, const struct look *look, const struct facts *folder);
+enum reason find_in_place(const struct facts *file, const struct file_stamp *stamp, const struct facts *folder);
 
 /* What messages say about the file, and about what a save by a new file would do to it. */
 const char *reason_text(enum reason reason);
@@ -37,11 +37,11 @@ struct taken {
 mode_t mode_of_new(struct taken taken, mode_t old);
 
 /* What a look at FILE's name shows, compared with what was seen there last. */
-enum look_verdict { LOOK_SAME, LOOK_GONE, LOOK_CHANGED, LOOK_NOT_PLAIN };
-enum look_verdict judge_look(const struct look *seen, const struct look *now, bool is_distrusted);
+enum stamp_verdict { STAMP_SAME, STAMP_GONE, STAMP_CHANGED, STAMP_NOT_PLAIN };
+enum stamp_verdict judge_stamp(const struct file_stamp *seen, const struct file_stamp *now, bool is_assumed_changed);
 
 /* Whether what an exchange took from FILE's place is what was seen there. The time of change is not compared, since a rename changes it. */
-bool is_taken_out(const struct look *seen, const struct look *out);
+bool is_taken_out(const struct file_stamp *seen, const struct file_stamp *out);
 
 /* The cause of a failed call, an enum save_cause; 0 for none. */
 int cause_of(int error);

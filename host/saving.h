@@ -12,7 +12,7 @@
 #include "file.h"
 #include "save.h"
 
-/* ---- drafts and marks (draft.c) */
+/* ---- drafts and backups (draft.c) */
 
 struct draft {
     /* The folder, which the draft does not close, and the draft's name there; empty while it has none. */
@@ -58,7 +58,7 @@ int draft_name_as(struct draft *draft, const char *name);
 
 /* Exchanges the draft with what is at a name, which gets the draft's name, and checks that it is what was seen last. `is_listless`: it must
  * have no access list. For PLACE_FAILED, errno has the fault. */
-enum placed draft_exchange(struct draft *draft, const char *name, const struct look *seen, bool is_listless);
+enum placed draft_exchange(struct draft *draft, const char *name, const struct file_stamp *seen, bool is_listless);
 
 /* Puts the draft at a name where nothing is. */
 enum placed draft_create(struct draft *draft, const char *name);
@@ -73,18 +73,18 @@ void draft_close(struct draft *draft);
 struct state {
     /* What was at FILE's name when last seen; the last plain file there, whose owner and mode a new file gets; whether its mode
      * says all of its permissions. */
-    struct look seen, old;
+    struct file_stamp seen, old;
     bool is_old_plain;
-    /* is_distrusted: at the next look FILE counts as changed. is_held: saves overwrite FILE in place until a new file has replaced it.
+    /* is_assumed_changed: at the next look FILE counts as changed. is_overwritten_in_place: saves overwrite FILE in place until a new file has replaced it.
      * is_replaced: a new file has replaced it. */
-    bool is_distrusted, is_held, is_replaced;
+    bool is_assumed_changed, is_overwritten_in_place, is_replaced;
     /* The user was told that FILE's links lead elsewhere. */
     bool is_link_told;
     /* FILE's folder was removed and created again: this is the new one. */
     bool is_moved;
     dev_t device;
     ino_t inode;
-    /* FILE may lack a part of its text; the name of the mark beside FILE, or empty if the mark is in the session's folder. */
+    /* FILE may lack a part of its text; the name of the backup beside FILE, or empty if the backup is in the session's folder. */
     bool is_torn;
     char torn[NAME_MAX + 1];
     /* The result of the last save, and FILE's identity after it. */
@@ -102,15 +102,15 @@ struct save {
     /* FILE's folder; and the same folder opened for syncing and locking, -1 if it cannot be read. */
     int folder, folder_to_sync;
     struct draft draft;
-    /* At the beginning FILE was as last seen; the draft is to be a mark; FILE had no access list. */
+    /* At the beginning FILE was as last seen; the draft is to be a backup; FILE had no access list. */
     bool is_there, is_in_place, is_listless;
 };
 
-/* Makes the draft the mark, and overwrites FILE in place with its text. */
+/* Makes the draft the backup, and overwrites FILE in place with its text. */
 int save_in_place(struct save *save);
 
-/* Removes the mark, now that FILE is complete. */
-void save_drop_mark(struct save *save);
+/* Removes the backup, now that FILE is complete. */
+void save_drop_backup(struct save *save);
 
 /* Syncs FILE's folder; 0 or an errno. */
 int save_sync_folder(const struct save *save);

@@ -1,3 +1,5 @@
+/* What the host says: texts in memory, names quoted for a shell so that no terminal obeys them, and lines on standard output and error.
+ * say.h says what each call promises. */
 #include "say.h"
 
 #include <errno.h>
@@ -24,6 +26,7 @@ static struct text *texts;
 bool is_telling_limited;
 int output_fault;
 
+/* Writes all of a text, for as long as it takes. Returns false at a fault. */
 static bool put_whole(int file, const char *text, size_t length) {
     while (length > 0) {
         struct pollfd room = {.fd = file, .events = POLLOUT};
@@ -47,6 +50,7 @@ void tell_no_memory(void) {
     exit(1);
 }
 
+/* New memory for a text, which stays in a list until the host's end. Without memory the host ends. */
 static char *room_for(size_t length) {
     struct text *text = length < SIZE_MAX - sizeof *text ? malloc(sizeof *text + length + 1) : NULL;
     if (!text) tell_no_memory();
@@ -56,6 +60,7 @@ static char *room_for(size_t length) {
     return text->bytes;
 }
 
+/* Formats a text into new memory. `values` is read twice: for the length, and for the text. */
 static char *text_by(const char *format, va_list *values) {
     va_list again;
     va_copy(again, *values);
@@ -127,7 +132,7 @@ bool is_utf8(const char *text) {
 }
 
 /* Whether a terminal would obey a character, change direction by it or show it without a column. The ranges are those of
- * crates/bx_cli/specs/Shown.antt. The joiners, which Persian words need, do not count. */
+ * crates/bx_command/specs/shared/Shown.antt. The joiners, which Persian words need, do not count. */
 static bool is_hidden(uint32_t c) {
     static const struct {
         uint32_t first, last;
@@ -146,6 +151,7 @@ static bool is_plain(uint32_t c) {
 
 enum style { STYLE_BARE, STYLE_QUOTED, STYLE_NUMBERED };
 
+/* How a name has to be written, so that a shell reads it back and no terminal obeys it. */
 static enum style style_of(const char *name, size_t length) {
     enum style style = length > 0 ? STYLE_BARE : STYLE_QUOTED;
     uint32_t c;
@@ -157,6 +163,7 @@ static enum style style_of(const char *name, size_t length) {
     return style;
 }
 
+/* Writes bytes as a shell's $'..' has them, a backslash and three octal digits each, and returns the end. */
 static char *put_numbers(char *at, const char *bytes, size_t count) {
     for (size_t i = 0; i < count; i++) {
         unsigned byte = (unsigned char)bytes[i];

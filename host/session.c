@@ -1,3 +1,5 @@
+/* A session: how it is created, locked, continued and removed. parts.c and copying.c write the files in its folder. session.h and parts.h
+ * say what each call promises. */
 #include "session.h"
 
 #include <errno.h>
@@ -87,6 +89,7 @@ const char *versions_look(const char *version, const char *const *files, size_t 
 
 /* ---- the folder, and its locks */
 
+/* A name by the time, so that sessions sort by age, with random letters, so that two starts in one second differ. */
 static bool make_session_name(char name[64]) {
     static const char alphabet[] = "abcdefghijklmnopqrstuvwxyz234567";
     struct timespec now;
@@ -107,6 +110,7 @@ bool session_at(struct session *session, const struct sessions *sessions, const 
     return false;
 }
 
+/* Creates the session's folder, under a name that no other session has. */
 static int make_folder(struct session *session, const struct sessions *sessions) {
     char name[64];
     for (int tries = 0; tries < NAME_TRIES; tries++) {
@@ -198,6 +202,7 @@ enum lock_result session_lock(struct session *session, enum part part) {
 
 /* ---- a new session */
 
+/* Remembers the short parts of a new session. session_fill has them written, the path last. */
 static int keep_notes(struct session *session, const struct opening *opening) {
     char words[MOST_WORDS];
     const struct target *target = opening->target;
@@ -315,6 +320,8 @@ int session_remove(struct session *session) {
     return 0;
 }
 
+/* For find.c, which removes a session without unsaved text, and one whose changes were dropped. The lock keeps a session that an editor
+ * opened meanwhile. */
 bool session_remove_unless_locked(struct session *session) {
     return session_lock(session, PART_PATH) == LOCK_TAKEN && session_remove(session) == 0;
 }

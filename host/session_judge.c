@@ -1,3 +1,5 @@
+/* Decisions about sessions, and the content of their short files, by plain facts, without system calls. session_judge.h says what each
+ * call means; their cases are in tests/host/judge_session.c. */
 #include "session_judge.h"
 
 #include <inttypes.h>
@@ -195,26 +197,27 @@ bool counts_as_own(enum belonging belonging, enum session_state state) {
 
 /* ---- torn files */
 
-void compare_begin(struct mark_comparison *comparison) {
-    *comparison = (struct mark_comparison){.is_same = true, .is_torn = true};
+void compare_begin(struct backup_comparison *comparison) {
+    *comparison = (struct backup_comparison){.is_same = true, .is_torn = true};
 }
 
-void compare_more(struct mark_comparison *comparison, const char *of_file, const char *of_mark, size_t count) {
+void compare_more(struct backup_comparison *comparison, const char *of_file, const char *of_backup, size_t count) {
     for (size_t at = 0; at < count; at++) {
-        if (of_file[at] == of_mark[at]) continue;
+        if (of_file[at] == of_backup[at]) continue;
         comparison->is_same = false;
         /* zeros stand for blocks that were not written */
         if (of_file[at] != 0) comparison->is_torn = false;
     }
 }
 
-enum verdict compare_end(const struct mark_comparison *comparison, uint64_t size_of_file, uint64_t size_of_mark) {
-    if (comparison->is_same && size_of_file == size_of_mark) return FILE_WHOLE;
-    return comparison->is_torn && size_of_file <= size_of_mark ? FILE_TORN : FILE_OTHER;
+enum verdict compare_end(const struct backup_comparison *comparison, uint64_t size_of_file, uint64_t size_of_backup) {
+    if (comparison->is_same && size_of_file == size_of_backup) return FILE_WHOLE;
+    return comparison->is_torn && size_of_file <= size_of_backup ? FILE_TORN : FILE_OTHER;
 }
 
 /* ---- keys */
 
+/* The state after the first byte of a key. A Save is noted, since a size may follow that was recorded with it. */
 static enum after behind_first(unsigned char byte) {
     enum { SAVE = 0x13, ESCAPE = 0x1b };
     if (byte == SAVE) return AFTER_SAVE;
@@ -235,10 +238,12 @@ static void begin_key(struct key_count *count, unsigned char byte) {
     count->after = behind_first(byte);
 }
 
+/* Counts some keys less, at least none. */
 static void take_back(struct key_count *count, size_t keys) {
     count->keys = count->keys > keys ? count->keys - keys : 0;
 }
 
+/* Reads a byte of a control sequence. One that ends in t is a size of the window, and no key. */
 static void in_sequence(struct key_count *count, unsigned char byte) {
     if (is_parameter(byte)) return;
     if (byte == '>') {
@@ -252,6 +257,7 @@ static void in_sequence(struct key_count *count, unsigned char byte) {
     }
 }
 
+/* Reads a byte of a sequence with >. One that ends in ~ is a notice, and no key. */
 static void in_notice(struct key_count *count, unsigned char byte) {
     if (is_parameter(byte)) return;
     if (is_final(byte)) {
@@ -262,6 +268,7 @@ static void in_notice(struct key_count *count, unsigned char byte) {
     }
 }
 
+/* Reads a byte of a journal. `after` carries the state on to the next one, so the journal may come in any pieces. */
 static void count_byte(struct key_count *count, unsigned char byte) {
     enum after after = count->after;
     switch (after) {

@@ -1,3 +1,5 @@
+/* Signals, the time, and calls with a time limit. A handler only sets flags, which the host reads where it waits. signals.h says what
+ * each call promises. */
 #include "signals.h"
 
 #include <errno.h>
@@ -40,6 +42,7 @@ void note_end(int number) {
     end_time = now();
 }
 
+/* The handler of signals that wake the host: it only sets a flag, so that it may come at any moment. */
 static void note_waking(int number, siginfo_t *info, void *context) {
     (void)info;
     (void)context;
@@ -70,6 +73,7 @@ static bool is_ignored(int number) {
     return sigaction(number, NULL, &before) != 0 || (!(before.sa_flags & SA_SIGINFO) && before.sa_handler == SIG_IGN);
 }
 
+/* Has a signal handled by this function from now on. */
 static void handle(int number, void (*handler)(int, siginfo_t *, void *)) {
     struct sigaction action = {.sa_flags = SA_SIGINFO};
     sigemptyset(&action.sa_mask);
@@ -82,6 +86,7 @@ static void handle_ending(int number, void (*handler)(int, siginfo_t *, void *))
     if (number == SIGALRM || !is_ignored(number)) handle(number, handler);
 }
 
+/* Blocks signals except while the host waits (`waiting_mask`). */
 static void block(const int *numbers, size_t count) {
     sigset_t mask;
     sigemptyset(&mask);
@@ -112,6 +117,7 @@ void catch_signals(void) {
     handle(SIGTSTP, note_waking);
 }
 
+/* Lets a signal come now, or blocks it again. */
 static void let_signal_in(int number, bool is_let) {
     sigset_t mask;
     sigemptyset(&mask);

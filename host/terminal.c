@@ -1,3 +1,5 @@
+/* The terminal: its settings and size, the sequences that the host sends, pastes, and the watcher, which restores the terminal if the
+ * host is killed. terminal.h says what each call promises. */
 #include "terminal.h"
 
 #include <errno.h>
@@ -161,6 +163,7 @@ bool begin_screen(void) {
     return true;
 }
 
+/* Appends a sequence to those that wait for the terminal; one for which there is no room is dropped whole. */
 static void show(const char *text) {
     size_t length = strlen(text);
     if (length > sizeof waiting - waiting_length) return;
@@ -259,6 +262,7 @@ void note_own_word(char *word) {
     own_word = word;
 }
 
+/* Writes another name over the host's own, within its room in the command line. */
 static void set_own_word(const char *bytes, size_t length) {
     for (size_t i = 0; i < length; i++) own_word[i] = bytes[i];
 }
@@ -279,6 +283,7 @@ static pid_t fork_under_name(void) {
     return child;
 }
 
+/* Reads and drops bytes until the end of a pipe. Returns whether that came before the time `end`. */
 static bool ends_before(int file, int64_t end) {
     char bytes[512];
     while (now() < end) {
@@ -304,6 +309,7 @@ static void end_paste(void) {
     drain_paste(&watched->paste, PASTE_MS);
 }
 
+/* The watcher's life: waits for the host's end, then restores the terminal if the host did not, and ends the program and its save. */
 static _Noreturn void watch(int words, pid_t host) {
     wait_for_host(host);
     int64_t start = now();

@@ -1,3 +1,4 @@
+/* Small functions for all of the host: descriptors, paths, copies of files, locks. util.h says what each one promises. */
 #include "util.h"
 
 #include <errno.h>
@@ -23,6 +24,7 @@ void close_one(int *file) {
     *file = -1;
 }
 
+/* Closes all descriptors from one to another. On an old system, only those below MOST_FILES. */
 static void close_range_of(unsigned first, unsigned last) {
     if (first > last) return;
 #ifdef SYS_close_range

@@ -1,3 +1,4 @@
+/* The command line, read into a call; the help and the version; and the arguments of the program. words.h says what each call promises. */
 #include "words.h"
 
 #include <fcntl.h>
@@ -59,6 +60,7 @@ static int direction_of(const char *word) {
     return -1;
 }
 
+/* Reads a number; one that is too large names the last line. Returns false if there is another character, or none. */
 static bool line_of_digits(const char *digits, size_t count, unsigned long *line) {
     unsigned long number = 0;
     for (size_t i = 0; i < count; i++) {
@@ -87,23 +89,27 @@ struct reading {
     bool is_recovery, is_forgetting, is_print;
 };
 
+/* The values of options, each put in the call, or refused by setting `cause`, which ends the reading. */
 static void take_direction(struct reading *reading, const char *value) {
     int direction = direction_of(value);
     if (direction < 0) reading->cause = text_of("--direction needs auto, ltr or rtl, not %s", shown(value));
     else reading->call->direction = (enum direction)direction;
 }
 
+/* The value of --line. */
 static void take_line(struct reading *reading, const char *value) {
     unsigned long line;
     if (!line_of_digits(value, strlen(value), &line)) reading->cause = text_of("--line needs a number, not %s", shown(value));
     else reading->call->line = line_option(line);
 }
 
+/* The value of --to. */
 static void take_other(struct reading *reading, const char *value) {
     if (!*value) reading->cause = "the name of OTHER is empty";
     reading->other = value;
 }
 
+/* The value of --cols. */
 static void take_columns(struct reading *reading, const char *value) {
     unsigned long columns = 0;
     bool is_number = strlen(value) <= 3 && line_of_digits(value, strlen(value), &columns);
@@ -150,6 +156,7 @@ static void take_plus(struct reading *reading, const char *words) {
     else if (line_of_digits(words, strcspn(words, ",:"), &line)) reading->call->line = line_option(line);
 }
 
+/* Takes an option without a value; returns false if there is no such option. */
 static bool take_option(struct reading *reading, const char *word) {
     /* no new window, wait for the end: of other editors */
     static const char *const ignored[] = {"-f", "-w", "-nw", "--nofork", "--wait", NULL};
@@ -168,6 +175,7 @@ static bool take_option(struct reading *reading, const char *word) {
 static const char no_file[] = "FILE is missing", several_files[] = "only one FILE can be given", empty_name[] = "the name of FILE is empty",
                   input_name[] = "- is standard input, not a file: write the input to a file, and edit that (./- names a file -)";
 
+/* Takes FILE's name. A second one, an empty one, and - for standard input are refused. */
 static void take_file(struct reading *reading, const char *word) {
     if (reading->file) reading->cause = several_files;
     else if (!*word) reading->cause = empty_name;
@@ -212,6 +220,7 @@ static void take_files(struct reading *reading, int count, char *const *words) {
     else reading->file = words[0];
 }
 
+/* Reads the words up to FILE, -- or --print, after which all words are read in another way. -h, --help and --version end it at once. */
 static void take_words(struct reading *reading, int count, char *const *words) {
     for (int taken; count > 0 && !reading->cause; count -= taken, words += taken) {
         const char *word = words[0];
@@ -281,6 +290,7 @@ const char *version_text(const char *toolchain, const char *classes) {
 /* The folder of Debian's package unicode-data. */
 static const char system_tables[] = "/usr/share/unicode";
 
+/* Whether a plain file is there that can be read. O_NONBLOCK: a pipe of this name does not hold the host up. */
 static bool is_readable(const char *path) {
     struct stat look;
     int file = open(path, O_RDONLY | O_NONBLOCK | O_CLOEXEC);
@@ -290,6 +300,8 @@ static bool is_readable(const char *path) {
     return is_file;
 }
 
+/* Looks for Unicode's files in a folder. Returns false if one of the first three is missing; without the other two, letters are not
+ * joined. */
 static bool find_tables_in(struct tables *tables, const char *folder) {
     /* Unicode itself publishes this file in a subfolder */
     tables->classes = text_of("%s/extracted/DerivedBidiClass.txt", folder);

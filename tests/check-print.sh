@@ -210,6 +210,7 @@ end_by() { # STATUS LINE WORD..
     fi
 }
 
+# Runs the program to each of its ends, and compares status, output and fault.
 compare_endings() {
     agreed=0 differing=0
     output=$scratch/stdout

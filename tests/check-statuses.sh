@@ -154,6 +154,7 @@ ended word_not_utf8 2 'bidi_edit: a word is not UTF-8'
 
 # Lines of Unicode's files that are refused: the first refused line of the first file is told, even where FILE is refused too.
 : >none
+# Has the editor read tables of these contents, and wants the refusal that names the line, before FILE is looked at.
 refuse_line() { # NAME LINE CLASSES BRACKETS MIRRORING [JOINING CHARACTERS]
     name=$1 refusal=$2
     shift 2

@@ -112,7 +112,7 @@ def check(count):
 
 
 # called once for each edit that a layout follows, and once if strong characters cut it off (docs/ARCHITECTURE.md, `cut_off.rt`)
-FUNCTIONS = ["bx_paragraph::edited_rows::push_rest", "bx_resolve::edited::follow_between"]
+FUNCTIONS = ["bx_paragraph::edited_rows::push_rest", "bx_levels::resolve::edited::follow_between"]
 
 
 def count_ways(count, kinds):

@@ -84,7 +84,9 @@ def ordered(looks, levels):
 
 
 def check_rows():
-    """Compares the rows of ROWS. The fields of a line are told by check-joined-rows.sh."""
+    """Compares each row of ROWS with what bidi_print prints, and with what its units are shown as, set in order by their levels.
+
+    The first lines of check-joined-rows.sh describe the fields of a line."""
     cases, ours = {}, []
     with (gzip.open if rows.endswith(".gz") else open)(rows, "rt", encoding="utf-8") as file:
         for line in file:
@@ -180,6 +182,9 @@ def taken_apart(match):
 
 
 def check_words(lists):
+    """Compares lines of random words with fribidi's rows, once what differs by definition is made alike.
+
+    What never occurred fails the check."""
     unjoined = {forms[c]["<isolated>"]: c for c in forms if types.get(c, "U") == "U" and "<isolated>" in forms[c]}
     lines = list(random_lines(lists))
     text = "\n".join(lines)

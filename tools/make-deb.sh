@@ -39,12 +39,12 @@ has_tool() { # NAME TOOL
 # they must be there.
 need_proved() {
     if ! [ -x "$top/crates/bidi_edit/out/bidi_edit" ]; then
-        find_start thoroughly || refuse "${cause:-there is no dist/ to take it from}; launcher/proving/prove.sh . bidi_edit bidi_print builds both programs"
+        find_start thoroughly || refuse "${cause:-there is no dist/ to take it from}; tools/launcher/proving/prove.sh . bidi_edit bidi_print builds both programs"
         return
     fi
     for program in bidi_edit bidi_print; do
         built=$top/crates/$program/out/$program
-        if ! [ -x "$built" ] || ! [ -f "$built.stamp" ]; then refuse "$built is not built and proved: launcher/proving/prove.sh . $program does it"; fi
+        if ! [ -x "$built" ] || ! [ -f "$built.stamp" ]; then refuse "$built is not built and proved: tools/launcher/proving/prove.sh . $program does it"; fi
         is_proved "$built" || refuse "$built is not what its stamp tells: rt run in crates/$program builds it anew"
     done
 }
@@ -224,6 +224,7 @@ in_root() { # WORD..
     PATH=$PATH:/usr/sbin:/sbin dpkg --root="$folder/tree" --force-not-root --force-depends --force-script-chrootless --log=/dev/null "$@" >"$folder/dpkg" 2>&1
 }
 
+# Installs the package by dpkg in a tree of its own, uses it, and removes it again: nothing may stay.
 check_package() {
     has_tool 'package, installed' dpkg && has_tool 'package, installed' update-alternatives || return 0
     for each in var/lib/dpkg/info var/lib/dpkg/updates var/lib/dpkg/alternatives etc/alternatives var/log; do mkdir -p "$folder/tree/$each"; done

@@ -75,6 +75,8 @@ start_other() { # [VARIABLE=VALUE..]
     status=$?
 }
 
+# A user who cannot write the checkout gets the programs in their own cache, readable by nobody else. A folder of another user there is
+# refused, and nothing is put into it.
 check_unwritable() { # NAME
     if [ "$(id -u)" = 0 ] && ! command -v setpriv >/dev/null; then
         skip "$1" 'there is no setpriv to be another user'

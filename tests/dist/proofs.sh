@@ -52,6 +52,7 @@ prove() {
     grep -e '^FAILS' -e '^[0-9]* passed' "$folder/all" | sed "s/'[0-9a-f]\{64\}'/SUM/g; s/: it is [0-9a-f]*$//" >"$folder/said"
 }
 
+# scripts/prove.sh notes the programs that it proved, and fails where dist/ has others.
 check_prove() { # NAME
     prove
     same "$1, all is the same" "$status $(cat "$folder/said")" '0 22 passed, 0 failed'

@@ -7,6 +7,7 @@ make_dist() {
     status=$?
 }
 
+# make-dist.sh takes only programs that are proved and built from the sources as they stand.
 check_making() { # NAME
     make_dist
     same "$1, nothing is built" "$status $(cat "$folder/said")" '1 make-dist.sh: bidi_edit is not built: scripts/prove.sh proves and builds all'
@@ -109,6 +110,7 @@ change_byte() { # NAME
     printf x | dd of="$tree/dist/$1" bs=1 seek="$(($(wc -c <"$tree/dist/$1") - 2))" conv=notrunc 2>/dev/null
 }
 
+# A start refuses an archive and sums that do not match.
 check_sums() { # NAME
     for name in bidi-edit-x86_64-linux.tar.gz SOURCES; do
         change_byte "$name"

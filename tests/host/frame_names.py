@@ -25,7 +25,7 @@ def plain(name):
 
 
 header = read(f'{HERE}/../../host/frames.h')
-sources = {path: read(path) for path in glob.glob(f'{CRATES}/*/src/*.rt')}
+sources = {path: read(path) for path in glob.glob(f'{CRATES}/*/src/**/*.rt', recursive=True)}
 wrong = []
 
 letters = dict(re.findall(r"FRAME_([A-Z]+) = '(.)'", header))

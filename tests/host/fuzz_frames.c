@@ -21,6 +21,7 @@ static void hear(const struct frame *frame, void *whose) {
     end_word_of((const char *)frame->bytes);
 }
 
+/* Has the reader take all bytes, so many at a time. */
 static struct heard take_all(struct word_reader *reader, const uint8_t *bytes, size_t length, size_t piece) {
     struct heard heard = {0, 0};
     memset(reader, 0, sizeof *reader);

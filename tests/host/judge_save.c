@@ -52,6 +52,7 @@ static const struct {
     {"of which no name is left", "w", "w", 'f', 0, NO_REASON},
 };
 
+/* The facts that these letters stand for; see `places`. */
 static struct facts facts_of(const char *letters) {
     struct facts facts = {.readable = true, .searchable = true};
     facts.writable = strchr(letters, 'w');
@@ -64,13 +65,14 @@ static struct facts facts_of(const char *letters) {
     return facts;
 }
 
+/* Why a save overwrites FILE in place, if it does. */
 static void check_places(void) {
     for (size_t i = 0; i < sizeof places / sizeof *places; i++) {
         struct facts file = facts_of(places[i].file), folder = facts_of(places[i].folder);
-        struct look look = {.is_there = places[i].kind != '-'};
-        look.found.st_mode = places[i].kind == 'd' ? S_IFDIR | 0755 : places[i].kind == 'n' ? S_IFLNK | 0777 : S_IFREG | 0644;
-        look.found.st_nlink = places[i].names;
-        enum reason reason = find_in_place(&file, &look, &folder);
+        struct file_stamp stamp = {.is_there = places[i].kind != '-'};
+        stamp.found.st_mode = places[i].kind == 'd' ? S_IFDIR | 0755 : places[i].kind == 'n' ? S_IFLNK | 0777 : S_IFREG | 0644;
+        stamp.found.st_nlink = places[i].names;
+        enum reason reason = find_in_place(&file, &stamp, &folder);
         check(places[i].name, reason, places[i].wanted);
         check(places[i].name, reason_text(reason)[0] != 0, places[i].wanted != NO_REASON);
         check(places[i].name, reason_harm(reason)[0] != 0, places[i].wanted != NO_REASON);
@@ -104,6 +106,7 @@ static const struct {
     {"no rights", "ogp", 0, 0},
 };
 
+/* The permissions of a new file, by what of the old one was taken over. */
 static void check_modes(void) {
     for (size_t i = 0; i < sizeof modes / sizeof *modes; i++) {
         struct taken taken = {.owner = strchr(modes[i].taken, 'o'), .group = strchr(modes[i].taken, 'g'), .is_plain = strchr(modes[i].taken, 'p')};
@@ -111,45 +114,46 @@ static void check_modes(void) {
     }
 }
 
-/* ---- looks */
+/* ---- file stamps */
 
-/* The letter tells what another program did to the file that was seen: see `change`. The third word: what is found, with and
- * without distrust; and whether an exchange took out what was seen. */
+/* The letter tells what another program did to the file that was seen: see `change`. The third word: what is found, as it is, and
+ * if FILE is assumed changed; and whether an exchange took out what was seen. */
 static const struct {
     const char *name;
     char change;
-    enum look_verdict wanted, distrusted;
+    enum stamp_verdict wanted, assumed_changed;
     bool is_taken_out;
 } changes[] = {
-    {"nothing", '=', LOOK_SAME, LOOK_CHANGED, true},
-    {"gone", '-', LOOK_GONE, LOOK_GONE, false},
-    {"another device", 'd', LOOK_CHANGED, LOOK_CHANGED, false},
-    {"another inode", 'i', LOOK_CHANGED, LOOK_CHANGED, false},
-    {"another size", 's', LOOK_CHANGED, LOOK_CHANGED, false},
-    {"another second", 't', LOOK_CHANGED, LOOK_CHANGED, false},
-    {"another nanosecond", 'n', LOOK_CHANGED, LOOK_CHANGED, false},
-    {"another time of change", 'c', LOOK_CHANGED, LOOK_CHANGED, true},
-    {"another nanosecond of change", 'C', LOOK_CHANGED, LOOK_CHANGED, true},
-    {"another mode", 'm', LOOK_CHANGED, LOOK_CHANGED, false},
-    {"another owner", 'u', LOOK_CHANGED, LOOK_CHANGED, false},
-    {"another group", 'g', LOOK_CHANGED, LOOK_CHANGED, false},
-    {"another name", 'l', LOOK_CHANGED, LOOK_CHANGED, false},
-    {"read", 'a', LOOK_SAME, LOOK_CHANGED, true},
-    {"a link in its place", 'L', LOOK_CHANGED, LOOK_CHANGED, false},
-    {"a folder in its place", 'D', LOOK_NOT_PLAIN, LOOK_NOT_PLAIN, false},
-    {"a pipe in its place", 'P', LOOK_NOT_PLAIN, LOOK_NOT_PLAIN, false},
-    {"a device in its place", 'V', LOOK_NOT_PLAIN, LOOK_NOT_PLAIN, false},
-    {"a socket in its place", 'S', LOOK_NOT_PLAIN, LOOK_NOT_PLAIN, false},
+    {"nothing", '=', STAMP_SAME, STAMP_CHANGED, true},
+    {"gone", '-', STAMP_GONE, STAMP_GONE, false},
+    {"another device", 'd', STAMP_CHANGED, STAMP_CHANGED, false},
+    {"another inode", 'i', STAMP_CHANGED, STAMP_CHANGED, false},
+    {"another size", 's', STAMP_CHANGED, STAMP_CHANGED, false},
+    {"another second", 't', STAMP_CHANGED, STAMP_CHANGED, false},
+    {"another nanosecond", 'n', STAMP_CHANGED, STAMP_CHANGED, false},
+    {"another time of change", 'c', STAMP_CHANGED, STAMP_CHANGED, true},
+    {"another nanosecond of change", 'C', STAMP_CHANGED, STAMP_CHANGED, true},
+    {"another mode", 'm', STAMP_CHANGED, STAMP_CHANGED, false},
+    {"another owner", 'u', STAMP_CHANGED, STAMP_CHANGED, false},
+    {"another group", 'g', STAMP_CHANGED, STAMP_CHANGED, false},
+    {"another name", 'l', STAMP_CHANGED, STAMP_CHANGED, false},
+    {"read", 'a', STAMP_SAME, STAMP_CHANGED, true},
+    {"a link in its place", 'L', STAMP_CHANGED, STAMP_CHANGED, false},
+    {"a folder in its place", 'D', STAMP_NOT_PLAIN, STAMP_NOT_PLAIN, false},
+    {"a pipe in its place", 'P', STAMP_NOT_PLAIN, STAMP_NOT_PLAIN, false},
+    {"a device in its place", 'V', STAMP_NOT_PLAIN, STAMP_NOT_PLAIN, false},
+    {"a socket in its place", 'S', STAMP_NOT_PLAIN, STAMP_NOT_PLAIN, false},
 };
 
 static void set_kind(struct stat *found, mode_t kind) {
     found->st_mode = kind | (found->st_mode & 07777);
 }
 
-static struct look change(struct look look, char letter) {
-    struct stat *found = &look.found;
+/* The stamp after another program did what the letter tells. */
+static struct file_stamp change(struct file_stamp stamp, char letter) {
+    struct stat *found = &stamp.found;
     switch (letter) {
-    case '-': look.is_there = false; break;
+    case '-': stamp.is_there = false; break;
     case 'd': found->st_dev++; break;
     case 'i': found->st_ino++; break;
     case 's': found->st_size++; break;
@@ -169,24 +173,25 @@ static struct look change(struct look look, char letter) {
     case 'S': set_kind(found, S_IFSOCK); break;
     default: break;
     }
-    return look;
+    return stamp;
 }
 
+/* Whether FILE counts as changed, and whether an exchange took out what was seen. */
 static void check_changes(void) {
-    const struct look nothing = {.is_there = false};
-    const struct look seen = {.is_there = true,
+    const struct file_stamp nothing = {.is_there = false};
+    const struct file_stamp seen = {.is_there = true,
                               .found = {.st_dev = 5, .st_ino = 7, .st_size = 9, .st_mode = S_IFREG | 0640, .st_uid = 1, .st_gid = 2, .st_nlink = 1}};
     for (size_t i = 0; i < sizeof changes / sizeof *changes; i++) {
-        struct look now = change(seen, changes[i].change);
-        check(changes[i].name, judge_look(&seen, &now, false), changes[i].wanted);
-        check(changes[i].name, judge_look(&seen, &now, true), changes[i].distrusted);
+        struct file_stamp now = change(seen, changes[i].change);
+        check(changes[i].name, judge_stamp(&seen, &now, false), changes[i].wanted);
+        check(changes[i].name, judge_stamp(&seen, &now, true), changes[i].assumed_changed);
         check(changes[i].name, is_taken_out(&seen, &now), changes[i].is_taken_out);
     }
-    struct look link = change(seen, 'L');
-    check("a link that was seen", judge_look(&link, &link, false), LOOK_SAME);
-    check("a new file", judge_look(&nothing, &seen, false), LOOK_CHANGED);
-    check("a new link", judge_look(&nothing, &link, false), LOOK_CHANGED);
-    check("still nothing", judge_look(&nothing, &nothing, false), LOOK_GONE);
+    struct file_stamp link = change(seen, 'L');
+    check("a link that was seen", judge_stamp(&link, &link, false), STAMP_SAME);
+    check("a new file", judge_stamp(&nothing, &seen, false), STAMP_CHANGED);
+    check("a new link", judge_stamp(&nothing, &link, false), STAMP_CHANGED);
+    check("still nothing", judge_stamp(&nothing, &nothing, false), STAMP_GONE);
     check("nothing was seen, and a file is taken out", is_taken_out(&nothing, &seen), false);
 }
 

@@ -86,6 +86,7 @@ class Saves:
         return 0 if answer[0] == b'k' else answer[1][0]
 
     def save(self, text):
+        """Saves by the host, in pieces. Returns 0, or the cause of the failure."""
         cause = self.ask(b'B')
         if cause:
             return cause
@@ -97,11 +98,15 @@ class Saves:
 
 
 def keep(journal, key):
-    """Appends a key to the journal."""
+    """Appends a key to the journal, if there is one."""
     try:
-        put(journal, key)
+        if journal is not None:
+            put(journal, key)
     except OSError:
         say(b'j', b'lost')
+    if 'chatty' in WAYS:
+        say(b'j', b'lost')
+        say(b'j', b'kept')
 
 
 def replay(given):
@@ -186,11 +191,7 @@ def main():
             if key < 32:
                 continue
             typed += bytes([key])
-            if journal is not None:
-                keep(journal, bytes([key]))
-            if 'chatty' in WAYS:
-                say(b'j', b'lost')
-                say(b'j', b'kept')
+            keep(journal, bytes([key]))
 
 
 main()

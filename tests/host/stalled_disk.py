@@ -20,7 +20,7 @@ libc = ctypes.CDLL(None, use_errno=True)
 
 
 def attributes(node):
-    """A node's size, three times, links, kind, and the rest."""
+    """A node's attributes as the kernel reads them (`struct fuse_attr`): number, size, blocks, times, mode, links, and the rest."""
     size, mode = (4096, 0o40755) if node == ROOT else (len(TEXT), 0o100644)
     return struct.pack("<QQQQQQIIIIIIIIII", node, size, 8, 1, 1, 1, 0, 0, 0, mode, 2 if node == ROOT else 1, 0, 0, 0, 4096, 0)
 
@@ -50,6 +50,7 @@ def answer_to(call, node, body):
 
 
 def serve(device, stalled):
+    """Answers the kernel, until the stalled call comes; from then on it answers nothing but an interrupt of a call that waits."""
     is_stalled = False
     while True:
         try:

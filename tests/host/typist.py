@@ -25,6 +25,7 @@ def say(letter, text=b''):
 
 
 def get(file, length):
+    """Exactly this many bytes of a file; None at its end."""
     got = b''
     while len(got) < length:
         more = os.read(file, length - len(got))
@@ -41,6 +42,7 @@ def hear(file):
 
 
 def options():
+    """The words of the command line by their names, FILE under `FILE`."""
     found, words = {}, sys.argv[1:]
     while words:
         word = words.pop(0)
@@ -83,6 +85,7 @@ class Text:
 
 
 def text_of(given):
+    """The text that is opened. One that is not UTF-8 is a fault, as in the program."""
     text = bytes_at(given['--text']) if '--text' in given else b''
     try:
         text.decode()
@@ -112,6 +115,7 @@ def replay(given):
 
 
 def save(given, text):
+    """Saves by the host, as the program does. Returns whether the host answered that it is saved."""
     requests, answers = given['--saves'].split(',')
     to, of = os.open(f'/proc/self/fd/{requests}', os.O_WRONLY), os.open(f'/proc/self/fd/{answers}', os.O_RDONLY)
     try:
@@ -136,6 +140,7 @@ class Journal:
         self.waiting, self.is_lost = b'', False
 
     def add(self, bytes_):
+        """Appends bytes to the journal. What a full disk refuses waits, and the host is told once: lost, or kept again."""
         if self.file is None:
             return
         self.waiting += bytes_
@@ -153,6 +158,7 @@ class Journal:
 
 
 def end(text, given, word):
+    """Ends as the program does, with this word. A saved text needs no journal."""
     if word == b'saved' and '--journal' in given:
         os.truncate(given['--journal'], 0)
     say(b'e', word)

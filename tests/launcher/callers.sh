@@ -57,6 +57,7 @@ check_crontab() {
     crontab -r
 }
 
+# visudo calls the editor with words of its own, and takes the file that was saved.
 check_visudo() {
     PATH=$PATH:/usr/sbin has_caller visudo || return 0
     printf 'root ALL=(ALL:ALL) ALL\n' >sudoers

@@ -51,7 +51,7 @@ drop() { # NAME
     rm -f note
 }
 
-# Backspace takes the points off a letter one by one, and then the letter, all of one run; Delete takes a letter with its points.
+# Backspace takes the points off a letter one by one, and then the letter, all of one undo group; Delete takes a letter with its points.
 check_points() {
     printf 'ab \327\251\326\270\327\201 cd\n' >note
     start 4 40 "$top/bidi-edit" note
@@ -78,7 +78,7 @@ check_runs() {
     press 'words made again' 'ab one|||* 1:8' 7,0 C-y C-y
     press 'letters erased in a row' 'ab o|||* 1:5' 4,0 BSpace BSpace BSpace
     press 'letters back' 'ab one|||* 1:8' 7,0 C-z
-    press 'a run that moves end' 'ab one x|||* 1:9' 8,0 x C-b C-f y C-z
+    press 'a group that moves end' 'ab one x|||* 1:9' 8,0 x C-b C-f y C-z
     drop runs
 }
 
@@ -223,7 +223,7 @@ check_letters() {
     drop letters
 }
 
-# F4, or Ctrl-\, asks for letters, then for the text that takes their place, and then about each match, which is in negative image.
+# F4, or Ctrl-\, asks for letters, then for the text that takes their place, and then about each match, which is in reverse video.
 # Ctrl-Z takes back what one key replaced.
 check_replacing() {
     printf 'one two one two one\n' >note
@@ -231,7 +231,7 @@ check_replacing() {
     about='Enter replace ^W next F4 all ^C end'
     press 'letters asked for' 'one two one two one|||- 1:1 replace:' 0,0 F4
     press 'their first match' 'one two one two one|||- 1:5 replace: tw' 4,0 t w
-    press 'the other text asked for' 'one two one two one|||- 1:5 with:' 4,0 "C-\\"
+    press 'the replacement asked for' 'one two one two one|||- 1:5 with:' 4,0 "C-\\"
     press 'its letters' 'one two one two one|||- 1:5 with: in' 4,0 i n
     press 'a match' "one <tw>o one two one|||- 1:5 $about" 4,0 Enter
     press 'the next match, behind one replaced' "one ino one <tw>o one|||* 1:13 $about" 12,0 Enter
@@ -239,7 +239,7 @@ check_replacing() {
     press 'one taken back' 'one two one two one|||- 1:5' 4,0 C-z
     press 'all replaced' 'one ino one ino one|||* 1:15 2 replaced' 14,0 F4 F4 F4 "C-\\"
     press 'all taken back' 'one two one two one|||- 1:5' 4,0 C-z
-    press 'the query and the other text kept' 'one two one two one|||- 1:5 with: in' 4,0 F4 Enter
+    press 'the query and the replacement kept' 'one two one two one|||- 1:5 with: in' 4,0 F4 Enter
     press 'given up by Control and Q' 'one two one two one|||- 1:5' 4,0 C-q
     press 'ended by Control and C' 'one two one two one|||- 1:5 0 replaced' 4,0 F4 Enter Enter C-c
     press 'nothing in their place' 'one o one o one|||* 1:11 2 replaced' 10,0 F4 Enter DC Enter F4

@@ -10,6 +10,7 @@ printed() { # NAME WANTED WORD..
     same "$name" "$? $(cat "$folder/output" && echo .)" "0 $lines."
 }
 
+# Command lines and files that --print refuses, each with its message.
 check_refused_prints() {
     # the cause, and two lines of usage
     lines_told=3
@@ -28,6 +29,7 @@ check_refused_prints() {
     refused 'printing, bytes' "1 bidi-edit: bytes is not UTF-8 (line 2): if it is Hebrew text from Windows, iconv -f CP1255 -t UTF-8 converts it (Arabic: -f CP1256)" --print bytes
 }
 
+# Rows, marks and wrapped rows, as the host has them printed.
 check_printed_rows() {
     # an `a` in an isolate: U+2067 (RLI) and U+2069 (PDI), whose letters are I and P
     printf 'שלום (abc) 12\n\342\201\247a\342\201\251 end\n\nlast' >-text

@@ -93,6 +93,7 @@ line_of() { # NAME WANTED WORD..
     terminal kill-session -t person
 }
 
+# The line that the program is told, by all the ways in which callers name one.
 check_lines() {
     line_of 'lines, +N' '7 f' +7 f
     line_of 'lines, --line' '12 f' --line 12 f

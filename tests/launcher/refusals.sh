@@ -66,6 +66,7 @@ check_told_words() {
     rm -r "$folder/newer"
 }
 
+# Paths that lead to no plain file in a folder: each message says what to do instead.
 check_refused_places() {
     mkdir f.d
     refused 'checks, a folder' '1 bidi-edit: f.d is a folder: name a file in it' f.d
@@ -119,6 +120,7 @@ refused_at_opening() { # NAME WANTED WORD..
 # What is told last of a text that is not UTF-8.
 windows='if it is Hebrew text from Windows, iconv -f CP1255 -t UTF-8 converts it (Arabic: -f CP1256)'
 
+# Texts that the program refuses at opening: each message names the line, or the kind of file.
 check_refused_texts() {
     printf 'one\ntwo \377\n' >bytes
     refused_at_opening 'opening, not UTF-8' "1 bidi-edit: bytes is not UTF-8 (line 2): $windows" bytes
@@ -183,7 +185,7 @@ refused_in_terminal() { # NAME WANTED FILE
     same "$1: nothing else" "$(grep -a -c '1049h' "$folder/output") $(grep -c . "$folder/errors")" '0 2'
 }
 
-# What a killed save left is told: a mark, FILE.bx or FILE.bx with a digit, and a draft, which has eight letters before its end.
+# What a killed save left is told: a backup, FILE.bx or FILE.bx with a digit, and a draft, which has eight letters before its end.
 check_leftovers() {
     printf '\377' >f
     for name in f.bx f.bx9 f.bxx f.ab3defgh.bx f.other.bx 'g h.bx2'; do : >"$name"; done

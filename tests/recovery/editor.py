@@ -35,8 +35,8 @@ class Editor(Search):
         self.text, self.place, self.changed = text, 0, False
         # edits to undo and to redo, the latest last, each as text and place before it, and text and place after it
         self.past, self.future = [], []
-        # the lengths of the past at which runs begin, and at which the text is the stored one
-        self.runs, self.stored = set(), 0
+        # the lengths of the past at which undo groups begin, and at which the text is the stored one
+        self.groups, self.stored = set(), 0
         # what is typed: no, word, blanks, erasing, deleting, or of a paste paste (nothing yet) or pasting
         self.typing = "no"
         # a mark that Select set is soft: fresh until the next key, and then old
@@ -49,9 +49,9 @@ class Editor(Search):
         self.keys, self.ends = b"", {0: text}
 
     def edit(self, text, place, goes_on=False):
-        """An edit that makes this text and place; `goes_on` where it is of the run before it."""
+        """An edit that makes this text and place; `goes_on` where it is of the undo group before it."""
         length = len(self.past)
-        self.runs = {run for run in self.runs if run < length} | (set() if goes_on else {length})
+        self.groups = {group for group in self.groups if group < length} | (set() if goes_on else {length})
         # the stored text is among the edits that are given up
         if self.stored is not None and length < self.stored:
             self.stored = None
@@ -67,7 +67,7 @@ class Editor(Search):
         self.edit(self.text[:start] + self.text[end:], start, goes_on)
 
     def put_in(self, new, goes_on=False):
-        """Puts a text at the place, or in place of the selection, as an edit of the same run."""
+        """Puts a text at the place, or in place of the selection, as an edit of the same undo group."""
         if self.is_selection():
             self.remove(*self.region())
             goes_on = True
@@ -148,7 +148,7 @@ class Editor(Search):
         self.place = sum(len(line) + 1 for line in lines[:number]) + column
 
     def put_named(self, letter):
-        """Puts a character in, or two round the region, as edits of one run; no selection gives way."""
+        """Puts a character in, or two round the region, as edits of one undo group; no selection gives way."""
         if letter not in CLOSERS or self.mark in (None, self.place):
             self.put_character(NAMED[letter])
             return
@@ -166,7 +166,7 @@ class Editor(Search):
             self.put_character(chr(code))
 
     def put_character(self, character):
-        """Puts a character in, as an edit that begins a run; a selection stays in the text."""
+        """Puts a character in, as an edit that begins an undo group; a selection stays in the text."""
         self.edit(self.text[:self.place] + character + self.text[self.place:], self.place + 1)
         self.typing = kind_of(character)
 
@@ -200,7 +200,7 @@ class Editor(Search):
         return min((at for at in stops if at > self.place), default=self.place)
 
     def erase(self, name, was):
-        """A selection is all that a key removes; letters removed one after another are of one run."""
+        """A selection is all that a key removes; letters removed one after another are of one undo group."""
         at = self.place
         start, end = {"erase": (at - 1, at), "delete": (at, at + 1), "erase word": (self.word_before(), at),
                       "delete word": (at, self.word_behind())}[name]
@@ -208,20 +208,21 @@ class Editor(Search):
             self.remove(*self.region())
         elif 0 <= start < end <= len(self.text):
             typing = {"erase": "erasing", "delete": "deleting"}.get(name, "no")
-            # goes on with the run where the key before did the same
+            # goes on with the undo group where the key before did the same
             self.remove(start, end, typing == was != "no")
             self.typing = typing
 
     def step_run(self, from_steps, to_steps, side):
-        """Takes edits back (`side` 0, the text before one) or makes them again (2, the text after it), up to a run's beginning."""
+        """Takes edits back (`side` 0, the text before one) or makes them again (2, the text after it), up to an undo group's beginning."""
         while from_steps:
             step = from_steps.pop()
             to_steps.append(step)
             self.now(step[side], step[side + 1], len(self.past) != self.stored)
-            if len(self.past) in self.runs:
+            if len(self.past) in self.groups:
                 break
 
     def move(self, name):
+        """Back, Forward, TextStart and TextEnd: a letter on, or to an end of the text. The mark of a selection is taken off."""
         self.unselect()
         end = len(self.text)
         self.place = {"back": max(0, self.place - 1), "forward": min(end, self.place + 1), "text start": 0, "text end": end}[name]
@@ -313,7 +314,7 @@ class Editor(Search):
         return f"{row} {prompt}".rstrip()
 
     def recovered(self):
-        """The editor after its recovery, which ends a search or a question where it stands, and a run."""
+        """The editor after its recovery, which ends a search or a question where it stands, and an undo group."""
         editor = copy.deepcopy(self)
         editor.search, editor.ask, editor.told, editor.typing, editor.keys = None, None, "", "no", b""
         editor.stored = None if editor.changed else len(editor.past)

@@ -10,11 +10,11 @@ class Search:
     """The state of a search and its keys. The editor that has it brings text, place and edits."""
 
     def __init__(self):
-        # a search is None, begun or typed, or asks for the other text with begun or with typed, or is at a match, replacing
+        # a search is None, begun or typed, or asks for the replacement with begun or with typed, or is at a match, replacing
         self.search, self.query, self.origin = None, "", 0
         # what a search is for, find or replace; the text that takes a match's place, the place of the match that is shown, and
         # the number of those replaced
-        self.aim, self.other, self.at, self.count = "find", "", 0, 0
+        self.aim, self.replacement, self.at, self.count = "find", "", 0, 0
 
     def begin_search(self, aim):
         self.unselect()
@@ -35,7 +35,7 @@ class Search:
             self.begin_search("find")
 
     def seek_by(self, letter, is_paste):
-        """What a letter does in a search. A paste asks for no other text, and replaces nothing."""
+        """What a letter does in a search. A paste asks for no replacement, and replaces nothing."""
         is_query = self.search in ("begun", "typed")
         if letter == "\n" and is_query and self.aim == "find":
             self.search = None
@@ -48,19 +48,19 @@ class Search:
             self.look_for(self.kept(self.query) + letter)
         else:
             # as long as the editor's, as is the query in `look_for`
-            self.search, self.other = "with typed", (self.kept(self.other) + letter)[:64]
+            self.search, self.replacement = "with typed", (self.kept(self.replacement) + letter)[:64]
 
     def answer_by_enter(self):
         """What Enter does where letters are to be replaced."""
         if self.search == "replacing":
             self.replace_match()
         elif self.search in ("begun", "typed"):
-            self.ask_other()
+            self.ask_replacement()
         else:
             self.show_match()
 
     def kept(self, text):
-        """What a letter is added to; nothing where a search was begun or the other text just asked for: the old one gives way."""
+        """What a letter is added to; nothing where a search was begun or the replacement just asked for: the old one gives way."""
         return "" if self.search in ("begun", "with begun") else text
 
     def look_for(self, query):
@@ -107,7 +107,7 @@ class Search:
         elif self.search == "replacing":
             return self.match_takes(name)
         elif self.search in ("with begun", "with typed"):
-            return self.other_takes(name)
+            return self.replacement_takes(name)
         else:
             return self.query_takes(name)
         return True
@@ -124,16 +124,16 @@ class Search:
             self.search = "typed"
             self.look_back()
         elif name == "replace":
-            self.ask_other()
+            self.ask_replacement()
         else:
             self.search = None
             return False
         return True
 
-    def other_takes(self, name):
-        """What a key does while the other text is typed. Returns as `query_takes`."""
+    def replacement_takes(self, name):
+        """What a key does while the replacement is typed. Returns as `query_takes`."""
         if name in ("erase", "delete"):
-            self.search, self.other = "with typed", self.kept(self.other)[:-1]
+            self.search, self.replacement = "with typed", self.kept(self.replacement)[:-1]
         elif name in ("find", "find next", "find back"):
             self.begin_search("find")
         elif name == "replace":
@@ -156,7 +156,7 @@ class Search:
             return False
         return True
 
-    def ask_other(self):
+    def ask_replacement(self):
         """Asks for the text that takes a match's place, where the query stands somewhere."""
         self.aim = "replace"
         if self.letters_of(self.query):
@@ -178,7 +178,7 @@ class Search:
                 break
 
     def exchange(self, stop, new, count):
-        """Puts a text in the place of `count` matches, from the one shown up to `stop`: as at most two edits of one run."""
+        """Puts a text in the place of `count` matches, from the one shown up to `stop`: as at most two edits of one undo group."""
         at = self.at
         self.remove(at, stop)
         if new:
@@ -186,15 +186,15 @@ class Search:
         self.origin, self.count = 0, self.count + count
 
     def replace_match(self):
-        self.exchange(dict(self.spans())[self.at], self.other, 1)
-        self.go_on_from(self.at + len(self.other))
+        self.exchange(dict(self.spans())[self.at], self.replacement, 1)
+        self.go_on_from(self.at + len(self.replacement))
 
     def replace_all(self):
         """Replaces the match that is shown and each after it that has no part in one before."""
         new, stop, count = "", self.at, 0
         for start, end in self.spans():
             if start >= stop:
-                new += self.text[stop:start] + self.other
+                new += self.text[stop:start] + self.replacement
                 stop, count = end, count + 1
         self.exchange(stop, new, count)
         self.search = None
@@ -203,5 +203,5 @@ class Search:
         """What the last row asks."""
         if self.search == "replacing":
             return "Enter replace ^W next F4 all ^C end"
-        word, text = (self.aim, self.query) if self.search in ("begun", "typed") else ("with", self.other)
+        word, text = (self.aim, self.query) if self.search in ("begun", "typed") else ("with", self.replacement)
         return f"{word}: {text if text < chr(0x5d0) else text[::-1]}"

@@ -3,7 +3,7 @@
 The keys are random, and none of them depends on rows. Each session is a folder of FOLDER: `file` is the text; `keys1` are keys
 after which the last row is `row`; `keys2` are more keys; `ends` has, for each count of bytes that ends a key, the text in
 hexadecimal; `how` has the signal, its target, and the seconds after `keys2`. When `keys1` are recovered, the last row is `back`,
-and the keys `more` make the text `made`, which shows place, mark, selection, held text, undo history and its runs. The bytes
+and the keys `more` make the text `made`, which shows place, mark, selection, held text, undo history and its groups. The bytes
 `torn` begin a key; recovered with them, the letters `typed` make the text `kept` and the last row `seen`.
 """
 
@@ -19,13 +19,14 @@ LETTERS = "abcxyz ,.()0123456789" + "\u05d0\u05d1\u05d2\u05e9\u05dc\u05de\u05dd"
 # what `press` draws from: all keys once, and some once or twice more, so that they come more often
 NAMES = [*BYTES, "select", "undo run", "redo run", "enter", "tab", "size", "quit", "named", "replaced", "replaced"]
 # how keys1 end
-ENDS = ["no search", "in a search", "a search given up", "a search that a save ended", "in a paste", "a selection", "between runs",
-        "in a question", "a named character", "a region in an isolate", "behind Tell", "the other text asked for", "a match shown",
+ENDS = ["no search", "in a search", "a search given up", "a search that a save ended", "in a paste", "a selection", "between undo groups",
+        "in a question", "a named character", "a region in an isolate", "behind Tell", "the replacement asked for", "a match shown",
         "matches replaced"]
 # the method of each end that has one of its own
-METHODS = {"in a paste": "begin_paste", "a selection": "make_selection", "between runs": "type_runs", "in a question": "ask_something",
-         "a named character": "name_character", "a region in an isolate": "wrap_letters", "behind Tell": "tell_letter",
-         "the other text asked for": "ask_for_other", "a match shown": "show_some_match", "matches replaced": "replace_some"}
+METHODS = {"in a paste": "begin_paste", "a selection": "make_selection", "between undo groups": "type_groups",
+         "in a question": "ask_something", "a named character": "name_character", "a region in an isolate": "wrap_letters",
+         "behind Tell": "tell_letter",
+         "the replacement asked for": "ask_for_replacement", "a match shown": "show_some_match", "matches replaced": "replace_some"}
 # the first bytes of a character or a sequence
 TORN = [b"", b"\xd7", b"\xe2\x80", b"\x1b", b"\x1b[", b"\x1b[7", b"\x1b[8;24;"]
 # the program ignores HUP under the host
@@ -111,8 +112,8 @@ class Session(Editor):
             self.key("select")
             self.key(random.choice(MOVES))
 
-    def type_runs(self):
-        """Types words, and takes some runs of them back, so that some are before the place in the history and some after it."""
+    def type_groups(self):
+        """Types words, and takes some groups of them back, so that some are before the place in the history and some after it."""
         for letter in random.sample(LETTERS, 9) + [" ", "x"]:
             self.insert(letter)
         for _ in range(random.randint(0, 2)):
@@ -137,6 +138,7 @@ class Session(Editor):
         self.enter()
 
     def wrap_letters(self):
+        """Types letters, selects the last ones by a mark, and puts a pair around them by its closer's letter."""
         for letter in random.sample(LETTERS, 4):
             self.insert(letter)
         self.key("mark")
@@ -145,7 +147,7 @@ class Session(Editor):
         self.key("name")
         self.insert(random.choice([*CLOSERS]))
 
-    def ask_for_other(self):
+    def ask_for_replacement(self):
         """Asks for letters that stand after the place, and then for those that are to take their place."""
         self.search_ahead("replace")
         self.enter()
@@ -153,7 +155,7 @@ class Session(Editor):
             self.insert(letter)
 
     def show_some_match(self):
-        self.ask_for_other()
+        self.ask_for_replacement()
         self.enter()
 
     def replace_some(self):

@@ -97,7 +97,7 @@ check_worked() { # NAME ROWS COLS FILE STEPS WAY WANTED [BEFORE]
     [ ! -s odd ] || fail "$1: $(head -n 1 odd)"
 }
 
-# Bytes of sequences are those of crates/bx_keys/specs/Keys.antt: B1b B5b B38 B32 B7e is CSI 82~, which undoes a run.
+# Bytes of sequences are those of crates/bx_keys/specs/Keys.antt: B1b B5b B38 B32 B7e is CSI 82~, which undoes an undo group.
 check_all_scenes() {
     # all is sent and read
     rest='S1000 R1000'
@@ -117,6 +117,7 @@ check_all_scenes() {
     check_scenes 'down' 3 4 310a320a33 "B1b B5b B42 B1b B5b B42 $rest"
 }
 
+# The worked scenes: after a refusal, which key or byte paints what is owed, and what an answer has then.
 check_all_worked() {
     # the painting at opening, and the bytes that show `xyab` in its place
     opening=1b5b306d1b5b324a1b5b313b314861621b5b313b3148

@@ -44,6 +44,7 @@ empty_texts() {
     put_old "$kept" 600
 }
 
+# Saves by root, and of files with another owner or group: whose FILE is afterwards, and who may do what with it.
 check_owners() {
     begin_kind 'other users'
     if ! is_root; then
@@ -93,20 +94,21 @@ check_owners() {
     mode=666
     check_save "another user's file, in place" new "$folder/as_other"
     check_place
-    check_no_mark
+    check_no_backup
     check_nothing_left
 
     prepare plain
     chmod 644 "$kept"
     chown 54322 "$own"
     check_save "another user's file that may not be written, in place" old "$folder/as_other"
-    check_no_mark
+    check_no_backup
     check_nothing_left
     way=beside
 }
 
 # ---- full disks
 
+# Saves to a disk that is read-only or full, and to a file that is mounted by itself.
 check_disks() {
     begin_kind 'disks that take no text'
     mkdir -m 755 "$folder/disk"
@@ -141,7 +143,7 @@ check_disks() {
     put_old "$kept" 640
     way=in_place
     check_save 'a file that is mounted by itself, in place' new env
-    check_no_mark
+    check_no_backup
     check_nothing_left
     way=beside
     umount "$kept" && mounted=''

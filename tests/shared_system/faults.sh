@@ -252,7 +252,7 @@ check_no_inodes() {
     leave_files
 }
 
-# A recovery onto another disk, from a full one, says why it cannot go on, and drops nothing.
+# A recovery onto another disk, from a full one or one that is read-only, says why if it cannot go on, and drops nothing.
 check_full_recovery() {
     open_small_disk 256k || return 0
     put_note note

@@ -1,6 +1,7 @@
 # shellcheck shell=sh
 # shellcheck disable=SC2034,SC2154 # variables shared with other parts
 # Simultaneous signals, such as a resize and the end of the terminal. `lost` counts the runs that go on after them, which are then killed.
+# Uses person.sh and recorder.sh: the recorder, a script, runs in the program's place.
 
 # Prints the process of the session's host.
 host_of_person() {
@@ -107,7 +108,7 @@ end_young_program() { # RUNS
     same "signals, a young program, of $1 runs those that go on" "$lost" 0
 }
 
-# Prints the process of the recorder's program.
+# Prints the process that runs as the program of the recorder's session; nothing before it exists.
 program_process() {
     pgrep -f "$folder/recorder/lib/bidi_edit/" | head -n 1
 }

@@ -17,6 +17,7 @@ told() { # NAME SEQUENCES NAME=VALUE..
     same "$name" "$(sequences "$@")" "$wanted"
 }
 
+# Which sequences against reordering the editor sends, by the variables that terminals set. An unknown terminal gets none.
 check_variables() {
     if ! command -v script >/dev/null; then
         skip variables 'there is no script'

@@ -156,8 +156,7 @@ impl Edits {
 
 /// Opens a text without edits.
 fn fresh<R: AllocGlobal>(rt: &R, bytes: usize) -> Result<Text> {
-    let text = Text::open(rt.alloc(), lines(rt.alloc(), bytes)?)?;
-    Ok(text)
+    Ok(Text::open(rt.alloc(), lines(rt.alloc(), bytes)?)?)
 }
 
 /// Makes edits and returns the time of the last ones.

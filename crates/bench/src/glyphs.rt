@@ -1,7 +1,7 @@
 //! The glyphs of each script that pictures are filled with.
 
 ghost use Rattle.std.specs.Prelude.{◌≡◌, ◌≤◌, true};
-ghost use Rattle.bx_grid.specs.Columns.{is_one_glyph, run_width};
+ghost use Rattle.bx_common.specs.Glyphs.{is_one_glyph, run_width};
 
 /// What a picture is filled with.
 #[derive(Clone, Copy)]

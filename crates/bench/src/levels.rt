@@ -5,8 +5,8 @@
 use crate::outcome::{Outcome, number};
 use crate::texts::text;
 use anyhow::{Result, bail};
-use bx_resolve::{Level, levels};
-use bx_terms::Base;
+use bx_common::Base;
+use bx_levels::{Level, levels};
 use bx_ucd::Tables;
 use bx_ucd::sample::{BRACKETS, CLASSES, MIRRORING};
 use std::alloc::Global;

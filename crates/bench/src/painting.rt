@@ -3,7 +3,7 @@
 //! blank grid). TEXT is `ascii`, `hebrew`, `arabic`, `wide` or `marked`.
 
 ghost use Rattle.std.specs.Prelude.{◌≡◌, ◌≤◌, true, IfOk};
-ghost use Rattle.bx_grid.specs.Columns.{is_one_glyph, run_width};
+ghost use Rattle.bx_common.specs.Glyphs.{is_one_glyph, run_width};
 
 use crate::glyphs::{Glyph, Script};
 use crate::outcome::{Outcome, number};

@@ -5,12 +5,11 @@
 //! removed and that undone).
 
 ghost use Rattle.std.specs.Prelude.{◌≡◌, OnOk};
-ghost use Rattle.bx_index.specs.Paragraphs.{lengths};
+ghost use Rattle.bx_text.specs.index.Paragraphs.{lengths};
 
 use crate::outcome::{Outcome, number};
 use anyhow::{Context, Result, bail};
-use bx_index::Index;
-use bx_text::Text;
+use bx_text::{Index, Text};
 use bx_ucd::{BidiData, sample_tables};
 use std::alloc::Global;
 use std::time::{CpuClock, Duration};
@@ -37,7 +36,7 @@ fn edit<D: BidiData>(text: &mut Text, index: &mut Index, tables: &D) -> Result<(
     let at = len / 2;
     index.ready(1)?;
     let put = text.insert(at, "\n", at, at)?;
-    // the contract of `len` tells the proofs that the text is UTF-8
+    // `len` promises that the text is UTF-8.
     let _still = text.len();
     index.edited(text, tables, &put);
     Ok(())
@@ -51,7 +50,7 @@ fn clear<D: BidiData>(text: &mut Text, index: &mut Index, tables: &D) -> Result<
     let len = text.len();
     index.ready(0)?;
     let change = text.remove(0, len, 0, 0)?;
-    // the contract of `len` tells the proofs that the text is UTF-8
+    // `len` promises that the text is UTF-8.
     let _still = text.len();
     index.edited(text, tables, &change);
     Ok(())
@@ -64,14 +63,14 @@ fn take_back<D: BidiData>(text: &mut Text, index: &mut Index, tables: &D) -> Res
 {
     // reserves before the index does, so that the index frees memory at the heap's end
     text.ready(0)?;
-    // the contract of `len` tells the proofs that the text is UTF-8
+    // `len` promises that the text is UTF-8.
     let _utf8 = text.len();
     let Some(next) = text.next_undo() else {
         return Ok(());
     };
     index.ready(next.added)?;
     if let Some(change) = text.undo()? {
-        // the contract of `len` tells the proofs that the text is UTF-8
+        // `len` promises that the text is UTF-8.
         let _still = text.len();
         index.edited(text, tables, &change);
     }

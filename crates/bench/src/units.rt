@@ -3,8 +3,7 @@
 
 use crate::outcome::{Outcome, number};
 use anyhow::{Context, Result, bail};
-use bx_cells::{face, units};
-use bx_rows::row_starts;
+use bx_rows::{face, row_starts, units};
 use bx_rows_laws::{has_one_row, wrap};
 use bx_ucd::{Tables, sample_tables};
 use std::alloc::{AllocError, Global};
@@ -130,7 +129,7 @@ fn once(alloc: Global, task: Task, line: &str, tables: &Tables) -> Result<usize>
             for cluster in line.graphemes(true) {
                 let shown = face(cluster, tables, WIDTH);
                 // a tab counts twice, so that the result depends on each face
-                count = count.wrapping_add(if shown == bx_cells::Face::Tab { 2 } else { 1 });
+                count = count.wrapping_add(if shown == bx_rows::Face::Tab { 2 } else { 1 });
             }
             Ok(count)
         }

@@ -4,8 +4,8 @@ use Rattle.std.proofs.Common.{◌≡◌, ℕ, zero, suc, ◌<◌, List, [], ◌�
 use Rattle.std.proofs.Common.{refl, ap, subst, ◌∙◌, arith}
 use Rattle.std.specs.Char.{encode_utf8}
 use Rattle.std.specs.Str.{IsValidUpTo}
-use Rattle.bx_terms.specs.Sizes.{largest_text}
-use Rattle.bx_cli.specs.declared.files.FileFault.{FileFault}
+use Rattle.bx_common.specs.Characters.{largest_text}
+use Rattle.bx_command.specs.declared.shared.files.FileFault.{FileFault}
 use Rattle.bx_command.specs.Check.{Refuses, line_of}
 use Rattle.bx_command.specs.declared.check.TextFault.{TextFault}
 use Rattle.bx_command.specs.declared.check.TextFault.TheVariants.{NotUtf8, TooLong}

@@ -1,8 +1,8 @@
 -- What `--check` answers.
 use Rattle.std.specs.Global.{Vec}
 use Rattle.std.specs.Prelude.{◌≡◌, ℕ, List, Option, Result, Ok, Err, IfErr}
-use Rattle.bx_cli.specs.Files.{IsFaultOf}
-use Rattle.bx_cli.specs.declared.files.FileFault.{FileFault}
+use Rattle.bx_command.specs.shared.Files.{IsFaultOf}
+use Rattle.bx_command.specs.declared.shared.files.FileFault.{FileFault}
 use Rattle.bx_command.specs.Check.{Refuses}
 use Rattle.bx_recovery.specs.Beginnings.{bytes_of}
 use Rattle.bx_recovery.specs.Refusals.{IsText}

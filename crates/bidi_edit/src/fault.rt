@@ -2,8 +2,7 @@
 
 ghost use Rattle.std.specs.Prelude.{◌≡◌};
 
-use bx_cli::FileFault;
-use bx_command::TextFault;
+use bx_command::{FileFault, TextFault};
 use bx_recovery::RecoveryFault;
 use bx_session::{OpenError, Refused, RunFault};
 use bx_store::StoreFault;

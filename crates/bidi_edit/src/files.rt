@@ -7,8 +7,7 @@ ghost use Rattle.bx_recovery.specs.Refusals.{IsText};
 ghost use Rattle.bidi_edit.specs.Check.{Checks, IsChecked};
 
 use crate::fault::ProgramFault;
-use bx_cli::{FileFault, text_of};
-use bx_command::{Files, Options, TextFault, check_text};
+use bx_command::{FileFault, Files, Options, TextFault, check_text, text_of};
 use bx_store::HostStore;
 use std::fs::{File, OpenOptions};
 use std::io::{self, BufWriter, Write};

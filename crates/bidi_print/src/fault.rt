@@ -1,6 +1,6 @@
 //! Faults that end the program with status 1.
 
-use bx_cli::FileFault;
+use bx_command::FileFault;
 use bx_print::PrintError;
 use bx_ucd::UcdError;
 use std::alloc::AllocError;

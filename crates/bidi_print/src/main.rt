@@ -9,7 +9,7 @@ mod fault;
 mod printing;
 mod words;
 
-use bx_cli::{FileFault, UnicodeBytes, finish, refuse, refuse_words, text_of, words_of};
+use bx_command::{FileFault, UnicodeBytes, finish, refuse, refuse_words, text_of, words_of};
 use fault::ProgramFault;
 use printing::print_bytes;
 use std::io::Write;

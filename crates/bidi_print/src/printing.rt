@@ -4,9 +4,9 @@ ghost use Rattle.std.specs.Prelude.{◌≡◌, None, OnOk};
 ghost use Rattle.bx_ucd.specs.Reading.{refusal, texts_of};
 
 use crate::fault::ProgramFault;
-use bx_cli::UnicodeFiles;
+use bx_command::UnicodeFiles;
+use bx_common::LARGEST_TEXT;
 use bx_print::{PrintError, Style, print};
-use bx_terms::LARGEST_TEXT;
 use bx_ucd::Tables;
 use simdutf8::compat::from_utf8;
 use std::alloc::{AllocError, Global};

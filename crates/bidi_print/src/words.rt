@@ -1,6 +1,6 @@
 //! The program's command line.
 
-use bx_cli::{
+use bx_command::{
     UnicodePaths, direction, direction_of, flag, is_given, missing_value, paths_of, side, side_of,
     value_of, with_tables,
 };

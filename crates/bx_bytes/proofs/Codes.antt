@@ -5,8 +5,7 @@ use Rattle.std.specs.Char.{InScalarRange}
 use Rattle.std.specs.Str.{chars}
 use Rattle.std.proofs.lemmas.Bool.{cases_lt}
 use Rattle.std.proofs.lemmas.Bool.Decides.{nat_tests}
-use Rattle.bx_bytes.specs.Fate.{fate_in}
-use Rattle.bx_bytes.specs.Pattern.{Piece, One}
+use Rattle.bx_bytes.specs.Pattern.{fate_in, Piece, One}
 use Rattle.bx_bytes.specs.Utf8.{characters, trail}
 use Rattle.bx_bytes.specs.declared.fate.Fate.TheVariants.{Ends, Breaks}
 

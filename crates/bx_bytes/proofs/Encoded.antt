@@ -5,12 +5,16 @@ use Rattle.std.specs.Char.{IsScalar, InScalarRange, encode_utf8}
 use Rattle.std.proofs.lemmas.Bool.{cases_lt, cond-true}
 use Rattle.std.proofs.lemmas.Bool.Decides.{nat_tests}
 use lib.Utf8.{encode, scalar_cases}
-use Rattle.bx_bytes.specs.Fate.{fate_in}
-use Rattle.bx_bytes.specs.Pattern.{begins_any}
-use Rattle.bx_bytes.specs.Utf8.{characters, is_character, AreEncodings}
+use Rattle.bx_bytes.specs.Pattern.{fate_in, begins_any}
+use Rattle.bx_bytes.specs.Utf8.{characters}
+use Rattle.bx_bytes.specs.Grammar.{is_character, AreEncodings}
 use Rattle.bx_bytes.specs.declared.fate.Fate.TheVariants.{Waits, Ends, Breaks}
 use Rattle.bx_bytes.proofs.Codes.{IsOfThree, IsOfFour, parts_of_three, parts_of_four, after_two, after_three, after_four, code_of_three, code_of_four}
 use Rattle.bx_bytes.proofs.Codes.{code_of_three_fits, code_of_four_fits, too_long}
+
+-- the first bytes of a character, or all of them
+abbrev pub begins_character : List ℕ → Bool
+begins_character bs = begins_any characters bs
 
 -- ---- the rows, by fates
 

@@ -6,10 +6,11 @@ use Rattle.std.proofs.lemmas.Str.{encode_same}
 use Rattle.std.specs.List.{list_all}
 use Rattle.std.specs.Char.{IsScalar, encode_utf8}
 use lib.Utf8.{encode}
-use Rattle.bx_bytes.specs.Grammar.{is_grammar, BeginsByMore, NoneBeginsLonger}
+use Rattle.bx_bytes.specs.Grammar.{is_grammar, BeginsByMore, NoneBeginsLonger, is_character, AreEncodings}
 use Rattle.bx_bytes.specs.Pattern.{Piece}
 use Rattle.std.specs.Str.{chars}
-use Rattle.bx_bytes.specs.Utf8.{characters, is_character, begins_character, are_printable, AreEncodings}
+use Rattle.bx_bytes.specs.Utf8.{characters, are_printable}
+use Rattle.bx_bytes.proofs.Encoded.{begins_character}
 
 pub two_bytes : is_character (0xD7 ∷ 0x90 ∷ []) ≡ true
 two_bytes = refl

@@ -1,7 +1,9 @@
 -- Grammars, which are lists of patterns with no match in common, and their laws. An item of a grammar is a match of one of its patterns.
 use Rattle.std.specs.Prelude.{◌≡◌, ◌↔◌, ℕ, Bool, true, false, ◌&&◌, ◌||◌, nat_le, nat_lt, List, [], ◌∷◌, ◌++◌}
 use Rattle.std.specs.List.{list_all}
+use Rattle.std.specs.Char.{IsScalar, encode_utf8}
 use Rattle.bx_bytes.specs.Pattern.{Piece, One, Many, matches_any, begins_any}
+use Rattle.bx_bytes.specs.Utf8.{characters}
 
 -- each match of the pattern has at least one byte
 abbrev pub needs_byte : List Piece → Bool
@@ -46,3 +48,13 @@ BeginsByMore patterns = (bs : List ℕ) → (begins_any patterns bs ≡ true) �
 -- no item is a proper prefix of another
 abbrev pub NoneBeginsLonger : List (List Piece) → Type 0
 NoneBeginsLonger patterns = (bs : List ℕ) (b : ℕ) (more : List ℕ) → matches_any patterns bs ≡ true → begins_any patterns (bs ++ b ∷ more) ≡ false
+
+-- ---- the grammar of characters
+
+-- the bytes of one character
+abbrev pub is_character : List ℕ → Bool
+is_character bs = matches_any characters bs
+
+-- the rows match exactly the encodings of the Unicode scalar values
+abbrev pub AreEncodings : Type 0
+AreEncodings = (bs : List ℕ) → (is_character bs ≡ true) ↔ ((c : ℕ) × IsScalar c × (encode_utf8 c ≡ bs))

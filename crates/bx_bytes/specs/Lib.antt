@@ -1,4 +1,3 @@
-pub mod Fate
 pub mod Grammar
 pub mod Pattern
 pub mod Utf8

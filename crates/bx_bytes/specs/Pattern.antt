@@ -1,7 +1,9 @@
--- Patterns of bytes: sequences of ranges, each of the bytes from `low` to `high`, both included.
+-- Patterns of bytes: sequences of ranges, each of the bytes from `low` to `high`, both included. A grammar is a list of patterns.
 use Rattle.std.specs.Prelude.{ℕ, Bool, true, false, ◌&&◌, List, [], ◌∷◌, if◌then◌else◌}
 use Rattle.std.specs.List.{list_any}
-pub use Rattle.bx_terms.specs.Characters.{is_within}
+pub use Rattle.bx_common.specs.Characters.{is_within}
+use Rattle.bx_bytes.specs.declared.fate.Fate.{Fate}
+use Rattle.bx_bytes.specs.declared.fate.Fate.TheVariants.{Waits, Ends, Breaks}
 
 -- one byte of a range, or the longest run of such bytes, maybe empty
 pub data Piece : Type 0 where
@@ -36,3 +38,7 @@ matches_any patterns bs = list_any (λ p. matches p bs) patterns
 -- the bytes begin a match of one of the patterns, or are one
 abbrev pub begins_any : List (List Piece) → List ℕ → Bool
 begins_any patterns bs = list_any (λ p. begins p bs) patterns
+
+-- what the bytes `bs` are to the grammar `patterns`
+abbrev pub fate_in : List (List Piece) → List ℕ → Fate
+fate_in patterns bs = if matches_any patterns bs then Ends else if begins_any patterns bs then Waits else Breaks

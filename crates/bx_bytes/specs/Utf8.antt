@@ -1,8 +1,7 @@
 -- Well-formed UTF-8 byte sequences (the Unicode Standard, table 3-7), as a grammar whose items are the characters.
-use Rattle.std.specs.Prelude.{◌≡◌, ◌↔◌, ℕ, Bool, true, List, [], ◌∷◌}
-use Rattle.std.specs.Char.{IsScalar, encode_utf8}
-use Rattle.bx_bytes.specs.Pattern.{Piece, One, matches_any, begins_any}
-pub use Rattle.bx_terms.specs.Characters.{is_control, is_ascii_printable, are_printable}
+use Rattle.std.specs.Prelude.{List, [], ◌∷◌}
+use Rattle.bx_bytes.specs.Pattern.{Piece, One}
+pub use Rattle.bx_common.specs.Characters.{is_control, is_ascii_printable, are_printable}
 
 -- a byte after the first, where the table has its whole range
 abbrev pub trail : Piece
@@ -24,15 +23,3 @@ long_characters =
 -- all rows of the table
 abbrev pub characters : List (List Piece)
 characters = (One 0x00 0x7F ∷ []) ∷ long_characters
-
--- the bytes of one character
-abbrev pub is_character : List ℕ → Bool
-is_character bs = matches_any characters bs
-
--- the first bytes of a character, or all of them
-abbrev pub begins_character : List ℕ → Bool
-begins_character bs = begins_any characters bs
-
--- the rows match exactly the encodings of the Unicode scalar values
-abbrev pub AreEncodings : Type 0
-AreEncodings = (bs : List ℕ) → (is_character bs ≡ true) ↔ ((c : ℕ) × IsScalar c × (encode_utf8 c ≡ bs))

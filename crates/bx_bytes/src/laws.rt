@@ -1,9 +1,9 @@
 //! Laws of all grammars, and of the grammar of characters. Each function's contract is a law; its body is empty.
 
 ghost use Rattle.std.specs.Prelude.{◌≡◌, List, true};
-ghost use Rattle.bx_bytes.specs.Grammar.{is_grammar, BeginsByMore, NoneBeginsLonger};
+ghost use Rattle.bx_bytes.specs.Grammar.{AreEncodings, BeginsByMore, NoneBeginsLonger, is_grammar};
 ghost use Rattle.bx_bytes.specs.Pattern.{Piece};
-ghost use Rattle.bx_bytes.specs.Utf8.{characters, AreEncodings};
+ghost use Rattle.bx_bytes.specs.Utf8.{characters};
 
 /// Bytes begin an item of a grammar exactly if some continuation of them is one.
 pub fn begins_by_more()

@@ -2,8 +2,7 @@
 
 ghost use Rattle.std.specs.Prelude.{◌≡◌, ◌+◌, ◌-◌, ◌*◌, ◌^◌, ◌<◌, ◌∷◌, [], ◌++◌, true};
 ghost use Rattle.std.specs.Str.{chars};
-ghost use Rattle.bx_bytes.specs.Fate.{fate_in};
-ghost use Rattle.bx_bytes.specs.Pattern.{is_within};
+ghost use Rattle.bx_bytes.specs.Pattern.{fate_in, is_within};
 ghost use Rattle.bx_bytes.specs.Utf8.{characters};
 
 use crate::fate::Fate;

@@ -40,7 +40,7 @@ pub fn write_all<W: Write>(writer: &mut W, bytes: &[u8]) -> Result<(), WriteFaul
 {
     let mut written = 0;
     // A proved loop needs a bound, and no writer takes that many calls.
-    'writes: for _ in 0..u64::MAX {
+    for _ in 0..u64::MAX {
         if written == bytes.len() {
             return Ok(());
         }

@@ -4,8 +4,8 @@ use Rattle.std.specs.Prelude.{Option, Some, None, codes}
 use Rattle.std.specs.Str.Parse.{digits_value, without_leading_plus}
 use Rattle.clap.specs.Words.{Row, Text, matches_of}
 use Rattle.clap.proofs.OnLiterals.{clap_on_literals}
-use Rattle.bx_cli.specs.Arguments.{IsSideIn, value_in}
-use Rattle.bx_cli.specs.Rules.{DirectionWords}
+use Rattle.bx_command.specs.shared.Arguments.{IsSideIn, value_in}
+use Rattle.bx_command.specs.shared.Rules.{DirectionWords}
 use Rattle.bx_command.specs.Command.{editor_app}
 use Rattle.bx_command.specs.Options.{AreOptionsOf, text_in}
 use Rattle.bx_command.specs.declared.parsed.Options.{Options}

@@ -1,7 +1,7 @@
 -- Worked examples: the lines of a text, and the refusals of its check.
 use Rattle.std.proofs.Common.{◌≡◌, ℕ, ◌≤◌, List, [], ◌∷◌, length, refl, arith}
 use Rattle.std.specs.Prelude.{codes}
-use Rattle.bx_terms.specs.Sizes.{largest_text}
+use Rattle.bx_common.specs.Characters.{largest_text}
 use Rattle.bx_command.specs.declared.check.TextFault.TheVariants.{NotUtf8, TooLong}
 use Rattle.bx_command.specs.Check.{Refuses, line_of}
 use Rattle.bx_command.specs.Lines.{line_starts, start_of_line}

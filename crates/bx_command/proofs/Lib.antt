@@ -1,4 +1,4 @@
 pub mod Starts
 pub mod Examples
 pub mod CommandExamples
-pub mod ByWords
+pub mod shared_lemmas

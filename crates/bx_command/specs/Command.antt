@@ -2,7 +2,7 @@
 use Rattle.std.specs.Prelude.{List, [], ◌∷◌, Some, true, codes}
 use Rattle.clap.specs.Words.{App, Rule, new_app, new_rule}
 use Rattle.clap.specs.declared.builder.value_parser.ValueParser.TheVariants as vp
-use Rattle.bx_cli.specs.Rules.{DirectionWords, bound, direction_rule, flag_rule, option_rule, side_rule, table_rules, with_rules}
+use Rattle.bx_command.specs.shared.Rules.{DirectionWords, bound, direction_rule, flag_rule, option_rule, side_rule, table_rules, with_rules}
 
 -- the cursor's first line, a number from 1
 abbrev pub line_rule : Rule

@@ -2,3 +2,4 @@ pub mod Check
 pub mod Command
 pub mod Lines
 pub mod Options
+pub mod shared

@@ -5,9 +5,9 @@ use Rattle.std.specs.Borrow.{Bor}
 use Rattle.std.specs.Str.{bytes_eq}
 use Rattle.std.specs.Str.Parse.{IsNumeral, digits_value, without_leading_plus}
 use Rattle.clap.specs.Words.{Row, Text, matches_of}
-use Rattle.bx_terms.specs.Directions.{word_of}
-use Rattle.bx_cli.specs.Arguments.{ArePathsIn, IsSideIn, is_given, value_in}
-use Rattle.bx_cli.specs.Rules.{DirectionWords}
+use Rattle.bx_common.specs.Directions.{word_of}
+use Rattle.bx_command.specs.shared.Arguments.{ArePathsIn, IsSideIn, is_given, value_in}
+use Rattle.bx_command.specs.shared.Rules.{DirectionWords}
 use Rattle.bx_command.specs.Command.{editor_app}
 use Rattle.bx_command.specs.declared.parsed.Options.{Options}
 

@@ -1,10 +1,10 @@
 //! The check that a file's bytes can be opened.
 
 ghost use Rattle.std.specs.Prelude.{◌≡◌, ◌≤◌, IfErr, IsUtf8, OnOk, length};
-ghost use Rattle.bx_terms.specs.Sizes.{largest_text};
+ghost use Rattle.bx_common.specs.Characters.{largest_text};
 ghost use Rattle.bx_command.specs.Check.{Refuses, line_of};
 
-use bx_terms::LARGEST_TEXT;
+use bx_common::LARGEST_TEXT;
 use simdutf8::compat::from_utf8;
 use thiserror::Error;
 

@@ -1,7 +1,7 @@
 //! The input files of a session: Unicode's, the text, and a journal to replay.
 
 use crate::parsed::Options;
-use bx_cli::{FileFault, UnicodeBytes, bytes_of, text_of};
+use crate::shared::{FileFault, UnicodeBytes, bytes_of, text_of};
 
 /// The input files of a session.
 #[derive(Drop)]

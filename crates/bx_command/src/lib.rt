@@ -7,6 +7,7 @@ mod files;
 mod journal;
 mod line;
 mod parsed;
+mod shared;
 mod words;
 
 pub use check::{TextFault, check_text};
@@ -14,4 +15,10 @@ pub use files::Files;
 pub use journal::{JournalFile, JournalNotes, empty_journal};
 pub use line::start_of_line;
 pub use parsed::Options;
+pub use shared::{
+    FileFault, Inner, JoiningPaths, Numbered, Shown, Style, UnicodeBytes, UnicodeFiles,
+    UnicodePaths, bytes_of, direction, direction_of, finish, flag, is_given, missing_value, option,
+    paths_of, refuse, refuse_words, side, side_of, style_of, text_of, value_of, with_tables,
+    words_of,
+};
 pub use words::command_line;

@@ -14,7 +14,7 @@ pub fn start_of_line(text: &[u8], line: u64) -> usize
     let mut start = 0;
     // line feeds that are left to pass
     let mut left = line.saturating_sub(1);
-    'lines: while left > 0 {
+    while left > 0 {
         let Some(feed) = feeds.next() else {
             break;
         };

@@ -1,10 +1,10 @@
 //! The parsed command line.
 
 ghost use Rattle.std.specs.Prelude.{◌≡◌, true};
-ghost use Rattle.bx_terms.specs.Sizes.{is_side};
+ghost use Rattle.bx_common.specs.Characters.{is_side};
 
-use bx_cli::UnicodePaths;
-use bx_terms::Base;
+use crate::shared::UnicodePaths;
+use bx_common::Base;
 
 /// The parsed command line.
 #[derive(Drop)]

@@ -2,13 +2,13 @@
 
 ghost use Rattle.std.specs.Prelude.{◌≡◌, IfOk, IfSome, codes, map};
 ghost use Rattle.clap.specs.Words.{app_of, rule_of};
-ghost use Rattle.bx_cli.specs.Arguments.{rows_in, value_in};
-ghost use Rattle.bx_cli.specs.Rules.{DirectionWords, bound, flag_rule, option_rule, with_rules};
+ghost use Rattle.bx_command.specs.shared.Arguments.{rows_in, value_in};
+ghost use Rattle.bx_command.specs.shared.Rules.{DirectionWords, bound, flag_rule, option_rule, with_rules};
 ghost use Rattle.bx_command.specs.Command.{bare_app, bound_rules, editor_app, file_rule, line_rule, plain_rules};
 ghost use Rattle.bx_command.specs.Options.{AreOptionsIn, AreOptionsOf, IsLine, is_delete, text_in};
 
 use crate::parsed::Options;
-use bx_cli::{
+use crate::shared::{
     direction, direction_of, flag, is_given, missing_value, option, paths_of, side, side_of,
     value_of, with_tables,
 };

@@ -1,12 +1,13 @@
 -- Cached rows and their columns.
 use Rattle.std.proofs.Common.{◌≡◌, ℕ, List, [], length, get_or, sym, ap, subst, ◌∙◌}
 use Rattle.std.specs.Prelude.{HoldsAt}
-use Rattle.bx_terms.specs.declared.base.Base.{Base}
-use Rattle.bx_grid.specs.Picture.{GridState}
+use Rattle.bx_common.specs.declared.base.Base.{Base}
+use Rattle.bx_grid.specs.Grid.{GridState}
 use Rattle.bx_paragraph.specs.BodyRows.{BodyRow, body_rows, row_at}
 use Rattle.bx_document.specs.Cache.{AreDrawnBy, EntryState, HoldsRow, IsDrawnBy, IsRowOf, numbered_row_columns}
 use Rattle.bx_ucd.specs.Data.{Data}
-use Rattle.bx_document.specs.Drawing.{body_row_columns, with_rows}
+use Rattle.bx_document.specs.Drawing.{body_row_columns}
+use Rattle.bx_document.specs.Shown.{with_rows}
 
 -- a grid of row `k` of a body alone, `w` columns wide
 pub record IsOfRow (d : Data) (text : List ℕ) (direction : Base) (k w : ℕ) (grid : GridState) : Type 0 where

@@ -3,9 +3,10 @@ use Rattle.std.proofs.Common.{◌≡◌, ℕ, ◌==◌, true, false, List, [], �
 use Rattle.std.specs.Prelude.{codes, encode_utf8_all}
 use Rattle.unicode_segmentation.proofs.Computing.{unicode_segmentation}
 use Rattle.unicode_width.proofs.Computing.{unicode_width}
-use Rattle.bx_resolve.specs.TestTables.{small}
-use Rattle.bx_terms.specs.declared.base.Base.TheVariants.{Auto}
-use Rattle.bx_text.specs.Edits.{Edited, exchanged, inserted, opened, wrapped}
+use Rattle.bx_ucd.specs.SmallTables.{small}
+use Rattle.bx_common.specs.declared.base.Base.TheVariants.{Auto}
+use Rattle.bx_text.specs.Edits.{Edited, inserted, opened, wrapped}
+use Rattle.bx_text.specs.Changes.{exchanged}
 use Rattle.bx_grid.specs.Columns.{Col, Glyph, blank}
 use Rattle.bx_rows.specs.RowPicture.{letter_glyphs}
 use Rattle.bx_view.specs.TextRows.{TextRow, row_at}
@@ -13,11 +14,10 @@ use Rattle.bx_view.proofs.Computed.{rows}
 use Rattle.bx_document.specs.declared.edits.RegionEnd.TheVariants.{Start, Stop}
 use Rattle.bx_document.specs.declared.history.HistoryStep.TheVariants.{Undo, Redo}
 use Rattle.bx_document.specs.Document.{Document, after_replacement, after_wrap, at_opening, place_after}
-use Rattle.bx_document.specs.Drawing.{row_columns}
-use Rattle.bx_document.specs.History.{next_change, next_changes, stepped, stepped_times}
+use Rattle.bx_document.specs.Drawing.{row_columns, region_columns, region_rows, turned_where, glyph_row, query_glyphs}
+use Rattle.bx_document.specs.History.{next_changes, stepped_times}
+use Rattle.bx_document.specs.Past.{next_change, stepped}
 use Rattle.bx_document.specs.Line.{line_of}
-use Rattle.bx_document.specs.QueryRow.{glyph_row, query_glyphs}
-use Rattle.bx_document.specs.Region.{region_columns, region_rows, turned_where}
 use Rattle.bx_document.specs.Shown.{rows_above, shown_columns}
 use Rattle.bx_document.specs.Touched.{touched}
 

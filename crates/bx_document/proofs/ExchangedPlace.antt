@@ -1,7 +1,8 @@
 -- Bytes are removed, and others inserted where they stood: the text and the place are those after one edit.
 use Rattle.std.proofs.Common.{◌≡◌, ℕ, ◌<◌, ◌≤◌, List, [], ◌∷◌, ◌++◌, ◌+◌, length, take, drop, append-nil, sym, ap, ap₂, ◌∙◌, arith}
 use Rattle.std.proofs.lemmas.List.{drop_at, length-take-le, take_at}
-use Rattle.bx_text.specs.Edits.{Edited, exchanged, splice}
+use Rattle.bx_text.specs.Edits.{Edited, splice}
+use Rattle.bx_text.specs.Changes.{exchanged}
 use Rattle.bx_ucd.specs.Data.{Data}
 use Rattle.bx_view.specs.Moves.{place_from}
 use Rattle.bx_document.specs.Document.{Document, DocumentState, after_exchange, place_after, rows_of}
@@ -28,17 +29,17 @@ exchanged_document d t start stop (b ∷ bs) place between after some inside e f
     ap₂ (λ m n. record t { content = exchanged t.content start stop start new place m n }) e (f ∙ same)
 
 -- `inner` is the opened value of the document `now`
-pub exchanged_state : {D : Type 0} (says : D → Data) (inner now : DocumentState D) (u : Edited) (start stop : ℕ)
+pub exchanged_state : {D : Type 0} (ucd : D → Data) (inner now : DocumentState D) (u : Edited) (start stop : ℕ)
     (new : List ℕ) (place between after : ℕ)
     → inner ≡ now → u ≡ exchanged inner.document.content start stop start new place between after → 0 < length new
-    → start ≤ length now.document.content.text → between ≡ place_after (says now.tables) now.document start stop []
-    → after ≡ place_after (says now.tables) now.document start stop new
+    → start ≤ length now.document.content.text → between ≡ place_after (ucd now.tables) now.document start stop []
+    → after ≡ place_after (ucd now.tables) now.document start stop new
     → record inner { document = record inner.document { content = u } }
-    ≡ record now { document = after_exchange (says now.tables) now.document start stop new place }
-exchanged_state {D} says inner now u start stop new place between after same is some inside e f =
+    ≡ record now { document = after_exchange (ucd now.tables) now.document start stop new place }
+exchanged_state {D} ucd inner now u start stop new place between after same is some inside e f =
     ap (λ (x : Edited). record inner { document = record inner.document { content = x } }) is
     ∙ ap (λ (s : DocumentState D). record s {
       document = record s.document { content = exchanged s.document.content start stop start new place between after };
     }) same
     ∙ ap (λ (t : Document). record now { document = t })
-    (exchanged_document (says now.tables) now.document start stop new place between after some inside e f)
+    (exchanged_document (ucd now.tables) now.document start stop new place between after some inside e f)

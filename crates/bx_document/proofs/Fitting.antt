@@ -9,8 +9,8 @@ use Rattle.bx_grid.specs.Columns.{Col, blank, glyph_columns, plain_columns}
 use Rattle.bx_rows.specs.declared.drawn.Drawn.{Drawn}
 use Rattle.bx_rows.specs.RowPicture.{Glyph, glyph}
 use Rattle.bx_rows.specs.Shown.{glyph_of}
-use Rattle.bx_document.specs.Drawing.{side_by_side}
-use Rattle.bx_document.specs.QueryRow.{fitting, glyph_row, letter_glyphs}
+use Rattle.bx_document.specs.Drawing.{side_by_side, fitting, glyph_row}
+use Rattle.bx_rows.specs.RowPicture.{letter_glyphs}
 use Rattle.bx_document.proofs.RowGlyphs.{columns_in, glyphs_columns, length-glyphs}
 
 -- the first `i` glyphs have room, and `left` columns stay free

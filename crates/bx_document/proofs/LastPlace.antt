@@ -10,11 +10,12 @@ use Rattle.std.proofs.lemmas.List.{reverse-append}
 use Rattle.std.proofs.lemmas.List.Folds.{concat-append, find-append}
 use Rattle.std.proofs.lemmas.Str.{chars-append, IsUtf8-append, IsUtf8-nil}
 use Rattle.bx_ucd.specs.Data.{Data}
-use Rattle.bx_terms.specs.declared.base.Base.{Base}
-use Rattle.bx_index.specs.Paragraphs.{bare, cut, paragraphs}
-use Rattle.bx_index.proofs.Cuts.{parts}
+use Rattle.bx_common.specs.declared.base.Base.{Base}
+use Rattle.bx_text.specs.index.Paragraphs.{bare, cut, paragraphs}
+use Rattle.bx_text.proofs.index_lemmas.Cuts.{parts}
 use Rattle.bx_view.specs.Moves.{place_at}
-use Rattle.bx_view.specs.Places.{boundaries, pieces, pieces_of, text_places}
+use Rattle.bx_view.specs.Places.{pieces, pieces_of, text_places}
+use Rattle.bx_view.specs.Numbers.{boundaries}
 use Rattle.bx_view.specs.TextRows.{TextRow, places, text_rows}
 use Rattle.bx_view.proofs.Cutting.{joins}
 use Rattle.bx_view.proofs.TextPlaces.{pieces-bytes, places-are, places-span}
@@ -111,68 +112,68 @@ latest_end offset d start (p ∷ ps) h =
 
 -- ---- the places of a text
 
-module _ (says : Data) where
+module _ (ucd : Data) where
   -- the places of a text, alone and with another behind it, where the text ends with a separator
   record IsSplit (x v : List ℕ) : Type 0 where
     front : List (List ℕ)
     rest : List (List ℕ)
-    alone : text_places says x ≡ starts 0 front ++ boundaries (length x) rest
-    together : text_places says (x ++ v) ≡ starts 0 front ++ boundaries (length x) (pieces says v)
+    alone : text_places ucd x ≡ starts 0 front ++ boundaries (length x) rest
+    together : text_places ucd (x ++ v) ≡ starts 0 front ++ boundaries (length x) (pieces ucd v)
 
-  split : (x v : List ℕ) → IsUtf8 x → parts says (chars x) (chars v) ≡ true → IsSplit x v
+  split : (x v : List ℕ) → IsUtf8 x → parts ucd (chars x) (chars v) ≡ true → IsSplit x v
   split x v utf8 p =
-      let j = joins says (chars x) (chars v) p in
+      let j = joins ucd (chars x) (chars v) p in
       let ps = flat_map pieces_of j.front in
       let qs = flat_map pieces_of (bare [] ∷ []) in
-      let alone : pieces says x ≡ ps ++ qs = ap (flat_map pieces_of) j.alone ∙ flat_map-append pieces_of j.front (bare [] ∷ []) in
-      let together : pieces says (x ++ v) ≡ ps ++ pieces says v =
-      ap (λ cs. flat_map pieces_of (cut says cs)) (chars-append x v utf8) ∙ ap (flat_map pieces_of) j.together
-      ∙ flat_map-append pieces_of j.front (paragraphs says v) in
+      let alone : pieces ucd x ≡ ps ++ qs = ap (flat_map pieces_of) j.alone ∙ flat_map-append pieces_of j.front (bare [] ∷ []) in
+      let together : pieces ucd (x ++ v) ≡ ps ++ pieces ucd v =
+      ap (λ cs. flat_map pieces_of (cut ucd cs)) (chars-append x v utf8) ∙ ap (flat_map pieces_of) j.together
+      ∙ flat_map-append pieces_of j.front (paragraphs ucd v) in
       let none : concat qs ≡ [] = pieces-bytes (bare [] ∷ []) (record { body = IsUtf8-nil; separator = IsUtf8-nil }, tt) in
       let whole : concat ps ++ concat qs ≡ x =
-      sym (concat-append ps qs) ∙ ap concat (sym alone) ∙ (places-span says x utf8).whole in
+      sym (concat-append ps qs) ∙ ap concat (sym alone) ∙ (places-span ucd x utf8).whole in
       let size : 0 + length (concat ps) ≡ length x =
       omega (arith, ap length whole, length-append (concat ps) (concat qs), ap length none) in
       record {
         front = ps;
         rest = qs;
         alone = ap (boundaries 0) alone ∙ bounds_append 0 ps qs ∙ ap (λ n. starts 0 ps ++ boundaries n qs) size;
-        together = ap (boundaries 0) together ∙ bounds_append 0 ps (pieces says v)
-            ∙ ap (λ n. starts 0 ps ++ boundaries n (pieces says v)) size;
+        together = ap (boundaries 0) together ∙ bounds_append 0 ps (pieces ucd v)
+            ∙ ap (λ n. starts 0 ps ++ boundaries n (pieces ucd v)) size;
       }
 
-module _ (says : Data) (base : Base) (w : ℕ) (h : 1 ≤ w) where
+module _ (ucd : Data) (base : Base) (w : ℕ) (h : 1 ≤ w) where
   abbrev rows : List ℕ → List TextRow
-  rows text = text_rows says base w text
+  rows text = text_rows ucd base w text
 
-  last_is : (text : List ℕ) (offset : ℕ) → IsUtf8 text → place_at (rows text) offset ≡ latest offset 0 (text_places says text)
-  last_is text offset utf8 = latest_is offset 0 (places (rows text)) ∙ ap (latest offset 0) (places-are says base w h text utf8)
+  last_is : (text : List ℕ) (offset : ℕ) → IsUtf8 text → place_at (rows text) offset ≡ latest offset 0 (text_places ucd text)
+  last_is text offset utf8 = latest_is offset 0 (places (rows text)) ∙ ap (latest offset 0) (places-are ucd base w h text utf8)
 
   -- the text before a paragraph's start
-  pub last_after_front : (x v : List ℕ) (offset : ℕ) → IsUtf8 x → IsUtf8 v → parts says (chars x) (chars v) ≡ true
+  pub last_after_front : (x v : List ℕ) (offset : ℕ) → IsUtf8 x → IsUtf8 v → parts ucd (chars x) (chars v) ≡ true
       → length x ≤ offset
       → place_at (rows (x ++ v)) offset ≡ length x + place_at (rows v) (offset - length x)
   last_after_front x v offset ux uv p order =
-      let s = split says x v ux p in
+      let s = split ucd x v ux p in
       let a = length x in
       let none : a ≡ a + 0 = omega arith in
       last_is (x ++ v) offset (IsUtf8-append x v ux uv) ∙ ap (latest offset 0) s.together
-      ∙ latest_append offset 0 (starts 0 s.front) (boundaries a (pieces says v))
-      ∙ latest_from offset (latest offset 0 (starts 0 s.front)) a (pieces says v) order
-      ∙ ap (λ n. latest offset n (boundaries n (pieces says v))) none
-      ∙ ap (latest offset (a + 0)) (bounds_moved a 0 (pieces says v))
-      ∙ latest_moved a offset 0 (text_places says v) order ∙ ap (λ n. a + n) (sym (last_is v (offset - a) uv))
+      ∙ latest_append offset 0 (starts 0 s.front) (boundaries a (pieces ucd v))
+      ∙ latest_from offset (latest offset 0 (starts 0 s.front)) a (pieces ucd v) order
+      ∙ ap (λ n. latest offset n (boundaries n (pieces ucd v))) none
+      ∙ ap (latest offset (a + 0)) (bounds_moved a 0 (pieces ucd v))
+      ∙ latest_moved a offset 0 (text_places ucd v) order ∙ ap (λ n. a + n) (sym (last_is v (offset - a) uv))
 
   -- the text after a paragraph's end
-  pub last_before_back : (x y : List ℕ) (offset : ℕ) → IsUtf8 x → IsUtf8 y → parts says (chars x) (chars y) ≡ true
+  pub last_before_back : (x y : List ℕ) (offset : ℕ) → IsUtf8 x → IsUtf8 y → parts ucd (chars x) (chars y) ≡ true
       → offset < length x
       → place_at (rows (x ++ y)) offset ≡ place_at (rows x) offset
   last_before_back x y offset ux uy p within =
-      let s = split says x y ux p in
+      let s = split ucd x y ux p in
       let ahead = latest offset 0 (starts 0 s.front) in
       last_is (x ++ y) offset (IsUtf8-append x y ux uy) ∙ ap (latest offset 0) s.together
-      ∙ latest_append offset 0 (starts 0 s.front) (boundaries (length x) (pieces says y))
-      ∙ latest_past offset ahead (length x) (pieces says y) within
+      ∙ latest_append offset 0 (starts 0 s.front) (boundaries (length x) (pieces ucd y))
+      ∙ latest_past offset ahead (length x) (pieces ucd y) within
       ∙ sym (last_is x offset ux ∙ ap (latest offset 0) s.alone
       ∙ latest_append offset 0 (starts 0 s.front) (boundaries (length x) s.rest)
       ∙ latest_past offset ahead (length x) s.rest within)
@@ -180,6 +181,6 @@ module _ (says : Data) (base : Base) (w : ℕ) (h : 1 ≤ w) where
   -- a text's end is its last place
   pub last_at_end : (text : List ℕ) → IsUtf8 text → place_at (rows text) (length text) ≡ length text
   last_at_end text utf8 =
-      let size : 0 + length (concat (pieces says text)) ≡ length text =
-      omega (arith, ap length (places-span says text utf8).whole) in
-      last_is text (length text) utf8 ∙ latest_end (length text) 0 0 (pieces says text) (omega (arith, size)) ∙ size
+      let size : 0 + length (concat (pieces ucd text)) ≡ length text =
+      omega (arith, ap length (places-span ucd text utf8).whole) in
+      last_is text (length text) utf8 ∙ latest_end (length text) 0 0 (pieces ucd text) (omega (arith, size)) ∙ size

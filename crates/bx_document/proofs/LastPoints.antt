@@ -7,7 +7,7 @@ use Rattle.std.proofs.lemmas.Bool.{cases_lt}
 use Rattle.std.proofs.lemmas.List.{get_or-drop, get_or-take}
 use Rattle.std.proofs.lemmas.Str.{chars-append, chars-nil, chars_past_char, encodes-chars, IsCharBoundary-from_take, IsUtf8-drop}
 use Rattle.unicode_segmentation.proofs.TextLemmas.{length-slice_range}
-use Rattle.bx_text.specs.Edits.{IsRange}
+use Rattle.bx_text.specs.Changes.{IsRange}
 use Rattle.bx_ucd.specs.Data.{Data}
 use Rattle.bx_document.specs.Points.{before_last, is_point, last_character, point_start}
 
@@ -61,23 +61,23 @@ part-range text start stop k range b =
 
 -- ---- where a point begins
 
-module _ (says : Data) where
+module _ (ucd : Data) where
   none-at : (b : Bool) → ◌≡◌ {A = ℕ} 0 (elim b [ true ↦ length (before_last []) | false ↦ 0 ])
   none-at true = refl
   none-at false = refl
 
-  pub of-nothing : (unit : List ℕ) → length unit ≡ 0 → 0 ≡ point_start says unit
+  pub of-nothing : (unit : List ℕ) → length unit ≡ 0 → 0 ≡ point_start ucd unit
   of-nothing [] h =
-      none-at (is_point says (last_character []))
-      ∙ sym (ap (λ cs. elim (is_point says (last_character cs)) [ true ↦ length (before_last cs) | false ↦ 0 ]) chars-nil)
+      none-at (is_point ucd (last_character []))
+      ∙ sym (ap (λ cs. elim (is_point ucd (last_character cs)) [ true ↦ length (before_last cs) | false ↦ 0 ]) chars-nil)
   of-nothing (b ∷ bs) h = absurd (omega (arith, h))
 
   module _ (unit before : List ℕ) (c : ℕ) (v : IsUtf8 before) (e : chars unit ≡ chars before ++ c ∷ []) where
-    starts : point_start says unit ≡ elim (is_point says c) [ true ↦ length before | false ↦ 0 ]
-    starts = ap₂ (λ x k. elim (is_point says x) [ true ↦ length k | false ↦ 0 ]) (last-is unit before c v e) (before-is unit before c v e)
+    starts : point_start ucd unit ≡ elim (is_point ucd c) [ true ↦ length before | false ↦ 0 ]
+    starts = ap₂ (λ x k. elim (is_point ucd x) [ true ↦ length k | false ↦ 0 ]) (last-is unit before c v e) (before-is unit before c v e)
 
-    pub of-point : is_point says c ≡ true → length before ≡ point_start says unit
+    pub of-point : is_point ucd c ≡ true → length before ≡ point_start ucd unit
     of-point p = sym (starts ∙ ap (λ t. elim t [ true ↦ length before | false ↦ 0 ]) p)
 
-    pub of-other : is_point says c ≡ false → 0 ≡ point_start says unit
+    pub of-other : is_point ucd c ≡ false → 0 ≡ point_start ucd unit
     of-other p = sym (starts ∙ ap (λ t. elim t [ true ↦ length before | false ↦ 0 ]) p)

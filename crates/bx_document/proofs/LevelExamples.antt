@@ -3,9 +3,9 @@ use Rattle.std.proofs.Common.{◌≡◌, ℕ, List, [], ◌∷◌, map, Option, 
 use Rattle.std.specs.Prelude.{codes, encode_utf8_all}
 use Rattle.unicode_segmentation.proofs.Computing.{unicode_segmentation}
 use Rattle.unicode_width.proofs.Computing.{unicode_width}
-use Rattle.bx_resolve.specs.TestTables.{small}
-use Rattle.bx_terms.specs.declared.base.Base.{Base}
-use Rattle.bx_terms.specs.declared.base.Base.TheVariants.{Auto, Rtl}
+use Rattle.bx_ucd.specs.SmallTables.{small}
+use Rattle.bx_common.specs.declared.base.Base.{Base}
+use Rattle.bx_common.specs.declared.base.Base.TheVariants.{Auto, Rtl}
 use Rattle.bx_document.specs.PlaceLevel.{place_level}
 
 abbrev levels_at : Base → List ℕ → List ℕ → List (Option ℕ)

@@ -5,8 +5,8 @@ use Rattle.unicode_segmentation.proofs.Computing.{unicode_segmentation}
 use Rattle.unicode_width.proofs.Computing.{unicode_width}
 use Rattle.bx_ucd.specs.Data.{Data}
 use Rattle.bx_ucd.specs.declared.class.Class.TheVariants.{NSM}
-use Rattle.bx_resolve.specs.TestTables.{small}
-use Rattle.bx_document.specs.FirstSeparator.{has_crlf_first}
+use Rattle.bx_ucd.specs.SmallTables.{small}
+use Rattle.bx_document.specs.Line.{has_crlf_first}
 use Rattle.bx_document.specs.Points.{is_point, point_start}
 
 abbrev alef : ℕ

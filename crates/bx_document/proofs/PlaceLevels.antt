@@ -7,45 +7,45 @@ use Rattle.std.proofs.lemmas.Bool.{cases_lt}
 use Rattle.std.proofs.lemmas.List.{get_or-map, take_at}
 use Rattle.std.proofs.lemmas.Str.{chars-nil}
 use Rattle.bx_ucd.specs.Data.{Data}
-use Rattle.bx_terms.specs.declared.base.Base.{Base}
+use Rattle.bx_common.specs.declared.base.Base.{Base}
 use Rattle.unicode_segmentation.specs.Grapheme.{graphemes, is_grapheme_break}
 use Rattle.unicode_segmentation.proofs.SegmentsLemmas.{concat-segments}
-use Rattle.bx_index.specs.declared.lengths.Lengths.{Lengths}
-use Rattle.bx_index.specs.Paragraphs.{bare, lengths, lengths_of, paragraphs}
-use Rattle.bx_index.specs.Positions.{bytes_of, paragraph_of, total}
-use Rattle.bx_index.proofs.Totals.{total_more}
-use Rattle.bx_resolve.specs.Levels.{levels_under}
+use Rattle.bx_text.specs.declared.index.lengths.Lengths.{Lengths}
+use Rattle.bx_text.specs.index.Paragraphs.{bare, lengths, lengths_of, paragraphs, bytes_of, paragraph_of, total}
+use Rattle.bx_text.proofs.index_lemmas.Totals.{total_more}
+use Rattle.bx_levels.specs.resolve.Levels.{levels_under}
 use Rattle.bx_rows.specs.RowLevels.{first_level}
-use Rattle.bx_view.specs.Places.{IsTextPlace, boundaries}
-use Rattle.bx_view.specs.Standing.{body_at, count, paragraph_at, start_at}
+use Rattle.bx_view.specs.Places.{IsTextPlace}
+use Rattle.bx_view.specs.Numbers.{boundaries, body_at, count, paragraph_at, start_at}
 use Rattle.bx_view.proofs.Numbered.{place-in-body}
 use Rattle.bx_view.proofs.Numbers.{body-utf8, falls-at, holds-of, lengths-count}
-use Rattle.bx_document.specs.PlaceLevel.{IsFirstLevel, UnitsHaveLevels, place_level, unit_level}
+use Rattle.bx_document.specs.PlaceLevel.{place_level, unit_level}
+use Rattle.bx_document.specs.UnitLevels.{IsFirstLevel, UnitsHaveLevels}
 use Rattle.bx_document.proofs.UnitLevels.{bound-at, bounds-in-body, first-in, unit-behind}
 
-module _ (says : Data) (text : List ℕ) (utf8 : IsUtf8 text) (place n a : ℕ) (body : List ℕ)
-    (number : n ≡ paragraph_of (lengths says text) place) (start : a ≡ start_at says text n) (body_is : body ≡ body_at says text n) where
-  pub level-is : (base : Base) (each : List (Option ℕ)) → each ≡ levels_under says base (chars body)
-      → unit_level body each (place - a) ≡ place_level says base text place
+module _ (ucd : Data) (text : List ℕ) (utf8 : IsUtf8 text) (place n a : ℕ) (body : List ℕ)
+    (number : n ≡ paragraph_of (lengths ucd text) place) (start : a ≡ start_at ucd text n) (body_is : body ≡ body_at ucd text n) where
+  pub level-is : (base : Base) (each : List (Option ℕ)) → each ≡ levels_under ucd base (chars body)
+      → unit_level body each (place - a) ≡ place_level ucd base text place
   level-is base each levels =
-      let by : List ℕ → List (Option ℕ) = λ b. levels_under says base (chars b) in
+      let by : List ℕ → List (Option ℕ) = λ b. levels_under ucd base (chars b) in
       ap (λ ls. unit_level body ls (place - a)) levels ∙ ap (λ k. unit_level body (by body) (place - k)) start
-      ∙ ap (λ b. unit_level b (by b) (place - start_at says text n)) body_is
-      ∙ ap (λ k. unit_level (body_at says text k) (by (body_at says text k)) (place - start_at says text k)) number
+      ∙ ap (λ b. unit_level b (by b) (place - start_at ucd text n)) body_is
+      ∙ ap (λ k. unit_level (body_at ucd text k) (by (body_at ucd text k)) (place - start_at ucd text k)) number
 
-  pub place-of-body : IsTextPlace says text place → Contains (boundaries 0 (graphemes true body)) (place - a)
+  pub place-of-body : IsTextPlace ucd text place → Contains (boundaries 0 (graphemes true body)) (place - a)
   place-of-body c =
-      let falls = falls-at says text place n utf8 number in
-      let inside = place-in-body says text utf8 n falls.within place c falls.order falls.ended in
-      let gs = graphemes true (body_at says text n) in
-      let none : start_at says text n ≡ a + 0 = omega (arith, start) in
+      let falls = falls-at ucd text place n utf8 number in
+      let inside = place-in-body ucd text utf8 n falls.within place c falls.order falls.ended in
+      let gs = graphemes true (body_at ucd text n) in
+      let none : start_at ucd text n ≡ a + 0 = omega (arith, start) in
       subst (λ b. Contains (boundaries 0 (graphemes true b)) (place - a)) (sym body_is)
       (bounds-in-body a 0 place gs (subst (λ k. Contains (boundaries k gs) place) none inside))
 
-  pub bound-of-body : IsTextPlace says text place → IsCharBoundary body (place - a)
+  pub bound-of-body : IsTextPlace ucd text place → IsCharBoundary body (place - a)
   bound-of-body c =
-      let falls = falls-at says text place n utf8 number in
-      bound-at body (subst IsUtf8 (sym body_is) (body-utf8 says text n falls.within utf8)) [] (place - a) (place-of-body c)
+      let falls = falls-at ucd text place n utf8 number in
+      bound-at body (subst IsUtf8 (sym body_is) (body-utf8 ucd text n falls.within utf8)) [] (place - a) (place-of-body c)
 
 -- ---- a unit of a paragraph
 
@@ -63,19 +63,19 @@ begins-later [] (suc a) b h = omega arith
 begins-later (l ∷ ls) (suc a) zero h = absurd (omega (arith, h))
 begins-later (l ∷ ls) (suc a) (suc b) h = let more = begins-later ls a b (omega (arith, h)) in omega (arith, more)
 
-module _ (says : Data) (text : List ℕ) (utf8 : IsUtf8 text) (n : ℕ) (within : n < count says text) where
-  next-start : start_at says text (n + 1) ≡ start_at says text n + bytes_of (lengths_of (paragraph_at says text n))
+module _ (ucd : Data) (text : List ℕ) (utf8 : IsUtf8 text) (n : ℕ) (within : n < count ucd text) where
+  next-start : start_at ucd text (n + 1) ≡ start_at ucd text n + bytes_of (lengths_of (paragraph_at ucd text n))
   next-start =
-      total_more (lengths says text) n (lengths_of (bare [])) (omega (arith, within, lengths-count says text))
-      ∙ ap (λ (l : Lengths). start_at says text n + bytes_of l)
-      (get_or-map lengths_of (paragraphs says text) n (bare []) (lengths_of (bare [])) within)
+      total_more (lengths ucd text) n (lengths_of (bare [])) (omega (arith, within, lengths-count ucd text))
+      ∙ ap (λ (l : Lengths). start_at ucd text n + bytes_of l)
+      (get_or-map lengths_of (paragraphs ucd text) n (bare []) (lengths_of (bare [])) within)
 
-  paragraph-in : (at : ℕ) → at < length (body_at says text n) → n ≡ paragraph_of (lengths says text) (start_at says text n + at)
+  paragraph-in : (at : ℕ) → at < length (body_at ucd text n) → n ≡ paragraph_of (lengths ucd text) (start_at ucd text n + at)
   paragraph-in at inside =
-      let ls = lengths says text in
-      let offset = start_at says text n + at in
+      let ls = lengths ucd text in
+      let offset = start_at ucd text n + at in
       let m = paragraph_of ls offset in
-      let few = lengths-count says text in
+      let few = lengths-count ucd text in
       let h = holds-of offset ls m (omega (arith, few, within)) refl in
       ⊎_elim
       (λ sooner.
@@ -87,15 +87,15 @@ module _ (says : Data) (text : List ℕ) (utf8 : IsUtf8 text) (n : ℕ) (within 
       (cases_lt m n)
 
   pub units-have : (base : Base) (front rest : List (List ℕ)) (unit : List ℕ)
-      → graphemes true (body_at says text n) ≡ front ++ unit ∷ rest → (i level : ℕ) → i < length (chars unit)
-      → IsFirstLevel (levels_under says base (chars (body_at says text n))) (length (chars (concat front))) i level
-      → place_level says base text (start_at says text n + length (concat front)) ≡ Some level
+      → graphemes true (body_at ucd text n) ≡ front ++ unit ∷ rest → (i level : ℕ) → i < length (chars unit)
+      → IsFirstLevel (levels_under ucd base (chars (body_at ucd text n))) (length (chars (concat front))) i level
+      → place_level ucd base text (start_at ucd text n + length (concat front)) ≡ Some level
   units-have base front rest unit parts i level few first =
-      let body = body_at says text n in
-      let each = levels_under says base (chars body) in
-      let valid = body-utf8 says text n within utf8 in
+      let body = body_at ucd text n in
+      let each = levels_under ucd base (chars body) in
+      let valid = body-utf8 ucd text n within utf8 in
       let at = length (concat front) in
-      let start = start_at says text n in
+      let start = start_at ucd text n in
       let whole : body ≡ concat front ++ (unit ++ concat rest) =
       sym (concat-segments (is_grapheme_break true) body valid) ∙ ap concat parts ∙ concat-append front (unit ∷ rest) in
       let some : 0 < length unit = some-bytes unit (omega (arith, few)) in
@@ -103,10 +103,10 @@ module _ (says : Data) (text : List ℕ) (utf8 : IsUtf8 text) (n : ℕ) (within 
       omega (arith, ap length whole, length-append (concat front) (unit ++ concat rest), length-append unit (concat rest), some) in
       let place : start + at - start ≡ at = omega arith in
       let ahead : take at body ≡ concat front = ap (take at) whole ∙ take_at (concat front) (unit ++ concat rest) at refl in
-      sym (level-is says text utf8 (start + at) n start body (paragraph-in at inside) refl refl base each refl)
+      sym (level-is ucd text utf8 (start + at) n start body (paragraph-in at inside) refl refl base each refl)
       ∙ ap (unit_level body each) place ∙ unit-behind body valid each front rest unit parts
       ∙ ap (λ cs. first_level (take (length (chars unit)) (drop (length (chars cs)) each))) ahead
       ∙ first-in each (length (chars (concat front))) i (length (chars unit)) level few first
 
-pub units_have : (says : Data) (base : Base) (text : List ℕ) → IsUtf8 text → UnitsHaveLevels says base text
-units_have says base text utf8 number within front rest unit = units-have says text utf8 number within base front rest unit
+pub units_have : (ucd : Data) (base : Base) (text : List ℕ) → IsUtf8 text → UnitsHaveLevels ucd base text
+units_have ucd base text utf8 number within front rest unit = units-have ucd text utf8 number within base front rest unit

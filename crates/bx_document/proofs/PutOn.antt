@@ -1,8 +1,8 @@
 -- Columns put one after another into a row of blanks.
 use Rattle.std.proofs.Common.{◌≡◌, ℕ, ◌+◌, ◌-◌, ◌*◌, ◌≤◌, List, ◌++◌, length, replicate, ap, ◌∙◌, length-append, arith}
 use Rattle.std.proofs.lemmas.List.{append-nil}
-use Rattle.bx_grid.specs.Columns.{Col, blank, paste}
-use Rattle.bx_grid.specs.Picture.{GridState, HasRoom, IsWithin}
+use Rattle.bx_grid.specs.Columns.{Col, blank}
+use Rattle.bx_grid.specs.Grid.{paste, GridState, HasRoom, IsWithin}
 use Rattle.bx_grid.proofs.Laid.{blank_next, laid_next}
 
 -- a grid of one row: these columns, then blanks

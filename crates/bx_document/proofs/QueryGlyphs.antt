@@ -3,14 +3,14 @@ use Rattle.std.proofs.Common.{◌≡◌, ℕ, List, ◌++◌, map, sym, subst, a
 use Rattle.std.specs.Prelude.{All}
 use Rattle.std.proofs.lemmas.List.{map-append}
 use Rattle.std.proofs.lemmas.List.Elements.{All-append}
-use Rattle.bx_terms.specs.declared.base.Base.TheVariants.{Auto}
+use Rattle.bx_common.specs.declared.base.Base.TheVariants.{Auto}
 use Rattle.bx_ucd.specs.Data.{Data}
 use Rattle.bx_rows.specs.declared.drawn.Drawn.{Drawn}
 use Rattle.bx_rows.specs.Shown.{glyph_of}
-use Rattle.bx_paragraph.specs.BodyRows.{body_rows, row_at}
+use Rattle.bx_paragraph.specs.BodyRows.{body_rows, row_at, row_own_glyphs}
 use Rattle.bx_paragraph.specs.Layout.{LayoutState, row_by}
-use Rattle.bx_paragraph.specs.OwnGlyphs.{row_own_glyphs}
-use Rattle.bx_document.specs.QueryRow.{letter_glyphs, query_glyphs}
+use Rattle.bx_rows.specs.RowPicture.{letter_glyphs}
+use Rattle.bx_document.specs.Drawing.{query_glyphs}
 
 pub text-then-query : (d : Data) (l : LayoutState) (text : List ℕ) (letters found all : List Drawn) → l.base ≡ Auto → l.w ≡ 500
     → map glyph_of letters ≡ letter_glyphs text → map glyph_of found ≡ row_own_glyphs d l.w (row_by d l 0) → all ≡ letters ++ found

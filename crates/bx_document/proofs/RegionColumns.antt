@@ -10,22 +10,22 @@ use Rattle.std.proofs.lemmas.List.Concat.{flat_map-cons}
 use Rattle.std.proofs.lemmas.List.Elements.{All-filter, All-head, All-rest, filter-append}
 use Rattle.std.proofs.lemmas.List.Sums.{sum_by-append, sum_by-cons}
 use Rattle.bx_grid.specs.Columns.{Col, blank, columns_before, glyph_columns}
-use Rattle.bx_grid.specs.Turned.{IsBorder, turned_in}
+use Rattle.bx_grid.specs.Grid.{IsBorder, turned_in}
 use Rattle.bx_grid.proofs.Puts.{length-glyph}
 use Rattle.bx_grid.proofs.TurnedWhole.{border-turned, length-turned}
 use Rattle.bx_rows.specs.RowPicture.{Glyph, unit_columns}
-use Rattle.bx_rows.specs.VisualOrder.{visual}
+use Rattle.bx_rows.specs.RowLevels.{visual}
 use Rattle.bx_rows.proofs.PictureLaws.{columns_of_glyphs}
-use Rattle.bx_paragraph.specs.declared.slot.Slot.{Slot}
+use Rattle.bx_paragraph.specs.declared.slots.Slot.{Slot}
 use Rattle.bx_paragraph.specs.Slots.{covering_in, covers, end_slot, extent_of, left_column, side_by_side as slots_beside, slot, unit_slots}
 use Rattle.bx_ucd.specs.Data.{Data}
-use Rattle.bx_view.specs.TextParts.{is_covered, is_in, is_some_in, slots_in}
+use Rattle.bx_view.specs.TextParts.{slots_in}
+use Rattle.bx_view.specs.Top.{is_covered, is_in, is_some_in}
 use Rattle.bx_view.specs.TextRows.{TextRow, text_row_glyphs}
 use Rattle.bx_view.proofs.GlyphCells.{HasFaces}
 use Rattle.bx_view.proofs.KeptPlaces.{HasLevels}
 use Rattle.bx_view.proofs.SlotGlyphs.{HasGlyphs, slots-between}
-use Rattle.bx_document.specs.Drawing.{row_columns, side_by_side}
-use Rattle.bx_document.specs.Region.{region_columns, turned_where}
+use Rattle.bx_document.specs.Drawing.{row_columns, side_by_side, region_columns, turned_where}
 use Rattle.bx_document.specs.RegionSlots.{IsSpan, turned_slots}
 use Rattle.bx_document.proofs.TurnedWhere.{differ, in-slot, low-slot, no-columns, slot-turned, where-twice}
 
@@ -106,7 +106,7 @@ slots-turned (s ∷ ss) cs a =
 
 -- ---- slots side by side: one of them covers a column, or none
 
-module _ (p : Slot → Bool) (q : ℕ → Bool) (says-so : (s : Slot) → 1 ≤ s.columns → p s ≡ q s.offset) where
+module _ (p : Slot → Bool) (q : ℕ → Bool) (ucd-so : (s : Slot) → 1 ≤ s.columns → p s ≡ q s.offset) where
   abbrev some-of : Option ℕ → Bool
   some-of None = false
   some-of (Some o) = q o
@@ -139,7 +139,7 @@ module _ (p : Slot → Bool) (q : ℕ → Bool) (says-so : (s : Slot) → 1 ≤ 
       ≡ some-of (option_map (λ (x : Slot). x.offset) (cond b (Some s) (find (covers j) (slots_beside at us))))
   beside-by s at us j true e next h =
       let within = in-slot s j e in
-      here-by s (slots_beside at us) j (p s) e (left-odd at us j (omega (arith, within.1, next))) ∙ says-so s (omega (arith, within.0, within.1))
+      here-by s (slots_beside at us) j (p s) e (left-odd at us j (omega (arith, within.1, next))) ∙ ucd-so s (omega (arith, within.0, within.1))
   beside-by s at us j false e next h = there-by s (slots_beside at us) j (p s) e ∙ h
 
   beside-odd : (at : ℕ) (us : List (ℕ × ℕ)) (j : ℕ) → odd (filter p (slots_beside at us)) j ≡ some-of (covering_in (slots_beside at us) j)
@@ -176,7 +176,7 @@ found-by q n false end ss e = refl
 
 -- ---- a row
 
-module _ (says : Data) (w : ℕ) (r : TextRow) (levels : HasLevels r.row) (faces : HasFaces says w r.row) (part : ℕ × ℕ) where
+module _ (ucd : Data) (w : ℕ) (r : TextRow) (levels : HasLevels r.row) (faces : HasFaces ucd w r.row) (part : ℕ × ℕ) where
   abbrev own : List Slot
   own = unit_slots w r.row
 
@@ -186,12 +186,12 @@ module _ (says : Data) (w : ℕ) (r : TextRow) (levels : HasLevels r.row) (faces
   units-kept : slots_in w part r ≡ filter chosen own
   units-kept = kept-by chosen (r.row.paragraph % 2) r.row.is_last (end_slot w r.row) own refl
 
-  pub spans : All (IsSpan (row_columns says w r)) (slots_in w part r)
+  pub spans : All (IsSpan (row_columns ucd w r)) (slots_in w part r)
   spans =
-      let glyphs = text_row_glyphs says w r in
-      let between = slots-between says w r levels faces in
-      subst (All (IsSpan (row_columns says w r))) (sym units-kept)
-      (All-filter chosen (IsSpan (row_columns says w r)) own (λ i d h. span glyphs (get_or own i d) (between i d h)))
+      let glyphs = text_row_glyphs ucd w r in
+      let between = slots-between ucd w r levels faces in
+      subst (All (IsSpan (row_columns ucd w r))) (sym units-kept)
+      (All-filter chosen (IsSpan (row_columns ucd w r)) own (λ i d h. span glyphs (get_or own i d) (between i d h)))
 
   chosen-is : (s : Slot) → 1 ≤ s.columns → chosen s ≡ is_in part (r.start + s.offset)
   chosen-is s some = let more : nat_lt 0 s.columns ≡ true = grind (arith, nat_tests) in ap (λ b. b && is_in part (r.start + s.offset)) more
@@ -212,8 +212,8 @@ module _ (says : Data) (w : ℕ) (r : TextRow) (levels : HasLevels r.row) (faces
       (sym (found-by (covers j) (r.row.paragraph % 2) r.row.is_last (end_slot w r.row) own (end-off j)))
 
   -- its slots in the region turn the columns of the region's units
-  pub turned-are : turned_slots (slots_in w part r) (row_columns says w r) ≡ region_columns says w part r
+  pub turned-are : turned_slots (slots_in w part r) (row_columns ucd w r) ≡ region_columns ucd w part r
   turned-are =
-      slots-turned (slots_in w part r) (row_columns says w r) spans
-      ∙ ap (λ ss. turned_where (odd ss) 1 (row_columns says w r)) units-kept
-      ∙ ap (λ p. turned_where p 1 (row_columns says w r)) (fun_ext covered)
+      slots-turned (slots_in w part r) (row_columns ucd w r) spans
+      ∙ ap (λ ss. turned_where (odd ss) 1 (row_columns ucd w r)) units-kept
+      ∙ ap (λ p. turned_where p 1 (row_columns ucd w r)) (fun_ext covered)

@@ -4,9 +4,10 @@ use Rattle.std.proofs.Common.{append-nil, append_assoc, sym, ap, ap₂, subst, �
 use Rattle.std.proofs.lemmas.Bool.{cases_lt}
 use Rattle.std.proofs.lemmas.Str.{IsUtf8-nil}
 use Rattle.std.proofs.lemmas.List.{drop-drop, drop_at, length-take-le, take-append-drop, take_at}
-use Rattle.bx_terms.specs.Sizes.{is_side}
-use Rattle.bx_terms.specs.declared.base.Base.{Base}
-use Rattle.bx_text.specs.Edits.{IsRange, fits, largest_text, splice}
+use Rattle.bx_common.specs.Characters.{is_side}
+use Rattle.bx_common.specs.declared.base.Base.{Base}
+use Rattle.bx_text.specs.Edits.{fits, largest_text, splice}
+use Rattle.bx_text.specs.Changes.{IsRange}
 use Rattle.bx_text.proofs.Without.{behind as bound_behind}
 use Rattle.bx_ucd.specs.Data.{Data}
 use Rattle.bx_view.specs.Moves.{place_from}
@@ -20,22 +21,22 @@ use Rattle.bx_document.proofs.PlaceAfter.{splice_bytes}
 use Rattle.bx_document.proofs.TouchedPlace.{splice_utf8}
 
 -- a place at or after an offset is not before it
-pub place_order : (says : Data) (base : Base) (w : ℕ) (text : List ℕ) (start stop : ℕ) (new : List ℕ) (o : ℕ) → is_side w ≡ true → IsUtf8 text
-    → IsRange text start stop → IsUtf8 new → o ≡ place_from (text_rows says base w (splice text start stop new)) (start + length new)
+pub place_order : (ucd : Data) (base : Base) (w : ℕ) (text : List ℕ) (start stop : ℕ) (new : List ℕ) (o : ℕ) → is_side w ≡ true → IsUtf8 text
+    → IsRange text start stop → IsUtf8 new → o ≡ place_from (text_rows ucd base w (splice text start stop new)) (start + length new)
     → start + length new ≤ o
-place_order says base w text start stop new o side utf8 range new_utf8 is =
+place_order ucd base w text start stop new o side utf8 range new_utf8 is =
     let now = splice text start stop new in
     let stop_bounds : IsCharBoundary text stop = range.stop_bounds in
-    let valid : IsUtf8 now = splice_utf8 says text utf8 start stop new range new_utf8 in
+    let valid : IsUtf8 now = splice_utf8 ucd text utf8 start stop new range new_utf8 in
     let inside : start + length new ≤ length now = omega (arith, splice_bytes text start stop new range, stop_bounds.0, range.in_order) in
-    let least = (finds-least says base w (side-some w side) now valid).inside (start + length new) inside in
+    let least = (finds-least ucd base w (side-some w side) now valid).inside (start + length new) inside in
     omega (arith, is, least.not_before)
 
 -- the place between is a boundary of the text without the old bytes
-pub between_bound : (says : Data) (text : List ℕ) (start stop between : ℕ) → IsUtf8 text → IsRange text start stop
-    → IsTextPlace says (splice text start stop []) between → IsCharBoundary (splice text start stop []) between
-between_bound says text start stop between utf8 range place =
-    place-between says (splice text start stop []) between (splice_utf8 says text utf8 start stop [] range IsUtf8-nil) place
+pub between_bound : (ucd : Data) (text : List ℕ) (start stop between : ℕ) → IsUtf8 text → IsRange text start stop
+    → IsTextPlace ucd (splice text start stop []) between → IsCharBoundary (splice text start stop []) between
+between_bound ucd text start stop between utf8 range place =
+    place-between ucd (splice text start stop []) between (splice_utf8 ucd text utf8 start stop [] range IsUtf8-nil) place
 
 module _ (text : List ℕ) (utf8 : IsUtf8 text) (start stop between : ℕ) (range : IsRange text start stop) (order : start ≤ between)
     (bound : IsCharBoundary (splice text start stop []) between) where
@@ -107,18 +108,18 @@ module _ (text : List ℕ) (utf8 : IsUtf8 text) (start stop between : ℕ) (rang
         ∙ ap (λ xs. (front ++ new) ++ xs) (sym (drop-drop kept stop text))
         ∙ sym (ap₂ (λ xs ys. xs ++ new ++ ys) ahead after)
 
-    pub replaced_place : (says : Data) (t : Document) (o : ℕ) → t.content.text ≡ text → between ≡ place_after says t start stop []
-        → o ≡ place_after says t start behind whole → o ≡ place_after_replacement says t start stop new
-    replaced_place says t o same e place =
-        let rows = text_rows says t.base t.w in
+    pub replaced_place : (ucd : Data) (t : Document) (o : ℕ) → t.content.text ≡ text → between ≡ place_after ucd t start stop []
+        → o ≡ place_after ucd t start behind whole → o ≡ place_after_replacement ucd t start stop new
+    replaced_place ucd t o same e place =
+        let rows = text_rows ucd t.base t.w in
         place ∙ ap (λ xs. place_from (rows (splice xs start behind whole)) (start + length whole)) same
         ∙ ap₂ (λ xs n. place_from (rows xs) n) same_text whole_stop
         ∙ ap (λ xs. place_from (rows (splice (splice xs start stop []) between between new)) (between + length new)) (sym same)
         ∙ ap (λ b. place_from (rows (splice (splice t.content.text start stop []) b b new)) (b + length new)) e
 
-    pub replaced_text_place : (says : Data) (t : Document) (o : ℕ) → t.content.text ≡ text → between ≡ place_after says t start stop []
-        → IsTextPlace says (splice text start behind whole) o → IsTextPlace says (replaced_text says t start stop new) o
-    replaced_text_place says t o same e place =
-        subst (λ xs. IsTextPlace says xs o)
+    pub replaced_text_place : (ucd : Data) (t : Document) (o : ℕ) → t.content.text ≡ text → between ≡ place_after ucd t start stop []
+        → IsTextPlace ucd (splice text start behind whole) o → IsTextPlace ucd (replaced_text ucd t start stop new) o
+    replaced_text_place ucd t o same e place =
+        subst (λ xs. IsTextPlace ucd xs o)
         (same_text ∙ ap (λ xs. splice (splice xs start stop []) between between new) (sym same)
         ∙ ap (λ b. splice (splice t.content.text start stop []) b b new) e) place

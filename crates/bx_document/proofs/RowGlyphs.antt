@@ -10,10 +10,10 @@ use Rattle.std.proofs.lemmas.List.Concat.{flat_map-cons}
 use Rattle.std.proofs.lemmas.List.Sums.{sum_by-cons, sum_by_more, sum_by_more_le}
 use borrow.Author.Tests.{not-true}
 use Rattle.unicode_width.specs.Width.{str_width}
-use Rattle.bx_terms.specs.Characters.{are_ascii_printable, are_printable, is_ascii_glyph}
-use Rattle.bx_terms.specs.Glyphs.{is_one_glyph, run_width}
-use Rattle.bx_grid.specs.Columns.{Col, paste, run_columns, glyph_columns}
-use Rattle.bx_grid.specs.Picture.{GridState, HasRoom, IsWithin}
+use Rattle.bx_common.specs.Characters.{are_ascii_printable, are_printable, is_ascii_glyph}
+use Rattle.bx_common.specs.Glyphs.{is_one_glyph, run_width}
+use Rattle.bx_grid.specs.Columns.{Col, run_columns, glyph_columns}
+use Rattle.bx_grid.specs.Grid.{paste, GridState, HasRoom, IsWithin}
 use Rattle.bx_grid.proofs.Laid.{plain_is_one, plain_run_width}
 use Rattle.bx_grid.proofs.Puts.{length-glyph}
 use Rattle.bx_grid.proofs.Reading.{and_left, and_right}

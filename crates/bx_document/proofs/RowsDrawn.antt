@@ -5,10 +5,10 @@ use Rattle.std.specs.Prelude.{flat_map}
 use Rattle.std.proofs.lemmas.Grind.{flat_map-append}
 use Rattle.std.proofs.lemmas.List.{append-nil, drop-drop, get_or-drop, length-replicate, length-take-le, take_more}
 use Rattle.std.proofs.lemmas.List.Concat.{flat_map-cons}
-use Rattle.bx_grid.specs.Columns.{Col, blank, paste}
-use Rattle.bx_grid.specs.Picture.{GridState}
+use Rattle.bx_grid.specs.Columns.{Col, blank}
+use Rattle.bx_grid.specs.Grid.{paste, GridState}
 use Rattle.bx_grid.proofs.Pasted.{paste_after}
-use Rattle.bx_view.specs.declared.row_at.RowAt.{RowAt}
+use Rattle.bx_view.specs.declared.in_row.RowAt.{RowAt}
 use Rattle.bx_view.specs.FoundRow.{StandsOn, rows_by}
 use Rattle.bx_view.specs.Caching.{Keeps, ViewState}
 use Rattle.bx_view.specs.TextRows.{TextRow, no_text_row, row_at}
@@ -16,8 +16,8 @@ use Rattle.bx_paragraph.proofs.Starts.{side-some}
 use Rattle.bx_view.proofs.CachedRows.{rows-kept}
 use Rattle.bx_view.proofs.Walking.{row-within}
 use Rattle.bx_ucd.specs.Data.{Data}
-use Rattle.bx_document.specs.Drawing.{row_columns, with_rows}
-use Rattle.bx_document.specs.Region.{region_columns, region_rows}
+use Rattle.bx_document.specs.Drawing.{row_columns, region_columns, region_rows}
+use Rattle.bx_document.specs.Shown.{with_rows}
 use Rattle.bx_document.proofs.TurnedSlots.{put-over}
 use Rattle.bx_document.proofs.TurnedWhere.{length-where}
 
@@ -128,53 +128,53 @@ rest-drawn d region old mid w rows n count new width few e is step =
 
 -- ---- as the rows of a text are found
 
-module _ (says : Data) (old : ViewState) (text : List ℕ) (utf8 : IsUtf8 text) (was : GridState)
+module _ (ucd : Data) (old : ViewState) (text : List ℕ) (utf8 : IsUtf8 text) (was : GridState)
     (width : was.width ≡ old.w) (region : ℕ × ℕ) (k : ℕ) where
   abbrev pub rows : List TextRow
-  rows = rows_by says old text
+  rows = rows_by ucd old text
 
   abbrev cols : TextRow → List Col
-  cols r = region_columns says old.w region r
+  cols r = region_columns ucd old.w region r
 
   -- the rows from number `k` on; the first `n` are drawn
   abbrev pub Drawn : ℕ → GridState → Type 0
   Drawn n grid = AreDrawn was cols (drop k rows) n grid
 
   -- with a later state of the view
-  module _ (v : ViewState) (keeps : Keeps says old v) where
-    pub kept : rows_by says v text ≡ rows
-    kept = rows-kept says old v text keeps
+  module _ (v : ViewState) (keeps : Keeps ucd old v) where
+    pub kept : rows_by ucd v text ≡ rows
+    kept = rows-kept ucd old v text keeps
 
-    pub inside-kept : (at : RowAt) (n : ℕ) → StandsOn says v text at n → n < length rows
+    pub inside-kept : (at : RowAt) (n : ℕ) → StandsOn ucd v text at n → n < length rows
     inside-kept at n on =
-        let within = row-within says v.base v.w (side-some v.w on.side) text utf8 at.paragraph at.row n on.is in
+        let within = row-within ucd v.base v.w (side-some v.w on.side) text utf8 at.paragraph at.row n on.is in
         omega (arith, within, ap length kept)
 
     -- one more row is put, and its region's columns are turned
-    pub one-more : (at : RowAt) (n : ℕ) (mid put new : GridState) → StandsOn says v text at (k + n) → Drawn n mid
+    pub one-more : (at : RowAt) (n : ℕ) (mid put new : GridState) → StandsOn ucd v text at (k + n) → Drawn n mid
         → length mid.columns ≡ mid.height * mid.width → n < mid.height
-        → length (row_columns says v.w (row_at (rows_by says v text) (k + n))) ≡ v.w
-        → put ≡ with_rows mid n (row_columns says v.w (row_at (rows_by says v text) (k + n)))
-        → new ≡ with_rows put n (region_columns says v.w region (row_at (rows_by says v text) (k + n))) → Drawn (n + 1) new
+        → length (row_columns ucd v.w (row_at (rows_by ucd v text) (k + n))) ≡ v.w
+        → put ≡ with_rows mid n (row_columns ucd v.w (row_at (rows_by ucd v text) (k + n)))
+        → new ≡ with_rows put n (region_columns ucd v.w region (row_at (rows_by ucd v text) (k + n))) → Drawn (n + 1) new
     one-more at n mid put new on is size below filled first second =
-        let r = row_at (rows_by says v text) (k + n) in
+        let r = row_at (rows_by ucd v text) (k + n) in
         let within = inside-kept at (k + n) on in
         let wide : v.w ≡ mid.width = keeps.w ∙ sym width ∙ sym (width-is was cols (drop k rows) n mid is) in
-        let turned : length (region_columns says v.w region r) ≡ v.w = length-where _ 1 (row_columns says v.w r) ∙ filled in
-        let same : region_columns says v.w region r ≡ cols r = ap (λ w. region_columns says w region r) keeps.w in
+        let turned : length (region_columns ucd v.w region r) ≡ v.w = length-where _ 1 (row_columns ucd v.w r) ∙ filled in
+        let same : region_columns ucd v.w region r ≡ cols r = ap (λ w. region_columns ucd w region r) keeps.w in
         let here : r ≡ get_or (drop k rows) n no_text_row = ap (λ rs. row_at rs (k + n)) kept ∙ sym (get_or-drop k rows n no_text_row) in
-        let step = put-over mid n size below (row_columns says v.w r) (region_columns says v.w region r) put new (filled ∙ wide) (turned ∙ wide) first second in
+        let step = put-over mid n size below (row_columns ucd v.w r) (region_columns ucd v.w region r) put new (filled ∙ wide) (turned ∙ wide) first second in
         next-drawn was cols (drop k rows) n mid is r new (omega (arith, within, length-drop k rows)) here
         (ap length (sym same) ∙ turned ∙ keeps.w ∙ sym width) (step ∙ ap (with_rows mid n) same)
 
   abbrev Whole : ℕ → GridState → Type 0
-  Whole count grid = grid ≡ record was { columns = region_rows says old.w region count (take count (drop k rows)) ++ drop (count * was.width) was.columns }
+  Whole count grid = grid ≡ record was { columns = region_rows ucd old.w region count (take count (drop k rows)) ++ drop (count * was.width) was.columns }
 
   pub whole-count : (n count : ℕ) (grid : GridState) → n ≡ count → k + n ≤ length rows → Drawn n grid → Whole count grid
   whole-count n count grid e some is =
-      count-drawn says region was old.w (drop k rows) count grid (omega (arith, e, some, length-drop k rows)) (subst (λ m. Drawn m grid) e is)
+      count-drawn ucd region was old.w (drop k rows) count grid (omega (arith, e, some, length-drop k rows)) (subst (λ m. Drawn m grid) e is)
 
   pub whole-rest : (n count : ℕ) (mid grid : GridState) → k + n ≡ length rows → n ≤ count → Drawn n mid
       → grid ≡ with_rows mid n (replicate ((count - n) * mid.width) blank) → Whole count grid
   whole-rest n count mid grid e few is step =
-      rest-drawn says region was mid old.w (drop k rows) n count grid width few (omega (arith, e, length-drop k rows)) is step
+      rest-drawn ucd region was mid old.w (drop k rows) n count grid width few (omega (arith, e, length-drop k rows)) is step

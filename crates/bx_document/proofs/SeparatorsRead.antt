@@ -8,10 +8,10 @@ use Rattle.std.proofs.lemmas.List.{drop-drop, drop-take, take-append-drop, take-
 use Rattle.std.proofs.lemmas.Str.{IsUtf8-take, chars-append, chars-nil}
 use Rattle.bx_ucd.specs.Data.{Data}
 use Rattle.bx_text.specs.Edits.{splice}
-use Rattle.bx_index.specs.Paragraphs.{Paragraph, after_character, after_cr, bare, begins_with_lf, cut, is_separator}
+use Rattle.bx_text.specs.index.Paragraphs.{Paragraph, after_character, after_cr, bare, begins_with_lf, cut, is_separator}
 use Rattle.bx_document.specs.declared.first_separator.Seen.{Seen}
 use Rattle.bx_document.specs.declared.first_separator.Seen.TheVariants.{Nothing}
-use Rattle.bx_document.specs.FirstSeparator.{has_crlf_first, is_cr_lf}
+use Rattle.bx_document.specs.Line.{has_crlf_first, is_cr_lf}
 use Rattle.bx_document.specs.SeparatorReads.{crlf_first, crlf_from}
 use Rattle.bx_document.proofs.FirstSeparators.{no-cr}
 
@@ -30,56 +30,56 @@ of-other : (c : ℕ) (ps : List Paragraph) → head (after_character c ps) ≡ h
 of-other c [] = refl
 of-other c (p ∷ ps) = refl
 
-module _ (says : Data) where
+module _ (ucd : Data) where
   -- the first paragraph's separator, by what the first character is
   abbrev cut-of : ℕ → List ℕ → Bool → Bool → List Paragraph
   cut-of c cs separates is_crlf = elim separates [
-    | false ↦ after_character c (cut says cs)
-    | true ↦ elim is_crlf [ true ↦ after_cr (cut says cs) | false ↦ bare (encode_utf8 c) ∷ cut says cs ]
+    | false ↦ after_character c (cut ucd cs)
+    | true ↦ elim is_crlf [ true ↦ after_cr (cut ucd cs) | false ↦ bare (encode_utf8 c) ∷ cut ucd cs ]
   ]
 
-  lf-here : (cs : List ℕ) → is_separator (says.class 10) ≡ true → is_cr_lf (head (after_cr (cut says (10 ∷ cs)))) ≡ true
+  lf-here : (cs : List ℕ) → is_separator (ucd.class 10) ≡ true → is_cr_lf (head (after_cr (cut ucd (10 ∷ cs)))) ≡ true
   unfolding encode
   lf-here cs s = ap (λ b. is_cr_lf (head (after_cr (cut-of 10 cs b false)))) s
 
-  lf-first : (cs : List ℕ) → begins_with_lf says cs ≡ true → is_cr_lf (head (after_cr (cut says cs))) ≡ true
+  lf-first : (cs : List ℕ) → begins_with_lf ucd cs ≡ true → is_cr_lf (head (after_cr (cut ucd cs))) ≡ true
   lf-first [] h = cc
   lf-first (c ∷ cs) h =
-      let p = and_parts (c == 10) (is_separator (says.class c)) h in
+      let p = and_parts (c == 10) (is_separator (ucd.class c)) h in
       let lf : c ≡ 10 = eqb-true c 10 p.0 in
-      subst (λ x. is_cr_lf (head (after_cr (cut says (x ∷ cs)))) ≡ true) (sym lf)
-      (lf-here cs (subst (λ x. is_separator (says.class x) ≡ true) lf p.1))
+      subst (λ x. is_cr_lf (head (after_cr (cut ucd (x ∷ cs)))) ≡ true) (sym lf)
+      (lf-here cs (subst (λ x. is_separator (ucd.class x) ≡ true) lf p.1))
 
-  by-class : (c : ℕ) (cs : List ℕ) (a b : Bool) → ((c == 13) && begins_with_lf says cs) ≡ b
-      → is_cr_lf (head (cut says cs)) ≡ crlf_first says cs
-      → is_cr_lf (head (cut-of c cs a b)) ≡ elim a [ true ↦ b | false ↦ crlf_first says cs ]
-  by-class c cs false b f more = ap is_cr_lf (of-other c (cut says cs)) ∙ more
-  by-class c cs true true f more = lf-first cs ((and_parts (c == 13) (begins_with_lf says cs) f).1)
+  by-class : (c : ℕ) (cs : List ℕ) (a b : Bool) → ((c == 13) && begins_with_lf ucd cs) ≡ b
+      → is_cr_lf (head (cut ucd cs)) ≡ crlf_first ucd cs
+      → is_cr_lf (head (cut-of c cs a b)) ≡ elim a [ true ↦ b | false ↦ crlf_first ucd cs ]
+  by-class c cs false b f more = ap is_cr_lf (of-other c (cut ucd cs)) ∙ more
+  by-class c cs true true f more = lf-first cs ((and_parts (c == 13) (begins_with_lf ucd cs) f).1)
   by-class c cs true false f more = one-character c (nat_lt c 128) (nat_lt c 2048) (nat_lt c 65536) refl refl refl
 
-  first-is : (cs : List ℕ) → is_cr_lf (head (cut says cs)) ≡ crlf_first says cs
+  first-is : (cs : List ℕ) → is_cr_lf (head (cut ucd cs)) ≡ crlf_first ucd cs
   first-is [] = refl
-  first-is (c ∷ cs) = by-class c cs (is_separator (says.class c)) ((c == 13) && begins_with_lf says cs) refl (first-is cs)
+  first-is (c ∷ cs) = by-class c cs (is_separator (ucd.class c)) ((c == 13) && begins_with_lf ucd cs) refl (first-is cs)
 
   -- the text without some bytes, by the characters before and after them
   without : (text : List ℕ) (start stop : ℕ) → IsUtf8 text → IsCharBoundary text start
-      → has_crlf_first says (splice text start stop []) ≡ crlf_first says (chars (take start text) ++ chars (drop stop text))
+      → has_crlf_first ucd (splice text start stop []) ≡ crlf_first ucd (chars (take start text) ++ chars (drop stop text))
   without text start stop utf8 bound =
       first-is (chars (splice text start stop []))
-      ∙ ap (λ xs. crlf_first says (chars (xs ++ drop stop text))) (append-nil (take start text))
-      ∙ ap (crlf_first says) (chars-append (take start text) (drop stop text) (IsUtf8-take text start utf8 bound))
+      ∙ ap (λ xs. crlf_first ucd (chars (xs ++ drop stop text))) (append-nil (take start text))
+      ∙ ap (crlf_first ucd) (chars-append (take start text) (drop stop text) (IsUtf8-take text start utf8 bound))
 
   -- as both parts are read one after the other
   pub told : (text : List ℕ) (start stop len : ℕ) (before behind : Seen) → IsUtf8 text → IsCharBoundary text start → len ≡ length text
-      → ((rest : List ℕ) → crlf_from says Nothing (chars (slice_range text 0 start) ++ rest) ≡ crlf_from says before rest)
-      → ((rest : List ℕ) → crlf_from says before (chars (slice_range text stop len) ++ rest) ≡ crlf_from says behind rest)
-      → crlf_from says behind [] ≡ has_crlf_first says (splice text start stop [])
+      → ((rest : List ℕ) → crlf_from ucd Nothing (chars (slice_range text 0 start) ++ rest) ≡ crlf_from ucd before rest)
+      → ((rest : List ℕ) → crlf_from ucd before (chars (slice_range text stop len) ++ rest) ≡ crlf_from ucd behind rest)
+      → crlf_from ucd behind [] ≡ has_crlf_first ucd (splice text start stop [])
   told text start stop len before behind utf8 bound whole first last =
       let all : start - 0 ≡ start = omega arith in
       let upto : slice_range text 0 start ≡ take start text = ap (λ n. take n text) all in
       let rest : slice_range text stop len ≡ drop stop text = ap (λ n. take (n - stop) (drop stop text)) whole ∙ take_rest text stop in
-      sym (without text start stop utf8 bound ∙ ap (λ xs. crlf_first says (chars xs ++ chars (drop stop text))) (sym upto)
-      ∙ first (chars (drop stop text)) ∙ ap (crlf_from says before) (sym (append-nil (chars (drop stop text))) ∙ ap (λ xs. chars xs ++ []) (sym rest))
+      sym (without text start stop utf8 bound ∙ ap (λ xs. crlf_first ucd (chars xs ++ chars (drop stop text))) (sym upto)
+      ∙ first (chars (drop stop text)) ∙ ap (crlf_from ucd before) (sym (append-nil (chars (drop stop text))) ∙ ap (λ xs. chars xs ++ []) (sym rest))
       ∙ last [])
 
 -- ---- parts of a text

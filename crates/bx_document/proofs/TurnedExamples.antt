@@ -1,7 +1,7 @@
 -- Worked examples: turned columns.
 use Rattle.std.proofs.Common.{◌≡◌, ℕ, true, false, List, [], ◌∷◌, refl}
 use Rattle.bx_grid.specs.Columns.{Col, Glyph, Unknown}
-use Rattle.bx_grid.specs.Turned.{turned_in}
+use Rattle.bx_grid.specs.Grid.{turned_in}
 
 abbrev plain : ℕ → Col
 plain b = Glyph (b ∷ []) 1 0 false

@@ -3,14 +3,13 @@ use Rattle.std.proofs.Common.{◌≡◌, ℕ, ◌+◌, ◌-◌, ◌*◌, ◌<◌
 use Rattle.std.specs.Prelude.{All}
 use Rattle.std.proofs.Math.Nat.{min-le_left, mul-le-mul_right}
 use Rattle.std.proofs.lemmas.List.{at_drop_more, drop_all, drop_at, length-drop, length-take, length-take-le, take-append-drop, take_at}
-use Rattle.bx_grid.specs.Columns.{Col, paste}
-use Rattle.bx_grid.specs.Picture.{GridState}
-use Rattle.bx_grid.specs.Turned.{turned_in}
+use Rattle.bx_grid.specs.Columns.{Col}
+use Rattle.bx_grid.specs.Grid.{paste, GridState, turned_in}
 use Rattle.bx_grid.proofs.Pasted.{paste_around, pasted_around}
 use Rattle.bx_grid.proofs.RowsPut.{put_same}
 use Rattle.bx_grid.proofs.TurnedWhole.{length-turned}
-use Rattle.bx_paragraph.specs.declared.slot.Slot.{Slot}
-use Rattle.bx_document.specs.Drawing.{with_rows}
+use Rattle.bx_paragraph.specs.declared.slots.Slot.{Slot}
+use Rattle.bx_document.specs.Shown.{with_rows}
 use Rattle.bx_document.specs.RegionSlots.{IsSpan, row_in, turned_slots}
 use Rattle.bx_document.proofs.RegionColumns.{span-turned}
 

@@ -5,13 +5,13 @@ use Rattle.std.specs.Prelude.{if◌then◌else◌}
 use Rattle.std.proofs.lemmas.Bool.{and_parts}
 use Rattle.std.proofs.lemmas.Bool.Decides.{nat_tests}
 use Rattle.std.proofs.lemmas.List.{length-drop, length-take-le}
-use Rattle.bx_grid.specs.Columns.{Col, Unknown, Glyph}
-use Rattle.bx_grid.specs.Turned.{turned, turned_in}
+use Rattle.bx_grid.specs.Columns.{Col, Unknown, Glyph, turned}
+use Rattle.bx_grid.specs.Grid.{turned_in}
 use Rattle.bx_grid.proofs.Pasted.{three_parts}
 use Rattle.bx_grid.proofs.TurnedWhole.{length-inside}
-use Rattle.bx_paragraph.specs.declared.slot.Slot.{Slot}
+use Rattle.bx_paragraph.specs.declared.slots.Slot.{Slot}
 use Rattle.bx_paragraph.specs.Slots.{covers}
-use Rattle.bx_document.specs.Region.{turned_where}
+use Rattle.bx_document.specs.Drawing.{turned_where}
 
 pub length-where : (p : ℕ → Bool) (k : ℕ) (cs : List Col) → length (turned_where p k cs) ≡ length cs
 length-where p k [] = refl

@@ -2,7 +2,8 @@
 use Rattle.std.proofs.Common.{◌≡◌, ℕ, ◌+◌, ◌<◌, List, [], ◌∷◌, ◌++◌, length, take, map, get_or, sym, ap, subst, ◌∙◌}
 use Rattle.std.specs.Prelude.{All}
 use Rattle.std.proofs.lemmas.List.{map-append, take_more}
-use Rattle.bx_document.specs.QueryRow.{IsNarrow, typed_glyph}
+use Rattle.bx_document.specs.Drawing.{typed_glyph}
+use Rattle.bx_document.specs.Narrow.{IsNarrow}
 
 -- the character at the index n is c
 abbrev pub IsNext : List ℕ → ℕ → ℕ → Type 0

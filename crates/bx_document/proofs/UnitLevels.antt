@@ -9,9 +9,10 @@ use Rattle.std.proofs.lemmas.List.Elements.{Contains-append_cases}
 use Rattle.std.proofs.lemmas.Str.{IsCharBoundary-from_drop, IsCharBoundary-start, IsUtf8-drop, IsUtf8-take, chars-append, chars-nil}
 use Rattle.unicode_segmentation.specs.Grapheme.{graphemes}
 use Rattle.bx_rows.specs.RowLevels.{first_level}
-use Rattle.bx_cells.proofs.Rest.{cluster-grows, first-cluster}
-use Rattle.bx_view.specs.Places.{boundaries}
-use Rattle.bx_document.specs.PlaceLevel.{IsFirstLevel, level_from, unit_level}
+use Rattle.bx_rows.proofs.cells_lemmas.Rest.{cluster-grows, first-cluster}
+use Rattle.bx_view.specs.Numbers.{boundaries}
+use Rattle.bx_document.specs.PlaceLevel.{level_from, unit_level}
+use Rattle.bx_document.specs.UnitLevels.{IsFirstLevel}
 
 -- ---- boundaries
 

@@ -2,14 +2,16 @@
 use Rattle.std.proofs.Common.{◌≡◌, ℕ, ◌+◌, ◌-◌, ◌≤◌, true, nat_le, List, ◌++◌, length, drop, slice_range, sym, ap, subst, ◌∙◌, arith, length-append, length-drop}
 use Rattle.std.proofs.lemmas.Bool.Decides.{nat_tests}
 use Rattle.std.proofs.lemmas.List.{length-take-le}
-use Rattle.bx_text.specs.Edits.{IsRange, fits, fits_both, largest_text, splice}
+use Rattle.bx_text.specs.Edits.{fits, fits_both, largest_text, splice}
+use Rattle.bx_text.specs.Changes.{IsRange}
 use Rattle.bx_ucd.specs.Data.{Data}
 use Rattle.bx_view.specs.Moves.{place_from}
 use Rattle.bx_view.specs.Places.{IsTextPlace}
 use Rattle.bx_view.specs.TextRows.{text_rows}
 use Rattle.bx_document.specs.declared.edits.RegionEnd.{RegionEnd}
 use Rattle.bx_document.specs.declared.edits.RegionEnd.TheVariants.{Start, Stop}
-use Rattle.bx_document.specs.Document.{Document, place_after_wrap, wrapped_end, wrapped_text}
+use Rattle.bx_document.specs.Document.{Document, place_after_wrap}
+use Rattle.bx_document.specs.Swapped.{wrapped_end, wrapped_text}
 use Rattle.bx_document.proofs.PlacesKept.{wrapped_is}
 
 module _ (text : List ℕ) (start stop : ℕ) (front back whole : List ℕ) (range : IsRange text start stop)
@@ -53,14 +55,14 @@ module _ (text : List ℕ) (start stop : ℕ) (front back whole : List ℕ) (ran
   pub same_text : splice text start stop whole ≡ wrapped_text text start stop front back
   same_text = ap (splice text start stop) is ∙ wrapped_is text start stop front back range.in_order range.stop_bounds.0
 
-  pub wrapped_place : (says : Data) (t : Document) (end : RegionEnd) (offset o : ℕ) → t.content.text ≡ text → offset ≡ wrapped_end end start stop front
-      → o ≡ place_from (text_rows says t.base t.w (splice text start stop whole)) offset
-      → o ≡ place_after_wrap says t start stop front back end
-  wrapped_place says t end offset o same e place =
-      place ∙ ap (λ xs. place_from (text_rows says t.base t.w xs) offset) same_text
-      ∙ ap (place_from (text_rows says t.base t.w (wrapped_text text start stop front back))) e
-      ∙ ap (λ xs. place_from (text_rows says t.base t.w (wrapped_text xs start stop front back)) (wrapped_end end start stop front)) (sym same)
+  pub wrapped_place : (ucd : Data) (t : Document) (end : RegionEnd) (offset o : ℕ) → t.content.text ≡ text → offset ≡ wrapped_end end start stop front
+      → o ≡ place_from (text_rows ucd t.base t.w (splice text start stop whole)) offset
+      → o ≡ place_after_wrap ucd t start stop front back end
+  wrapped_place ucd t end offset o same e place =
+      place ∙ ap (λ xs. place_from (text_rows ucd t.base t.w xs) offset) same_text
+      ∙ ap (place_from (text_rows ucd t.base t.w (wrapped_text text start stop front back))) e
+      ∙ ap (λ xs. place_from (text_rows ucd t.base t.w (wrapped_text xs start stop front back)) (wrapped_end end start stop front)) (sym same)
 
-  pub wrapped_text_place : (says : Data) (o : ℕ) → IsTextPlace says (splice text start stop whole) o
-      → IsTextPlace says (wrapped_text text start stop front back) o
-  wrapped_text_place says o h = subst (λ xs. IsTextPlace says xs o) same_text h
+  pub wrapped_text_place : (ucd : Data) (o : ℕ) → IsTextPlace ucd (splice text start stop whole) o
+      → IsTextPlace ucd (wrapped_text text start stop front back) o
+  wrapped_text_place ucd o h = subst (λ xs. IsTextPlace ucd xs o) same_text h

@@ -1,9 +1,9 @@
 -- The cache of drawn rows: what an entry holds, and that its grid shows just the row that the rest of it names. `d` is the data
 -- of Unicode's tables.
 use Rattle.std.specs.Prelude.{◌≡◌, ℕ, ◌<◌, List, length, All, HoldsAt}
-use Rattle.bx_terms.specs.declared.base.Base.{Base}
+use Rattle.bx_common.specs.declared.base.Base.{Base}
 use Rattle.bx_grid.specs.Columns.{Col}
-use Rattle.bx_grid.specs.Picture.{GridState}
+use Rattle.bx_grid.specs.Grid.{GridState}
 use Rattle.bx_paragraph.specs.BodyRows.{body_rows, row_at}
 use Rattle.bx_ucd.specs.Data.{Data}
 use Rattle.bx_document.specs.Drawing.{body_row_columns}

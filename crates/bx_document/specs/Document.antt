@@ -1,9 +1,9 @@
 -- An editable text laid out in a window, and what each of its edits makes of it. Offsets and places count bytes of the text.
--- `d` is the data of Unicode's tables (`says` in other files of this folder), `t` the document before an edit.
+-- `d` is the data of Unicode's tables (`ucd` in other files of this folder), `t` the document before an edit.
 use Rattle.std.specs.Prelude.{ℕ, ◌+◌, List, [], ◌∷◌, length}
-use Rattle.bx_terms.specs.declared.base.Base.{Base}
+use Rattle.bx_common.specs.declared.base.Base.{Base}
 use Rattle.bx_document.specs.declared.edits.RegionEnd.{RegionEnd}
-use Rattle.bx_document.specs.declared.edits.RegionEnd.TheVariants.{Start, Stop}
+use Rattle.bx_document.specs.Swapped.{wrapped_end, wrapped_text}
 use Rattle.bx_text.specs.Edits.{Edited, inserted, opened, removed, splice, wrapped}
 use Rattle.bx_view.specs.Moves.{place_from}
 use Rattle.bx_view.specs.TextRows.{TextRow, text_rows}
@@ -70,15 +70,6 @@ after_replacement d t start stop new place = after_insertion d (after_removal d 
 abbrev pub after_exchange : Data → Document → ℕ → ℕ → List ℕ → ℕ → Document
 after_exchange d t start stop [] place = after_removal d t start stop place
 after_exchange d t start stop (b ∷ bs) place = after_insertion_at d (after_removal d t start stop place) start (b ∷ bs) (place_after d t start stop [])
-
--- the text with `back` inserted after the bytes from `start` to `stop`, and `front` before them
-abbrev pub wrapped_text : List ℕ → ℕ → ℕ → List ℕ → List ℕ → List ℕ
-wrapped_text text start stop front back = splice (splice text stop stop back) start start front
-
--- the offset, in the wrapped text, of an end of the bytes that stood from `start` to `stop`
-abbrev pub wrapped_end : RegionEnd → ℕ → ℕ → List ℕ → ℕ
-wrapped_end Start start stop front = start + length front
-wrapped_end Stop start stop front = stop + length front
 
 -- the place after a wrap of the bytes from `start` to `stop`, for a cursor that was at their end `at`: the first one at or after
 -- that end in the wrapped text

@@ -1,12 +1,14 @@
--- The columns that show a row of text, and a grid that has them in its rows. `d` is the data of Unicode's tables, `width` the
+-- The columns that show a row of text, a region in it, and the status row. `d` is the data of Unicode's tables, `w` or `width` the
 -- window's columns.
-use Rattle.std.specs.Prelude.{ℕ, ◌+◌, ◌*◌, ◌≤◌, ◌<◌, List, flat_map}
-use Rattle.bx_grid.specs.Columns.{Col, glyph_columns, paste}
-use Rattle.bx_grid.specs.Picture.{GridState}
-use Rattle.bx_paragraph.specs.BodyRows.{BodyRow, row_glyphs}
-use Rattle.bx_rows.specs.RowPicture.{Glyph}
+use Rattle.std.specs.Prelude.{ℕ, ◌+◌, ◌*◌, ◌≤◌, ◌<◌, List, flat_map, ◌-◌, Bool, [], ◌∷◌, ◌++◌, length, replicate, if◌then◌else◌, nat_le}
+use Rattle.std.specs.Prelude.{true, false, take, map, chars, encode_utf8}
+use Rattle.bx_grid.specs.Columns.{Col, glyph_columns, blank, turned}
+use Rattle.bx_paragraph.specs.BodyRows.{BodyRow, row_glyphs, body_rows, row_at, row_own_glyphs}
+use Rattle.bx_rows.specs.RowPicture.{Glyph, glyph}
 use Rattle.bx_view.specs.TextRows.{TextRow, row_of}
+use Rattle.bx_view.specs.Top.{is_covered}
 use Rattle.bx_ucd.specs.Data.{Data}
+use Rattle.bx_common.specs.declared.base.Base.TheVariants.{Auto}
 
 -- the columns of glyphs side by side
 abbrev pub side_by_side : List Glyph → List Col
@@ -25,6 +27,43 @@ pub record IsAmong (rows : List TextRow) (top place count : ℕ) : Type 0 where
   pub above : row_of rows top ≤ row_of rows place
   pub below : row_of rows place < row_of rows top + count
 
--- the grid with these columns in place of its own, from row `row` on; rows count from 0
-abbrev pub with_rows : GridState → ℕ → List Col → GridState
-with_rows g row columns = record g { columns = paste g.columns (row * g.width) columns }
+-- ---- a region, which is a part of the text, from one offset up to another: a pair
+
+-- the columns, each whose number passes turned to the other rendition; the first column has the number `k`
+abbrev pub turned_where : (ℕ → Bool) → ℕ → List Col → List Col
+turned_where passes k [] = []
+turned_where passes k (c ∷ cs) = (if passes k then turned c else c) ∷ turned_where passes (k + 1) cs
+
+-- the columns of a row of text; units that begin in the region are in the other rendition
+abbrev pub region_columns : Data → ℕ → ℕ × ℕ → TextRow → List Col
+region_columns d w region r = turned_where (is_covered w region r) 1 (row_columns d w r)
+
+-- the columns of `count` rows of the window: the shown rows of text, at most `count`, with the region, then blank rows
+abbrev pub region_rows : Data → ℕ → ℕ × ℕ → ℕ → List TextRow → List Col
+region_rows d w region count shown = flat_map (region_columns d w region) shown ++ replicate ((count - length shown) * w) blank
+
+-- ---- a status row, which leaves out the glyphs that do not fit
+
+-- The glyphs of a query from left to right. The query is laid out as a text of its own in 500 columns, the widest window
+-- (`largest_side`), whatever window shows it, and its first row counts.
+abbrev pub query_glyphs : Data → List ℕ → List Glyph
+query_glyphs d query = row_own_glyphs d 500 (row_at (body_rows d Auto 500 query) 0)
+
+-- the leftmost glyphs, up to but without the first one that does not fit into `w` columns
+abbrev pub fitting : ℕ → List Glyph → List Glyph
+fitting w [] = []
+fitting w (g ∷ gs) = elim (nat_le g.columns w) [ true ↦ g ∷ fitting (w - g.columns) gs | false ↦ [] ]
+
+-- a row of `w` columns: the glyphs that fit, and blanks on their right
+abbrev pub glyph_row : ℕ → List Glyph → List Col
+glyph_row w glyphs = take w (side_by_side (fitting w glyphs) ++ replicate w blank)
+
+-- ---- characters as they were typed
+
+-- the glyph of a character of one column, not in negative
+abbrev pub typed_glyph : ℕ → Glyph
+typed_glyph c = glyph (encode_utf8 c) 1 false
+
+-- the glyphs of some bytes' characters in the order in which they were typed, a column for each
+abbrev pub typed_glyphs : List ℕ → List Glyph
+typed_glyphs typed = map typed_glyph (chars typed)

@@ -2,20 +2,9 @@
 -- follow.
 use Rattle.std.specs.Prelude.{ℕ, Option}
 use Rattle.bx_text.specs.declared.change.Change.{Change}
-use Rattle.bx_text.specs.Edits.{Edited, next_redo, next_undo, redone, undone}
-use Rattle.bx_text.specs.Times.{next_redos, next_undos, redone_times, undone_times}
+use Rattle.bx_text.specs.Edits.{Edited, next_redos, next_undos, redone_times, undone_times}
 use Rattle.bx_document.specs.declared.history.HistoryStep.{HistoryStep}
 use Rattle.bx_document.specs.declared.history.HistoryStep.TheVariants.{Undo, Redo}
-
--- the text after a step, with its past and future; unchanged if there is nothing to undo or redo
-abbrev pub stepped : HistoryStep → Edited → Edited
-stepped Undo t = undone t
-stepped Redo t = redone t
-
--- the change that a step makes, if there is one
-abbrev pub next_change : HistoryStep → Edited → Option Change
-next_change Undo t = next_undo t
-next_change Redo t = next_redo t
 
 -- the text after `n` steps, or after all if there are fewer
 abbrev pub stepped_times : HistoryStep → ℕ → Edited → Edited

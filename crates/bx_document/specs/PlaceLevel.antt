@@ -1,15 +1,13 @@
 -- The embedding level of the unit at a place, which the editor tells of the unit at the cursor: UAX #9's after rule I2, before
--- rule L1 resets trailing blanks. Rule X9 removes characters: these have no level. `says` is what the tables say.
-use Rattle.std.specs.Prelude.{◌≡◌, ℕ, ◌+◌, ◌-◌, ◌==◌, ◌<◌, true, false, List, [], ◌∷◌, ◌++◌, length, take, drop, slice_get, Option, Some, None, chars}
-use Rattle.std.specs.List.{concat}
+-- rule L1 resets trailing blanks. Rule X9 removes characters: these have no level. `ucd` is what the tables say.
+use Rattle.std.specs.Prelude.{ℕ, ◌+◌, ◌-◌, ◌==◌, true, false, List, [], ◌∷◌, length, take, drop, Option, None, chars}
 use Rattle.bx_ucd.specs.Data.{Data}
-use Rattle.bx_terms.specs.declared.base.Base.{Base}
+use Rattle.bx_common.specs.declared.base.Base.{Base}
 use Rattle.unicode_segmentation.specs.Grapheme.{graphemes}
-use Rattle.bx_index.specs.Paragraphs.{lengths}
-use Rattle.bx_index.specs.Positions.{paragraph_of}
-use Rattle.bx_resolve.specs.Levels.{levels_under}
+use Rattle.bx_text.specs.index.Paragraphs.{lengths, paragraph_of}
+use Rattle.bx_levels.specs.resolve.Levels.{levels_under}
 use Rattle.bx_rows.specs.RowLevels.{first_level}
-use Rattle.bx_view.specs.Standing.{body_at, count, start_at}
+use Rattle.bx_view.specs.Numbers.{body_at, start_at}
 
 -- The level of the unit that begins at the offset `at`, among units of which the first begins at the offset `start`; `each` has
 -- the level of each of their characters. The unit's level is the one of its first character that X9 keeps: None if X9 keeps none,
@@ -28,21 +26,7 @@ unit_level body each at = level_from 0 (graphemes true body) each at
 
 -- the level of the unit that begins at a place of a text; None at a separator and at the text's end
 abbrev pub place_level : Data → Base → List ℕ → ℕ → Option ℕ
-place_level says base text place =
-    let number = paragraph_of (lengths says text) place in
-    let body = body_at says text number in
-    unit_level body (levels_under says base (chars body)) (place - start_at says text number)
-
--- the levels at the indexes `k` to `k + i - 1` are None, and the one at `k + i` is `level`
-pub record IsFirstLevel (each : List (Option ℕ)) (k i level : ℕ) : Type 0 where
-  pub none_before : (j : ℕ) → j < i → slice_get each (k + j) ≡ Some None
-  pub level_is : slice_get each (k + i) ≡ Some (Some level)
-
--- The place before a unit has the level of the unit's first character with a level, if there is one. `number` is the paragraph,
--- from 0, `front` its units before this one, and `i`, from 0, that character in the unit.
-abbrev pub UnitsHaveLevels : Data → Base → List ℕ → Type 0
-UnitsHaveLevels says base text =
-    (number : ℕ) → number < count says text → (front rest : List (List ℕ)) (unit : List ℕ)
-    → graphemes true (body_at says text number) ≡ front ++ unit ∷ rest → (i level : ℕ) → i < length (chars unit)
-    → IsFirstLevel (levels_under says base (chars (body_at says text number))) (length (chars (concat front))) i level
-    → place_level says base text (start_at says text number + length (concat front)) ≡ Some level
+place_level ucd base text place =
+    let number = paragraph_of (lengths ucd text) place in
+    let body = body_at ucd text number in
+    unit_level body (levels_under ucd base (chars body)) (place - start_at ucd text number)

@@ -1,9 +1,8 @@
 -- The drawing of a region turns its units to the other rendition one after another, each in the columns of its slot.
 use Rattle.std.specs.Prelude.{ℕ, ◌+◌, ◌-◌, ◌*◌, ◌≤◌, List, [], ◌∷◌, length, take, drop}
 use Rattle.bx_grid.specs.Columns.{Col}
-use Rattle.bx_grid.specs.Picture.{GridState}
-use Rattle.bx_grid.specs.Turned.{IsBorder, turned_in}
-use Rattle.bx_paragraph.specs.declared.slot.Slot.{Slot}
+use Rattle.bx_grid.specs.Grid.{GridState, IsBorder, turned_in}
+use Rattle.bx_paragraph.specs.declared.slots.Slot.{Slot}
 
 -- the columns of row `row`, from 0, of a grid
 abbrev pub row_in : GridState → ℕ → List Col

@@ -3,9 +3,8 @@ ghost use Rattle.std.specs.Prelude.{◌≡◌, IfOk};
 ghost use Rattle.bx_document.specs.Backup.{IsBackup};
 
 use crate::document::Document;
-use bx_index::Index;
-use bx_terms::OutOfMemory;
-use bx_text::Text;
+use bx_common::OutOfMemory;
+use bx_text::{Index, Text};
 use bx_ucd::BidiData;
 
 /// A copy of a text with its past and its future, and the index of it.
@@ -21,6 +20,7 @@ impl<D: BidiData + Drop> Document<D> {
         ensures text { IfOk result (λ b. b.text.edited ≡ self.now.document.content) }
         ensures is { IfOk result (IsBackup (D.data self.now.tables)) }
     {
+        // The proof compares the copy, so it has a name.
         let backup = self.own.backup(self.alloc)?;
         Ok(backup)
     }

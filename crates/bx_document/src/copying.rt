@@ -1,18 +1,18 @@
 //! Copies of parts of the text, and the line of a place.
 ghost use Rattle.std.specs.Prelude.{◌≡◌, IfOk, IsCharBoundary, slice_range, string_bytes};
-ghost use Rattle.bx_text.specs.Edits.{IsRange};
+ghost use Rattle.bx_text.specs.Changes.{IsRange};
 ghost use Rattle.bx_view.specs.Places.{IsTextPlace};
-ghost use Rattle.bx_view.specs.Source.{bytes};
+ghost use Rattle.bx_view.specs.TextRef.{bytes};
 ghost use Rattle.bx_document.specs.Line.{line_of};
 
 use crate::document::Document;
-use bx_terms::OutOfMemory;
+use bx_common::OutOfMemory;
 use bx_ucd::BidiData;
-use bx_view::Source;
+use bx_view::TextRef;
 
 /// The offsets of the start and the end of the line, the paragraph with its separator, that an offset falls in. Allocates
 /// nothing.
-fn line_at<D: BidiData>(source: &Source<'_, D>, offset: usize) -> (usize, usize)
+fn line_at<D: BidiData>(source: &TextRef<'_, D>, offset: usize) -> (usize, usize)
     requires bounds { IsCharBoundary (bytes source.now) offset }
     ensures line { result ≡ line_of (D.data source.now.tables.now) (bytes source.now) offset }
     ensures range { IsRange (bytes source.now) result.0 result.1 }

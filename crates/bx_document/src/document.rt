@@ -3,15 +3,15 @@ ghost use Rattle.std.specs.Borrow.{Bor};
 ghost use Rattle.std.specs.Iterator.{Drains};
 ghost use Rattle.bx_text.specs.Slices.{joined, lends};
 ghost use Rattle.std.specs.Prelude.{◌≡◌, ℕ, ◌+◌, ◌≤◌, ◌<◌, ◌↔◌, List, true, IfOk, IsErrOf, IsUtf8, OnOk, length, string_bytes};
-ghost use Rattle.bx_terms.specs.Sizes.{is_side};
+ghost use Rattle.bx_common.specs.Characters.{is_side};
 ghost use Rattle.bx_text.specs.Edits.{largest_text};
 ghost use Rattle.bx_view.specs.Numbers.{paragraph_number};
 ghost use Rattle.bx_document.specs.Document.{at_opening};
 
 use crate::error::DocumentError;
-use crate::own_text::OwnText;
+use crate::indexed_text::IndexedText;
 use crate::row_cache::RowCache;
-use bx_terms::Base;
+use bx_common::Base;
 use bx_text::Slices;
 use bx_ucd::BidiData;
 use bx_view::View;
@@ -22,7 +22,7 @@ use std::marker::Model;
 #[derive(Drop)]
 pub struct Document<D: BidiData + Drop> {
     /// The text with its history, its index and the tables.
-    pub(crate) own: OwnText<D>,
+    pub(crate) own: IndexedText<D>,
     /// The base direction, the width, and cached paragraphs laid out in them.
     pub(crate) view: View,
     /// Rows that were drawn, by which a row that is shown again is copied.
@@ -64,7 +64,7 @@ impl<D: BidiData + Drop> Document<D> {
         ensures ok { IfOk result (λ d. d ≡ record { tables = tables; document = at_opening (string_bytes text) w base }) }
         ensures too_long { IsErrOf result DocumentError.TooLong ↔ (largest_text < length (string_bytes text)) }
     {
-        let own = OwnText::open(alloc, text, tables)?;
+        let own = IndexedText::open(alloc, text, tables)?;
         let view = View::of(alloc, w, base);
         Ok(Document {
             own,

@@ -1,18 +1,18 @@
 //! Draws one row of text, or glyphs, as a grid of one row.
 ghost use Rattle.std.specs.Prelude.{◌≡◌, ◌≤◌, ◌++◌, ◌-◌, true, All, IfOk, length, map, replicate, sum_by};
 ghost use Rattle.std.specs.Cow.{cow_str_bytes};
-ghost use Rattle.bx_terms.specs.Glyphs.{is_one_glyph, run_width};
-ghost use Rattle.bx_terms.specs.Sizes.{is_side};
+ghost use Rattle.bx_common.specs.Glyphs.{is_one_glyph, run_width};
+ghost use Rattle.bx_common.specs.Characters.{is_side};
 ghost use Rattle.bx_grid.specs.Columns.{blank};
 ghost use Rattle.bx_rows.specs.Shown.{glyph_of};
-ghost use Rattle.bx_view.specs.Source.{OfRow, Stands};
+ghost use Rattle.bx_view.specs.TextRef.{OfRow, Stands};
 ghost use Rattle.bx_document.specs.Drawing.{row_columns, side_by_side};
 
+use bx_common::OutOfMemory;
 use bx_grid::{Cell, Grid};
 use bx_rows::Drawn;
-use bx_terms::OutOfMemory;
 use bx_ucd::BidiData;
-use bx_view::{RowAt, Source, View};
+use bx_view::{RowAt, TextRef, View};
 use std::alloc::Global;
 
 /// Draws glyphs into the only row of a grid of `width` columns, from its left end, and fills the row with blanks. The glyphs
@@ -49,7 +49,7 @@ pub(crate) fn draw_glyphs(
 pub(crate) fn draw_row<D: BidiData>(
     alloc: Global,
     view: &View,
-    source: &Source<'_, D>,
+    source: &TextRef<'_, D>,
     at: RowAt,
 ) -> Result<Grid, OutOfMemory>
     requires row { Stands source.now view.now at }

@@ -1,15 +1,15 @@
 //! Draws rows of a text, one below another, into a grid, and shows a region in them.
 ghost use Rattle.std.specs.Prelude.{◌≡◌, ℕ, ◌<◌, ◌≤◌, ◌++◌, ◌*◌, OnOk, drop, take};
-ghost use Rattle.bx_view.specs.Source.{Keeps, Stands, StandsOn, rows};
+ghost use Rattle.bx_view.specs.TextRef.{Keeps, Stands, StandsOn, rows};
 ghost use Rattle.bx_document.specs.Cache.{AreDrawnBy};
-ghost use Rattle.bx_document.specs.Region.{region_rows};
+ghost use Rattle.bx_document.specs.Drawing.{region_rows};
 
 use crate::region::turn_row;
 use crate::row_cache::RowCache;
+use bx_common::OutOfMemory;
 use bx_grid::Grid;
-use bx_terms::OutOfMemory;
 use bx_ucd::BidiData;
-use bx_view::{RowAt, Source, View};
+use bx_view::{RowAt, TextRef, View};
 
 /// What `draw_rows` draws.
 #[derive(Clone, Copy)]
@@ -26,7 +26,7 @@ pub(crate) struct Page {
 /// Errors: `OutOfMemory`; some of the rows may be drawn.
 pub(crate) fn draw_rows<D: BidiData>(
     view: &mut View,
-    source: &Source<'_, D>,
+    source: &TextRef<'_, D>,
     at: RowAt,
     grid: &mut Grid,
     page: Page,
@@ -50,6 +50,7 @@ pub(crate) fn draw_rows<D: BidiData>(
     let mut walk = view.walk_from(source, at);
     let mut here = at;
     let mut row = 0;
+    // The label names the loop in its proof.
     'rows: loop {
         cache.put_row(view, source, here, grid, row)?;
         turn_row(view, source, here, grid, row, page.region)?;

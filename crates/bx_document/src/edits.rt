@@ -1,15 +1,17 @@
 //! Insertions and removals, each with the cursor's place after it. Each allocates first and then changes the text.
 ghost use Rattle.std.specs.Prelude.{◌≡◌, ℕ, List, [], ◌++◌, ◌+◌, ◌-◌, ◌≤◌, IsCharBoundary, length, slice_range, string_bytes, Some, true, false};
 ghost use Rattle.std.specs.Prelude.{IfOk, IfSome, IsErrOf, IsUtf8, MatchOption, OnErr, OnOk};
-ghost use Rattle.bx_text.specs.Edits.{IsRange, fits, fits_both, largest_text, splice};
+ghost use Rattle.bx_text.specs.Edits.{fits, fits_both, largest_text, splice};
+ghost use Rattle.bx_text.specs.Changes.{IsRange};
 ghost use Rattle.bx_view.specs.Moves.{place_at};
 ghost use Rattle.bx_view.specs.Places.{IsTextPlace};
 ghost use Rattle.bx_document.specs.Document.{after_exchange, after_insertion, after_removal, after_replacement, after_wrap, place_after};
-ghost use Rattle.bx_document.specs.Document.{place_after_replacement, place_after_wrap, replaced_text, rows_of, wrapped_end, wrapped_text};
+ghost use Rattle.bx_document.specs.Document.{place_after_replacement, place_after_wrap, replaced_text, rows_of};
+ghost use Rattle.bx_document.specs.Swapped.{wrapped_end, wrapped_text};
 
 use crate::document::Document;
 use crate::touched::{place_after, place_at_inside, place_inside, stop_after};
-use bx_terms::{LARGEST_TEXT, OutOfMemory};
+use bx_common::{LARGEST_TEXT, OutOfMemory};
 use bx_text::{EditPlaces, Text};
 use bx_ucd::BidiData;
 use std::alloc::Global;
@@ -67,6 +69,7 @@ impl<D: BidiData + Drop> Document<D> {
         ensures order { IfOk result (λ o. start + length new.now ≤ o) }
     {
         let source = self.own.source();
+        // The proof compares the place, so it has a name.
         let place = place_after(self.alloc, &source, &mut self.view, start..stop, new)?;
         Ok(place)
     }
@@ -80,6 +83,7 @@ impl<D: BidiData + Drop> Document<D> {
         ensures order { IfOk result (λ o. start ≤ o) }
     {
         let source = self.own.source();
+        // The proof compares the place, so it has a name.
         let place = place_after(self.alloc, &source, &mut self.view, start..stop, "")?;
         Ok(place)
     }
@@ -148,6 +152,7 @@ impl<D: BidiData + Drop> Document<D> {
         // The bytes after the removed ones, up to the place between, stay in front of the new text.
         let behind = stop + (between - start);
         let whole = wrapped(self.alloc, source.text, stop, behind, "", new)?;
+        // The proof compares the place, so it has a name.
         let place = self.place_after(start, behind, whole.as_str())?;
         Ok(place)
     }
@@ -268,6 +273,7 @@ impl<D: BidiData + Drop> Document<D> {
             let place = self.view.place_at(&source, offset)?;
             return Ok(place - stop + start + new.len());
         }
+        // The proof compares the place, so it has a name.
         let place = place_at_inside(
             self.alloc,
             &source,
@@ -298,6 +304,7 @@ impl<D: BidiData + Drop> Document<D> {
         let source = self.own.source();
         let whole = wrapped(self.alloc, source.text, start, stop, front, back)?;
         let offset = wrapped_end(end, start, stop, front);
+        // The proof compares the place, so it has a name.
         let place = place_inside(
             self.alloc,
             &source,

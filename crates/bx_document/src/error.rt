@@ -1,5 +1,5 @@
 //! Errors of opening a text.
-use bx_terms::OutOfMemory;
+use bx_common::OutOfMemory;
 use std::alloc::AllocError;
 use thiserror::Error;
 

@@ -1,14 +1,14 @@
 //! Whether the text's first separator is CR LF, also where a part of the text is left out.
 ghost use Rattle.std.specs.Prelude.{◌≡◌, ◌++◌, ◌∷◌, [], ℕ, List, chars, slice_range};
-ghost use Rattle.bx_text.specs.Edits.{IsRange, splice};
-ghost use Rattle.bx_document.specs.FirstSeparator.{has_crlf_first};
+ghost use Rattle.bx_text.specs.Edits.{splice};
+ghost use Rattle.bx_text.specs.Changes.{IsRange};
+ghost use Rattle.bx_document.specs.Line.{has_crlf_first};
 ghost use Rattle.bx_ucd.specs.Data.{Data};
 ghost use Rattle.bx_document.specs.SeparatorReads.{crlf_from};
 
 use crate::document::Document;
-use bx_index::separates;
-use bx_terms::first_char;
-use bx_text::Text;
+use bx_common::first_char;
+use bx_text::{Text, separates};
 use bx_ucd::BidiData;
 
 /// What the characters read so far, from a text's start on, tell of its first separator.
@@ -24,7 +24,7 @@ enum Seen {
 
 /// Whether the first separator is CR LF, once all characters are read.
 fn is_crlf(seen: Seen) -> bool
-    ensures { (says : Data) → result ≡ crlf_from says seen [] }
+    ensures { (ucd : Data) → result ≡ crlf_from ucd seen [] }
 {
     match seen {
         Seen::Nothing | Seen::Cr => false,
@@ -57,7 +57,7 @@ fn after_part<D: BidiData>(before: Seen, part: &str, tables: &D) -> Seen
 {
     let mut seen = before;
     let mut left = part;
-    'chars: while let Some((c, behind)) = first_char(left) {
+    while let Some((c, behind)) = first_char(left) {
         if let Seen::Known(answer) = seen {
             return Seen::Known(answer);
         }
@@ -81,7 +81,7 @@ fn after_range<D: BidiData>(
 {
     let mut seen = before;
     let mut at = start;
-    'parts: while at < stop {
+    while at < stop {
         if let Seen::Known(answer) = seen {
             return Seen::Known(answer);
         }

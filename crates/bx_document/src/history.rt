@@ -1,15 +1,16 @@
 //! Undo and redo: text and index change first, then the view follows in the paragraph that it has cached.
 ghost use Rattle.std.specs.Prelude.{◌≡◌, IfOk, IfSome, OnErr, OnOk, length, option_map};
-ghost use Rattle.bx_text.specs.Edits.{IsChange};
+ghost use Rattle.bx_text.specs.Changes.{IsChange};
 ghost use Rattle.bx_view.specs.Caching.{IsViewBy, Keeps};
 ghost use Rattle.bx_view.specs.Places.{IsTextPlace};
-ghost use Rattle.bx_document.specs.History.{next_change, next_changes, stepped, stepped_times};
+ghost use Rattle.bx_document.specs.History.{next_changes, stepped_times};
+ghost use Rattle.bx_document.specs.Past.{next_change, stepped};
 
 use crate::document::Document;
-use bx_terms::OutOfMemory;
+use bx_common::OutOfMemory;
 use bx_text::{Change, Text, TextError};
 use bx_ucd::BidiData;
-use bx_view::{CachedRange, Source, View};
+use bx_view::{CachedRange, TextRef, View};
 
 /// A step in the history of a text's edits.
 #[derive(Clone, Copy)]
@@ -54,7 +55,7 @@ pub(crate) fn step_in(
 /// it. Allocates nothing.
 fn cached_change<D: BidiData>(
     view: &mut View,
-    source: &Source<'_, D>,
+    source: &TextRef<'_, D>,
     change: &Change,
 ) -> Option<CachedRange>
     ensures { view.new ≡ view.old }
@@ -69,7 +70,7 @@ fn cached_change<D: BidiData>(
 fn follow_in_layout<D: BidiData>(
     view: &mut View,
     cached: Option<CachedRange>,
-    source: &Source<'_, D>,
+    source: &TextRef<'_, D>,
     change: &Change,
 )
     requires data { IsViewBy (D.data source.now.tables.now) view.old }

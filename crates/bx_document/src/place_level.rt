@@ -2,13 +2,14 @@
 ghost use Rattle.std.specs.Prelude.{◌≡◌, true, Contains, IfOk, IsCharBoundary};
 ghost use Rattle.unicode_segmentation.specs.Grapheme.{graphemes};
 ghost use Rattle.bx_rows.specs.RowLevels.{first_level};
-ghost use Rattle.bx_view.specs.Places.{IsTextPlace, boundaries};
+ghost use Rattle.bx_view.specs.Places.{IsTextPlace};
+ghost use Rattle.bx_view.specs.Numbers.{boundaries};
 ghost use Rattle.bx_document.specs.PlaceLevel.{place_level, unit_level};
 
 use crate::document::Document;
-use bx_resolve::{Level, levels};
+use bx_common::OutOfMemory;
+use bx_levels::{Level, levels};
 use bx_rows::char_count;
-use bx_terms::OutOfMemory;
 use bx_ucd::BidiData;
 use unicode_segmentation::UnicodeSegmentation;
 

@@ -1,16 +1,17 @@
 //! Points: marks and joiners that are typed after a letter, and that Backspace removes one by one.
 ghost use Rattle.std.specs.Prelude.{◌≡◌, ◌+◌, ◌++◌, ◌∷◌, [], IfOk, MatchOption, chars, encode_utf8, length, slice_range};
 ghost use Rattle.std.specs.Str.{IsCharBoundary, IsUtf8};
-ghost use Rattle.bx_text.specs.Edits.{IsRange};
-ghost use Rattle.bx_document.specs.Points.{chooses_look, is_mark, is_point, is_zero_width_joiner, point_start};
+ghost use Rattle.bx_text.specs.Changes.{IsRange};
+ghost use Rattle.bx_document.specs.Points.{chooses_look, is_point, is_zero_width_joiner, point_start};
+ghost use Rattle.bx_ucd.specs.Class.{is_nsm};
 
 use crate::document::Document;
-use bx_terms::OutOfMemory;
+use bx_common::OutOfMemory;
 use bx_ucd::{BidiData, Class};
 
 /// Whether a class is NSM, the class of nonspacing marks.
 fn is_mark(class: Class) -> bool
-    ensures { result ≡ is_mark class }
+    ensures { result ≡ is_nsm class }
 {
     matches!(class, Class::NSM)
 }

@@ -1,20 +1,21 @@
 //! Draws status rows: a text, or a text and after it a query or what was typed.
 ghost use Rattle.std.specs.Prelude.{◌≡◌, ◌≤◌, ◌∷◌, [], ◌++◌, All, IfOk, OnOk, chars, length, map, string_bytes, sum_by, take, true};
 ghost use Rattle.std.specs.Cow.{cow_str_bytes};
-ghost use Rattle.bx_terms.specs.Characters.{are_ascii_printable};
-ghost use Rattle.bx_terms.specs.Glyphs.{is_one_glyph, run_width};
-ghost use Rattle.bx_terms.specs.Sizes.{is_side};
-ghost use Rattle.bx_terms.specs.declared.base.Base.TheVariants.{Auto};
+ghost use Rattle.bx_common.specs.Characters.{are_ascii_printable, is_side};
+ghost use Rattle.bx_common.specs.Glyphs.{is_one_glyph, run_width};
+ghost use Rattle.bx_common.specs.declared.base.Base.TheVariants.{Auto};
 ghost use Rattle.bx_rows.specs.Shown.{glyph_of};
 ghost use Rattle.bx_paragraph.specs.Layout.{IsLayoutBy};
-ghost use Rattle.bx_document.specs.QueryRow.{fitting, glyph_row, letter_glyphs, query_glyphs, typed_glyph, typed_glyphs, IsNarrow, IsWellDrawn};
+ghost use Rattle.bx_rows.specs.RowPicture.{letter_glyphs};
+ghost use Rattle.bx_document.specs.Drawing.{fitting, glyph_row, query_glyphs, typed_glyph, typed_glyphs};
+ghost use Rattle.bx_document.specs.Narrow.{IsNarrow, IsWellDrawn};
 
 use crate::document::Document;
 use crate::drawing::draw_glyphs;
+use bx_common::{Base, OutOfMemory};
 use bx_grid::Grid;
 use bx_paragraph::{LentRow, ParagraphLayout};
 use bx_rows::{Drawn, RowPicture};
-use bx_terms::{Base, OutOfMemory};
 use bx_ucd::BidiData;
 use std::alloc::{AllocError, Global};
 use std::borrow::CowStr;
@@ -49,6 +50,7 @@ fn glyph_row(alloc: Global, picture: &RowPicture<'_>, width: u16) -> Result<Grid
     ensures wide { IfOk result (λ row. row.width ≡ width) }
 {
     let count = fit_count(&picture.glyphs, width);
+    // The proof compares the row, so it has a name.
     let row = draw_glyphs(alloc, &picture.glyphs[..count], width)?;
     Ok(row)
 }
@@ -65,6 +67,7 @@ fn lay_out<D: BidiData>(
     ensures rows { IfOk result (λ l. IsLayoutBy (D.data tables.now) l) }
 {
     let body = String::from_str(alloc, query)?;
+    // The proof compares the layout, so it has a name.
     let layout = ParagraphLayout::of(alloc, body, tables, QUERY_WIDTH, Base::Auto)?;
     Ok(layout)
 }
@@ -85,7 +88,7 @@ fn text_and_query<'a, D: BidiData>(
     ensures glyphs { IfOk result (λ p. All (λ g. is_one_glyph (cow_str_bytes g.text) ≡ true) p.glyphs.items) }
     ensures widths { IfOk result (λ p. All (λ g. run_width (cow_str_bytes g.text) ≡ g.columns) p.glyphs.items) }
 {
-    // proof only: a body has a row
+    // `row_count` promises that a body has a row.
     let _rows = query.row_count();
     let row = LentRow {
         paragraph: query,
@@ -137,6 +140,7 @@ impl<D: BidiData + Drop> Document<D> {
         ensures wide { IfOk result (λ row. row.width ≡ self.now.document.w) }
     {
         let picture = RowPicture::of_letters(self.alloc, text)?;
+        // The proof compares the row, so it has a name.
         let row = glyph_row(self.alloc, &picture, self.width())?;
         Ok(row)
     }
@@ -153,6 +157,7 @@ impl<D: BidiData + Drop> Document<D> {
     {
         let layout = lay_out(self.alloc, query, self.own.tables())?;
         let picture = text_and_query(self.alloc, text, &layout, self.own.tables())?;
+        // The proof compares the row, so it has a name.
         let row = glyph_row(self.alloc, &picture, self.width())?;
         Ok(row)
     }
@@ -169,6 +174,7 @@ impl<D: BidiData + Drop> Document<D> {
     {
         let mut picture = RowPicture::of_letters(self.alloc, text)?;
         push_typed(self.alloc, &mut picture.glyphs, typed)?;
+        // The proof compares the row, so it has a name.
         let row = glyph_row(self.alloc, &picture, self.width())?;
         Ok(row)
     }

@@ -1,15 +1,15 @@
 //! Shows a region in a drawn row: turns the columns of its units to the other rendition.
 ghost use Rattle.std.specs.Prelude.{◌≡◌, ◌<◌, All, OnOk};
-ghost use Rattle.bx_view.specs.Source.{OfRow, Stands};
-ghost use Rattle.bx_document.specs.Drawing.{row_columns, with_rows};
-ghost use Rattle.bx_document.specs.Region.{region_columns};
+ghost use Rattle.bx_view.specs.TextRef.{OfRow, Stands};
+ghost use Rattle.bx_document.specs.Drawing.{region_columns, row_columns};
+ghost use Rattle.bx_document.specs.Shown.{with_rows};
 ghost use Rattle.bx_document.specs.RegionSlots.{IsSpan, row_in, turned_slots};
 
+use bx_common::OutOfMemory;
 use bx_grid::Grid;
 use bx_paragraph::Slot;
-use bx_terms::OutOfMemory;
 use bx_ucd::BidiData;
-use bx_view::{RowAt, Source, View};
+use bx_view::{RowAt, TextRef, View};
 
 /// Turns the columns of slots in row `row` of a grid to the other rendition. Rows count from 0.
 fn turn_slots(grid: &mut Grid, row: u16, slots: &[Slot])
@@ -27,7 +27,7 @@ fn turn_slots(grid: &mut Grid, row: u16, slots: &[Slot])
 /// Rows of the grid count from 0.
 pub(crate) fn turn_row<D: BidiData>(
     view: &View,
-    source: &Source<'_, D>,
+    source: &TextRef<'_, D>,
     at: RowAt,
     grid: &mut Grid,
     row: u16,

@@ -1,15 +1,16 @@
 //! A cache of drawn rows, from which rows that are shown again are copied.
 ghost use Rattle.std.specs.Prelude.{◌≡◌, ◌*◌, ◌<◌, [], length, HoldsAt, IfSome, IsTrue, OnOk};
 ghost use Rattle.bx_ucd.specs.Data.{Data};
-ghost use Rattle.bx_view.specs.Source.{OfRow, Stands};
+ghost use Rattle.bx_view.specs.TextRef.{OfRow, Stands};
 ghost use Rattle.bx_document.specs.Cache.{AreDrawnBy, HoldsRow, IsDrawnBy, IsRowOf};
-ghost use Rattle.bx_document.specs.Drawing.{row_columns, with_rows};
+ghost use Rattle.bx_document.specs.Drawing.{row_columns};
+ghost use Rattle.bx_document.specs.Shown.{with_rows};
 
 use crate::drawing::draw_row;
+use bx_common::{Base, OutOfMemory};
 use bx_grid::Grid;
-use bx_terms::{Base, OutOfMemory};
 use bx_ucd::BidiData;
-use bx_view::{RowAt, Source, View};
+use bx_view::{RowAt, TextRef, View};
 use std::alloc::{AllocError, Global};
 use std::marker::Model;
 
@@ -196,7 +197,7 @@ impl RowCache {
     pub(crate) fn put_row<D: BidiData>(
         &mut self,
         view: &View,
-        source: &Source<'_, D>,
+        source: &TextRef<'_, D>,
         at: RowAt,
         grid: &mut Grid,
         row: u16,

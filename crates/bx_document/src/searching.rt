@@ -1,17 +1,17 @@
 //! The search of the text for a query, and the place of an offset.
 ghost use Rattle.std.specs.Prelude.{◌≡◌, ◌≤◌, ◌<◌, ◌↔◌, ◌∷◌, [], None, chars, length, IfOk, IfSome, IsCharBoundary, IsNone, IsUtf8, MatchOption};
 ghost use Rattle.bx_find.specs.Letters.{letters};
-ghost use Rattle.bx_find.specs.Matches.{first_from, last_before};
-ghost use Rattle.bx_find.specs.Spans.{match_end, spans_from};
-ghost use Rattle.bx_text.specs.Edits.{IsRange, largest_text};
+ghost use Rattle.bx_find.specs.Matches.{first_from, last_before, match_end, spans_from};
+ghost use Rattle.bx_text.specs.Edits.{largest_text};
+ghost use Rattle.bx_text.specs.Changes.{IsRange};
 ghost use Rattle.bx_view.specs.Moves.{place_at};
 ghost use Rattle.bx_view.specs.Places.{IsTextPlace};
 ghost use Rattle.bx_document.specs.Document.{rows};
 ghost use Rattle.bx_document.specs.Swapped.{behind_character};
 
 use crate::document::Document;
+use bx_common::{OutOfMemory, first_char};
 use bx_find::{Query, Reading};
-use bx_terms::{OutOfMemory, first_char};
 use bx_ucd::BidiData;
 
 impl<D: BidiData + Drop> Document<D> {
@@ -122,6 +122,7 @@ impl<D: BidiData + Drop> Document<D> {
         ensures boundary { IfOk result (λ o. IsCharBoundary self.old.document.content.text o) }
     {
         let source = self.own.source();
+        // The proof compares the place, so it has a name.
         let place = self.view.place_at(&source, offset)?;
         Ok(place)
     }

@@ -1,9 +1,9 @@
 //! The classes of characters, and those that separate paragraphs.
 ghost use Rattle.std.specs.Prelude.{◌≡◌};
-ghost use Rattle.bx_index.specs.Paragraphs.{is_separator};
+ghost use Rattle.bx_text.specs.index.Paragraphs.{is_separator};
 
 use crate::document::Document;
-use bx_index::separates;
+use bx_text::separates;
 use bx_ucd::{BidiData, Class};
 
 impl<D: BidiData + Drop> Document<D> {

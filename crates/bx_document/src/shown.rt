@@ -8,8 +8,8 @@ ghost use Rattle.bx_document.specs.Shown.{rows_above, shown_columns};
 
 use crate::document::Document;
 use crate::drawn_rows::{Page, draw_rows};
+use bx_common::OutOfMemory;
 use bx_grid::Grid;
-use bx_terms::OutOfMemory;
 use bx_ucd::BidiData;
 use bx_view::Position;
 

@@ -1,12 +1,13 @@
 //! All matches of a query from an offset on, with another text in place of each: the text that replaces them at once.
 ghost use Rattle.std.specs.Prelude.{◌≡◌, ◌-◌, ◌^◌, ◌++◌, ℕ, List, length, min, IfOk, IfSome, MatchOption, IsCharBoundary, slice_range, string_bytes, false, true};
-ghost use Rattle.bx_find.specs.Spans.{spans_from};
-ghost use Rattle.bx_text.specs.Edits.{IsRange, fits};
+ghost use Rattle.bx_find.specs.Matches.{spans_from};
+ghost use Rattle.bx_text.specs.Edits.{fits};
+ghost use Rattle.bx_text.specs.Changes.{IsRange};
 ghost use Rattle.bx_document.specs.Swapped.{last_stop, swapped};
 
 use crate::document::Document;
+use bx_common::{LARGEST_TEXT, OutOfMemory};
 use bx_find::{Query, Reading};
-use bx_terms::{LARGEST_TEXT, OutOfMemory};
 use bx_ucd::BidiData;
 
 /// What replaces the text from the offset at which a search starts to the end of the last match.
@@ -16,7 +17,7 @@ pub struct Swap {
     pub stop: usize,
     /// The number of matches.
     pub count: usize,
-    /// The text from the start to `stop`, with the other text in place of each match.
+    /// The text from the start to `stop`, with the replacement in place of each match.
     pub text: String,
 }
 
@@ -47,7 +48,7 @@ impl<D: BidiData + Drop> Document<D> {
             count: 0,
             len: 0,
         };
-        'matches: while let Some((at, end)) = self.first_span(reading, query, measure.stop) {
+        while let Some((at, end)) = self.first_span(reading, query, measure.stop) {
             let between = at - measure.stop;
             measure.len = measure
                 .len
@@ -65,7 +66,7 @@ impl<D: BidiData + Drop> Document<D> {
         ensures { IfOk result (λ _. string_bytes copy.new ≡ string_bytes copy.old ++ slice_range self.now.document.content.text start stop) }
     {
         let mut at = start;
-        'parts: while at < stop {
+        while at < stop {
             let part = self.own.part_at(at, stop);
             copy.push_str(part)?;
             at += part.len();
@@ -88,7 +89,7 @@ impl<D: BidiData + Drop> Document<D> {
     {
         let mut copy = String::with_capacity(self.alloc, len)?;
         let mut from = start;
-        'matches: while let Some((at, end)) = self.first_span(reading, query, from) {
+        while let Some((at, end)) = self.first_span(reading, query, from) {
             self.push_range(&mut copy, from, at)?;
             copy.push_str(other)?;
             from = end;

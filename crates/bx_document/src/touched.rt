@@ -1,24 +1,25 @@
 //! The place after an edit, found in the cached paragraph or in a copy of the paragraphs that the edit touches.
 ghost use Rattle.std.specs.Prelude.{◌≡◌, ◌≤◌, ◌<◌, ◌+◌, true, IfOk, IsCharBoundary, OnOk, length, string_bytes};
-ghost use Rattle.bx_terms.specs.Sizes.{is_side};
-ghost use Rattle.bx_text.specs.Edits.{IsRange, fits, splice};
+ghost use Rattle.bx_common.specs.Characters.{is_side};
+ghost use Rattle.bx_text.specs.index.Paragraphs.{lengths};
+ghost use Rattle.bx_text.specs.Edits.{fits, splice};
+ghost use Rattle.bx_text.specs.Changes.{IsRange};
 ghost use Rattle.bx_view.specs.FoundRow.{rows_by};
 ghost use Rattle.bx_view.specs.Caching.{IsViewBy, Keeps};
 ghost use Rattle.bx_view.specs.Moves.{place_at, place_from};
 ghost use Rattle.bx_view.specs.Places.{IsTextPlace};
-ghost use Rattle.bx_view.specs.Source.{bytes};
+ghost use Rattle.bx_view.specs.TextRef.{bytes};
 ghost use Rattle.bx_document.specs.Touched.{touched, touched_start, touched_stop};
 
-use bx_index::Index;
-use bx_terms::OutOfMemory;
-use bx_text::Text;
+use bx_common::OutOfMemory;
+use bx_text::{Index, Text};
 use bx_ucd::BidiData;
-use bx_view::{Source, View};
+use bx_view::{TextRef, View};
 use std::alloc::Global;
 use std::ops::Range;
 
 /// The start of the paragraph that contains the byte before an offset; 0 for offset 0. Allocates nothing.
-fn start_before<D: BidiData>(source: &Source<'_, D>, start: usize) -> usize
+fn start_before<D: BidiData>(source: &TextRef<'_, D>, start: usize) -> usize
     requires bounds { IsCharBoundary (bytes source.now) start }
     ensures start { result ≡ touched_start (D.data source.now.tables.now) (bytes source.now) start }
     ensures range { IsRange (bytes source.now) result start }
@@ -28,7 +29,7 @@ fn start_before<D: BidiData>(source: &Source<'_, D>, start: usize) -> usize
 }
 
 /// The end of the paragraph that an offset falls in, its separator included. Allocates nothing.
-pub(crate) fn stop_after<D: BidiData>(source: &Source<'_, D>, stop: usize) -> usize
+pub(crate) fn stop_after<D: BidiData>(source: &TextRef<'_, D>, stop: usize) -> usize
     requires bounds { IsCharBoundary (bytes source.now) stop }
     ensures stop { result ≡ touched_stop (D.data source.now.tables.now) (bytes source.now) stop }
     ensures range { IsRange (bytes source.now) stop result }
@@ -40,7 +41,7 @@ pub(crate) fn stop_after<D: BidiData>(source: &Source<'_, D>, stop: usize) -> us
 /// The offset at which the paragraphs begin that an edit touches, and a copy of their text as it is after the edit, which
 /// replaces the bytes from `start` to `stop` with `new`.
 fn touched<D: BidiData>(
-    source: &Source<'_, D>,
+    source: &TextRef<'_, D>,
     start: usize,
     stop: usize,
     new: &str,
@@ -64,34 +65,27 @@ fn touched<D: BidiData>(
     Ok((first, characters))
 }
 
-/// The first place at or after an offset of the text `characters`, which is laid out by itself with `view`'s width and base
-/// direction. The offset counts the bytes of this text.
-fn place_in<D: BidiData>(
+/// A text by itself, and the index of it.
+fn opened<D: BidiData>(
     alloc: Global,
     characters: String,
     tables: &D,
-    view: &mut View,
-    offset: usize,
-) -> Result<usize, OutOfMemory>
-    requires data { IsViewBy (D.data tables.now) view.old }
-    ensures keeps { Keeps (D.data tables.now) view.old view.new }
-    ensures place { IfOk result (λ o. o ≡ place_from
-        (rows_by (D.data tables.now) view.old (string_bytes characters)) offset) }
-    ensures side { OnOk result (is_side view.old.w ≡ true) }
+) -> Result<(Text, Index), OutOfMemory>
+    ensures text { IfOk result (λ o. o.0.edited.text ≡ string_bytes characters) }
+    ensures paragraphs { IfOk result (λ o. o.1.paragraphs ≡ lengths (D.data tables.now) o.0.edited.text) }
 {
     let Ok(text) = Text::open(alloc, characters) else {
         return Err(OutOfMemory);
     };
     let index = Index::build(alloc, &text, tables)?;
-    let place = view.place_from(&Source::of(&text, &index, tables), offset)?;
-    Ok(place)
+    Ok((text, index))
 }
 
 /// The first place at or after an offset of the text in which `new` has replaced a range of bytes. The offset is in `new`, or at
 /// its start or end. A copy of the touched paragraphs is laid out.
 pub(crate) fn place_inside<D: BidiData>(
     alloc: Global,
-    source: &Source<'_, D>,
+    source: &TextRef<'_, D>,
     view: &mut View,
     range: Range<usize>,
     new: &str,
@@ -111,38 +105,17 @@ pub(crate) fn place_inside<D: BidiData>(
 {
     let (first, characters) = touched(source, range.start, range.end, new)?;
     // The copy is no longer than the text after the edit, so it is not too long.
-    let place = place_in(alloc, characters, source.tables, view, offset - first)?;
+    let (text, index) = opened(alloc, characters, source.tables)?;
+    let copy = TextRef::of(&text, &index, source.tables);
+    let place = view.place_from(&copy, offset - first)?;
     Ok(first + place)
-}
-
-/// The last place at or before an offset of the text `characters`, which is laid out by itself with `view`'s width and base
-/// direction. The offset counts the bytes of this text.
-fn last_place_in<D: BidiData>(
-    alloc: Global,
-    characters: String,
-    tables: &D,
-    view: &mut View,
-    offset: usize,
-) -> Result<usize, OutOfMemory>
-    requires data { IsViewBy (D.data tables.now) view.old }
-    ensures keeps { Keeps (D.data tables.now) view.old view.new }
-    ensures place { IfOk result (λ o. o ≡ place_at
-        (rows_by (D.data tables.now) view.old (string_bytes characters)) offset) }
-    ensures side { OnOk result (is_side view.old.w ≡ true) }
-{
-    let Ok(text) = Text::open(alloc, characters) else {
-        return Err(OutOfMemory);
-    };
-    let index = Index::build(alloc, &text, tables)?;
-    let place = view.place_at(&Source::of(&text, &index, tables), offset)?;
-    Ok(place)
 }
 
 /// The last place at or before an offset of the text in which `new` has replaced a range of bytes. The offset is at or after
 /// the end of `new`, before the end of the touched paragraphs, of which a copy is laid out.
 pub(crate) fn place_at_inside<D: BidiData>(
     alloc: Global,
-    source: &Source<'_, D>,
+    source: &TextRef<'_, D>,
     view: &mut View,
     range: Range<usize>,
     new: &str,
@@ -162,7 +135,9 @@ pub(crate) fn place_at_inside<D: BidiData>(
 {
     let (first, characters) = touched(source, range.start, range.end, new)?;
     // The copy is no longer than the text after the edit, so it is not too long.
-    let place = last_place_in(alloc, characters, source.tables, view, offset - first)?;
+    let (text, index) = opened(alloc, characters, source.tables)?;
+    let copy = TextRef::of(&text, &index, source.tables);
+    let place = view.place_at(&copy, offset - first)?;
     Ok(first + place)
 }
 
@@ -170,7 +145,7 @@ pub(crate) fn place_at_inside<D: BidiData>(
 /// the edit is made in it; otherwise a copy of the touched paragraphs is laid out.
 pub(crate) fn place_after<D: BidiData>(
     alloc: Global,
-    source: &Source<'_, D>,
+    source: &TextRef<'_, D>,
     view: &mut View,
     range: Range<usize>,
     new: &str,
@@ -190,6 +165,7 @@ pub(crate) fn place_after<D: BidiData>(
         return Ok(place);
     }
     let offset = range.start + new.len();
+    // The proof compares the place, so it has a name.
     let place = place_inside(alloc, source, view, range, new, offset)?;
     Ok(place)
 }

@@ -1,15 +1,15 @@
 -- An editor computed with the small tables.
 use Rattle.std.proofs.Common.{ℕ, false, List, [], ◌∷◌, map}
 use Rattle.std.specs.Prelude.{None, encode_utf8_all}
-use Rattle.bx_resolve.specs.TestTables.{small}
-use Rattle.bx_terms.specs.declared.base.Base.TheVariants.{Auto}
+use Rattle.bx_ucd.specs.SmallTables.{small}
+use Rattle.bx_common.specs.declared.base.Base.TheVariants.{Auto}
 use Rattle.bx_keys.specs.declared.key.Key.{Key}
 use Rattle.bx_keys.specs.declared.key.Key.TheVariants.{Insert}
 use Rattle.bx_grid.specs.Columns.{Col, Glyph}
 use Rattle.bx_grid.specs.Picture.{PictureState}
 use Rattle.bx_ucd.specs.Data.{Data}
 use Rattle.bx_editor.specs.Editor.{Editor, at_start}
-use Rattle.bx_editor.specs.Keys.{after_keys}
+use Rattle.bx_editor.specs.Functions.{after_keys}
 use Rattle.bx_editor.specs.Picture.{picture, next_top}
 
 abbrev pub tables : Data

@@ -4,7 +4,7 @@ use Rattle.std.specs.Prelude.{Some, None, slice_range}
 use Rattle.std.proofs.lemmas.Bool.{eq-eqb}
 use Rattle.bx_ucd.specs.Data.{Data}
 use Rattle.bx_editor.specs.declared.message.Message.TheVariants.{Copied, LineCopied, NothingToCopy}
-use Rattle.bx_editor.specs.declared.soft.Soft.TheVariants.{Off}
+use Rattle.bx_editor.specs.declared.cursor.Soft.TheVariants.{Off}
 use Rattle.bx_editor.specs.Editor.{Editor}
 use Rattle.bx_editor.specs.Region.{after_copy, bytes_in, is_empty, line, region, with_held}
 

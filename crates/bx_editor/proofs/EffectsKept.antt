@@ -1,42 +1,40 @@
 -- What keys keep outside a search and a question.
 use Rattle.std.proofs.Common.{◌≡◌, ℕ, Bool, true, false, List, [], ◌∷◌, length, Option, Some, None, refl, if◌then◌else◌}
 use Rattle.std.specs.Prelude.{◌||◌, ◌==◌, not, encode_utf8}
-use Rattle.bx_terms.specs.declared.base.Base.{Base}
+use Rattle.bx_common.specs.declared.base.Base.{Base}
 use Rattle.bx_store.specs.declared.store.StoreFault.{StoreFault}
 use Rattle.bx_text.specs.declared.change.Change.{Change}
 use Rattle.bx_text.specs.Edits.{Edit, Edited, redone, splice, undone}
 use Rattle.bx_document.specs.History.{next_changes, stepped_times}
 use Rattle.bx_document.specs.declared.history.HistoryStep.{HistoryStep}
 use Rattle.bx_document.specs.declared.history.HistoryStep.TheVariants as steps
-use Rattle.bx_runs.specs.Typing.{after_insertion, after_removal, goes_on, goes_on_removing, kind_of}
-use Rattle.bx_runs.specs.declared.typing.Kind.{Kind}
-use Rattle.bx_runs.specs.declared.typing.Kind.TheVariants.{Separator}
-use Rattle.bx_runs.specs.declared.typing.Removal.{Removal}
-use Rattle.bx_runs.specs.declared.typing.Typing.{Typing}
-use Rattle.bx_runs.specs.declared.typing.Typing.TheVariants.{Off, Paste}
+use Rattle.bx_editor.specs.undo_groups.Groups.{after_insertion, after_removal, goes_on, goes_on_removing, kind_of}
+use Rattle.bx_editor.specs.declared.undo_groups.typing.Kind.{Kind}
+use Rattle.bx_editor.specs.declared.undo_groups.typing.Kind.TheVariants.{Separator}
+use Rattle.bx_editor.specs.declared.undo_groups.typing.Removal.{Removal}
+use Rattle.bx_editor.specs.declared.undo_groups.typing.Typing.{Typing}
+use Rattle.bx_editor.specs.declared.undo_groups.typing.Typing.TheVariants.{Off, Paste}
 use Rattle.bx_ucd.specs.Data.{Data}
-use Rattle.bx_asking.specs.declared.question.Ask.{Ask}
-use Rattle.bx_asking.specs.declared.question.Ask.TheVariants as asks
+use Rattle.bx_editor.specs.declared.questions.answers.Prompt.{Prompt}
+use Rattle.bx_editor.specs.declared.questions.answers.Prompt.TheVariants as asks
 use Rattle.bx_editor.specs.declared.message.Message.{Message}
 use Rattle.bx_editor.specs.declared.message.Message.TheVariants as messages
-use Rattle.bx_editor.specs.declared.seek.Seek.{Seek}
-use Rattle.bx_editor.specs.declared.seek.Seek.TheVariants as seeks
-use Rattle.bx_editor.specs.declared.soft.Soft.{Soft}
-use Rattle.bx_editor.specs.declared.soft.Soft.TheVariants as softness
-use Rattle.bx_editor.specs.Editor.{Editor, after_help, after_quit, after_redo, after_save, after_step, after_undo, next_base}
-use Rattle.bx_editor.specs.Editor.{nothing_left, with_base, with_insertion, with_removal, with_step}
+use Rattle.bx_editor.specs.declared.search_state.SearchState.{SearchState}
+use Rattle.bx_editor.specs.declared.search_state.SearchState.TheVariants as seeks
+use Rattle.bx_editor.specs.declared.cursor.Soft.{Soft}
+use Rattle.bx_editor.specs.declared.cursor.Soft.TheVariants as softness
+use Rattle.bx_editor.specs.Editor.{Editor, after_help, after_quit, after_redo, after_save, after_step, after_undo, next_base, nothing_left}
+use Rattle.bx_editor.specs.Editor.{with_base, with_insertion, with_removal, with_step, after_run_step, by_run, is_changed_at, run_goal}
+use Rattle.bx_editor.specs.Editor.{run_length}
 use Rattle.bx_editor.specs.Effects.{Effect, Types, BeginsLine, Puts, Removes, RemovesWord, Steps, StepsRun, Goes, GoesByRows, Marks}
 use Rattle.bx_editor.specs.Effects.{Selects, Unmarks, Copies, Cuts, Seeks, SeeksNext, Saves, Quits, Turns, Helps, AsksLine, AsksName}
-use Rattle.bx_editor.specs.Effects.{Tells, Rests, Before, by}
+use Rattle.bx_editor.specs.Effects.{Tells, Rests, Before, by, after_row_move}
 use Rattle.bx_editor.specs.Erasing.{after_erasing, after_erasing_word, after_removing, removed_on}
-use Rattle.bx_editor.specs.Goal.{after_row_move}
-use Rattle.bx_editor.specs.Pasting.{after_paste_end, after_paste_start, after_pasted_letter, ended_with, paste_begun, paste_ended, pasted_with, pastes_crlf}
-use Rattle.bx_editor.specs.Pasting.{with_paste, with_pasted, without_paste}
-use Rattle.bx_editor.specs.Putting.{after_character, after_new_line, after_put, has_room, line_end, only_paste, put_in}
-use Rattle.bx_editor.specs.Putting.{typed, with_selection_replaced, yielding}
-use Rattle.bx_editor.specs.Region.{after_copy, after_cut, after_mark, bytes_in, held_message, is_at_mark, is_empty, line, region, taken, with_held}
-use Rattle.bx_editor.specs.Runs.{after_run_step, by_run, is_changed_at, run_goal, run_length}
-use Rattle.bx_editor.specs.Selecting.{aged, is_selection, selecting, unselected}
+use Rattle.bx_editor.specs.Putting.{after_paste_end, after_paste_start, after_pasted_letter, ended_with, paste_begun, paste_ended}
+use Rattle.bx_editor.specs.Putting.{pasted_with, pastes_crlf, with_paste, with_pasted, without_paste, after_character, after_new_line}
+use Rattle.bx_editor.specs.Putting.{after_put, has_room, line_end, only_paste, put_in, typed, with_selection_replaced, yielding}
+use Rattle.bx_editor.specs.Region.{after_copy, after_cut, after_mark, bytes_in, held_message, is_at_mark, is_empty, line, region, taken}
+use Rattle.bx_editor.specs.Region.{with_held, aged, is_selection, selecting, unselected}
 
 -- edits, undo and redo, and all that leaves the text, the search and the question keep this property of editors
 pub record IsKeptPressing (d : Data) (P : Editor → Type 0) : Type 0 where
@@ -213,7 +211,7 @@ module _ (P : Editor → Type 0) (keeps : IsKeptPasting P) where
   pub begun-keeps : (e : Editor) → P e → P (with_paste e)
   begun-keeps e h = keeps.pasted e (Some []) (Some messages.Pasting) e.typing h
 
-  begin-keeps : (e : Editor) (ask : Ask) (seek : Seek) (pasted : Option (List ℕ)) → P e → P (paste_begun ask seek pasted e)
+  begin-keeps : (e : Editor) (ask : Prompt) (seek : SearchState) (pasted : Option (List ℕ)) → P e → P (paste_begun ask seek pasted e)
   begin-keeps e asks.Off seeks.Off None h = begun-keeps e h
   begin-keeps e asks.Off seeks.Off (Some list) h = h
   begin-keeps e asks.Off seeks.Begun pasted h = h

@@ -5,7 +5,7 @@ use Rattle.std.proofs.lemmas.List.{length-take-le, take_at, drop_at}
 use Rattle.bx_ucd.specs.Data.{Data}
 use Rattle.bx_text.specs.Edits.{inserted, removed, splice}
 use Rattle.bx_document.specs.Document.{Document, after_exchange}
-use Rattle.bx_editor.specs.declared.aim.Aim.{Aim}
+use Rattle.bx_editor.specs.declared.search_state.SearchPurpose.{SearchPurpose}
 use Rattle.bx_editor.specs.Editor.{Editor, cleared, place_after, with_edit, with_exchange}
 use Rattle.bx_editor.specs.Replacing.{with_matches_replaced}
 use Rattle.bx_editor.proofs.TwoEdits.{runs-of-two, stored-of-two}
@@ -55,8 +55,8 @@ module _ (d : Data) (e : Editor) (start stop : ℕ) where
       let once : ℕ → ℕ → Editor =
       λ p after. with_edit e (inserted (removed e.content start stop e.place p) start (b ∷ bs) p (goes twice)) after false in
       ap₂ once (ap between at) (ap goes (sym (out-and-in e.content.text start stop (b ∷ bs) inside)))
-      ∙ ap₂ (λ runs stored. record (once (between start) (goes twice)) { runs = runs; stored = stored })
-      (sym (runs-of-two e.runs n))
+      ∙ ap₂ (λ runs stored. record (once (between start) (goes twice)) { undo_groups = runs; stored = stored })
+      (sym (runs-of-two e.undo_groups n))
       (sym (stored-of-two n e.stored))
 
 -- a key's message is cleared before or behind
@@ -66,7 +66,7 @@ cleared-replaced d e stop [] n = refl
 cleared-replaced d e stop (b ∷ bs) n = refl
 
 -- what holds of the text with `new` put in holds once it was put in
-pub held-in : (d : Data) (e : Editor) (stop : ℕ) (new : List ℕ) (n : ℕ) (P : Aim → List ℕ → List ℕ → ℕ → ℕ → Type 0)
+pub held-in : (d : Data) (e : Editor) (stop : ℕ) (new : List ℕ) (n : ℕ) (P : SearchPurpose → List ℕ → List ℕ → ℕ → ℕ → Type 0)
     → e.at ≤ length e.content.text → P e.aim e.query (splice e.content.text e.at stop new) (e.count + n) 0
     → (let x = with_matches_replaced d e stop new n in P x.aim x.query x.content.text x.count x.origin)
 held-in d e stop [] n P inside h = h

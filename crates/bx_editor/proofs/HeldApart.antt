@@ -5,7 +5,7 @@ use Rattle.bx_ucd.specs.Data.{Data}
 use Rattle.bx_editor.specs.declared.message.Message.TheVariants.{NothingToPut, TextFull}
 use Rattle.bx_editor.specs.Editor.{Editor, with_insertion}
 use Rattle.bx_editor.specs.Putting.{after_put, has_room, put_in, with_selection_replaced}
-use Rattle.bx_editor.specs.Selecting.{is_selection}
+use Rattle.bx_editor.specs.Region.{is_selection}
 
 each : (b c : Bool) (x y z : Editor) (held : List ℕ) → record (if b then (if c then x else y) else z) { held = held }
     ≡ (if b then (if c then record x { held = held } else record y { held = held }) else record z { held = held })

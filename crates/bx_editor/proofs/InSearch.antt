@@ -9,18 +9,19 @@ use Rattle.bx_keys.specs.declared.key.Key.TheVariants.{Select, UndoRun, RedoRun,
 use Rattle.bx_keys.specs.declared.notice.Notice as told
 use Rattle.bx_store.specs.declared.store.StoreFault.{StoreFault}
 use Rattle.bx_ucd.specs.Data.{Data}
-use Rattle.bx_asking.specs.declared.question.Ask.{Ask}
-use Rattle.bx_asking.specs.declared.question.Ask.TheVariants as asks
+use Rattle.bx_editor.specs.declared.questions.answers.Prompt.{Prompt}
+use Rattle.bx_editor.specs.declared.questions.answers.Prompt.TheVariants as asks
 use Rattle.bx_editor.specs.Asking.{without_ask}
-use Rattle.bx_editor.specs.declared.seek.Seek.{Seek}
-use Rattle.bx_editor.specs.declared.seek.Seek.TheVariants.{Off, Begun, Typed, WithBegun, WithTyped, Replacing}
+use Rattle.bx_editor.specs.declared.search_state.SearchState.{SearchState}
+use Rattle.bx_editor.specs.declared.search_state.SearchState.TheVariants.{Off, Begun, Typed, WithBegun, WithTyped, Replacing}
 use Rattle.bx_editor.specs.Editor.{Editor, after_save, cleared, with_notice, with_size}
 use Rattle.bx_editor.specs.Effects.{Before, before}
-use Rattle.bx_editor.specs.Keys.{after_any, after_in_paste, after_key, after_press, after_user, is_told_key}
-use Rattle.bx_editor.specs.Pasting.{after_paste_end, after_paste_start, after_pasted_letter, paste_ended}
+use Rattle.bx_editor.specs.Keys.{after_any, after_in_paste, after_key, after_press, after_user}
+use Rattle.bx_editor.specs.Functions.{is_told_key}
+use Rattle.bx_editor.specs.Putting.{after_paste_end, after_paste_start, after_pasted_letter, paste_ended}
 use Rattle.bx_editor.specs.Prompts.{HasOnePrompt}
 use Rattle.bx_editor.specs.Search.{without_search}
-use Rattle.bx_editor.specs.Selecting.{aged}
+use Rattle.bx_editor.specs.Region.{aged}
 
 -- what a key leaves that keeps no column, and ages a selection
 abbrev pub behind : Editor → Editor
@@ -121,7 +122,7 @@ press-keeps d fault e P key plain ended letter h =
 -- ---- a Save
 
 -- it ends a search and a question, and leaves an editor without both as it is
-saved : (e : Editor) (fault : Option StoreFault) (ask : Ask) (seek : Seek) → ask ≡ asks.Off → seek ≡ Off
+saved : (e : Editor) (fault : Option StoreFault) (ask : Prompt) (seek : SearchState) → ask ≡ asks.Off → seek ≡ Off
     → after_save (record e { ask = ask; seek = seek }) fault ≡ without_ask (without_search (after_save e fault))
 saved e None ask seek unasked unsought = ap₂ (λ a s. after_save (record e { ask = a; seek = s }) None) unasked unsought
 saved e (Some fault) ask seek unasked unsought = ap₂ (λ a s. after_save (record e { ask = a; seek = s }) (Some fault)) unasked unsought
@@ -132,7 +133,7 @@ searched : (e : Editor) (fault : Option StoreFault) → e.ask ≡ asks.Off
 searched e None unasked = ap (λ a. record (without_search (after_save e None)) { ask = a }) unasked
 searched e (Some fault) unasked = ap (λ a. record (without_search (after_save e (Some fault))) { ask = a }) unasked
 
-save-any : (d : Data) (fault : Option StoreFault) (was : Before) (ask : Ask) (seek : Seek) (e : Editor) → e.ask ≡ ask → e.seek ≡ seek → HasOnePrompt e
+save-any : (d : Data) (fault : Option StoreFault) (was : Before) (ask : Prompt) (seek : SearchState) (e : Editor) → e.ask ≡ ask → e.seek ≡ seek → HasOnePrompt e
     → after_any d fault was ask seek e Save ≡ without_ask (without_search (after_save e fault))
 save-any d fault was asks.Off Off e unasked unsought one = saved e fault e.ask e.seek unasked unsought
 save-any d fault was asks.Off Begun e unasked on one = searched e fault unasked

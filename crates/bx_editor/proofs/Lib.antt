@@ -11,10 +11,9 @@ pub mod StatusRow
 pub mod TopOnce
 pub mod OnItsCell
 pub mod Begin
-pub mod Queries
 pub mod Sought
 pub mod InSearch
-pub mod Questions
+pub mod QuestionSteps
 pub mod Searches
 pub mod EffectsKept
 pub mod OnePrompt
@@ -24,7 +23,7 @@ pub mod MatchSpans
 pub mod ShownMatch
 pub mod Exchanged
 pub mod NextShown
-pub mod AskedOther
+pub mod AskedReplacement
 pub mod RunSteps
 pub mod HeldApart
 pub mod ManySteps
@@ -32,8 +31,9 @@ pub mod QuestionKept
 pub mod Pasted
 pub mod Refused
 pub mod Copied
-pub mod Pointed
 pub mod Unseen
 pub mod OnePaste
 pub mod SentOut
 mod PasteExamples
+pub mod undo_groups_lemmas
+pub mod questions_lemmas

@@ -3,8 +3,7 @@ use Rattle.std.proofs.Common.{◌≡◌, ℕ, zero, suc, ◌+◌, ◌-◌, ◌�
 use Rattle.std.specs.Fn.{iterate}
 use Rattle.std.specs.List.{fold}
 use Rattle.bx_text.specs.declared.change.Change.{Change}
-use Rattle.bx_text.specs.Edits.{Edit, Edited, change_back, change_of, redone, undone}
-use Rattle.bx_text.specs.Times.{merged, redone_times, undone_times}
+use Rattle.bx_text.specs.Edits.{Edit, Edited, change_back, change_of, redone, undone, merged, redone_times, undone_times}
 use Rattle.bx_text.proofs.UndoneTimes.{no_redo, no_undo}
 
 abbrev pub version : List ℕ → List Edit → List Edit → Edited

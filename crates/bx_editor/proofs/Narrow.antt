@@ -7,15 +7,14 @@ use Rattle.std.proofs.lemmas.List.Elements.{All-push, All-take}
 use Rattle.std.proofs.lemmas.Str.{encode_ascii}
 use Rattle.unicode_segmentation.proofs.Computing.{unicode_segmentation}
 use Rattle.unicode_width.proofs.Computing.{unicode_width}
-use Rattle.bx_terms.specs.Characters.{is_ascii_printable, is_within}
-use Rattle.bx_terms.specs.Glyphs.{is_one_glyph, run_width}
+use Rattle.bx_common.specs.Characters.{is_ascii_printable, is_within}
+use Rattle.bx_common.specs.Glyphs.{is_one_glyph, run_width}
 use Rattle.bx_grid.proofs.Laid.{plain_run_width}
-use Rattle.bx_cells.proofs.Rest.{chars_encoded}
-use Rattle.bx_asking.proofs.OneMore.{one_more}
-use Rattle.bx_asking.specs.Answers.{lengthened, shortened}
-use Rattle.bx_asking.specs.Codes.{is_code_letter}
-use Rattle.bx_asking.specs.Line.{is_digit, is_divider, is_line_letter}
-use Rattle.bx_document.specs.QueryRow.{IsNarrow}
+use Rattle.bx_rows.proofs.cells_lemmas.Rest.{chars_encoded}
+use Rattle.bx_editor.proofs.questions_lemmas.OneMore.{one_more}
+use Rattle.bx_editor.specs.questions.Answers.{lengthened, shortened, is_digit, is_divider, is_line_letter}
+use Rattle.bx_editor.specs.questions.Names.{is_code_letter}
+use Rattle.bx_document.specs.Narrow.{IsNarrow}
 
 -- ---- from SPACE to TILDE
 

@@ -3,14 +3,16 @@ use Rattle.std.proofs.Common.{◌≡◌, ◌≤◌, ◌+◌, ◌∙◌, ℕ, tru
 use Rattle.std.specs.Prelude.{Option, Some, None, option_map, IsUtf8, if◌then◌else◌}
 use Rattle.bx_ucd.specs.Data.{Data}
 use Rattle.bx_find.specs.Matches.{first_from}
-use Rattle.bx_text.specs.Edits.{IsRange, fits, splice}
+use Rattle.bx_text.specs.Edits.{fits, splice}
+use Rattle.bx_text.specs.Changes.{IsRange}
 use Rattle.bx_view.specs.Moves.{place_at}
 use Rattle.bx_view.specs.TextRows.{TextRow}
-use Rattle.bx_editor.specs.declared.seek.Seek.TheVariants.{Replacing}
+use Rattle.bx_editor.specs.declared.search_state.SearchState.TheVariants.{Replacing}
 use Rattle.bx_editor.specs.declared.message.Message.TheVariants.{TextFull}
 use Rattle.bx_editor.specs.Editor.{Editor, cleared, rows, rows_of}
-use Rattle.bx_editor.specs.Replacing.{after_ending, after_replacing, at_match, match_stop, next_behind, next_match, on_from}
-use Rattle.bx_editor.specs.Replacing.{placed_in, with_matches_replaced}
+use Rattle.bx_editor.specs.Replacing.{after_ending, after_replacing, at_match, match_stop, next_match, on_from}
+use Rattle.bx_editor.specs.Functions.{next_behind, placed_in}
+use Rattle.bx_editor.specs.Replacing.{with_matches_replaced}
 use Rattle.bx_editor.specs.Search.{reading, sought}
 use Rattle.bx_editor.proofs.Exchanged.{cleared-replaced, out-and-in}
 use Rattle.bx_editor.proofs.MovedMatches.{first-behind-new, moved}
@@ -78,24 +80,24 @@ module _ (d : Data) (e : Editor) (stop : ℕ) where
       (first-behind-new d (reading e.aim) (sought d e) e.content.text e.at stop new u v range
       ∙ ap (option_map (moved stop (e.at + length new))) (sym is))
 
--- the match has given way to the other text
-module _ (d : Data) (e : Editor) (stop : ℕ) (is : stop ≡ match_stop d e) (room : fits e.content.text e.at stop e.other ≡ true) where
-  on-is : on_from d (e.at + length e.other) (with_matches_replaced d (cleared e) stop e.other 1) ≡ after_replacing d (cleared e)
+-- the match has given way to the replacement
+module _ (d : Data) (e : Editor) (stop : ℕ) (is : stop ≡ match_stop d e) (room : fits e.content.text e.at stop e.replacement ≡ true) where
+  on-is : on_from d (e.at + length e.replacement) (with_matches_replaced d (cleared e) stop e.replacement 1) ≡ after_replacing d (cleared e)
   on-is =
-      let on : ℕ → Editor = λ s. on_from d (e.at + length e.other) (with_matches_replaced d (cleared e) s e.other 1) in
+      let on : ℕ → Editor = λ s. on_from d (e.at + length e.replacement) (with_matches_replaced d (cleared e) s e.replacement 1) in
       ap on is
       ∙ ap (λ b. if b then on (match_stop d e) else record (cleared e) { message = Some TextFull })
-      (sym (ap (λ s. fits e.content.text e.at s e.other) (sym is) ∙ room))
+      (sym (ap (λ s. fits e.content.text e.at s e.replacement) (sym is) ∙ room))
 
-  pub replaced-next : (at place : ℕ) → e.at ≤ length e.content.text → Some (at, place) ≡ next_behind d e stop e.other
-      → cleared (record (with_matches_replaced d e stop e.other 1) { seek = Replacing; at = at; place = place })
+  pub replaced-next : (at place : ℕ) → e.at ≤ length e.content.text → Some (at, place) ≡ next_behind d e stop e.replacement
+      → cleared (record (with_matches_replaced d e stop e.replacement 1) { seek = Replacing; at = at; place = place })
       ≡ after_replacing d (cleared e)
   replaced-next at place inside found =
       ap (λ (x : Editor). (let y : Editor = record x { seek = Replacing; at = at; place = place } in y))
-      (cleared-replaced d e stop e.other 1)
-      ∙ shown-behind d (cleared e) stop e.other 1 at place inside found ∙ on-is
+      (cleared-replaced d e stop e.replacement 1)
+      ∙ shown-behind d (cleared e) stop e.replacement 1 at place inside found ∙ on-is
 
-  pub replaced-last : e.at ≤ length e.content.text → None ≡ next_behind d e stop e.other
-      → after_ending (cleared (with_matches_replaced d e stop e.other 1)) ≡ after_replacing d (cleared e)
+  pub replaced-last : e.at ≤ length e.content.text → None ≡ next_behind d e stop e.replacement
+      → after_ending (cleared (with_matches_replaced d e stop e.replacement 1)) ≡ after_replacing d (cleared e)
   replaced-last inside none =
-      ap after_ending (cleared-replaced d e stop e.other 1) ∙ ended-behind d (cleared e) stop e.other 1 inside none ∙ on-is
+      ap after_ending (cleared-replaced d e stop e.replacement 1) ∙ ended-behind d (cleared e) stop e.replacement 1 inside none ∙ on-is

@@ -5,22 +5,21 @@ use Rattle.std.specs.Prelude.{◌≢◌, ◌==◌, ◌⊎◌, ◌&&◌, not, Opt
 use Rattle.std.proofs.lemmas.Bool.{ne_eqb}
 use Rattle.std.proofs.lemmas.Bool.Decides.{nat_tests}
 use Rattle.bx_keys.specs.declared.key.Key.TheVariants.{Insert, PasteEnd}
-use Rattle.bx_terms.specs.Sizes.{largest_text}
+use Rattle.bx_common.specs.Characters.{largest_text}
 use Rattle.bx_text.specs.Edits.{fits}
 use Rattle.bx_ucd.specs.Data.{Data}
-use Rattle.bx_asking.specs.declared.question.Ask.TheVariants as asks
-use Rattle.bx_runs.specs.declared.typing.Typing.TheVariants as typings
+use Rattle.bx_editor.specs.declared.questions.answers.Prompt.TheVariants as asks
+use Rattle.bx_editor.specs.declared.undo_groups.typing.Typing.TheVariants as typings
 use Rattle.bx_editor.specs.declared.message.Message.TheVariants.{Pasting, TextFull}
-use Rattle.bx_editor.specs.declared.seek.Seek.TheVariants as seeks
-use Rattle.bx_editor.specs.declared.soft.Soft.{Soft}
-use Rattle.bx_editor.specs.declared.soft.Soft.TheVariants.{Off, Fresh, Old}
+use Rattle.bx_editor.specs.declared.search_state.SearchState.TheVariants as seeks
+use Rattle.bx_editor.specs.declared.cursor.Soft.{Soft}
+use Rattle.bx_editor.specs.declared.cursor.Soft.TheVariants.{Off, Fresh, Old}
 use Rattle.bx_editor.specs.Editor.{Editor, place_after, with_insertion, with_typing}
-use Rattle.bx_editor.specs.Keys.{after_keys}
+use Rattle.bx_editor.specs.Functions.{after_keys}
 use Rattle.bx_editor.specs.PasteLaws.{HasAll, IsOneEdit, IsPaste, PasteIsOneEdit, brought, place_between, written}
-use Rattle.bx_editor.specs.Pasting.{after_paste_end, after_paste_start, longer, paste_begun, pasted_bytes, pastes_crlf}
-use Rattle.bx_editor.specs.Putting.{has_room, put_in, with_selection_replaced, yielding}
-use Rattle.bx_editor.specs.Region.{is_empty, region}
-use Rattle.bx_editor.specs.Selecting.{aged, is_selection, is_soft}
+use Rattle.bx_editor.specs.Putting.{after_paste_end, after_paste_start, longer, paste_begun, pasted_bytes, pastes_crlf, has_room, put_in}
+use Rattle.bx_editor.specs.Putting.{with_selection_replaced, yielding}
+use Rattle.bx_editor.specs.Region.{is_empty, region, aged, is_selection, is_soft}
 use Rattle.bx_editor.proofs.TwoEdits.{runs-of-two}
 
 -- the editor while a paste is under way
@@ -130,7 +129,7 @@ module _ (d : Data) (e : Editor) where
     one true is = record {
       alone = λ none. (let no = sym is ∙ none in absurd (cc no));
       instead = λ some. refl;
-      begins = runs-of-two e.runs (length e.content.past);
+      begins = runs-of-two e.undo_groups (length e.content.past);
       place = ap (place_by (shaped true true).content.text) (sym is);
     }
     one false is = record {

@@ -4,26 +4,25 @@ use Rattle.std.specs.Prelude.{◌==◌}
 use Rattle.bx_keys.specs.declared.key.Key.{Key}
 use Rattle.bx_store.specs.declared.store.StoreFault.{StoreFault}
 use Rattle.bx_ucd.specs.Data.{Data}
-use Rattle.bx_asking.specs.declared.question.Ask.{Ask}
-use Rattle.bx_asking.specs.declared.question.Ask.TheVariants as asks
-use Rattle.bx_editor.specs.declared.seek.Seek.{Seek}
-use Rattle.bx_editor.specs.declared.seek.Seek.TheVariants.{Off, Begun, Typed, WithBegun, WithTyped, Replacing}
+use Rattle.bx_editor.specs.declared.questions.answers.Prompt.{Prompt}
+use Rattle.bx_editor.specs.declared.questions.answers.Prompt.TheVariants as asks
+use Rattle.bx_editor.specs.declared.search_state.SearchState.{SearchState}
+use Rattle.bx_editor.specs.declared.search_state.SearchState.TheVariants.{Off, Begun, Typed, WithBegun, WithTyped, Replacing}
 use Rattle.bx_editor.specs.Asking.{without_ask}
 use Rattle.bx_editor.specs.declared.message.Message.TheVariants.{TextFull}
 use Rattle.bx_editor.specs.Editor.{Editor, cleared, with_exchange, with_insertion}
 use Rattle.bx_editor.specs.Effects.{Effect, AsksLine, AsksName, Before, before, by}
 use Rattle.bx_editor.specs.Keys.{Answer, Letter, Shortens, GoesBack, Next, Previous, Replaces, Stays, Ends, after_any, after_asking, after_key, after_user, answer_of}
-use Rattle.bx_editor.specs.Keys.{answered, answered_match, answered_other, answered_question, effect_of}
-use Rattle.bx_editor.specs.Pasting.{ended_with, paste_ended, without_paste}
+use Rattle.bx_editor.specs.Keys.{answered, answered_match, answered_replacement, answered_question, effect_of}
+use Rattle.bx_editor.specs.Putting.{ended_with, paste_ended, without_paste, has_room, put_in, with_selection_replaced}
 use Rattle.bx_editor.specs.Prompts.{HasOnePrompt}
-use Rattle.bx_editor.specs.Putting.{has_room, put_in, with_selection_replaced}
 use Rattle.bx_editor.specs.Search.{without_search}
-use Rattle.bx_editor.specs.Selecting.{is_selection}
+use Rattle.bx_editor.specs.Region.{is_selection}
 use Rattle.bx_editor.proofs.EffectsKept as kept
 use Rattle.bx_editor.proofs.InSearch.{each-key, press-keeps}
 use Rattle.bx_editor.proofs.QuestionKept.{effect-keeps}
-use Rattle.bx_editor.proofs.Questions.{IsKept, letter-keeps, shorter-keeps}
-use Rattle.bx_editor.proofs.Searches.{IsKeptSeeking, match-keeps, other-keeps, query-keeps}
+use Rattle.bx_editor.proofs.QuestionSteps.{IsKept, letter-keeps, shorter-keeps}
+use Rattle.bx_editor.proofs.Searches.{IsKeptSeeking, match-keeps, replacement-keeps, query-keeps}
 
 -- the same is asked
 abbrev SameAsk : Editor → Editor → Type 0
@@ -62,11 +61,11 @@ answer d fault was e key Ends unasked = λ asked. refl
 answer d fault was e key one unasked =
     free e (answered d fault was e key one) (query-keeps d (SameAsk e) (sought-asks d e) fault was e key one refl (λ ends. absurd (cc ends))) unasked
 
-other-text : (d : Data) (fault : Option StoreFault) (was : Before) (e : Editor) (key : Key) (one : Answer) → e.ask ≡ asks.Off
-    → HasOnePrompt (answered_other d fault was e key one)
-other-text d fault was e key Ends unasked = effect d fault was (without_search e) (effect_of d (without_search e) key) unasked refl
-other-text d fault was e key one unasked =
-    free e (answered_other d fault was e key one) (other-keeps d (SameAsk e) (sought-asks d e) fault was e key one refl refl (λ ends. absurd (cc ends))) unasked
+replacement : (d : Data) (fault : Option StoreFault) (was : Before) (e : Editor) (key : Key) (one : Answer) → e.ask ≡ asks.Off
+    → HasOnePrompt (answered_replacement d fault was e key one)
+replacement d fault was e key Ends unasked = effect d fault was (without_search e) (effect_of d (without_search e) key) unasked refl
+replacement d fault was e key one unasked =
+    free e (answered_replacement d fault was e key one) (replacement-keeps d (SameAsk e) (sought-asks d e) fault was e key one refl refl (λ ends. absurd (cc ends))) unasked
 
 at-match : (d : Data) (fault : Option StoreFault) (was : Before) (e : Editor) (key : Key) (one : Answer) → e.ask ≡ asks.Off
     → HasOnePrompt (answered_match d fault was e key one)
@@ -96,17 +95,17 @@ question d fault was e key Replaces off = effect d fault was (without_ask e) (ef
 question d fault was e key Stays off = λ asked. off
 question d fault was e key Ends off = effect d fault was (without_ask e) (effect_of d (without_ask e) key) refl off
 
-asking : (d : Data) (fault : Option StoreFault) (was : Before) (ask : Ask) (e : Editor) (key : Key) → e.ask ≡ ask → (ask ≡ asks.Off → ⊥) → HasOnePrompt e
+asking : (d : Data) (fault : Option StoreFault) (was : Before) (ask : Prompt) (e : Editor) (key : Key) → e.ask ≡ ask → (ask ≡ asks.Off → ⊥) → HasOnePrompt e
     → HasOnePrompt (after_asking d fault was e key)
 asking d fault was ask e key is some one = question d fault was e key (answer_of key) (one (λ off. some (sym is ∙ off)))
 
-any : (d : Data) (fault : Option StoreFault) (was : Before) (ask : Ask) (seek : Seek) (e : Editor) (key : Key) → e.ask ≡ ask → e.seek ≡ seek → HasOnePrompt e
+any : (d : Data) (fault : Option StoreFault) (was : Before) (ask : Prompt) (seek : SearchState) (e : Editor) (key : Key) → e.ask ≡ ask → e.seek ≡ seek → HasOnePrompt e
     → HasOnePrompt (after_any d fault was ask seek e key)
 any d fault was asks.Off Off e key is unsought one = effect d fault was e (effect_of d e key) is unsought
 any d fault was asks.Off Begun e key is on one = answer d fault was e key (answer_of key) is
 any d fault was asks.Off Typed e key is on one = answer d fault was e key (answer_of key) is
-any d fault was asks.Off WithBegun e key is on one = other-text d fault was e key (answer_of key) is
-any d fault was asks.Off WithTyped e key is on one = other-text d fault was e key (answer_of key) is
+any d fault was asks.Off WithBegun e key is on one = replacement d fault was e key (answer_of key) is
+any d fault was asks.Off WithTyped e key is on one = replacement d fault was e key (answer_of key) is
 any d fault was asks.Off Replacing e key is on one = at-match d fault was e key (answer_of key) is
 any d fault was asks.Line seek e key is sought_is one = asking d fault was asks.Line e key is (λ off. cc off) one
 any d fault was asks.Name seek e key is sought_is one = asking d fault was asks.Name e key is (λ off. cc off) one

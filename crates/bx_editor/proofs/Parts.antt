@@ -3,7 +3,7 @@ use Rattle.std.proofs.Common.{◌≡◌, ℕ, List, Option, Some, None, IsUtf8, 
 use Rattle.std.specs.Prelude.{IfSome, unwrap_or}
 use Rattle.std.proofs.lemmas.Bool.{cases_lt}
 use Rattle.bx_ucd.specs.Data.{Data}
-use Rattle.bx_text.specs.Edits.{IsRange}
+use Rattle.bx_text.specs.Changes.{IsRange}
 use Rattle.bx_view.specs.Places.{IsTextPlace}
 use Rattle.bx_view.proofs.TextPlaces.{place-between}
 
@@ -28,10 +28,10 @@ in_order_of text m p a b mark place low high =
     })
     (cases_lt m p)
 
-pub region_range : (says : Data) (text : List ℕ) (mark : Option ℕ) (place a b : ℕ) → IsUtf8 text → IsTextPlace says text place
-    → IfSome mark (IsTextPlace says text) → a ≡ min (unwrap_or mark place) place → b ≡ max (unwrap_or mark place) place → IsRange text a b
-region_range says text None place a b utf8 is marked low high =
-    let bounds = place-between says text place utf8 is in
+pub region_range : (ucd : Data) (text : List ℕ) (mark : Option ℕ) (place a b : ℕ) → IsUtf8 text → IsTextPlace ucd text place
+    → IfSome mark (IsTextPlace ucd text) → a ≡ min (unwrap_or mark place) place → b ≡ max (unwrap_or mark place) place → IsRange text a b
+region_range ucd text None place a b utf8 is marked low high =
+    let bounds = place-between ucd text place utf8 is in
     in_order_of text place place a b bounds bounds low high
-region_range says text (Some m) place a b utf8 is marked low high =
-    in_order_of text m place a b (place-between says text m utf8 marked) (place-between says text place utf8 is) low high
+region_range ucd text (Some m) place a b utf8 is marked low high =
+    in_order_of text m place a b (place-between ucd text m utf8 marked) (place-between ucd text place utf8 is) low high

@@ -7,19 +7,19 @@ use Rattle.unicode_width.proofs.Computing.{unicode_width}
 use Rattle.bx_keys.specs.declared.key.Key.{Key}
 use Rattle.bx_keys.specs.declared.key.Key.TheVariants.{Back, Copy, Cut, Down, Erase, Find, Forward, GoTo, LineDown, Mark, Name, NewLine, Point, Quit}
 use Rattle.bx_keys.specs.declared.key.Key.TheVariants.{PasteStart, PasteEnd, Redo, Repaint, Right, RowEnd, Save, Select, Size, TextEnd, Undo, UndoRun}
-use Rattle.bx_asking.specs.declared.question.Ask.{Ask}
-use Rattle.bx_asking.specs.declared.question.Ask.TheVariants as asks
-use Rattle.bx_runs.specs.declared.typing.Typing.{Typing}
-use Rattle.bx_runs.specs.declared.typing.Typing.TheVariants as typings
+use Rattle.bx_editor.specs.declared.questions.answers.Prompt.{Prompt}
+use Rattle.bx_editor.specs.declared.questions.answers.Prompt.TheVariants as asks
+use Rattle.bx_editor.specs.declared.undo_groups.typing.Typing.{Typing}
+use Rattle.bx_editor.specs.declared.undo_groups.typing.Typing.TheVariants as typings
 use Rattle.bx_editor.specs.declared.message.Message.{Message}
 use Rattle.bx_editor.specs.declared.message.Message.TheVariants.{Pasting, Saved, Unsaved}
-use Rattle.bx_editor.specs.declared.seek.Seek.{Seek}
-use Rattle.bx_editor.specs.declared.seek.Seek.TheVariants.{Begun}
-use Rattle.bx_editor.specs.declared.soft.Soft.{Soft}
-use Rattle.bx_editor.specs.declared.soft.Soft.TheVariants.{Off, Fresh, Old}
-use Rattle.bx_editor.specs.Clipboard.{clip_of}
+use Rattle.bx_editor.specs.declared.search_state.SearchState.{SearchState}
+use Rattle.bx_editor.specs.declared.search_state.SearchState.TheVariants.{Begun}
+use Rattle.bx_editor.specs.declared.cursor.Soft.{Soft}
+use Rattle.bx_editor.specs.declared.cursor.Soft.TheVariants.{Off, Fresh, Old}
+use Rattle.bx_editor.specs.Region.{clip_of}
 use Rattle.bx_editor.specs.Editor.{Editor, with_clipboard}
-use Rattle.bx_editor.specs.Pasting.{has_changes}
+use Rattle.bx_editor.specs.Functions.{has_changes}
 use Rattle.bx_editor.proofs.Computed.{start, after, letters}
 
 abbrev edited : List ℕ → List Key → Editor
@@ -30,8 +30,8 @@ abbrev text_at : Editor → List ℕ × ℕ
 text_at e = (e.content.text, e.place)
 
 -- where runs begin, the number of edits, and what the next may go on with
-abbrev runs_of : Editor → List ℕ × ℕ × Typing
-runs_of e = (e.runs, length e.content.past, e.typing)
+abbrev undo_groups_of : Editor → List ℕ × ℕ × Typing
+undo_groups_of e = (e.undo_groups, length e.content.past, e.typing)
 
 -- what a paste has brought, the message, and whether changes are told
 abbrev paste_of : Editor → Option (List ℕ) × Option Message × Bool
@@ -68,7 +68,7 @@ its_end_puts_it_in : text_at whole ≡ (codes "axy\nb", 4)
 unfolding unicode_segmentation unicode_width digits
 its_end_puts_it_in = refl
 
-as_one_edit : runs_of whole ≡ (0 ∷ [], 1, typings.Off)
+as_one_edit : undo_groups_of whole ≡ (0 ∷ [], 1, typings.Off)
 unfolding unicode_segmentation unicode_width digits
 as_one_edit = refl
 
@@ -95,11 +95,11 @@ so_that_nothing_is_unsaved : paste_of whole_undone ≡ (None, None, false)
 unfolding unicode_segmentation unicode_width digits
 so_that_nothing_is_unsaved = refl
 
-between_words : runs_of (edited [] (letters (codes "a") ++ paste (codes "b c\n\nd") ++ letters (codes "e"))) ≡ (0 ∷ 1 ∷ 2 ∷ [], 3, typings.Word)
+between_words : undo_groups_of (edited [] (letters (codes "a") ++ paste (codes "b c\n\nd") ++ letters (codes "e"))) ≡ (0 ∷ 1 ∷ 2 ∷ [], 3, typings.Word)
 unfolding unicode_segmentation unicode_width digits
 between_words = refl
 
-an_empty_one_ends_a_run : runs_of (edited (codes "ab") (letters (codes "x") ++ paste [] ++ letters (codes "y"))) ≡ (0 ∷ 1 ∷ [], 2, typings.Word)
+an_empty_one_ends_a_run : undo_groups_of (edited (codes "ab") (letters (codes "x") ++ paste [] ++ letters (codes "y"))) ≡ (0 ∷ 1 ∷ [], 2, typings.Word)
 unfolding unicode_segmentation unicode_width digits
 an_empty_one_ends_a_run = refl
 
@@ -118,7 +118,7 @@ abbrev two_pastes : Editor
 two_pastes =
     edited [] (PasteStart ∷ letters (codes "a") ++ Repaint ∷ Size 2 30 ∷ letters (codes "b") ++ PasteEnd ∷ paste (codes "c"))
 
-each_is_a_run : runs_of two_pastes ≡ (0 ∷ 1 ∷ [], 2, typings.Off)
+each_is_a_run : undo_groups_of two_pastes ≡ (0 ∷ 1 ∷ [], 2, typings.Off)
 unfolding unicode_segmentation unicode_width digits
 each_is_a_run = refl
 
@@ -142,7 +142,7 @@ in_place_of_a_selection : text_at in_its_place ≡ (codes "xy zcd", 4)
 unfolding unicode_segmentation unicode_width digits
 in_place_of_a_selection = refl
 
-two_edits_of_one_run : runs_of in_its_place ≡ (0 ∷ [], 2, typings.Off)
+two_edits_of_one_run : undo_groups_of in_its_place ≡ (0 ∷ [], 2, typings.Off)
 unfolding unicode_segmentation unicode_width digits
 two_edits_of_one_run = refl
 
@@ -194,7 +194,7 @@ abbrev asked_paste : Editor
 asked_paste = edited (codes "ab\nc") (GoTo ∷ PasteStart ∷ letters (codes "2\n"))
 
 -- what is asked, the answer as far as it is typed, and what a paste has brought
-abbrev asked_of : Editor → Ask × List ℕ × Option (List ℕ)
+abbrev asked_of : Editor → Prompt × List ℕ × Option (List ℕ)
 asked_of e = (e.ask, e.answer, e.pasted)
 
 a_question_is_not_answered : asked_of asked_paste ≡ (asks.Line, codes "2", None)
@@ -209,7 +209,7 @@ abbrev sought_paste : Editor
 sought_paste = edited (codes "ab ab") (Find ∷ PasteStart ∷ [])
 
 -- how far a search is, what the next edit may go on with, and what a paste has brought
-abbrev sought_of : Editor → Seek × Typing × Option (List ℕ)
+abbrev sought_of : Editor → SearchState × Typing × Option (List ℕ)
 sought_of e = (e.seek, e.typing, e.pasted)
 
 in_a_search_none_begins : sought_of sought_paste ≡ (Begun, typings.Paste, None)
@@ -237,7 +237,7 @@ a_move_ends_it : text_at (cut_off_by Right) ≡ (codes "xab", 2)
 unfolding unicode_segmentation unicode_width digits
 a_move_ends_it = refl
 
-an_erasure_ends_it : runs_of (cut_off_by Erase) ≡ (0 ∷ 1 ∷ [], 2, typings.Erasing)
+an_erasure_ends_it : undo_groups_of (cut_off_by Erase) ≡ (0 ∷ 1 ∷ [], 2, typings.Erasing)
 unfolding unicode_segmentation unicode_width digits
 an_erasure_ends_it = refl
 
@@ -279,7 +279,7 @@ from_the_top_as_it_was = refl
 abbrev in_parts : Editor
 in_parts = edited [] (letters (codes "a") ++ PasteStart ∷ letters (codes "b") ++ NewLine ∷ letters (codes "c") ++ PasteEnd ∷ [])
 
-what_comes_after_is_typed : runs_of in_parts ≡ (0 ∷ 1 ∷ 2 ∷ 3 ∷ [], 4, typings.Off)
+what_comes_after_is_typed : undo_groups_of in_parts ≡ (0 ∷ 1 ∷ 2 ∷ 3 ∷ [], 4, typings.Off)
 unfolding unicode_segmentation unicode_width digits
 what_comes_after_is_typed = refl
 
@@ -290,7 +290,7 @@ in_runs_of_its_own = refl
 abbrev erased : Editor
 erased = after two_pastes (UndoRun ∷ PasteStart ∷ letters (codes "x") ++ Erase ∷ Erase ∷ letters (codes "y"))
 
-erasures_after_it_are_a_run : runs_of erased ≡ (0 ∷ 1 ∷ 2 ∷ 4 ∷ [], 5, typings.Word)
+erasures_after_it_are_a_run : undo_groups_of erased ≡ (0 ∷ 1 ∷ 2 ∷ 4 ∷ [], 5, typings.Word)
 unfolding unicode_segmentation unicode_width digits
 erasures_after_it_are_a_run = refl
 

@@ -4,9 +4,9 @@ use Rattle.std.specs.Prelude.{◌==◌, Some, None}
 use Rattle.bx_ucd.specs.Data.{Data}
 use Rattle.bx_editor.specs.declared.message.Message.TheVariants.{TextFull}
 use Rattle.bx_editor.specs.Editor.{Editor, cleared, with_insertion}
-use Rattle.bx_editor.specs.Pasting.{as_before, ended_with, paste_ended, with_pasted, without_paste}
-use Rattle.bx_editor.specs.Putting.{has_room, put_in, with_selection_replaced}
-use Rattle.bx_editor.specs.Selecting.{is_selection}
+use Rattle.bx_editor.specs.Putting.{ended_with, paste_ended, with_pasted, without_paste, has_room, put_in, with_selection_replaced}
+use Rattle.bx_editor.specs.Functions.{as_before}
+use Rattle.bx_editor.specs.Region.{is_selection}
 
 -- with another key before, and no paste under way
 abbrev pub settled : Bool → Editor → Editor

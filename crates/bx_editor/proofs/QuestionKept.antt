@@ -1,30 +1,30 @@
 -- Outside a question only the keys that ask change what is asked.
 use Rattle.std.proofs.Common.{◌≡◌, ℕ, Bool, true, false, List, length, refl, if◌then◌else◌}
 use Rattle.std.specs.Prelude.{◌==◌, Option, Some, None}
-use Rattle.bx_asking.specs.declared.question.Ask.{Ask}
+use Rattle.bx_editor.specs.declared.questions.answers.Prompt.{Prompt}
 use Rattle.bx_store.specs.declared.store.StoreFault.{StoreFault}
 use Rattle.bx_ucd.specs.Data.{Data}
-use Rattle.bx_editor.specs.declared.aim.Aim.TheVariants as aims
-use Rattle.bx_editor.specs.declared.seek.Seek.TheVariants as seeks
+use Rattle.bx_editor.specs.declared.search_state.SearchPurpose.TheVariants as aims
+use Rattle.bx_editor.specs.declared.search_state.SearchState.TheVariants as seeks
 use Rattle.bx_editor.specs.Editor.{Editor, after_save}
 use Rattle.bx_editor.specs.Effects.{Effect, Seeks, SeeksNext, AsksLine, AsksName, Before, by}
 use Rattle.bx_editor.specs.Search.{after_beginning, next_or_start, search_from, sought}
-use Rattle.bx_editor.specs.Selecting.{unselected}
+use Rattle.bx_editor.specs.Region.{unselected}
 use Rattle.bx_editor.proofs.EffectsKept as kept
 
 -- this is asked, and this is the answer
-abbrev pub Asks : Ask → List ℕ → Editor → Type 0
+abbrev pub Asks : Prompt → List ℕ → Editor → Type 0
 Asks ask answer e = (e.ask ≡ ask) × (e.answer ≡ answer)
 
-either : (ask : Ask) (answer : List ℕ) (b : Bool) (p q : Editor) → Asks ask answer p → Asks ask answer q → Asks ask answer (if b then p else q)
+either : (ask : Prompt) (answer : List ℕ) (b : Bool) (p q : Editor) → Asks ask answer p → Asks ask answer q → Asks ask answer (if b then p else q)
 either ask answer true p q h k = h
 either ask answer false p q h k = k
 
-save : (ask : Ask) (answer : List ℕ) (e : Editor) (fault : Option StoreFault) → Asks ask answer e → Asks ask answer (after_save e fault)
+save : (ask : Prompt) (answer : List ℕ) (e : Editor) (fault : Option StoreFault) → Asks ask answer e → Asks ask answer (after_save e fault)
 save ask answer e None h = h
 save ask answer e (Some fault) h = h
 
-pressing : (d : Data) (ask : Ask) (answer : List ℕ) → kept.IsKeptPressing d (Asks ask answer)
+pressing : (d : Data) (ask : Prompt) (answer : List ℕ) → kept.IsKeptPressing d (Asks ask answer)
 pressing d ask answer = record {
   inserted = λ e new on h. h;
   removed = λ e start stop on h. h;

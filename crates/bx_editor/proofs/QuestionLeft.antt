@@ -1,14 +1,13 @@
 -- A question that ends behind what answers it ends as one that ends before.
 use Rattle.std.proofs.Common.{◌≡◌, ℕ, Bool, true, false, Option, Some, None, refl}
 use Rattle.std.specs.Prelude.{encode_utf8, if◌then◌else◌}
-use Rattle.bx_runs.specs.Typing.{after_insertion, kind_of}
+use Rattle.bx_editor.specs.undo_groups.Groups.{after_insertion, kind_of}
 use Rattle.bx_text.specs.Edits.{fits, fits_both}
 use Rattle.bx_ucd.specs.Data.{Data}
 use Rattle.bx_editor.specs.declared.message.Message.TheVariants.{MoreThanOneLine, TextFull}
-use Rattle.bx_editor.specs.Asking.{after_code, after_named, with_character, without_ask}
+use Rattle.bx_editor.specs.Asking.{after_code, after_named, with_character, without_ask, after_wrapping, spans_lines, with_wrap}
 use Rattle.bx_editor.specs.Editor.{Editor, with_insertion, with_typing}
 use Rattle.bx_editor.specs.Region.{is_empty, region}
-use Rattle.bx_editor.specs.Wrapping.{after_wrapping, spans_lines, with_wrap}
 
 either : (b : Bool) (x y new other : Editor) → new ≡ without_ask x → other ≡ without_ask y → (if b then new else other) ≡ without_ask (if b then x else y)
 either true x y new other h k = h

@@ -4,8 +4,8 @@ use Rattle.std.specs.Prelude.{Option}
 use Rattle.bx_text.specs.Edits.{Edited}
 use Rattle.bx_ucd.specs.declared.data.BidiData.{Ghosts}
 use Rattle.bx_document.specs.Document.{DocumentState}
-use Rattle.bx_editor.specs.Editor.{Editor, EditorState}
-use Rattle.bx_editor.specs.Pasting.{as_before}
+use Rattle.bx_editor.specs.Editor.{Editor}
+use Rattle.bx_editor.specs.Functions.{EditorState, as_before}
 use Rattle.bx_editor.specs.declared.editor.Editor.TheInside.{Inside}
 use Rattle.bx_editor.proofs.Pasted.{back-again}
 use Rattle.bx_editor.proofs.Viewed.{value}

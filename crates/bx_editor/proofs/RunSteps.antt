@@ -3,15 +3,16 @@ use Rattle.std.proofs.Common.{◌≡◌, ℕ, List, [], ◌∷◌, length, refl,
 use Rattle.std.specs.Prelude.{Option, Some, None, is_some}
 use Rattle.std.specs.Option.{option_map}
 use Rattle.bx_text.specs.declared.change.Change.{Change}
-use Rattle.bx_text.specs.Edits.{Edit, Edited, first_again, first_back, redone_in, undone_in}
+use Rattle.bx_text.specs.Edits.{Edit, Edited, redone_in, undone_in}
+use Rattle.bx_text.specs.Changes.{first_again, first_back}
 use Rattle.bx_text.proofs.UndoneTimes.{nothing_redone, nothing_undone}
-use Rattle.bx_document.specs.History.{next_change, next_changes, stepped, stepped_times}
+use Rattle.bx_document.specs.History.{next_changes, stepped_times}
+use Rattle.bx_document.specs.Past.{next_change, stepped}
 use Rattle.bx_document.specs.declared.history.HistoryStep.{HistoryStep}
 use Rattle.bx_document.specs.declared.history.HistoryStep.TheVariants.{Undo, Redo}
-use Rattle.bx_editor.specs.Editor.{Editor, cleared, nothing_left, with_step}
-use Rattle.bx_editor.specs.Runs.{by_run, is_changed_at, run_length, run_goal}
-use Rattle.bx_runs.specs.Runs.{run_end}
-use Rattle.bx_runs.proofs.Steps.{end-bound, end-last, end-same, start-bound}
+use Rattle.bx_editor.specs.Editor.{Editor, cleared, nothing_left, with_step, by_run, is_changed_at, run_length, run_goal}
+use Rattle.bx_editor.specs.undo_groups.Groups.{run_end}
+use Rattle.bx_editor.proofs.undo_groups_lemmas.Steps.{end-bound, end-last, end-same, start-bound}
 use Rattle.bx_editor.proofs.ManySteps.{past-again, past-back}
 
 pub no-step : (step : HistoryStep) (n : ℕ) (t : Edited) → next_changes step n t ≡ None → stepped_times step n t ≡ t
@@ -45,12 +46,12 @@ end-from numbers n (suc left) = omega (arith, end-bound numbers n (n + suc left)
 pub run-ends : (way : HistoryStep) (e : Editor) → length (stepped_times way (run_length way e) e.content).past ≡ run_goal way e
 run-ends Undo e =
     let n = length e.content.past in
-    past-back (run_length Undo e) e.content.text e.content.past e.content.future ∙ omega (arith, start-bound e.runs n)
+    past-back (run_length Undo e) e.content.text e.content.past e.content.future ∙ omega (arith, start-bound e.undo_groups n)
 run-ends Redo e =
     let n = length e.content.past in
     let last = n + length e.content.future in
-    past-again (run_length Redo e) e.content.text e.content.past e.content.future (omega (arith, end-last e.runs n last))
-    ∙ omega (arith, end-from e.runs n (length e.content.future))
+    past-again (run_length Redo e) e.content.text e.content.past e.content.future (omega (arith, end-last e.undo_groups n last))
+    ∙ omega (arith, end-from e.undo_groups n (length e.content.future))
 
 -- what a run's steps leave, by the length of the past behind them
 abbrev pub by_length : HistoryStep → Editor → Option Change → Editor

@@ -1,33 +1,31 @@
--- What the keys of a search keep: while the query is asked for, while the other text is, and while a match is shown.
+-- What the keys of a search keep: while the query is asked for, while the replacement is, and while a match is shown.
 use Rattle.std.proofs.Common.{◌≡◌, ℕ, ◌+◌, Bool, true, false, List, length, Option, Some, None, refl, if◌then◌else◌}
 use Rattle.std.specs.Prelude.{◌==◌, ◌&&◌, not, unwrap_or}
 use Rattle.bx_keys.specs.declared.key.Key.{Key}
 use Rattle.bx_store.specs.declared.store.StoreFault.{StoreFault}
-use Rattle.bx_runs.specs.declared.typing.Typing.{Typing}
+use Rattle.bx_editor.specs.declared.undo_groups.typing.Typing.{Typing}
 use Rattle.bx_text.specs.Edits.{fits}
 use Rattle.bx_ucd.specs.Data.{Data}
 use Rattle.bx_document.specs.Swapped.{behind_character, last_stop, swapped}
 use Rattle.bx_view.specs.Moves.{place_at}
-use Rattle.bx_editor.specs.declared.aim.Aim.{Aim}
-use Rattle.bx_editor.specs.declared.aim.Aim.TheVariants as aims
+use Rattle.bx_editor.specs.declared.search_state.SearchPurpose.{SearchPurpose}
+use Rattle.bx_editor.specs.declared.search_state.SearchPurpose.TheVariants as aims
 use Rattle.bx_editor.specs.declared.matches.Landing.{Landing}
 use Rattle.bx_editor.specs.declared.message.Message.{Message}
 use Rattle.bx_editor.specs.declared.message.Message.TheVariants as messages
-use Rattle.bx_editor.specs.declared.seek.Seek.{Seek}
-use Rattle.bx_editor.specs.declared.seek.Seek.TheVariants.{Off, Typed, WithBegun, WithTyped, Replacing}
+use Rattle.bx_editor.specs.declared.search_state.SearchState.{SearchState}
+use Rattle.bx_editor.specs.declared.search_state.SearchState.TheVariants.{Off, Typed, WithBegun, WithTyped, Replacing}
 use Rattle.bx_editor.specs.Editor.{Editor, rows, with_exchange, with_place, with_typing}
 use Rattle.bx_editor.specs.Effects.{Before, Seeks, by}
 use Rattle.bx_editor.specs.Keys.{Answer, Letter, Shortens, GoesBack, Next, Previous, Replaces, Stays, Ends, after_pressing}
-use Rattle.bx_editor.specs.Keys.{answered, answered_match, answered_other}
-use Rattle.bx_editor.specs.Pasting.{with_paste}
-use Rattle.bx_editor.specs.Putting.{is_paste, only_paste}
-use Rattle.bx_editor.specs.Replacing.{after_asking_other, after_ending, after_match_letter, after_other_letter, after_replacing}
+use Rattle.bx_editor.specs.Keys.{answered, answered_match, answered_replacement}
+use Rattle.bx_editor.specs.Putting.{with_paste, is_paste, only_paste}
+use Rattle.bx_editor.specs.Replacing.{after_asking_replacement, after_ending, after_match_letter, after_replacement_letter, after_replacing}
 use Rattle.bx_editor.specs.Replacing.{after_replacing_all, after_showing, after_sought_end, after_sought_letter, asked_at, at_match, is_replacing}
-use Rattle.bx_editor.specs.Replacing.{longest_other, match_stop, matches_on, next_match, on_from, other_typed, shown_at}
-use Rattle.bx_editor.specs.Replacing.{with_matches_replaced, with_other}
+use Rattle.bx_editor.specs.Replacing.{match_stop, matches_on, next_match, on_from, replacement_typed, shown_at}
+use Rattle.bx_editor.specs.Replacing.{with_matches_replaced, with_replacement}
 use Rattle.bx_editor.specs.Search.{after_letter, backward, is_no_letter, kept, landed, landing_from, lengthened, longest_query}
-use Rattle.bx_editor.specs.Search.{next_or_start, reading, search_from, shortened, sought}
-use Rattle.bx_editor.specs.Search.{with_query, without_search}
+use Rattle.bx_editor.specs.Search.{next_or_start, reading, search_from, shortened, sought, with_query, without_search}
 
 -- matches that give way, moves, the beginning of a paste, and what is told, sought and typed keep this property of editors
 pub record IsKeptSeeking (d : Data) (P : Editor → Type 0) : Type 0 where
@@ -36,8 +34,8 @@ pub record IsKeptSeeking (d : Data) (P : Editor → Type 0) : Type 0 where
   pub placed : (e : Editor) (place : ℕ) → P e → P (with_place e place)
   pub typed : (e : Editor) (typing : Typing) → P e → P (with_typing e typing)
   pub begun : (e : Editor) → P e → P (with_paste e)
-  pub sought : (e : Editor) (seek : Seek) (aim : Aim) (origin : ℕ) (query other : List ℕ) (at count : ℕ) → P e
-      → P (record e { seek = seek; aim = aim; origin = origin; query = query; other = other; at = at; count = count })
+  pub sought : (e : Editor) (seek : SearchState) (aim : SearchPurpose) (origin : ℕ) (query other : List ℕ) (at count : ℕ) → P e
+      → P (record e { seek = seek; aim = aim; origin = origin; query = query; replacement = other; at = at; count = count })
 
 -- the key ends the search
 abbrev pub is_end : Answer → Bool
@@ -50,14 +48,14 @@ module _ (d : Data) (P : Editor → Type 0) (keeps : IsKeptSeeking d P) where
   either false p q h k = k
 
   -- in this state of the search
-  seeking : (e : Editor) (seek : Seek) → P e → P (record e { seek = seek })
-  seeking e seek h = keeps.sought e seek e.aim e.origin e.query e.other e.at e.count h
+  seeking : (e : Editor) (seek : SearchState) → P e → P (record e { seek = seek })
+  seeking e seek h = keeps.sought e seek e.aim e.origin e.query e.replacement e.at e.count h
 
   landing : (e : Editor) (l : Landing) → P e → P (landed e l)
   landing e l h = let place = unwrap_or l.place e.place in keeps.told (with_place e place) l.message (keeps.placed e place h)
 
   queried : (e : Editor) (query : List ℕ) → P e → P (with_query e query)
-  queried e query h = keeps.sought e Typed e.aim e.origin query e.other e.at e.count h
+  queried e query h = keeps.sought e Typed e.aim e.origin query e.replacement e.at e.count h
 
   searching : (e : Editor) (x : ℕ) → P e → P (search_from d x e)
   searching e x h = landing e (landing_from d x e) h
@@ -72,13 +70,13 @@ module _ (d : Data) (P : Editor → Type 0) (keeps : IsKeptSeeking d P) where
 
   asked : (e : Editor) (place : Option ℕ) → P e → P (asked_at place e)
   asked e None h = seeking e Typed h
-  asked e (Some place) h = keeps.sought e WithBegun e.aim e.origin e.query e.other e.at 0 h
+  asked e (Some place) h = keeps.sought e WithBegun e.aim e.origin e.query e.replacement e.at 0 h
 
-  asking : (e : Editor) → P e → P (after_asking_other d e)
+  asking : (e : Editor) → P e → P (after_asking_replacement d e)
   asking e h =
       let aimed : Editor = record e { aim = aims.Replace } in
       let l = landing_from d aimed.place aimed in
-      let k : P aimed = keeps.sought e e.seek aims.Replace e.origin e.query e.other e.at e.count h in
+      let k : P aimed = keeps.sought e e.seek aims.Replace e.origin e.query e.replacement e.at e.count h in
       either (length (sought d aimed) == 0) aimed (asked_at l.place (landed aimed l)) k
       (asked (landed aimed l) l.place (landing aimed l k))
 
@@ -86,8 +84,8 @@ module _ (d : Data) (P : Editor → Type 0) (keeps : IsKeptSeeking d P) where
   sought-end typing e h =
       let left = without_search e in
       let k = seeking e Off h in
-      either (is_replacing e.aim) (if is_paste typing then e else after_asking_other d e) (if is_paste typing then with_paste left else left)
-      (either (is_paste typing) e (after_asking_other d e) h (asking e h))
+      either (is_replacing e.aim) (if is_paste typing then e else after_asking_replacement d e) (if is_paste typing then with_paste left else left)
+      (either (is_paste typing) e (after_asking_replacement d e) h (asking e h))
       (either (is_paste typing) (with_paste left) left (keeps.begun left k) k)
 
   sought-letter : (typing : Typing) (e : Editor) (c : ℕ) → P e → P (after_sought_letter d typing e c)
@@ -111,39 +109,39 @@ module _ (d : Data) (P : Editor → Type 0) (keeps : IsKeptSeeking d P) where
   query-keeps fault was e key Stays h pressed = keeps.typed e was.typing h
   query-keeps fault was e key Ends h pressed = seeking (after_pressing d fault was e key) Off (pressed refl)
 
-  -- ---- while the other text is asked for
+  -- ---- while the replacement is asked for
 
-  othered : (e : Editor) (other : List ℕ) → P e → P (with_other e other)
-  othered e other h = keeps.sought e WithTyped e.aim e.origin e.query other e.at e.count h
+  replacement-set : (e : Editor) (other : List ℕ) → P e → P (with_replacement e other)
+  replacement-set e other h = keeps.sought e WithTyped e.aim e.origin e.query other e.at e.count h
 
   shown : (e : Editor) (at : Option ℕ) → P e → P (shown_at e at)
   shown e None h = h
-  shown e (Some at) h = keeps.sought e Replacing e.aim e.origin e.query e.other at e.count h
+  shown e (Some at) h = keeps.sought e Replacing e.aim e.origin e.query e.replacement at e.count h
 
   showing : (e : Editor) → P e → P (after_showing d e)
   showing e h = shown e (next_match d e e.place) h
 
-  other-letter : (typing : Typing) (e : Editor) (c : ℕ) → P e → P (after_other_letter d typing e c)
-  other-letter typing e c h =
-      let longer = with_other e (lengthened longest_other (kept e.seek e.other) c) in
-      either (c == 0xA) (if is_paste typing then e else after_showing d e) (other_typed d e c)
+  replacement-letter : (typing : Typing) (e : Editor) (c : ℕ) → P e → P (after_replacement_letter d typing e c)
+  replacement-letter typing e c h =
+      let longer = with_replacement e (lengthened longest_query (kept e.seek e.replacement) c) in
+      either (c == 0xA) (if is_paste typing then e else after_showing d e) (replacement_typed d e c)
       (either (is_paste typing) e (after_showing d e) h (showing e h))
-      (either (is_no_letter d c) e longer h (othered e (lengthened longest_other (kept e.seek e.other) c) h))
+      (either (is_no_letter d c) e longer h (replacement-set e (lengthened longest_query (kept e.seek e.replacement) c) h))
 
   -- `begun`: another search begins; `pressed`: a key that ends the search
-  pub other-keeps : (fault : Option StoreFault) (was : Before) (e : Editor) (key : Key) (answer : Answer) → P e
+  pub replacement-keeps : (fault : Option StoreFault) (was : Before) (e : Editor) (key : Key) (answer : Answer) → P e
       → P (by d fault was (without_search e) (Seeks aims.Find))
       → (is_end answer ≡ true → P (after_pressing d fault was (without_search e) key))
-      → P (answered_other d fault was e key answer)
-  other-keeps fault was e key (Letter c) h begun pressed =
-      keeps.typed (after_other_letter d was.typing e c) (only_paste was.typing) (other-letter was.typing e c h)
-  other-keeps fault was e key Shortens h begun pressed = othered e (shortened (kept e.seek e.other)) h
-  other-keeps fault was e key GoesBack h begun pressed = keeps.placed (without_search e) e.origin (seeking e Off h)
-  other-keeps fault was e key Next h begun pressed = begun
-  other-keeps fault was e key Previous h begun pressed = begun
-  other-keeps fault was e key Replaces h begun pressed = showing e h
-  other-keeps fault was e key Stays h begun pressed = keeps.typed e was.typing h
-  other-keeps fault was e key Ends h begun pressed = pressed refl
+      → P (answered_replacement d fault was e key answer)
+  replacement-keeps fault was e key (Letter c) h begun pressed =
+      keeps.typed (after_replacement_letter d was.typing e c) (only_paste was.typing) (replacement-letter was.typing e c h)
+  replacement-keeps fault was e key Shortens h begun pressed = replacement-set e (shortened (kept e.seek e.replacement)) h
+  replacement-keeps fault was e key GoesBack h begun pressed = keeps.placed (without_search e) e.origin (seeking e Off h)
+  replacement-keeps fault was e key Next h begun pressed = begun
+  replacement-keeps fault was e key Previous h begun pressed = begun
+  replacement-keeps fault was e key Replaces h begun pressed = showing e h
+  replacement-keeps fault was e key Stays h begun pressed = keeps.typed e was.typing h
+  replacement-keeps fault was e key Ends h begun pressed = pressed refl
 
   -- ---- while a match is shown
 
@@ -157,7 +155,7 @@ module _ (d : Data) (P : Editor → Type 0) (keeps : IsKeptSeeking d P) where
   there e None h = ending e h
   there e (Some at) h =
       keeps.placed (record e { seek = Replacing; at = at }) (place_at (rows d e) at)
-      (keeps.sought e Replacing e.aim e.origin e.query e.other at e.count h)
+      (keeps.sought e Replacing e.aim e.origin e.query e.replacement at e.count h)
 
   onward : (e : Editor) (x : ℕ) → P e → P (on_from d x e)
   onward e x h = there e (next_match d e x) h
@@ -165,21 +163,21 @@ module _ (d : Data) (P : Editor → Type 0) (keeps : IsKeptSeeking d P) where
   replaced : (e : Editor) (stop : ℕ) (new : List ℕ) (n : ℕ) → P e → P (with_matches_replaced d e stop new n)
   replaced e stop new n h =
       let x = with_exchange d e e.at stop new in
-      keeps.sought x x.seek x.aim 0 x.query x.other x.at (e.count + n) (keeps.exchanged e e.at stop new h)
+      keeps.sought x x.seek x.aim 0 x.query x.replacement x.at (e.count + n) (keeps.exchanged e e.at stop new h)
 
   replacing : (e : Editor) → P e → P (after_replacing d e)
   replacing e h =
       let stop = match_stop d e in
-      let new = with_matches_replaced d e stop e.other 1 in
-      either (fits e.content.text e.at stop e.other) (on_from d (e.at + length e.other) new)
+      let new = with_matches_replaced d e stop e.replacement 1 in
+      either (fits e.content.text e.at stop e.replacement) (on_from d (e.at + length e.replacement) new)
       (record e { message = Some messages.TextFull })
-      (onward new (e.at + length e.other) (replaced e stop e.other 1 h)) (full e h)
+      (onward new (e.at + length e.replacement) (replaced e stop e.replacement 1 h)) (full e h)
 
   replacing-all : (e : Editor) → P e → P (after_replacing_all d e)
   replacing-all e h =
       let all = matches_on d e in
       let stop = last_stop e.at all in
-      let new = swapped e.at e.content.text e.other all in
+      let new = swapped e.at e.content.text e.replacement all in
       either (fits e.content.text e.at stop new) (after_ending (with_matches_replaced d e stop new (length all)))
       (record e { message = Some messages.TextFull })
       (ending (with_matches_replaced d e stop new (length all)) (replaced e stop new (length all) h)) (full e h)

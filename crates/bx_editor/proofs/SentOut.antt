@@ -6,22 +6,20 @@ use Rattle.bx_keys.specs.declared.key.Key.{Key}
 use Rattle.bx_keys.specs.declared.key.Key.TheVariants.{Copy, Cut}
 use Rattle.bx_store.specs.declared.store.StoreFault.{StoreFault}
 use Rattle.bx_ucd.specs.Data.{Data}
-use Rattle.bx_asking.specs.declared.question.Ask.{Ask}
-use Rattle.bx_asking.specs.declared.question.Ask.TheVariants as asks
+use Rattle.bx_editor.specs.declared.questions.answers.Prompt.{Prompt}
+use Rattle.bx_editor.specs.declared.questions.answers.Prompt.TheVariants as asks
 use Rattle.bx_editor.specs.declared.message.Message.{Message}
 use Rattle.bx_editor.specs.declared.message.Message.TheVariants.{Copied, LineCopied, NothingToCopy, TextFull, TooLongForClipboard}
-use Rattle.bx_editor.specs.declared.seek.Seek.{Seek}
-use Rattle.bx_editor.specs.declared.seek.Seek.TheVariants as seeks
-use Rattle.bx_editor.specs.declared.soft.Soft.TheVariants.{Off}
-use Rattle.bx_editor.specs.Clipboard.{clip_of, is_clip}
+use Rattle.bx_editor.specs.declared.search_state.SearchState.{SearchState}
+use Rattle.bx_editor.specs.declared.search_state.SearchState.TheVariants as seeks
+use Rattle.bx_editor.specs.declared.cursor.Soft.TheVariants.{Off}
+use Rattle.bx_editor.specs.Region.{clip_of, is_clip, after_copy, after_cut, bytes_in, held_message, is_empty, largest_clip, line, region}
+use Rattle.bx_editor.specs.Region.{taken, with_held, is_selection}
 use Rattle.bx_editor.specs.Editor.{Editor, cleared, with_insertion, with_removal}
 use Rattle.bx_editor.specs.Effects.{before}
 use Rattle.bx_editor.specs.Keys.{after_any, after_key, after_press, after_user, as_left}
 use Rattle.bx_editor.specs.PasteLaws.{CopiesGoOut, SendsCopies, SendsHeld, SendsNothing}
-use Rattle.bx_editor.specs.Pasting.{ended_with, paste_ended, without_paste}
-use Rattle.bx_editor.specs.Putting.{has_room, put_in, with_selection_replaced}
-use Rattle.bx_editor.specs.Region.{after_copy, after_cut, bytes_in, held_message, is_empty, largest_clip, line, region, taken, with_held}
-use Rattle.bx_editor.specs.Selecting.{is_selection}
+use Rattle.bx_editor.specs.Putting.{ended_with, paste_ended, without_paste, has_room, put_in, with_selection_replaced}
 
 short : (n limit : ℕ) → n ≤ limit → nat_lt limit n ≡ false
 short n limit few = grind (arith, nat_tests, few)
@@ -79,7 +77,7 @@ none-sent e part key new other held none =
 
 module _ (d : Data) (fault : Option StoreFault) (e : Editor) where
   -- the editor that a key finds, with a question and a search or without
-  abbrev was : Ask → Seek → Editor
+  abbrev was : Prompt → SearchState → Editor
   was ask seek = record (cleared e) { ask = ask; seek = seek }
 
   -- what Copy takes, by whether the region is empty
@@ -87,7 +85,7 @@ module _ (d : Data) (fault : Option StoreFault) (e : Editor) where
   part region_empty = if region_empty then line d e else region e
 
   -- what Copy leaves, by whether the region is empty, and the line
-  abbrev copies : Ask → Seek → Bool → Bool → Editor
+  abbrev copies : Prompt → SearchState → Bool → Bool → Editor
   copies ask seek region_empty line_empty =
       if region_empty
       then (if line_empty
@@ -96,7 +94,7 @@ module _ (d : Data) (fault : Option StoreFault) (e : Editor) where
       else with_held (was ask seek) (bytes_in e (region e)) Copied
 
   -- what Cut leaves, by whether the part that it takes is empty
-  abbrev cuts : Ask → Seek → Bool → Editor
+  abbrev cuts : Prompt → SearchState → Bool → Editor
   cuts ask seek empty =
       if empty
       then after_copy d (was ask seek)
@@ -106,13 +104,13 @@ module _ (d : Data) (fault : Option StoreFault) (e : Editor) where
       }
 
   -- what a key leaves
-  abbrev pressed : Key → Ask → Seek → Editor
+  abbrev pressed : Key → Prompt → SearchState → Editor
   pressed key ask seek = as_left key (after_any d fault (before e) ask seek (cleared e) key)
 
   -- Cut does the same in a search and a question, which it ends
   each-cut : (P : Editor → Type 0)
-      → ((ask : Ask) (seek : Seek) (after : Seek) → P (record (as_left Cut (after_cut d (was ask seek))) { seek = after }))
-      → (ask : Ask) (seek : Seek) → P (pressed Cut ask seek)
+      → ((ask : Prompt) (seek : SearchState) (after : SearchState) → P (record (as_left Cut (after_cut d (was ask seek))) { seek = after }))
+      → (ask : Prompt) (seek : SearchState) → P (pressed Cut ask seek)
   each-cut P h asks.Off seeks.Off = h e.ask e.seek ((after_cut d (cleared e)).seek)
   each-cut P h asks.Off seeks.Begun = h e.ask e.seek seeks.Off
   each-cut P h asks.Off seeks.Typed = h e.ask e.seek seeks.Off
@@ -140,12 +138,12 @@ module _ (d : Data) (fault : Option StoreFault) (e : Editor) where
         (by-clipboard (region e) (Some Copied)) refl refl is
 
     -- where nothing is taken, the region and the line are empty
-    nothing-copied : (ask : Ask) (seek : Seek) (region_empty : Bool) → is_empty (region e) ≡ region_empty → is_empty (part region_empty) ≡ true
+    nothing-copied : (ask : Prompt) (seek : SearchState) (region_empty : Bool) → is_empty (region e) ≡ region_empty → is_empty (part region_empty) ≡ true
         → after_copy d (was ask seek) ≡ record (was ask seek) { mark = None; soft = Off; message = Some NothingToCopy }
     nothing-copied ask seek true is none = ap₂ (copies ask seek) is none
     nothing-copied ask seek false is none = let no = sym is ∙ none in absurd (cc no)
 
-    cut-sends : (ask : Ask) (seek after : Seek) (empty : Bool) → is_empty (taken d e) ≡ empty
+    cut-sends : (ask : Prompt) (seek after : SearchState) (empty : Bool) → is_empty (taken d e) ≡ empty
         → SendsHeld e (taken d e) Cut (record (as_left Cut (cuts ask seek empty)) { seek = after })
     cut-sends ask seek after true none =
         subst (λ (x : Editor). SendsHeld e (taken d e) Cut (record (as_left Cut x) { seek = after }))
@@ -156,7 +154,7 @@ module _ (d : Data) (fault : Option StoreFault) (e : Editor) where
         (by-clipboard (taken d e) None) refl refl some
 
     -- Copy in a search or a question gives it up
-    gives-up : (ask : Ask) (seek : Seek) → (ask ≢ asks.Off) ⊎ (seek ≢ seeks.Off) → SendsNothing e Copy (pressed Copy ask seek)
+    gives-up : (ask : Prompt) (seek : SearchState) → (ask ≢ asks.Off) ⊎ (seek ≢ seeks.Off) → SendsNothing e Copy (pressed Copy ask seek)
     gives-up asks.Off seeks.Off (inl other) = absurd (other refl)
     gives-up asks.Off seeks.Off (inr other) = absurd (other refl)
     gives-up asks.Off seeks.Begun other = record { none = no-clip (pressed Copy asks.Off seeks.Begun) Copy refl; stays = refl }
@@ -168,7 +166,7 @@ module _ (d : Data) (fault : Option StoreFault) (e : Editor) where
     gives-up asks.Name seek other = record { none = no-clip (pressed Copy asks.Name seek) Copy refl; stays = refl }
     gives-up asks.Code seek other = record { none = no-clip (pressed Copy asks.Code seek) Copy refl; stays = refl }
 
-    copy-out : (ask : Ask) (seek : Seek) → ask ≡ asks.Off → seek ≡ seeks.Off → SendsHeld e (taken d e) Copy (pressed Copy ask seek)
+    copy-out : (ask : Prompt) (seek : SearchState) → ask ≡ asks.Off → seek ≡ seeks.Off → SendsHeld e (taken d e) Copy (pressed Copy ask seek)
     copy-out ask seek unasked off =
         subst (SendsHeld e (taken d e) Copy) (sym (ap₂ (pressed Copy) unasked off)) (copy-sends (is_empty (region e)) (is_empty (line d e)) refl refl)
 
@@ -181,19 +179,19 @@ module _ (d : Data) (fault : Option StoreFault) (e : Editor) where
 
   -- ---- without one
 
-  clipboard-after-copy : (ask : Ask) (seek : Seek) → (after_copy d (was ask seek)).clipboard ≡ e.clipboard
+  clipboard-after-copy : (ask : Prompt) (seek : SearchState) → (after_copy d (was ask seek)).clipboard ≡ e.clipboard
   clipboard-after-copy ask seek =
       each (is_empty (region e)) (is_empty (line d e)) (λ new. new.clipboard ≡ e.clipboard) (copies ask seek true true) (copies ask seek true false)
       (copies ask seek false true) refl refl refl
 
-  clipboard-after-cut : (ask : Ask) (seek : Seek) (empty : Bool) → (cuts ask seek empty).clipboard ≡ e.clipboard
+  clipboard-after-cut : (ask : Prompt) (seek : SearchState) (empty : Bool) → (cuts ask seek empty).clipboard ≡ e.clipboard
   clipboard-after-cut ask seek true = clipboard-after-copy ask seek
   clipboard-after-cut ask seek false = refl
 
-  cut-keeps : (ask : Ask) (seek : Seek) → (pressed Cut ask seek).clipboard ≡ e.clipboard
+  cut-keeps : (ask : Prompt) (seek : SearchState) → (pressed Cut ask seek).clipboard ≡ e.clipboard
   cut-keeps = each-cut (λ new. new.clipboard ≡ e.clipboard) (λ ask seek after. clipboard-after-cut ask seek (is_empty (taken d e)))
 
-  copy-keeps : (ask : Ask) (seek : Seek) → (pressed Copy ask seek).clipboard ≡ e.clipboard
+  copy-keeps : (ask : Prompt) (seek : SearchState) → (pressed Copy ask seek).clipboard ≡ e.clipboard
   copy-keeps asks.Off seeks.Off = clipboard-after-copy e.ask e.seek
   copy-keeps asks.Off seeks.Begun = refl
   copy-keeps asks.Off seeks.Typed = refl

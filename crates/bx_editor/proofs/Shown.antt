@@ -5,9 +5,10 @@ use Rattle.std.specs.Prelude.{if◌then◌else◌}
 use Rattle.std.proofs.Math.Nat.{mul-le-mul_right}
 use Rattle.std.proofs.lemmas.Bool.Decides.{nat_tests}
 use Rattle.std.proofs.lemmas.List.{append-nil, drop_all, length-replicate, take_at}
-use Rattle.bx_grid.specs.Columns.{Col, blank, paste}
-use Rattle.bx_grid.specs.Picture.{GridState, PictureState}
-use Rattle.bx_document.specs.Drawing.{with_rows}
+use Rattle.bx_grid.specs.Columns.{Col, blank}
+use Rattle.bx_grid.specs.Grid.{paste, GridState}
+use Rattle.bx_grid.specs.Picture.{PictureState}
+use Rattle.bx_document.specs.Shown.{with_rows}
 use Rattle.bx_ucd.specs.Data.{Data}
 use Rattle.bx_editor.specs.Editor.{Editor, text_height}
 use Rattle.bx_editor.specs.Status.{glyph_row, status_columns, status_glyphs}

@@ -1,26 +1,26 @@
--- What holds while a match is shown, and while the other text is asked for.
+-- What holds while a match is shown, and while the replacement is asked for.
 use Rattle.std.proofs.Common.{◌≡◌, ◌≢◌, ◌≤◌, ◌<◌, ◌+◌, ℕ, true, false, List, [], ◌∷◌, length, chars, drop}
 use Rattle.std.proofs.Common.{ap, subst, arith, refl, IsUtf8}
 use Rattle.std.specs.Prelude.{Option, Some, None, IsNone, IsSome, MatchOption}
 use Rattle.std.proofs.lemmas.Bool.{and_parts}
-use Rattle.bx_terms.specs.Sizes.{largest_text}
+use Rattle.bx_common.specs.Characters.{largest_text}
 use Rattle.bx_ucd.specs.Data.{Data}
 use Rattle.bx_find.specs.Nearest.{MatchesAt, IsFirst}
 use Rattle.bx_find.specs.Letters.{letters_of, letters}
-use Rattle.bx_find.specs.Matches.{is_match, is_some, first_from}
-use Rattle.bx_find.specs.Spans.{match_end, spans_from}
-use Rattle.bx_find.specs.declared.reading.Reading.{Reading}
+use Rattle.bx_find.specs.Matches.{is_match, is_some, first_from, match_end, spans_from}
+use Rattle.bx_find.specs.declared.letters.Reading.{Reading}
 use Rattle.bx_find.proofs.Nearest.{first_is}
 use Rattle.bx_find.proofs.SpansOf.{span_found}
-use Rattle.bx_text.specs.Edits.{IsRange, splice}
+use Rattle.bx_text.specs.Edits.{splice}
+use Rattle.bx_text.specs.Changes.{IsRange}
 use Rattle.bx_view.specs.Places.{IsTextPlace}
 use Rattle.bx_document.specs.Swapped.{last_stop}
 use Rattle.bx_document.proofs.PlaceAfter.{splice_bytes}
-use Rattle.bx_editor.specs.declared.aim.Aim.{Aim}
-use Rattle.bx_editor.specs.declared.seek.Seek.{Seek}
-use Rattle.bx_editor.specs.declared.seek.Seek.TheVariants.{Off, Begun, Typed, WithBegun, WithTyped, Replacing}
-use Rattle.bx_editor.specs.Editor.{EditorState}
-use Rattle.bx_editor.specs.Origin.{BeganAt, IsAsked, IsAtMatch, StandsAt, asks_other}
+use Rattle.bx_editor.specs.declared.search_state.SearchPurpose.{SearchPurpose}
+use Rattle.bx_editor.specs.declared.search_state.SearchState.{SearchState}
+use Rattle.bx_editor.specs.declared.search_state.SearchState.TheVariants.{Off, Begun, Typed, WithBegun, WithTyped, Replacing}
+use Rattle.bx_editor.specs.Functions.{EditorState}
+use Rattle.bx_editor.specs.Origin.{BeganAt, IsAsked, IsAtMatch, StandsAt, asks_replacement}
 use Rattle.bx_editor.specs.Search.{reading}
 use Rattle.bx_editor.proofs.MatchSpans.{no-more-than-bytes}
 
@@ -66,22 +66,22 @@ some-if None h = absurd (h refl)
 some-if (Some a) h = refl
 
 -- an editor's state that is seen in another way shows the same match
-pub shown-in : {D : Type 0} (says : D → Data) (was now : EditorState D) → was ≡ now → now.editor.seek ≡ Replacing
-    → StandsAt (says was.tables) was.editor.aim was.editor.query was.editor.content.text was.editor.seek was.editor.at
+pub shown-in : {D : Type 0} (ucd : D → Data) (was now : EditorState D) → was ≡ now → now.editor.seek ≡ Replacing
+    → StandsAt (ucd was.tables) was.editor.aim was.editor.query was.editor.content.text was.editor.seek was.editor.at
     was.editor.count
-    → IsAtMatch (says now.tables) now.editor.aim now.editor.query now.editor.content.text now.editor.at now.editor.count
-shown-in {D = D} says was now same is h =
+    → IsAtMatch (ucd now.tables) now.editor.aim now.editor.query now.editor.content.text now.editor.at now.editor.count
+shown-in {D = D} ucd was now same is h =
     let stands : EditorState D → Type 0 = λ s.
-    StandsAt (says s.tables) s.editor.aim s.editor.query s.editor.content.text s.editor.seek s.editor.at s.editor.count in
+    StandsAt (ucd s.tables) s.editor.aim s.editor.query s.editor.content.text s.editor.seek s.editor.at s.editor.count in
     let e = now.editor in
-    subst (λ seek. StandsAt (says now.tables) e.aim e.query e.content.text seek e.at e.count) is (subst stands same h)
+    subst (λ seek. StandsAt (ucd now.tables) e.aim e.query e.content.text seek e.at e.count) is (subst stands same h)
 
-module _ (d : Data) (aim : Aim) (query text : List ℕ) where
+module _ (d : Data) (aim : SearchPurpose) (query text : List ℕ) where
   -- the query's letters
   abbrev pub query-letters : List ℕ
   query-letters = letters d (reading aim) (chars query)
 
-  pub at-match : (seek : Seek) (at count : ℕ) → seek ≡ Replacing → StandsAt d aim query text seek at count
+  pub at-match : (seek : SearchState) (at count : ℕ) → seek ≡ Replacing → StandsAt d aim query text seek at count
       → IsAtMatch d aim query text at count
   at-match seek at count is h = subst (λ s. StandsAt d aim query text s at count) is h
 
@@ -117,9 +117,9 @@ module _ (d : Data) (aim : Aim) (query text : List ℕ) where
         few = omega (arith, h.few, is, less, first.not_before, bounds.0, splice_bytes text at stop new range);
       }
 
-  -- ---- the other text is asked for
+  -- ---- the replacement is asked for
 
-  pub asked : (seek : Seek) (at count : ℕ) → asks_other seek ≡ true → StandsAt d aim query text seek at count
+  pub asked : (seek : SearchState) (at count : ℕ) → asks_replacement seek ≡ true → StandsAt d aim query text seek at count
       → IsAsked d aim query count
   asked Off at count is h = absurd (cc)
   asked Begun at count is h = absurd (cc)
@@ -134,7 +134,7 @@ module _ (d : Data) (aim : Aim) (query text : List ℕ) where
   shown at count x u short h is =
       record { here = (first-is d (reading aim) query-letters text u x at is).is_match; few = omega (arith, h.none, short) }
 
-pub asked-began : (d : Data) (text : List ℕ) (seek : Seek) (origin : ℕ) → asks_other seek ≡ true → BeganAt d text seek origin
+pub asked-began : (d : Data) (text : List ℕ) (seek : SearchState) (origin : ℕ) → asks_replacement seek ≡ true → BeganAt d text seek origin
     → IsTextPlace d text origin
 asked-began d text Off origin is h = absurd (cc)
 asked-began d text Begun origin is h = absurd (cc)

@@ -3,21 +3,20 @@ use Rattle.std.proofs.Common.{◌≡◌, ℕ, ◌<◌, Bool, true, false, nat_lt
 use Rattle.std.proofs.Common.{ltb-true, if◌then◌else◌}
 use Rattle.std.specs.Prelude.{◌==◌, find, not, unwrap_or}
 use Rattle.bx_ucd.specs.Data.{Data}
-use Rattle.bx_find.specs.declared.reading.Reading.{Reading}
+use Rattle.bx_find.specs.declared.letters.Reading.{Reading}
 use Rattle.bx_find.specs.Matches.{first_from, last_before}
 use Rattle.bx_view.specs.Places.{IsTextPlace}
 use Rattle.bx_view.specs.TextRows.{TextRow}
-use Rattle.bx_editor.specs.declared.aim.Aim.TheVariants as aims
+use Rattle.bx_editor.specs.declared.search_state.SearchPurpose.TheVariants as aims
 use Rattle.bx_editor.specs.declared.message.Message.TheVariants.{FromEnd, FromStart}
-use Rattle.bx_editor.specs.declared.seek.Seek.{Seek}
-use Rattle.bx_editor.specs.declared.seek.Seek.TheVariants.{Off, Begun, Typed, WithBegun, WithTyped, Replacing}
+use Rattle.bx_editor.specs.declared.search_state.SearchState.{SearchState}
+use Rattle.bx_editor.specs.declared.search_state.SearchState.TheVariants.{Off, Begun, Typed, WithBegun, WithTyped, Replacing}
 use Rattle.bx_editor.specs.Origin.{BeganAt}
 use Rattle.bx_editor.specs.Editor.{Editor}
 use Rattle.bx_editor.specs.Search.{after_beginning, after_find_next, after_letter, backward, forward, is_no_letter, kept}
-use Rattle.bx_editor.specs.Search.{lengthened, longest_query, match_or, next_or_start}
-use Rattle.bx_editor.specs.Search.{not_found, search_from, sought, with_query}
+use Rattle.bx_editor.specs.Search.{lengthened, longest_query, match_or, next_or_start, not_found, search_from, sought, with_query}
 
-pub began : (d : Data) (text : List ℕ) (seek : Seek) (origin : ℕ) → IsTextPlace d text origin → BeganAt d text seek origin
+pub began : (d : Data) (text : List ℕ) (seek : SearchState) (origin : ℕ) → IsTextPlace d text origin → BeganAt d text seek origin
 began d text Off origin is = tt
 began d text Begun origin is = is
 began d text Typed origin is = is

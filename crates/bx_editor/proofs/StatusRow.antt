@@ -6,19 +6,19 @@ use Rattle.std.proofs.lemmas.Bool.Decides.{nat_tests}
 use Rattle.std.proofs.lemmas.Fmt.{decimal_by_steps}
 use Rattle.std.proofs.lemmas.List.{append-nil, drop_all, map-append}
 use Rattle.std.proofs.lemmas.List.Folds.{list_all-append}
-use Rattle.bx_terms.specs.Characters.{are_ascii_printable, is_ascii_printable}
-use Rattle.bx_terms.specs.declared.base.Base.TheVariants.{Auto, Ltr, Rtl}
+use Rattle.bx_common.specs.Characters.{are_ascii_printable, is_ascii_printable}
+use Rattle.bx_common.specs.declared.base.Base.TheVariants.{Auto, Ltr, Rtl}
 use Rattle.bx_keys.specs.declared.notice.Notice as told
 use Rattle.bx_keys.specs.declared.notice.Notice.TheVariants as notices
 use Rattle.bx_store.specs.declared.cause.SaveCause.{SaveCause}
 use Rattle.bx_store.specs.declared.cause.SaveCause.TheVariants as causes
 use Rattle.bx_ucd.specs.Data.{Data}
 use Rattle.bx_grid.specs.Columns.{Col}
-use Rattle.bx_grid.specs.Picture.{GridState}
+use Rattle.bx_grid.specs.Grid.{GridState}
 use Rattle.bx_rows.specs.RowPicture.{Glyph, glyph}
-use Rattle.bx_asking.specs.declared.question.Ask.{Ask}
-use Rattle.bx_asking.specs.declared.question.Ask.TheVariants as asks
-use Rattle.bx_document.specs.Drawing.{with_rows}
+use Rattle.bx_editor.specs.declared.questions.answers.Prompt.{Prompt}
+use Rattle.bx_editor.specs.declared.questions.answers.Prompt.TheVariants as asks
+use Rattle.bx_document.specs.Shown.{with_rows}
 use Rattle.bx_editor.specs.declared.message.Message.{Message}
 use Rattle.bx_editor.specs.declared.message.Message.TheVariants.{Saved, SaveFailed, TextFull, NothingToUndo, NothingToRedo, Unsaved, Direction, MarkSet, MarkOff}
 use Rattle.bx_editor.specs.declared.message.Message.TheVariants.{Copied, LineCopied, NothingToCopy, NothingToPut, FromStart, FromEnd, NotFound, Help}
@@ -111,7 +111,7 @@ status-printable changed paragraph unit h k =
 
 -- ---- a prompt behind it
 
-pub prompt-printable : (ask : Ask) → are_ascii_printable (prompt_text ask) ≡ true
+pub prompt-printable : (ask : Prompt) → are_ascii_printable (prompt_text ask) ≡ true
 prompt-printable asks.Off = refl
 prompt-printable asks.Line = refl
 prompt-printable asks.Name = refl
@@ -124,7 +124,7 @@ prompted-glyphs line prompt typed =
     ∙ append_assoc (letter_glyphs line) (letter_glyphs prompt) typed
 
 -- a question has its prompt, and behind it the answer as it was typed
-pub question-glyphs : (d : Data) (e : Editor) (ask : Ask) → (ask ≡ asks.Line) ⊎ ((ask ≡ asks.Name) ⊎ (ask ≡ asks.Code))
+pub question-glyphs : (d : Data) (e : Editor) (ask : Prompt) → (ask ≡ asks.Line) ⊎ ((ask ≡ asks.Name) ⊎ (ask ≡ asks.Code))
     → prompt_glyphs d e ask ≡ letter_glyphs (prompt_text ask) ++ typed_glyphs e.answer
 question-glyphs d e asks.Off some =
     ⊎_elim (λ line. absurd (cc)) (λ other. ⊎_elim (λ name. absurd (cc)) (λ code. absurd (cc)) other) some

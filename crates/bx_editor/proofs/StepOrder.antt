@@ -1,15 +1,15 @@
 -- A move back leads to no place after the one that it begins at, a move on to none before it.
 use Rattle.std.proofs.Common.{◌≡◌, ◌≤◌, ℕ, Bool, true, false, nat_lt, cond, List, [], ◌∷◌, Some, refl, sym, subst, arith, ltb-true}
 use Rattle.std.specs.Prelude.{find, reverse, unwrap_or, IsCharBoundary}
-use Rattle.bx_text.specs.Edits.{IsRange}
+use Rattle.bx_text.specs.Changes.{IsRange}
 use Rattle.bx_ucd.specs.Data.{Data}
-use Rattle.bx_view.specs.Moves.{moved}
+use Rattle.bx_view.specs.Moved.{moved}
 use Rattle.bx_view.specs.TextRows.{TextRow, places}
 use Rattle.bx_view.specs.Words.{text_stops}
 use Rattle.bx_view.specs.declared.moves.Logical.TheVariants.{Back, Forward}
 use Rattle.bx_view.specs.declared.moves.Move.{Move}
 use Rattle.bx_view.specs.declared.moves.Move.TheVariants.{Logical, Visual, Rows, RowsIn, RowHome, RowEnd, Word, WordTowards, TextStart, TextEnd}
-use Rattle.bx_editor.specs.Erasing.{goes_back, goes_on}
+use Rattle.bx_editor.specs.Functions.{goes_back, goes_on}
 
 low : (place p : ℕ) (ps : List ℕ) (b : Bool) → nat_lt p place ≡ b → unwrap_or (find (λ q. nat_lt q place) ps) place ≤ place
     → unwrap_or (cond b (Some p) (find (λ q. nat_lt q place) ps)) place ≤ place
@@ -29,49 +29,49 @@ find-high : (place : ℕ) (ps : List ℕ) → place ≤ unwrap_or (find (nat_lt 
 find-high place [] = omega arith
 find-high place (p ∷ ps) = high place p ps (nat_lt place p) refl (find-high place ps)
 
-moved-back : (says : Data) (text : List ℕ) (w : ℕ) (rows : List TextRow) (m : Move) (place : ℕ) → goes_back m ≡ true → moved says text w rows m place ≤ place
-moved-back says text w rows (Logical Back) place is = find-low place (reverse (places rows))
-moved-back says text w rows (Word Back) place is = find-low place (reverse (text_stops says Back text))
-moved-back says text w rows (Logical Forward) place is = absurd (cc is)
-moved-back says text w rows (Word Forward) place is = absurd (cc is)
-moved-back says text w rows (Visual side) place is = absurd (cc is)
-moved-back says text w rows (Rows way n) place is = absurd (cc is)
-moved-back says text w rows (RowsIn way n column) place is = absurd (cc is)
-moved-back says text w rows RowHome place is = absurd (cc is)
-moved-back says text w rows RowEnd place is = absurd (cc is)
-moved-back says text w rows (WordTowards side) place is = absurd (cc is)
-moved-back says text w rows TextStart place is = absurd (cc is)
-moved-back says text w rows TextEnd place is = absurd (cc is)
+moved-back : (ucd : Data) (text : List ℕ) (w : ℕ) (rows : List TextRow) (m : Move) (place : ℕ) → goes_back m ≡ true → moved ucd text w rows m place ≤ place
+moved-back ucd text w rows (Logical Back) place is = find-low place (reverse (places rows))
+moved-back ucd text w rows (Word Back) place is = find-low place (reverse (text_stops ucd Back text))
+moved-back ucd text w rows (Logical Forward) place is = absurd (cc is)
+moved-back ucd text w rows (Word Forward) place is = absurd (cc is)
+moved-back ucd text w rows (Visual side) place is = absurd (cc is)
+moved-back ucd text w rows (Rows way n) place is = absurd (cc is)
+moved-back ucd text w rows (RowsIn way n column) place is = absurd (cc is)
+moved-back ucd text w rows RowHome place is = absurd (cc is)
+moved-back ucd text w rows RowEnd place is = absurd (cc is)
+moved-back ucd text w rows (WordTowards side) place is = absurd (cc is)
+moved-back ucd text w rows TextStart place is = absurd (cc is)
+moved-back ucd text w rows TextEnd place is = absurd (cc is)
 
-moved-on : (says : Data) (text : List ℕ) (w : ℕ) (rows : List TextRow) (m : Move) (place : ℕ) → goes_on m ≡ true → place ≤ moved says text w rows m place
-moved-on says text w rows (Logical Forward) place is = find-high place (places rows)
-moved-on says text w rows (Word Forward) place is = find-high place (text_stops says Forward text)
-moved-on says text w rows (Logical Back) place is = absurd (cc is)
-moved-on says text w rows (Word Back) place is = absurd (cc is)
-moved-on says text w rows (Visual side) place is = absurd (cc is)
-moved-on says text w rows (Rows way n) place is = absurd (cc is)
-moved-on says text w rows (RowsIn way n column) place is = absurd (cc is)
-moved-on says text w rows RowHome place is = absurd (cc is)
-moved-on says text w rows RowEnd place is = absurd (cc is)
-moved-on says text w rows (WordTowards side) place is = absurd (cc is)
-moved-on says text w rows TextStart place is = absurd (cc is)
-moved-on says text w rows TextEnd place is = absurd (cc is)
+moved-on : (ucd : Data) (text : List ℕ) (w : ℕ) (rows : List TextRow) (m : Move) (place : ℕ) → goes_on m ≡ true → place ≤ moved ucd text w rows m place
+moved-on ucd text w rows (Logical Forward) place is = find-high place (places rows)
+moved-on ucd text w rows (Word Forward) place is = find-high place (text_stops ucd Forward text)
+moved-on ucd text w rows (Logical Back) place is = absurd (cc is)
+moved-on ucd text w rows (Word Back) place is = absurd (cc is)
+moved-on ucd text w rows (Visual side) place is = absurd (cc is)
+moved-on ucd text w rows (Rows way n) place is = absurd (cc is)
+moved-on ucd text w rows (RowsIn way n column) place is = absurd (cc is)
+moved-on ucd text w rows RowHome place is = absurd (cc is)
+moved-on ucd text w rows RowEnd place is = absurd (cc is)
+moved-on ucd text w rows (WordTowards side) place is = absurd (cc is)
+moved-on ucd text w rows TextStart place is = absurd (cc is)
+moved-on ucd text w rows TextEnd place is = absurd (cc is)
 
 -- so what lies between can be removed
-pub between-back : (says : Data) (rows : List TextRow) (w : ℕ) (m : Move) (text new : List ℕ) (start stop : ℕ) → new ≡ text → goes_back m ≡ true
-    → IsCharBoundary text start → IsCharBoundary text stop → start ≡ moved says text w rows m stop → IsRange new start stop
-between-back says rows w m text new start stop same back front behind e =
+pub between-back : (ucd : Data) (rows : List TextRow) (w : ℕ) (m : Move) (text new : List ℕ) (start stop : ℕ) → new ≡ text → goes_back m ≡ true
+    → IsCharBoundary text start → IsCharBoundary text stop → start ≡ moved ucd text w rows m stop → IsRange new start stop
+between-back ucd rows w m text new start stop same back front behind e =
     subst (λ t. IsRange t start stop) (sym same) (record {
       start_bounds = front;
       stop_bounds = behind;
-      in_order = subst (λ n. n ≤ stop) (sym e) (moved-back says text w rows m stop back);
+      in_order = subst (λ n. n ≤ stop) (sym e) (moved-back ucd text w rows m stop back);
     })
 
-pub between-on : (says : Data) (rows : List TextRow) (w : ℕ) (m : Move) (text new : List ℕ) (start stop : ℕ) → new ≡ text → goes_on m ≡ true
-    → IsCharBoundary text start → IsCharBoundary text stop → stop ≡ moved says text w rows m start → IsRange new start stop
-between-on says rows w m text new start stop same on front behind e =
+pub between-on : (ucd : Data) (rows : List TextRow) (w : ℕ) (m : Move) (text new : List ℕ) (start stop : ℕ) → new ≡ text → goes_on m ≡ true
+    → IsCharBoundary text start → IsCharBoundary text stop → stop ≡ moved ucd text w rows m start → IsRange new start stop
+between-on ucd rows w m text new start stop same on front behind e =
     subst (λ t. IsRange t start stop) (sym same) (record {
       start_bounds = front;
       stop_bounds = behind;
-      in_order = subst (λ n. start ≤ n) (sym e) (moved-on says text w rows m start on);
+      in_order = subst (λ n. start ≤ n) (sym e) (moved-on ucd text w rows m start on);
     })

@@ -2,14 +2,14 @@
 use Rattle.std.proofs.Common.{◌≡◌, ◌∙◌, ℕ, true, List, length, chars, Option, ap, ap₂, sym}
 use Rattle.std.specs.Prelude.{codes, if◌then◌else◌, slice_range}
 use Rattle.std.proofs.lemmas.Bool.{ne_eqb}
-use Rattle.bx_terms.specs.Characters.{are_ascii_printable}
+use Rattle.bx_common.specs.Characters.{are_ascii_printable}
 use Rattle.bx_ucd.specs.Data.{Data}
-use Rattle.bx_asking.specs.Told.{told_text}
+use Rattle.bx_editor.specs.questions.Told.{told_text}
 use Rattle.bx_document.specs.PlaceLevel.{place_level}
 use Rattle.bx_view.specs.Moves.{step_logical}
 use Rattle.bx_view.specs.declared.moves.Logical.TheVariants.{Forward}
 use Rattle.bx_editor.specs.Editor.{Editor, rows}
-use Rattle.bx_editor.specs.Telling.{told_at_place}
+use Rattle.bx_editor.specs.Status.{told_at_place}
 
 pub told-is : (d : Data) (e : Editor) (unit : List ℕ) (level : Option ℕ) → (e.place ≡ length e.content.text → ⊥)
     → unit ≡ slice_range e.content.text e.place (step_logical (rows d e) Forward e.place)

@@ -5,7 +5,8 @@ use Rattle.bx_view.specs.Laws.{MovesLeast}
 use Rattle.bx_view.specs.Top.{follow}
 use Rattle.bx_view.proofs.LeastMove.{text-moves-least}
 use Rattle.bx_paragraph.proofs.Starts.{side-some}
-use Rattle.bx_editor.specs.Editor.{rows, text_height, Editor, HasRows}
+use Rattle.bx_editor.specs.Editor.{rows, text_height, Editor}
+use Rattle.bx_editor.specs.Functions.{HasRows}
 use Rattle.bx_ucd.specs.Data.{Data}
 use Rattle.bx_editor.specs.Picture.{next_top}
 

@@ -4,7 +4,7 @@ use Rattle.std.specs.Prelude.{Option, Some, None}
 use Rattle.std.proofs.lemmas.Bool.Decides.{nat_tests}
 use Rattle.std.proofs.lemmas.List.{take-append-drop}
 use Rattle.std.proofs.lemmas.List.Elements.{filter-append}
-use Rattle.bx_runs.specs.Runs.{below, edited}
+use Rattle.bx_editor.specs.undo_groups.Groups.{below, edited}
 use Rattle.bx_text.specs.Edits.{inserted, removed, splice}
 use Rattle.bx_ucd.specs.Data.{Data}
 use Rattle.bx_editor.specs.Editor.{Editor, place_after, stored_behind, with_edit}
@@ -55,7 +55,7 @@ selection_once d e new =
 pub replaced-once : (d : Data) (e : Editor) (new : List ℕ) → selection_once d e new ≡ with_selection_replaced d e new
 replaced-once d e new =
     let n = length e.content.past in
-    ap₂ (λ runs stored. record (selection_once d e new) { runs = runs; stored = stored }) (sym (runs-of-two e.runs n)) (sym (stored-of-two n e.stored))
+    ap₂ (λ runs stored. record (selection_once d e new) { undo_groups = runs; stored = stored }) (sym (runs-of-two e.undo_groups n)) (sym (stored-of-two n e.stored))
 
 -- nothing is spliced out
 pub nothing-out : (text : List ℕ) (p : ℕ) → splice text p p [] ≡ text

@@ -6,21 +6,21 @@ use Rattle.bx_view.specs.Top.{shown_rows}
 use Rattle.bx_grid.specs.Picture.{PictureState}
 use Rattle.bx_rows.specs.RowPicture.{Glyph}
 use Rattle.bx_ucd.specs.Data.{Data}
-use Rattle.bx_asking.specs.declared.question.Ask.{Ask}
-use Rattle.bx_asking.specs.declared.question.Ask.TheVariants as asks
-use Rattle.bx_runs.specs.declared.typing.Typing.{Typing}
-use Rattle.bx_runs.specs.declared.typing.Typing.TheVariants.{Paste}
-use Rattle.bx_editor.specs.declared.seek.Seek.{Seek}
-use Rattle.bx_editor.specs.declared.seek.Seek.TheVariants as seeks
-use Rattle.bx_editor.specs.declared.soft.Soft.{Soft}
+use Rattle.bx_editor.specs.declared.questions.answers.Prompt.{Prompt}
+use Rattle.bx_editor.specs.declared.questions.answers.Prompt.TheVariants as asks
+use Rattle.bx_editor.specs.declared.undo_groups.typing.Typing.{Typing}
+use Rattle.bx_editor.specs.declared.undo_groups.typing.Typing.TheVariants.{Paste}
+use Rattle.bx_editor.specs.declared.search_state.SearchState.{SearchState}
+use Rattle.bx_editor.specs.declared.search_state.SearchState.TheVariants as seeks
+use Rattle.bx_editor.specs.declared.cursor.Soft.{Soft}
 use Rattle.bx_editor.specs.Editor.{Editor, rows, text_height}
 use Rattle.bx_keys.specs.declared.key.Key.TheVariants.{Insert, PasteStart}
 use Rattle.bx_editor.specs.Keys.{after_press}
-use Rattle.bx_editor.specs.PasteLaws.{PasteIsUnseen}
-use Rattle.bx_editor.specs.Pasting.{after_paste_start, after_pasted_letter, paste_begun, pasted_with, pastes_crlf}
-use Rattle.bx_editor.specs.Picture.{LooksAs, blank_picture, region_rows}
+use Rattle.bx_editor.specs.PasteLaws.{PasteIsUnseen, LooksAs}
+use Rattle.bx_editor.specs.Putting.{after_paste_start, after_pasted_letter, paste_begun, pasted_with, pastes_crlf}
+use Rattle.bx_editor.specs.Picture.{blank_picture, region_rows}
 use Rattle.bx_editor.specs.Replacing.{seen_in}
-use Rattle.bx_editor.specs.Selecting.{aged}
+use Rattle.bx_editor.specs.Region.{aged}
 use Rattle.bx_editor.specs.Status.{glyph_row, letter_glyphs, prompt_glyphs, status_text}
 
 -- an editor with other values of what is not seen
@@ -32,7 +32,7 @@ module _ (d : Data) (e : Editor) (pasted : Option (List ℕ)) (quit_before : Boo
   abbrev new : Editor
   new = with_unseen e pasted quit_before goal soft typing
 
-  same-part : (seek : Seek) → seen_in d new seek ≡ seen_in d e seek
+  same-part : (seek : SearchState) → seen_in d new seek ≡ seen_in d e seek
   same-part seeks.Off = refl
   same-part seeks.Begun = refl
   same-part seeks.Typed = refl
@@ -40,7 +40,7 @@ module _ (d : Data) (e : Editor) (pasted : Option (List ℕ)) (quit_before : Boo
   same-part seeks.WithTyped = refl
   same-part seeks.Replacing = refl
 
-  same-prompt : (ask : Ask) → prompt_glyphs d new ask ≡ prompt_glyphs d e ask
+  same-prompt : (ask : Prompt) → prompt_glyphs d new ask ≡ prompt_glyphs d e ask
   same-prompt asks.Off = refl
   same-prompt asks.Line = refl
   same-prompt asks.Name = refl
@@ -69,7 +69,7 @@ module _ (d : Data) (e : Editor) (pasted : Option (List ℕ)) (quit_before : Boo
 pub letter-unseen : (d : Data) (e : Editor) (c : ℕ) → LooksAs d e (after_pasted_letter d e c)
 letter-unseen d e c = looks-same d e (pasted_with (pastes_crlf d e.content.text c) e.pasted c) false None (aged e.soft) e.typing
 
-begun-unseen : (e : Editor) (ask : Ask) (seek : Seek) (list : List ℕ) → paste_begun ask seek (Some list) e ≡ e
+begun-unseen : (e : Editor) (ask : Prompt) (seek : SearchState) (list : List ℕ) → paste_begun ask seek (Some list) e ≡ e
 begun-unseen e asks.Off seeks.Off list = refl
 begun-unseen e asks.Off seeks.Begun list = refl
 begun-unseen e asks.Off seeks.Typed list = refl

@@ -1,27 +1,56 @@
 -- Going to a line, and characters by name or code: what is asked, and how it is answered. `d` is Unicode's data, `e` the editor;
 -- `typing` is what the key before left.
 use Rattle.std.specs.Prelude.{ℕ, ◌+◌, ◌==◌, false, List, [], length, chars, encode_utf8, unwrap_or, Option, Some, None, if◌then◌else◌}
+use Rattle.std.specs.Prelude.{Bool}
+use Rattle.std.specs.List.{list_any}
 use Rattle.bx_ucd.specs.Data.{Data}
-use Rattle.bx_asking.specs.declared.line.Target.{Target}
-use Rattle.bx_asking.specs.declared.question.Ask.{Ask}
-use Rattle.bx_asking.specs.declared.question.Ask.TheVariants.{Off, Line, Name, Code}
-use Rattle.bx_asking.specs.Answers.{lengthened, shortened}
-use Rattle.bx_asking.specs.Codes.{coded, is_code_letter}
-use Rattle.bx_asking.specs.Line.{asked, is_line_letter}
-use Rattle.bx_asking.specs.Names.{asks_code, closing, named}
-use Rattle.bx_runs.specs.declared.typing.Typing.{Typing}
-use Rattle.bx_runs.specs.Typing.{after_insertion, kind_of}
-use Rattle.bx_text.specs.Edits.{fits}
-use Rattle.bx_view.specs.Going.{place_of}
-use Rattle.bx_view.specs.Numbers.{paragraph_number}
-use Rattle.bx_editor.specs.declared.message.Message.TheVariants.{NoSuchCharacter, TextFull}
-use Rattle.bx_editor.specs.Editor.{Editor, with_insertion, with_place, with_typing}
+use Rattle.bx_editor.specs.declared.questions.line.Target.{Target}
+use Rattle.bx_editor.specs.declared.questions.answers.Prompt.{Prompt}
+use Rattle.bx_editor.specs.declared.questions.answers.Prompt.TheVariants.{Off, Line, Name, Code}
+use Rattle.bx_editor.specs.questions.Answers.{lengthened, shortened, asked, is_line_letter}
+use Rattle.bx_editor.specs.questions.Names.{coded, is_code_letter, asks_code, closing, named}
+use Rattle.bx_editor.specs.declared.undo_groups.typing.Typing.{Typing}
+use Rattle.bx_editor.specs.undo_groups.Groups.{after_insertion, kind_of}
+use Rattle.bx_text.specs.Edits.{fits, fits_both, wrapped}
+use Rattle.bx_view.specs.Numbers.{place_of, paragraph_number}
+use Rattle.bx_editor.specs.declared.message.Message.TheVariants.{NoSuchCharacter, TextFull, MoreThanOneLine}
+use Rattle.bx_editor.specs.Editor.{Editor, with_insertion, with_place, with_typing, place_after, with_edit}
 use Rattle.bx_editor.specs.Putting.{is_paste, only_paste}
-use Rattle.bx_editor.specs.Region.{is_empty, region}
-use Rattle.bx_editor.specs.Wrapping.{after_wrapping}
+use Rattle.bx_editor.specs.Region.{is_empty, region, bytes_in}
+use Rattle.bx_text.specs.index.Paragraphs.{is_separator}
+use Rattle.bx_document.specs.declared.edits.RegionEnd.{RegionEnd}
+use Rattle.bx_document.specs.declared.edits.RegionEnd.TheVariants.{Start, Stop}
+use Rattle.bx_document.specs.Swapped.{wrapped_end, wrapped_text}
+
+-- the region has a separator of paragraphs
+abbrev pub spans_lines : Data → Editor → Bool
+spans_lines d e = list_any (λ c. is_separator (d.class c)) (chars (bytes_in e (region e)))
+
+-- the end of the region at which the cursor stands
+abbrev pub cursor_end : Editor → RegionEnd
+cursor_end e = if e.place == (region e).0 then Start else Stop
+
+-- `closer` is put in behind the region and then `opener` before it, both in UTF-8: two edits of one undo group. The cursor stays at
+-- its end of the region; between the edits its place is behind `closer`
+abbrev pub with_wrap : Data → Editor → List ℕ → List ℕ → Editor
+with_wrap d e opener closer =
+    let start = (region e).0 in
+    let stop = (region e).1 in
+    let between = place_after d e (wrapped_text e.content.text start stop [] closer) (stop + length closer) in
+    let after = place_after d e (wrapped_text e.content.text start stop opener closer) (wrapped_end (cursor_end e) start stop opener) in
+    with_edit e (wrapped e.content start stop opener closer e.place between after) after false
+
+-- the region is put between two characters; where it spans lines, or the text has no room, a message is set instead
+abbrev pub after_wrapping : Data → Editor → ℕ → ℕ → Editor
+after_wrapping d e opener closer =
+    if spans_lines d e
+    then record e { message = Some MoreThanOneLine }
+    else if fits_both e.content.text (encode_utf8 opener) (encode_utf8 closer)
+    then with_wrap d e (encode_utf8 opener) (encode_utf8 closer)
+    else record e { message = Some TextFull }
 
 -- the most characters of the answer that names a line: its numbers then stay below 10^18, so they fit in 64 bits
--- (`bx_asking/src/line.rt`)
+-- (`bx_editor/src/questions/line.rt`)
 abbrev pub longest_line : ℕ
 longest_line = 16
 
@@ -30,7 +59,7 @@ abbrev pub longest_code : ℕ
 longest_code = 6
 
 -- `ask` is asked, with an empty answer
-abbrev pub asking : Editor → Ask → Editor
+abbrev pub asking : Editor → Prompt → Editor
 asking e ask = record e { ask = ask; answer = [] }
 
 -- nothing is asked any more
@@ -66,7 +95,7 @@ after_line_letter d typing e c =
 
 -- ---- a character by name
 
--- `c` is put in at the place as Insert puts it, but begins a run, and a selection's text stays
+-- `c` is put in at the place as Insert puts it, but begins an undo group, and a selection's text stays
 abbrev pub with_character : Data → Editor → ℕ → Editor
 with_character d e c =
     if fits e.content.text e.place e.place (encode_utf8 c)
@@ -107,14 +136,14 @@ abbrev pub unless_paste : Typing → Editor → Editor → Editor
 unless_paste typing e new = if is_paste typing then with_typing e typing else new
 
 -- a character is typed while something is asked
-abbrev pub after_answer_letter : Data → Typing → Ask → Editor → ℕ → Editor
+abbrev pub after_answer_letter : Data → Typing → Prompt → Editor → ℕ → Editor
 after_answer_letter d typing Off e c = e
 after_answer_letter d typing Line e c = with_typing (after_line_letter d typing e c) (only_paste typing)
 after_answer_letter d typing Name e c = unless_paste typing e (after_name_letter d e c (named c))
 after_answer_letter d typing Code e c = unless_paste typing e (after_code_letter d e c)
 
 -- the answer loses its last character; an empty code becomes the question for a name again
-abbrev pub after_shorter_answer : Ask → Editor → Editor
+abbrev pub after_shorter_answer : Prompt → Editor → Editor
 after_shorter_answer Off e = e
 after_shorter_answer Line e = with_answer e (shortened e.answer)
 after_shorter_answer Name e = e

@@ -1,29 +1,36 @@
 -- The editor's state, and its changes. Offsets and places count bytes of the text. `d` is Unicode's data, `e` the editor.
-use Rattle.std.specs.Prelude.{ℕ, ◌+◌, ◌-◌, Bool, true, false, not, ◌||◌, nat_le, nat_lt, List, [], ◌∷◌, length, Option, Some, None, if◌then◌else◌, ◌≡◌, IsUtf8}
-use Rattle.bx_terms.specs.declared.base.Base.{Base}
-use Rattle.bx_terms.specs.declared.base.Base.TheVariants.{Auto, Ltr, Rtl}
-use Rattle.bx_asking.specs.declared.question.Ask.{Ask}
-use Rattle.bx_asking.specs.declared.question.Ask.TheVariants as asks
+use Rattle.std.specs.Prelude.{ℕ, ◌+◌, ◌-◌, Bool, true, false, not, ◌||◌, nat_le, nat_lt, List, [], ◌∷◌, length, Option, Some, None, if◌then◌else◌}
+use Rattle.std.specs.Prelude.{◌==◌, ◌≡◌, ◌<◌, ◌≤◌, take, IsUtf8}
+use Rattle.bx_common.specs.declared.base.Base.{Base}
+use Rattle.bx_common.specs.declared.base.Base.TheVariants.{Auto, Ltr, Rtl}
+use Rattle.bx_common.specs.Characters.{largest_text}
+use Rattle.bx_editor.specs.declared.questions.answers.Prompt.{Prompt}
+use Rattle.bx_editor.specs.declared.questions.answers.Prompt.TheVariants as asks
 use Rattle.bx_keys.specs.declared.notice.Notice.{Notice}
 use Rattle.bx_store.specs.declared.store.StoreFault.{StoreFault}
 use Rattle.bx_text.specs.Edits.{Edited, Edit, opened, inserted, removed, splice, undone, redone}
+use Rattle.bx_text.specs.declared.change.Change.{Change}
 use Rattle.bx_view.specs.TextRows.{TextRow, text_rows}
 use Rattle.bx_view.specs.Moves.{place_from}
 use Rattle.bx_document.specs.declared.history.HistoryStep.{HistoryStep}
 use Rattle.bx_document.specs.declared.history.HistoryStep.TheVariants as steps
-use Rattle.bx_editor.specs.declared.aim.Aim.{Aim}
-use Rattle.bx_editor.specs.declared.aim.Aim.TheVariants as aims
+use Rattle.bx_document.specs.History.{next_changes, stepped_times}
+use Rattle.bx_document.specs.declared.history.HistoryStep.TheVariants.{Undo, Redo}
+use Rattle.bx_editor.specs.declared.search_state.SearchPurpose.{SearchPurpose}
+use Rattle.bx_editor.specs.declared.search_state.SearchPurpose.TheVariants as aims
 use Rattle.bx_editor.specs.declared.message.Message.{Message}
 use Rattle.bx_editor.specs.declared.message.Message.TheVariants as messages
-use Rattle.bx_editor.specs.declared.seek.Seek.{Seek}
-use Rattle.bx_editor.specs.declared.seek.Seek.TheVariants as seeks
-use Rattle.bx_editor.specs.declared.soft.Soft.{Soft}
-use Rattle.bx_editor.specs.declared.soft.Soft.TheVariants as softness
-use Rattle.bx_runs.specs.declared.typing.Typing.{Typing}
-use Rattle.bx_runs.specs.declared.typing.Typing.TheVariants as typings
-use Rattle.bx_runs.specs.Runs.{edited}
+use Rattle.bx_editor.specs.declared.search_state.SearchState.{SearchState}
+use Rattle.bx_editor.specs.declared.search_state.SearchState.TheVariants as seeks
+use Rattle.bx_editor.specs.declared.cursor.Soft.{Soft}
+use Rattle.bx_editor.specs.declared.cursor.Soft.TheVariants as softness
+use Rattle.bx_editor.specs.declared.opening.OpenError.{OpenError}
+use Rattle.bx_editor.specs.declared.opening.OpenError.TheVariants.{NotUtf8, OutOfMemory, SizeOutOfRange, TooLong}
+use Rattle.bx_editor.specs.declared.undo_groups.typing.Typing.{Typing}
+use Rattle.bx_editor.specs.declared.undo_groups.typing.Typing.TheVariants as typings
+use Rattle.bx_editor.specs.undo_groups.Groups.{edited, run_end, run_start}
 use Rattle.bx_ucd.specs.Data.{Data}
-use Rattle.bx_terms.specs.Sizes.{is_side}
+use Rattle.bx_grid.specs.Picture.{is_size}
 
 -- an editor's state, without Unicode's tables
 pub record Editor : Type 0 where
@@ -40,24 +47,24 @@ pub record Editor : Type 0 where
   -- the query of the search, or of the latest one: at most 64 characters, in UTF-8
   pub query : List ℕ
   -- how far the search is
-  pub seek : Seek
+  pub seek : SearchState
   -- what the search, or the latest one, is for
-  pub aim : Aim
+  pub aim : SearchPurpose
   -- the place at which the latest search began
   pub origin : ℕ
   -- the text that replaces matches: at most 64 characters, in UTF-8
-  pub other : List ℕ
+  pub replacement : List ℕ
   -- where the match that is shown, or the latest one, begins: maybe inside a unit
   pub at : ℕ
-  -- how many matches were replaced since the other text was asked for last
+  -- how many matches were replaced since the replacement was asked for last
   pub count : ℕ
   -- what the user is asked, and the answer as far as it is typed, in UTF-8
-  pub ask : Ask
+  pub ask : Prompt
   pub answer : List ℕ
   -- what a paste has brought so far, in UTF-8; none while none is under way that goes into the text
   pub pasted : Option (List ℕ)
-  -- the lengths of the past at which runs of edits begin
-  pub runs : List ℕ
+  -- the lengths of the past at which undo groups begin
+  pub undo_groups : List ℕ
   -- what the next edit may go on with
   pub typing : Typing
   -- the length of the past at which the text is the one that was stored or opened last; none if no undo or redo leads there
@@ -79,11 +86,6 @@ pub record Editor : Type 0 where
   -- text that is copied or cut goes out to a clipboard
   pub clipboard : Bool
 
--- an editor and its tables
-pub record EditorState (D : Type 0) : Type 0 where
-  pub tables : D
-  pub editor : Editor
-
 -- at opening
 abbrev pub at_start : List ℕ → ℕ → ℕ → Base → Editor
 at_start text height width base = record {
@@ -96,13 +98,13 @@ at_start text height width base = record {
   seek = seeks.Off;
   aim = aims.Find;
   origin = 0;
-  other = [];
+  replacement = [];
   at = 0;
   count = 0;
   ask = asks.Off;
   answer = [];
   pasted = None;
-  runs = [];
+  undo_groups = [];
   typing = typings.Off;
   stored = Some 0;
   changed = false;
@@ -138,7 +140,7 @@ stored_behind n None = None
 stored_behind n (Some stored) = if nat_lt n stored then None else Some stored
 
 -- the editor once the text was edited: `content` with its past and future, and the cursor's new place. `goes_on`: the edit goes on
--- with the run before; else it begins one
+-- with the undo group before; else it begins one
 abbrev pub with_edit : Editor → Edited → ℕ → Bool → Editor
 with_edit e content place goes_on =
     let n = length e.content.past in
@@ -148,7 +150,7 @@ with_edit e content place goes_on =
       mark = None;
       soft = softness.Off;
       seek = seeks.Off;
-      runs = edited e.runs n goes_on;
+      undo_groups = edited e.undo_groups n goes_on;
       stored = stored_behind n e.stored;
       changed = true;
     }
@@ -173,7 +175,8 @@ with_removal d e start stop goes_on =
     let after = place_after d e (splice e.content.text start stop []) start in
     with_edit e (removed e.content start stop e.place after) after goes_on
 
--- the bytes from `start` to `stop` are removed, and then others, if there are any, are inserted where they stood: edits of one run
+-- the bytes from `start` to `stop` are removed, and then others, if there are any, are inserted where they stood: edits of one undo
+-- group
 abbrev pub with_exchange : Data → Editor → ℕ → ℕ → List ℕ → Editor
 with_exchange d e start stop [] = with_removal d e start stop false
 with_exchange d e start stop (b ∷ bs) = with_insertion_at d (with_removal d e start stop false) start (b ∷ bs) true
@@ -184,8 +187,8 @@ with_exchange d e start stop (b ∷ bs) = with_insertion_at d (with_removal d e 
 abbrev pub with_step : Editor → Edited → ℕ → Bool → Editor
 with_step e content place changed = record e { content = content; place = place; mark = None; soft = softness.Off; seek = seeks.Off; changed = changed }
 
--- the latest edit is undone, and the cursor returns to its place before it. One edit undone or redone counts as a change, even where
--- it gives the stored text again
+-- the latest edit is undone, and the cursor returns to its place before it. One edit undone or redone counts as a change, even
+-- where it gives the stored text again
 abbrev pub after_undo : Editor → List Edit → Editor
 after_undo e [] = record e { message = Some messages.NothingToUndo }
 after_undo e (edit ∷ past) = with_step e (undone e.content) edit.before.place true
@@ -265,7 +268,44 @@ with_notice e notice = record e { message = Some (messages.Notice notice) }
 abbrev pub cleared : Editor → Editor
 cleared e = record e { message = None; quit_before = false; typing = typings.Off }
 
--- the text is UTF-8 and the window has from 1 to 500 columns, as in every editor of the code
-pub record HasRows (e : Editor) : Type 0 where
-  pub text : IsUtf8 e.content.text
-  pub columns : is_side e.width ≡ true
+-- ---- undo and redo by undo groups; `n` is a length of the past: its number of edits
+
+-- the length of the past to which an undo group is undone, or redone
+abbrev pub run_goal : HistoryStep → Editor → ℕ
+run_goal Undo e = run_start e.undo_groups (length e.content.past)
+run_goal Redo e = run_end e.undo_groups (length e.content.past) (length e.content.past + length e.content.future)
+
+-- how many edits are undone, or redone, for that
+abbrev pub run_length : HistoryStep → Editor → ℕ
+run_length Undo e = length e.content.past - run_goal Undo e
+run_length Redo e = run_goal Redo e - length e.content.past
+
+-- whether the text with a past of this length is not the one that was stored
+abbrev pub is_changed_at : ℕ → Option ℕ → Bool
+is_changed_at n None = true
+is_changed_at n (Some stored) = not (n == stored)
+
+-- the text after the one change that these edits make; a message where there are none
+abbrev pub by_run : HistoryStep → Editor → Option Change → Editor
+by_run step e None = record e { message = Some (nothing_left step) }
+by_run step e (Some change) =
+    with_step e (stepped_times step (run_length step e) e.content) change.place (is_changed_at (run_goal step e) e.stored)
+
+-- all edits since an undo group began are undone, or all up to the next undo group are redone; the text is changed unless it is the
+-- stored one
+abbrev pub after_run_step : HistoryStep → Editor → Editor
+after_run_step step e = by_run step e (next_changes step (run_length step e) e.content)
+
+-- ---- errors of opening a file
+
+-- the longest UTF-8 prefix has `n` bytes
+pub record IsLongestUtf8 (bytes : List ℕ) (n : ℕ) : Type 0 where
+  pub utf8 : IsUtf8 (take n bytes)
+  pub longest : (more : ℕ) → n < more → more ≤ length bytes → ¬ (IsUtf8 (take more bytes))
+
+-- the cause of each error, the earlier causes excluded
+abbrev pub Causes : List ℕ → ℕ → ℕ → OpenError → Type 0
+Causes bytes height width TooLong = largest_text < length bytes
+Causes bytes height width (NotUtf8 n) = (length bytes ≤ largest_text) × (n < length bytes) × IsLongestUtf8 bytes n
+Causes bytes height width SizeOutOfRange = (length bytes ≤ largest_text) × IsUtf8 bytes × (is_size height width ≡ false)
+Causes bytes height width OutOfMemory = (length bytes ≤ largest_text) × IsUtf8 bytes × (is_size height width ≡ true)

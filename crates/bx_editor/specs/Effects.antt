@@ -1,24 +1,52 @@
 -- What keys do outside a search and a question, in kinds: each key has one. `e` is the editor.
-use Rattle.std.specs.Prelude.{ℕ, Bool, Option, Some}
+use Rattle.std.specs.Prelude.{ℕ, Bool, Option, Some, None, unwrap_or, nat_le, if◌then◌else◌}
 use Rattle.bx_store.specs.declared.store.StoreFault.{StoreFault}
 use Rattle.bx_ucd.specs.Data.{Data}
 use Rattle.bx_document.specs.declared.history.HistoryStep.{HistoryStep}
-use Rattle.bx_runs.specs.declared.typing.Removal.{Removal}
-use Rattle.bx_runs.specs.declared.typing.Typing.{Typing}
+use Rattle.bx_editor.specs.declared.undo_groups.typing.Removal.{Removal}
+use Rattle.bx_editor.specs.declared.undo_groups.typing.Typing.{Typing}
 use Rattle.bx_view.specs.declared.moves.Vertical.{Vertical}
-use Rattle.bx_asking.specs.declared.question.Ask.TheVariants.{Line, Name}
-use Rattle.bx_editor.specs.declared.aim.Aim.{Aim}
+use Rattle.bx_view.specs.Moves.{rows_away}
+use Rattle.bx_view.specs.TextRows.{cell_of}
+use Rattle.bx_view.specs.Top.{pointed_at}
+use Rattle.bx_editor.specs.declared.questions.answers.Prompt.TheVariants.{Line, Name}
+use Rattle.bx_editor.specs.declared.search_state.SearchPurpose.{SearchPurpose}
 use Rattle.bx_editor.specs.declared.message.Message.{Message}
 use Rattle.bx_editor.specs.declared.message.Message.TheVariants.{Told}
 use Rattle.bx_editor.specs.Asking.{asking}
 use Rattle.bx_editor.specs.Editor.{Editor, after_help, after_quit, after_save, after_step, next_base, with_base, with_place, with_typing}
+use Rattle.bx_editor.specs.Editor.{after_run_step, rows, text_height}
 use Rattle.bx_editor.specs.Erasing.{after_erasing, after_erasing_word}
-use Rattle.bx_editor.specs.Goal.{after_row_move}
 use Rattle.bx_editor.specs.Putting.{after_character, after_new_line, after_put}
-use Rattle.bx_editor.specs.Region.{after_copy, after_cut, after_mark, without_mark}
-use Rattle.bx_editor.specs.Runs.{after_run_step}
+use Rattle.bx_editor.specs.Region.{after_copy, after_cut, after_mark, without_mark, after_select, unselected}
 use Rattle.bx_editor.specs.Search.{after_beginning, after_find_next}
-use Rattle.bx_editor.specs.Selecting.{after_select, unselected}
+use Rattle.bx_keys.specs.declared.key.Key.{Key}
+use Rattle.bx_keys.specs.declared.key.Key.TheVariants.{LineUp, LineDown, PageBack, PageOn, Repaint, Select}
+
+-- the column, from 1, that LineUp, LineDown, PageBack and PageOn keep, else the cursor's
+abbrev pub goal_column : Data → Editor → ℕ
+goal_column d e = unwrap_or e.goal (cell_of e.width (rows d e) e.place)
+
+-- up or down by `n` rows, in the kept column
+abbrev pub after_row_move : Data → Editor → Vertical → ℕ → Editor
+after_row_move d e way n =
+    let column = goal_column d e in
+    record e { place = rows_away e.width (rows d e) way n column e.place; goal = Some column }
+
+-- the kept column after a key that the user presses: any other key than these forgets it
+abbrev pub goal_behind : Key → Option ℕ → Option ℕ
+goal_behind LineUp goal = goal
+goal_behind LineDown goal = goal
+goal_behind PageBack goal = goal
+goal_behind PageOn goal = goal
+goal_behind Repaint goal = goal
+goal_behind Select goal = goal
+goal_behind _ goal = None
+
+-- the place in a row and a column of the picture, whose first row is the one that was last shown first; the status row points
+-- nowhere, and the cursor stays
+abbrev pub pointed_place : Data → Editor → ℕ → ℕ → ℕ
+pointed_place d e row column = if nat_le row (text_height e.height) then pointed_at e.width (rows d e) e.top row column else e.place
 
 -- what a key does
 pub data Effect : Type 0 where
@@ -26,11 +54,11 @@ pub data Effect : Type 0 where
   Types : ℕ → Effect
   BeginsLine : Effect
   Puts : Effect
-  -- the bytes from one offset to another are removed: removals of one kind after one another are one run, but each of a word is a
-  -- run of its own
+  -- the bytes from one offset to another are removed: removals of one kind after one another are one undo group, but each of a word
+  -- is an undo group of its own
   Removes : Removal → ℕ → ℕ → Effect
   RemovesWord : ℕ → ℕ → Effect
-  -- one edit, or a run of edits, is undone or redone
+  -- one edit, or an undo group, is undone or redone
   Steps : HistoryStep → Effect
   StepsRun : HistoryStep → Effect
   -- the cursor goes to a place, or by a number of rows in the kept column
@@ -44,7 +72,7 @@ pub data Effect : Type 0 where
   Copies : Effect
   Cuts : Effect
   -- a search begins, or the next match is sought
-  Seeks : Aim → Effect
+  Seeks : SearchPurpose → Effect
   SeeksNext : Effect
   Saves : Effect
   Quits : Effect

@@ -1,19 +1,16 @@
 -- What the keys that erase and delete remove. `d` is Unicode's data, `e` the editor; offsets and places count bytes of the text.
-use Rattle.std.specs.Prelude.{ℕ, ◌+◌, ◌==◌, Bool, true, false, slice_range, if◌then◌else◌}
+use Rattle.std.specs.Prelude.{ℕ, ◌+◌, ◌==◌, Bool, false, slice_range, if◌then◌else◌}
 use Rattle.bx_ucd.specs.Data.{Data}
 use Rattle.bx_document.specs.Points.{point_start}
-use Rattle.bx_runs.specs.declared.typing.Removal.{Removal}
-use Rattle.bx_runs.specs.declared.typing.Typing.{Typing}
-use Rattle.bx_runs.specs.Typing.{after_removal, goes_on_removing}
+use Rattle.bx_editor.specs.declared.undo_groups.typing.Removal.{Removal}
+use Rattle.bx_editor.specs.declared.undo_groups.typing.Typing.{Typing}
+use Rattle.bx_editor.specs.undo_groups.Groups.{after_removal, goes_on_removing}
 use Rattle.bx_view.specs.Moves.{step_logical}
-use Rattle.bx_view.specs.declared.moves.Logical.TheVariants.{Back, Forward}
-use Rattle.bx_view.specs.declared.moves.Move.{Move}
-use Rattle.bx_view.specs.declared.moves.Move.TheVariants.{Logical, Word}
+use Rattle.bx_view.specs.declared.moves.Logical.TheVariants.{Back}
 use Rattle.bx_editor.specs.Editor.{Editor, rows, with_removal}
-use Rattle.bx_editor.specs.Region.{region}
-use Rattle.bx_editor.specs.Selecting.{is_selection}
+use Rattle.bx_editor.specs.Region.{region, is_selection}
 
--- the bytes from `start` to `stop` are removed, in the run before if `goes_on`; if there are none, nothing changes
+-- the bytes from `start` to `stop` are removed, in the undo group before if `goes_on`; if there are none, nothing changes
 abbrev pub after_removing : Data → Editor → ℕ → ℕ → Bool → Editor
 after_removing d e start stop goes_on = if start == stop then e else with_removal d e start stop goes_on
 
@@ -21,8 +18,8 @@ after_removing d e start stop goes_on = if start == stop then e else with_remova
 abbrev pub or_selection : Data → Editor → Editor → Editor
 or_selection d e other = if is_selection e then with_removal d e ((region e).0) ((region e).1) false else other
 
--- A removal that is of one run with those of its kind, `how`, just before: `typing` is what the key before left. Where nothing is
--- removed, the next edit begins a run.
+-- A removal that is of one undo group with those of its kind, `how`, just before: `typing` is what the key before left. Where
+-- nothing is removed, the next edit begins an undo group.
 abbrev pub removed_on : Data → Typing → Removal → Editor → ℕ → ℕ → Editor
 removed_on d typing how e start stop =
     if start == stop
@@ -33,7 +30,8 @@ removed_on d typing how e start stop =
 abbrev pub after_erasing : Data → Typing → Removal → Editor → ℕ → ℕ → Editor
 after_erasing d typing how e start stop = or_selection d e (removed_on d typing how e start stop)
 
--- the bytes from `start` to `stop` are removed by EraseWord or DeleteWord, as a run of their own, or a selection in their place
+-- the bytes from `start` to `stop` are removed by EraseWord or DeleteWord, as an undo group of their own, or a selection in their
+-- place
 abbrev pub after_erasing_word : Data → Editor → ℕ → ℕ → Editor
 after_erasing_word d e start stop = or_selection d e (after_removing d e start stop false)
 
@@ -42,17 +40,3 @@ abbrev pub point_before : Data → Editor → ℕ
 point_before d e =
     let unit = step_logical (rows d e) Back e.place in
     unit + point_start d (slice_range e.content.text unit e.place)
-
--- ---- the moves by which the code removes: none leads past the place
-
--- by a unit or to a word's start, back
-abbrev pub goes_back : Move → Bool
-goes_back (Logical Back) = true
-goes_back (Word Back) = true
-goes_back _ = false
-
--- by a unit or to a word's start, forward
-abbrev pub goes_on : Move → Bool
-goes_on (Logical Forward) = true
-goes_on (Word Forward) = true
-goes_on _ = false

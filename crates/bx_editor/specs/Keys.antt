@@ -1,6 +1,6 @@
 -- The effect of each key on the editor's state. `d`: Unicode's data; `fault`: why a Save failed, None if it succeeded; `was`: what
 -- the key before left; `e`: the editor, from which `after_user` clears that.
-use Rattle.std.specs.Prelude.{ℕ, Bool, true, false, ◌&&◌, ◌||◌, is_some, List, [], ◌∷◌, length, Option, Some, None}
+use Rattle.std.specs.Prelude.{ℕ, Bool, true, false, ◌&&◌, ◌||◌, is_some, List, length, Option, Some, None}
 use Rattle.bx_keys.specs.declared.key.Key.{Key}
 use Rattle.bx_keys.specs.declared.key.Key.TheVariants.{Insert, Erase, Delete, Back, Forward, Up, Down, Right, Left, RowHome, RowEnd, PageUp, PageDown}
 use Rattle.bx_keys.specs.declared.key.Key.TheVariants.{Save, Quit, Undo, Redo, Repaint, Direction, Size, Mark, Copy, Cut, Put}
@@ -10,30 +10,28 @@ use Rattle.bx_keys.specs.declared.key.Key.TheVariants.{Select, UndoRun, RedoRun,
 use Rattle.bx_store.specs.declared.store.StoreFault.{StoreFault}
 use Rattle.bx_document.specs.declared.history.HistoryStep.TheVariants as steps
 use Rattle.bx_paragraph.specs.declared.moves.Visual.TheVariants as visual
-use Rattle.bx_runs.specs.declared.typing.Removal.TheVariants as removals
+use Rattle.bx_editor.specs.declared.undo_groups.typing.Removal.TheVariants as removals
 use Rattle.bx_view.specs.declared.moves.Logical.TheVariants as logical
 use Rattle.bx_view.specs.declared.moves.Vertical.TheVariants as ways
 use Rattle.bx_view.specs.Moves.{step_logical, step_visual, vertical, page, row_home, row_end, word_towards}
 use Rattle.bx_view.specs.Words.{step_word}
 use Rattle.bx_ucd.specs.Data.{Data}
-use Rattle.bx_editor.specs.declared.aim.Aim.TheVariants as aims
-use Rattle.bx_editor.specs.declared.seek.Seek.{Seek}
-use Rattle.bx_editor.specs.declared.seek.Seek.TheVariants.{Off, Begun, Typed, WithBegun, WithTyped, Replacing}
-use Rattle.bx_asking.specs.declared.question.Ask.{Ask}
-use Rattle.bx_asking.specs.declared.question.Ask.TheVariants as asks
+use Rattle.bx_editor.specs.declared.search_state.SearchPurpose.TheVariants as aims
+use Rattle.bx_editor.specs.declared.search_state.SearchState.{SearchState}
+use Rattle.bx_editor.specs.declared.search_state.SearchState.TheVariants.{Off, Begun, Typed, WithBegun, WithTyped, Replacing}
+use Rattle.bx_editor.specs.declared.questions.answers.Prompt.{Prompt}
+use Rattle.bx_editor.specs.declared.questions.answers.Prompt.TheVariants as asks
 use Rattle.bx_editor.specs.Asking.{after_answer_letter, after_shorter_answer, without_ask}
 use Rattle.bx_editor.specs.Editor.{Editor, cleared, rows, text_height, with_notice, with_size, with_typing}
-use Rattle.bx_editor.specs.Effects.{Effect, Types, BeginsLine, Puts, Removes, RemovesWord, Steps, StepsRun, Goes, GoesByRows, Marks, Selects}
-use Rattle.bx_editor.specs.Effects.{Unmarks, Copies, Cuts, Seeks, SeeksNext, Saves, Quits, Turns, Helps, AsksLine, AsksName, Tells, Rests, Before, before, by}
+use Rattle.bx_editor.specs.Effects.{Effect, Types, BeginsLine, Puts, Removes, RemovesWord, Steps, StepsRun, Goes, GoesByRows, Marks}
+use Rattle.bx_editor.specs.Effects.{Selects, Unmarks, Copies, Cuts, Seeks, SeeksNext, Saves, Quits, Turns, Helps, AsksLine, AsksName}
+use Rattle.bx_editor.specs.Effects.{Tells, Rests, Before, before, by, goal_behind, pointed_place}
 use Rattle.bx_editor.specs.Erasing.{point_before}
-use Rattle.bx_editor.specs.Goal.{goal_behind}
-use Rattle.bx_editor.specs.Pasting.{after_paste_end, after_paste_start, after_pasted_letter, paste_ended}
-use Rattle.bx_editor.specs.Pointing.{pointed_place}
-use Rattle.bx_editor.specs.Putting.{only_paste}
-use Rattle.bx_editor.specs.Replacing.{after_asking_other, after_ending, after_match_letter, after_other_letter, after_passing_over}
-use Rattle.bx_editor.specs.Replacing.{after_replacing_all, after_shorter_other, after_showing, after_sought_letter}
+use Rattle.bx_editor.specs.Putting.{after_paste_end, after_paste_start, after_pasted_letter, paste_ended, only_paste}
+use Rattle.bx_editor.specs.Replacing.{after_asking_replacement, after_ending, after_match_letter, after_replacement_letter, after_passing_over}
+use Rattle.bx_editor.specs.Replacing.{after_replacing_all, after_shorter_replacement, after_showing, after_sought_letter}
 use Rattle.bx_editor.specs.Search.{after_find, after_find_back, after_giving_up, after_shortening, without_search}
-use Rattle.bx_editor.specs.Selecting.{soft_behind}
+use Rattle.bx_editor.specs.Region.{soft_behind}
 
 -- ---- outside a search and a question
 
@@ -123,32 +121,32 @@ answer_of Replace = Replaces
 answer_of Repaint = Stays
 answer_of _ = Ends
 
--- the editor after an answer; after a letter a paste goes on, but no run
+-- the editor after an answer; after a letter a paste goes on, but no undo group
 abbrev pub answered : Data → Option StoreFault → Before → Editor → Key → Answer → Editor
 answered d fault was e key (Letter c) = with_typing (after_sought_letter d was.typing e c) (only_paste was.typing)
 answered d fault was e key Shortens = after_shortening d e
 answered d fault was e key GoesBack = after_giving_up e
 answered d fault was e key Next = after_find d e
 answered d fault was e key Previous = after_find_back d e
-answered d fault was e key Replaces = after_asking_other d e
+answered d fault was e key Replaces = after_asking_replacement d e
 answered d fault was e key Stays = with_typing e was.typing
 answered d fault was e key Ends = without_search (after_pressing d fault was e key)
 
 abbrev pub after_seeking : Data → Option StoreFault → Before → Editor → Key → Editor
 after_seeking d fault was e key = answered d fault was e key (answer_of key)
 
--- ---- while the other text is asked for: a key answers, or ends the search and does what it always does
+-- ---- while the replacement is asked for: a key answers, or ends the search and does what it always does
 
 -- Next and Previous begin another search, and Replaces shows the first match
-abbrev pub answered_other : Data → Option StoreFault → Before → Editor → Key → Answer → Editor
-answered_other d fault was e key (Letter c) = with_typing (after_other_letter d was.typing e c) (only_paste was.typing)
-answered_other d fault was e key Shortens = after_shorter_other e
-answered_other d fault was e key GoesBack = after_giving_up e
-answered_other d fault was e key Next = by d fault was (without_search e) (Seeks aims.Find)
-answered_other d fault was e key Previous = by d fault was (without_search e) (Seeks aims.Find)
-answered_other d fault was e key Replaces = after_showing d e
-answered_other d fault was e key Stays = with_typing e was.typing
-answered_other d fault was e key Ends = after_pressing d fault was (without_search e) key
+abbrev pub answered_replacement : Data → Option StoreFault → Before → Editor → Key → Answer → Editor
+answered_replacement d fault was e key (Letter c) = with_typing (after_replacement_letter d was.typing e c) (only_paste was.typing)
+answered_replacement d fault was e key Shortens = after_shorter_replacement e
+answered_replacement d fault was e key GoesBack = after_giving_up e
+answered_replacement d fault was e key Next = by d fault was (without_search e) (Seeks aims.Find)
+answered_replacement d fault was e key Previous = by d fault was (without_search e) (Seeks aims.Find)
+answered_replacement d fault was e key Replaces = after_showing d e
+answered_replacement d fault was e key Stays = with_typing e was.typing
+answered_replacement d fault was e key Ends = after_pressing d fault was (without_search e) key
 
 -- ---- while a match is shown: a key replaces it, passes it over, or ends replacing and does what it always does
 
@@ -165,12 +163,13 @@ answered_match d fault was e key Ends = after_pressing d fault was (without_sear
 
 -- ---- in any state of a search
 
-abbrev pub after_searching : Data → Option StoreFault → Before → Seek → Editor → Key → Editor
+-- a key while no question is on, by the state of the search: as a key of a query, of a replacement, or of a match that is shown
+abbrev pub after_searching : Data → Option StoreFault → Before → SearchState → Editor → Key → Editor
 after_searching d fault was Off e key = after_pressing d fault was e key
 after_searching d fault was Begun e key = after_seeking d fault was e key
 after_searching d fault was Typed e key = after_seeking d fault was e key
-after_searching d fault was WithBegun e key = answered_other d fault was e key (answer_of key)
-after_searching d fault was WithTyped e key = answered_other d fault was e key (answer_of key)
+after_searching d fault was WithBegun e key = answered_replacement d fault was e key (answer_of key)
+after_searching d fault was WithTyped e key = answered_replacement d fault was e key (answer_of key)
 after_searching d fault was Replacing e key = answered_match d fault was e key (answer_of key)
 
 -- ---- in a question: a key answers it, or ends it and does what it always does
@@ -188,7 +187,7 @@ after_asking d fault was e key = answered_question d fault was e key (answer_of 
 -- ---- any key
 
 -- a question has the key before a search has
-abbrev pub after_any : Data → Option StoreFault → Before → Ask → Seek → Editor → Key → Editor
+abbrev pub after_any : Data → Option StoreFault → Before → Prompt → SearchState → Editor → Key → Editor
 after_any d fault was asks.Off seek e key = after_searching d fault was seek e key
 after_any d fault was _ _ e key = after_asking d fault was e key
 
@@ -219,11 +218,6 @@ after_key d fault e (Notice notice) = with_notice e notice
 after_key d fault e PasteStart = after_paste_start e
 after_key d fault e PasteEnd = after_paste_end d e
 after_key d fault e key = after_press d fault e.pasted e key
-
--- keys in sequence; all Saves succeed, or all fail with this fault
-abbrev pub after_keys : Data → Option StoreFault → Editor → List Key → Editor
-after_keys d fault e [] = e
-after_keys d fault e (key ∷ keys) = after_keys d fault (after_key d fault e key) keys
 
 -- ---- kinds of keys
 
@@ -272,18 +266,6 @@ needs_no_painting e key = is_some e.pasted && is_of_paste key
 abbrev pub is_save : Key → Bool
 is_save Save = true
 is_save _ = false
-
-abbrev pub is_size_key : Key → Bool
-is_size_key (Size height width) = true
-is_size_key _ = false
-
--- a key by which the terminal or the host tells something, and which the user does not press
-abbrev pub is_told_key : Key → Bool
-is_told_key (Size height width) = true
-is_told_key (Notice notice) = true
-is_told_key PasteStart = true
-is_told_key PasteEnd = true
-is_told_key _ = false
 
 -- a key after which the screen's content counts as unknown, so that all of it is painted
 abbrev pub asks_for_whole : Key → Bool

@@ -2,21 +2,20 @@
 use Rattle.std.specs.Prelude.{◌≡◌, ◌≢◌, ℕ, ◌+◌, ◌<◌, ◌≤◌, ◌⊎◌, true, false, List, [], ◌∷◌, ◌++◌, length, map, Option, Some, None, if◌then◌else◌}
 use Rattle.bx_keys.specs.declared.key.Key.{Key}
 use Rattle.bx_keys.specs.declared.key.Key.TheVariants.{Copy, Cut, Insert, PasteEnd, PasteStart}
-use Rattle.bx_runs.specs.Runs.{edited}
+use Rattle.bx_editor.specs.undo_groups.Groups.{edited}
 use Rattle.bx_store.specs.declared.store.StoreFault.{StoreFault}
-use Rattle.bx_text.specs.Edits.{exchanged, inserted, splice}
+use Rattle.bx_text.specs.Edits.{inserted, splice}
+use Rattle.bx_text.specs.Changes.{exchanged}
 use Rattle.bx_ucd.specs.Data.{Data}
-use Rattle.bx_asking.specs.declared.question.Ask.TheVariants as asks
+use Rattle.bx_editor.specs.declared.questions.answers.Prompt.TheVariants as asks
 use Rattle.bx_editor.specs.declared.message.Message.TheVariants.{TextFull, TooLongForClipboard}
-use Rattle.bx_editor.specs.declared.seek.Seek.TheVariants.{Off}
-use Rattle.bx_editor.specs.Clipboard.{clip_of}
+use Rattle.bx_editor.specs.declared.search_state.SearchState.TheVariants.{Off}
+use Rattle.bx_editor.specs.Region.{clip_of, bytes_in, is_empty, largest_clip, region, taken, is_selection}
 use Rattle.bx_editor.specs.Editor.{Editor, place_after}
-use Rattle.bx_editor.specs.Keys.{after_key, after_keys, needs_no_painting}
-use Rattle.bx_editor.specs.Picture.{LooksAs}
-use Rattle.bx_editor.specs.Pasting.{longer, paste_ended, pasted_bytes, pastes_crlf}
-use Rattle.bx_editor.specs.Putting.{has_room}
-use Rattle.bx_editor.specs.Region.{bytes_in, is_empty, largest_clip, region, taken}
-use Rattle.bx_editor.specs.Selecting.{is_selection}
+use Rattle.bx_editor.specs.Keys.{after_key, needs_no_painting}
+use Rattle.bx_editor.specs.Functions.{after_keys}
+use Rattle.bx_editor.specs.Picture.{next_top, picture}
+use Rattle.bx_editor.specs.Putting.{longer, paste_ended, pasted_bytes, pastes_crlf, has_room}
 
 -- ---- a paste
 
@@ -38,13 +37,13 @@ after_paste d e cs = after_keys d None e (PasteStart ∷ (map Insert cs ++ Paste
 abbrev pub place_between : Data → Editor → ℕ
 place_between d e = place_after d e (splice e.content.text (region e).0 (region e).1 []) (region e).0
 
--- `list` was put in as one edit that begins a run; where a selection gave way, as two of one run. The cursor is at the first
--- place at or after its end
+-- `list` was put in as one edit that begins an undo group; where a selection gave way, as two of one undo group. The cursor is at
+-- the first place at or after its end
 pub record IsOneEdit (d : Data) (e : Editor) (list : List ℕ) (new : Editor) : Type 0 where
   pub alone : is_selection e ≡ false → new.content ≡ inserted e.content e.place list e.place new.place
   pub instead : is_selection e ≡ true
       → new.content ≡ exchanged e.content (region e).0 (region e).1 (place_between d e) list e.place (place_between d e) new.place
-  pub begins : new.runs ≡ edited e.runs (length e.content.past) false
+  pub begins : new.undo_groups ≡ edited e.undo_groups (length e.content.past) false
   pub place : new.place ≡ place_after d e new.content.text ((if is_selection e then place_between d e else e.place) + length list)
 
 -- the text, with its past and future, and the cursor's place stay
@@ -70,6 +69,11 @@ abbrev pub PasteIsOneEdit : Type 0
 PasteIsOneEdit =
     (d : Data) (e : Editor) (cs : List ℕ) → e.ask ≡ asks.Off → e.seek ≡ Off → e.pasted ≡ None
     → IsPaste d e cs (brought d e.content.text [] cs) (after_paste d e cs)
+
+-- two editors have the same picture, from any row on
+pub record LooksAs (d : Data) (e new : Editor) : Type 0 where
+  pub top : (top : ℕ) → next_top d new top ≡ next_top d e top
+  pub same : (top : ℕ) → picture d new top ≡ picture d e top
 
 -- a character that goes into a paste, and PasteStart once more, leave the picture as it is
 abbrev pub PasteIsUnseen : Type 0

@@ -5,8 +5,7 @@ use Rattle.bx_view.specs.Cells.{HasCell, HasOneSlot}
 use Rattle.bx_view.specs.TextRows.{IsPlace, TextRow, row_of, cell_of}
 use Rattle.bx_view.specs.Top.{follow, shown_rows}
 use Rattle.bx_document.specs.Drawing.{IsAmong}
-pub use Rattle.bx_document.specs.Drawing.{row_columns, side_by_side}
-pub use Rattle.bx_document.specs.Region.{region_columns, region_rows}
+pub use Rattle.bx_document.specs.Drawing.{row_columns, side_by_side, region_columns, region_rows}
 use Rattle.bx_grid.specs.Columns.{blank}
 use Rattle.bx_grid.specs.Picture.{PictureState}
 use Rattle.bx_ucd.specs.Data.{Data}
@@ -36,11 +35,6 @@ picture d e top = if e.ended then blank_picture e.height e.width else text_pictu
 -- the top nearest to the old one that makes the cursor's row visible
 abbrev pub next_top : Data → Editor → ℕ → ℕ
 next_top d e top = if e.ended then top else follow (rows d e) top e.place (text_height e.height)
-
--- two editors have the same picture, from any row on
-pub record LooksAs (d : Data) (e new : Editor) : Type 0 where
-  pub top : (top : ℕ) → next_top d new top ≡ next_top d e top
-  pub same : (top : ℕ) → picture d new top ≡ picture d e top
 
 -- The cursor of a picture, shown from the row of the offset `top` on, is on the cell of its place. The place is one of the
 -- rows' places, with one slot and one cell, in the row that it falls in. That row is visible, and the cursor is in it, in

@@ -1,7 +1,7 @@
 -- The prompts of the status row.
 use Rattle.std.specs.Prelude.{◌≡◌, ◌≢◌}
-use Rattle.bx_asking.specs.declared.question.Ask.TheVariants as asks
-use Rattle.bx_editor.specs.declared.seek.Seek.TheVariants as seeks
+use Rattle.bx_editor.specs.declared.questions.answers.Prompt.TheVariants as asks
+use Rattle.bx_editor.specs.declared.search_state.SearchState.TheVariants as seeks
 use Rattle.bx_editor.specs.Editor.{Editor}
 
 -- while something is asked no search is on

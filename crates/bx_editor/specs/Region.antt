@@ -1,12 +1,16 @@
 -- The region between the mark and the cursor's place, and the keys that mark, copy and cut. `d` is Unicode's data, `e` the
 -- editor.
 use Rattle.std.specs.Prelude.{ℕ, ◌==◌, ◌&&◌, nat_lt, min, max, Bool, false, List, length, slice_range, Option, Some, None, unwrap_or, if◌then◌else◌}
+use Rattle.std.specs.Prelude.{true, not, is_some}
 use Rattle.bx_ucd.specs.Data.{Data}
 use Rattle.bx_document.specs.Line as lines
 use Rattle.bx_editor.specs.declared.message.Message.{Message}
 use Rattle.bx_editor.specs.declared.message.Message.TheVariants.{Copied, LineCopied, MarkOff, MarkSet, NothingToCopy, TooLongForClipboard}
-use Rattle.bx_editor.specs.declared.soft.Soft.TheVariants.{Off}
+use Rattle.bx_editor.specs.declared.cursor.Soft.TheVariants.{Off, Fresh, Old}
 use Rattle.bx_editor.specs.Editor.{Editor, with_removal}
+use Rattle.bx_editor.specs.declared.cursor.Soft.{Soft}
+use Rattle.bx_keys.specs.declared.key.Key.{Key}
+use Rattle.bx_keys.specs.declared.key.Key.TheVariants.{Select, Repaint, Copy, Cut}
 
 -- ---- parts of the text, from one offset to another
 
@@ -74,3 +78,67 @@ after_cut d e =
       held = bytes_in e (taken d e);
       message = held_message e.clipboard (bytes_in e (taken d e)) e.message;
     }
+
+-- ---- selections
+
+-- a mark is set at the place, if there is none; an old selection goes on
+abbrev pub selecting : Editor → Option ℕ → Soft → Editor
+selecting e None soft = record e { mark = Some e.place; soft = Fresh }
+selecting e (Some mark) Old = record e { soft = Fresh }
+selecting e (Some mark) _ = e
+
+-- the effect of Select
+abbrev pub after_select : Editor → Editor
+after_select e = selecting e e.mark e.soft
+
+-- the mark is a selection's
+abbrev pub is_soft : Soft → Bool
+is_soft Off = false
+is_soft _ = true
+
+-- the mark, once an old selection is taken off
+abbrev pub mark_left : Soft → Option ℕ → Option ℕ
+mark_left Old mark = None
+mark_left soft mark = mark
+
+-- the softness, once an old selection is taken off
+abbrev pub soft_left : Soft → Soft
+soft_left Old = Off
+soft_left soft = soft
+
+-- an old selection is taken off, as moves and the keys that begin a search, go to the next match or ask for a line do first
+abbrev pub unselected : Editor → Editor
+unselected e = record e { mark = mark_left e.soft e.mark; soft = soft_left e.soft }
+
+-- a region that gives way to what is typed, put in or removed
+abbrev pub is_selection : Editor → Bool
+is_selection e = is_soft e.soft && not (is_empty (region e))
+
+-- the softness once another key than Select and Repaint is pressed
+abbrev pub aged : Soft → Soft
+aged Fresh = Old
+aged soft = soft
+
+-- the softness that a key which the user presses leaves
+abbrev pub soft_behind : Key → Soft → Soft
+soft_behind Select soft = soft
+soft_behind Repaint soft = soft
+soft_behind _ soft = aged soft
+
+-- ---- what goes out to a clipboard; `e` is the editor after a key
+
+-- the message tells that text was copied, and so that it is not too long for a clipboard
+abbrev pub tells_copy : Option Message → Bool
+tells_copy (Some Copied) = true
+tells_copy (Some LineCopied) = true
+tells_copy _ = false
+
+-- whether a key held text that is not too long, by the message that it left: a Copy tells it, and a Cut tells only what else it did
+abbrev pub is_clip : Key → Option Message → Bool
+is_clip Copy message = tells_copy message
+is_clip Cut message = not (is_some message)
+is_clip _ message = false
+
+-- what goes out to the clipboard after a key: the held text, where this key has held it
+abbrev pub clip_of : Editor → Key → Option (List ℕ)
+clip_of e key = if e.clipboard && is_clip key e.message then Some e.held else None

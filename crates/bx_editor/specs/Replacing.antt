@@ -1,64 +1,59 @@
--- Replacing: the other text is asked for, and then each match is replaced or passed over, or all that follow are replaced. Offsets
+-- Replacing: the replacement is asked for, and then each match is replaced or passed over, or all that follow are replaced. Offsets
 -- and places count bytes of the text. `d` is Unicode's data, `e` the editor, `at` the offset of a match, `c` a character.
 use Rattle.std.specs.Prelude.{ℕ, ◌+◌, ◌==◌, not, ◌&&◌, Bool, true, false, List, length, Option, Some, None, if◌then◌else◌}
 use Rattle.bx_ucd.specs.Data.{Data}
-use Rattle.bx_find.specs.Matches.{first_from}
-use Rattle.bx_find.specs.Spans.{match_end, spans_from}
+use Rattle.bx_find.specs.Matches.{first_from, match_end, spans_from}
 use Rattle.bx_document.specs.Swapped.{behind_character, last_stop, swapped}
-use Rattle.bx_runs.specs.declared.typing.Typing.{Typing}
-use Rattle.bx_text.specs.Edits.{fits, splice}
+use Rattle.bx_editor.specs.declared.undo_groups.typing.Typing.{Typing}
+use Rattle.bx_text.specs.Edits.{fits}
 use Rattle.bx_view.specs.Moves.{place_at}
-use Rattle.bx_editor.specs.declared.aim.Aim.{Aim}
-use Rattle.bx_editor.specs.declared.aim.Aim.TheVariants.{Find, Replace}
+use Rattle.bx_editor.specs.declared.search_state.SearchPurpose.{SearchPurpose}
+use Rattle.bx_editor.specs.declared.search_state.SearchPurpose.TheVariants.{Find, Replace}
 use Rattle.bx_editor.specs.declared.message.Message.TheVariants.{Replaced, TextFull}
-use Rattle.bx_editor.specs.declared.seek.Seek.{Seek}
-use Rattle.bx_editor.specs.declared.seek.Seek.TheVariants.{Off, Typed, WithBegun, WithTyped, Replacing}
-use Rattle.bx_editor.specs.Editor.{Editor, rows, rows_of, with_exchange}
-use Rattle.bx_editor.specs.Pasting.{with_paste}
-use Rattle.bx_editor.specs.Putting.{is_paste}
+use Rattle.bx_editor.specs.declared.search_state.SearchState.{SearchState}
+use Rattle.bx_editor.specs.declared.search_state.SearchState.TheVariants.{Off, Typed, WithBegun, WithTyped, Replacing}
+use Rattle.bx_editor.specs.Editor.{Editor, rows, with_exchange}
+use Rattle.bx_editor.specs.Putting.{with_paste, is_paste}
 use Rattle.bx_editor.specs.Region.{region}
 use Rattle.bx_editor.specs.Search.{after_letter, is_no_letter, kept, landed, landing_from, lengthened, reading, shortened, sought, without_search}
+use Rattle.bx_editor.specs.Search.{longest_query}
 
--- ---- the question for the other text
+-- ---- the question for the replacement
 
--- where a match was found the other text is asked for, and no match is replaced yet; else the query is asked for still
+-- where a match was found the replacement is asked for, and no match is replaced yet; else the query is asked for still
 abbrev pub asked_at : Option ℕ → Editor → Editor
 asked_at None e = record e { seek = Typed }
 asked_at (Some place) e = record e { seek = WithBegun; count = 0 }
 
 -- the query is sought from the place on, as a search for replacing; without letters nothing is sought
-abbrev pub after_asking_other : Data → Editor → Editor
-after_asking_other d e =
+abbrev pub after_asking_replacement : Data → Editor → Editor
+after_asking_replacement d e =
     let aimed = record e { aim = Replace } in
     if length (sought d aimed) == 0
     then aimed
     else let landing = landing_from d aimed.place aimed in asked_at landing.place (landed aimed landing)
 
-abbrev pub is_replacing : Aim → Bool
+abbrev pub is_replacing : SearchPurpose → Bool
 is_replacing Find = false
 is_replacing Replace = true
 
--- a line end in a search: in one for replacing it asks for the other text, but a pasted one asks nothing; in one for finding it ends
+-- a line end in a search: in one for replacing it asks for the replacement, but a pasted one asks nothing; in one for finding it ends
 -- the search, and what a paste then brings goes into the text
 abbrev pub after_sought_end : Data → Typing → Editor → Editor
 after_sought_end d typing e =
     if is_replacing e.aim
-    then (if is_paste typing then e else after_asking_other d e)
+    then (if is_paste typing then e else after_asking_replacement d e)
     else if is_paste typing then with_paste (without_search e) else without_search e
 
 -- a typed character in a search
 abbrev pub after_sought_letter : Data → Typing → Editor → ℕ → Editor
 after_sought_letter d typing e c = if c == 0xA then after_sought_end d typing e else after_letter d e c
 
--- ---- the other text
+-- ---- the replacement
 
--- the most characters that it has: as many as the query has, by `LONGEST_QUERY` of the code
-abbrev pub longest_other : ℕ
-longest_other = 64
-
--- the other text was typed
-abbrev pub with_other : Editor → List ℕ → Editor
-with_other e other = record e { other = other; seek = WithTyped }
+-- the replacement was typed
+abbrev pub with_replacement : Editor → List ℕ → Editor
+with_replacement e other = record e { replacement = other; seek = WithTyped }
 
 -- the first offset, at or after `x`, at which the query stands
 abbrev pub next_match : Data → Editor → ℕ → Option ℕ
@@ -73,17 +68,17 @@ shown_at e (Some at) = record e { seek = Replacing; at = at }
 abbrev pub after_showing : Data → Editor → Editor
 after_showing d e = shown_at e (next_match d e e.place)
 
--- a typed character is added to the other text, unless it is no letter
-abbrev pub other_typed : Data → Editor → ℕ → Editor
-other_typed d e c = if is_no_letter d c then e else with_other e (lengthened longest_other (kept e.seek e.other) c)
+-- a typed character is added to the replacement, unless it is no letter
+abbrev pub replacement_typed : Data → Editor → ℕ → Editor
+replacement_typed d e c = if is_no_letter d c then e else with_replacement e (lengthened longest_query (kept e.seek e.replacement) c)
 
 -- a line end shows the match, but a pasted one does not
-abbrev pub after_other_letter : Data → Typing → Editor → ℕ → Editor
-after_other_letter d typing e c = if c == 0xA then (if is_paste typing then e else after_showing d e) else other_typed d e c
+abbrev pub after_replacement_letter : Data → Typing → Editor → ℕ → Editor
+after_replacement_letter d typing e c = if c == 0xA then (if is_paste typing then e else after_showing d e) else replacement_typed d e c
 
--- the other text loses its last character
-abbrev pub after_shorter_other : Editor → Editor
-after_shorter_other e = with_other e (shortened (kept e.seek e.other))
+-- the replacement loses its last character
+abbrev pub after_shorter_replacement : Editor → Editor
+after_shorter_replacement e = with_replacement e (shortened (kept e.seek e.replacement))
 
 -- ---- the match that is shown
 
@@ -93,7 +88,7 @@ match_stop d e = match_end d (reading e.aim) (sought d e) e.content.text e.at
 
 -- the part of the text in the other rendition (negative, or normal where that is negative): the units of the match while it is
 -- shown, else the region
-abbrev pub seen_in : Data → Editor → Seek → ℕ × ℕ
+abbrev pub seen_in : Data → Editor → SearchState → ℕ × ℕ
 seen_in d e Replacing = (e.place, match_stop d e)
 seen_in d e _ = region e
 
@@ -120,23 +115,12 @@ on_from d z e = at_match d e (next_match d e z)
 abbrev pub with_matches_replaced : Data → Editor → ℕ → List ℕ → ℕ → Editor
 with_matches_replaced d e stop new n = record (with_exchange d e e.at stop new) { origin = 0; count = e.count + n }
 
--- the match gives way to the other text, and the next one is sought behind that; without room a message is set instead
+-- the match gives way to the replacement, and the next one is sought behind that; without room a message is set instead
 abbrev pub after_replacing : Data → Editor → Editor
 after_replacing d e =
-    if fits e.content.text e.at (match_stop d e) e.other
-    then on_from d (e.at + length e.other) (with_matches_replaced d e (match_stop d e) e.other 1)
+    if fits e.content.text e.at (match_stop d e) e.replacement
+    then on_from d (e.at + length e.replacement) (with_matches_replaced d e (match_stop d e) e.replacement 1)
     else record e { message = Some TextFull }
-
--- the offset of a match of `text`, and its place
-abbrev pub placed_in : Data → Editor → List ℕ → Option ℕ → Option (ℕ × ℕ)
-placed_in d e text None = None
-placed_in d e text (Some at) = Some (at, place_at (rows_of d e text) at)
-
--- the next match behind `new`, and its place, in the text in which the bytes from this match to `stop` have given way to `new`
-abbrev pub next_behind : Data → Editor → ℕ → List ℕ → Option (ℕ × ℕ)
-next_behind d e stop new =
-    let text = splice e.content.text e.at stop new in
-    placed_in d e text (first_from d (reading e.aim) (sought d e) text (e.at + length new))
 
 -- a typed character: a line end replaces the match, but a pasted one does not; all others do nothing
 abbrev pub after_match_letter : Data → Typing → Editor → ℕ → Editor
@@ -157,7 +141,7 @@ abbrev pub after_replacing_all : Data → Editor → Editor
 after_replacing_all d e =
     let all = matches_on d e in
     let stop = last_stop e.at all in
-    let new = swapped e.at e.content.text e.other all in
+    let new = swapped e.at e.content.text e.replacement all in
     if fits e.content.text e.at stop new
     then after_ending (with_matches_replaced d e stop new (length all))
     else record e { message = Some TextFull }

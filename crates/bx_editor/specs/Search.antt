@@ -3,27 +3,27 @@
 use Rattle.std.specs.Prelude.{ℕ, ◌==◌, ◌||◌, nat_lt, Bool, List, [], ◌∷◌, length, find, chars}
 use Rattle.std.specs.Prelude.{Option, Some, None, unwrap_or, if◌then◌else◌}
 use Rattle.bx_ucd.specs.Data.{Data}
-use Rattle.bx_index.specs.Paragraphs.{is_separator}
-pub use Rattle.bx_asking.specs.Answers.{lengthened, shortened}
-use Rattle.bx_find.specs.declared.reading.Reading.{Reading}
-use Rattle.bx_find.specs.declared.reading.Reading.TheVariants.{Wide, Close}
+use Rattle.bx_text.specs.index.Paragraphs.{is_separator}
+pub use Rattle.bx_editor.specs.questions.Answers.{lengthened, shortened}
+use Rattle.bx_find.specs.declared.letters.Reading.{Reading}
+use Rattle.bx_find.specs.declared.letters.Reading.TheVariants.{Wide, Close}
 use Rattle.bx_find.specs.Letters.{letters}
 use Rattle.bx_find.specs.Matches.{first_from, last_before}
 use Rattle.bx_view.specs.Moves.{place_at}
 use Rattle.bx_view.specs.TextRows.{TextRow, places}
-use Rattle.bx_editor.specs.declared.aim.Aim.{Aim}
-use Rattle.bx_editor.specs.declared.aim.Aim.TheVariants as aims
+use Rattle.bx_editor.specs.declared.search_state.SearchPurpose.{SearchPurpose}
+use Rattle.bx_editor.specs.declared.search_state.SearchPurpose.TheVariants as aims
 use Rattle.bx_editor.specs.declared.matches.Landing.{Landing}
 use Rattle.bx_editor.specs.declared.message.Message.{Message}
 use Rattle.bx_editor.specs.declared.message.Message.TheVariants.{FromStart, FromEnd, NotFound}
-use Rattle.bx_editor.specs.declared.seek.Seek.{Seek}
-use Rattle.bx_editor.specs.declared.seek.Seek.TheVariants.{Off, Begun, Typed, WithBegun}
+use Rattle.bx_editor.specs.declared.search_state.SearchState.{SearchState}
+use Rattle.bx_editor.specs.declared.search_state.SearchState.TheVariants.{Off, Begun, Typed, WithBegun}
 use Rattle.bx_editor.specs.Editor.{Editor, rows, with_place}
 
 -- ---- the query
 
 -- letters are read widely to be found, and closely to be replaced
-abbrev pub reading : Aim → Reading
+abbrev pub reading : SearchPurpose → Reading
 reading aims.Find = Wide
 reading aims.Replace = Close
 
@@ -31,9 +31,9 @@ reading aims.Replace = Close
 abbrev pub sought : Data → Editor → List ℕ
 sought d e = letters d (reading e.aim) (chars e.query)
 
--- the query, or the other text, that a key lengthens or shortens: empty if it was just asked for, so that typing replaces the
+-- the query, or the replacement, that a key lengthens or shortens: empty if it was just asked for, so that typing replaces the
 -- latest one
-abbrev pub kept : Seek → List ℕ → List ℕ
+abbrev pub kept : SearchState → List ℕ → List ℕ
 kept Begun text = []
 kept WithBegun text = []
 kept _ text = text
@@ -92,7 +92,7 @@ search_back d e = landed e (backward d (reading e.aim) (rows d e) e.content.text
 -- ---- the keys, once the message is cleared
 
 -- a search begins at the place, with the query of the latest one
-abbrev pub after_beginning : Aim → Editor → Editor
+abbrev pub after_beginning : SearchPurpose → Editor → Editor
 after_beginning aim e = record e { seek = Begun; origin = e.place; aim = aim }
 
 -- the search ends, and the cursor stays

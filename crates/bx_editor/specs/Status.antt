@@ -1,28 +1,41 @@
 -- The status row: whether there are unsaved changes, the cursor's position, a message, and the prompt of a search or of a
 -- question. `d` is Unicode's data, `e` the editor.
-use Rattle.std.specs.Prelude.{ℕ, ◌+◌, nat_le, Bool, List, [], ◌++◌, Option, Some, None, codes, decimal, if◌then◌else◌}
-use Rattle.bx_terms.specs.declared.base.Base.TheVariants.{Auto, Ltr, Rtl}
+use Rattle.std.specs.Prelude.{ℕ, ◌+◌, nat_le, Bool, List, [], ◌++◌, Option, Some, None, codes, decimal, if◌then◌else◌, ◌==◌, length, chars}
+use Rattle.std.specs.Prelude.{slice_range}
+use Rattle.bx_common.specs.declared.base.Base.TheVariants.{Auto, Ltr, Rtl}
 use Rattle.bx_keys.specs.declared.notice.Notice as told
 use Rattle.bx_keys.specs.declared.notice.Notice.TheVariants as notices
 use Rattle.bx_store.specs.declared.cause.SaveCause.{SaveCause}
-use Rattle.bx_store.specs.Causes.{cause_text}
+use Rattle.bx_store.specs.Faults.{cause_text}
 pub use Rattle.bx_view.specs.Numbers.{paragraph_number, unit_number}
+use Rattle.bx_view.specs.Moves.{step_logical}
+use Rattle.bx_view.specs.declared.moves.Logical.TheVariants.{Forward}
 use Rattle.bx_grid.specs.Columns.{Col}
 use Rattle.bx_rows.specs.RowPicture.{Glyph}
-pub use Rattle.bx_document.specs.QueryRow.{glyph_row, letter_glyphs, query_glyphs, typed_glyphs}
-use Rattle.bx_editor.specs.declared.aim.Aim.{Aim}
-use Rattle.bx_editor.specs.declared.aim.Aim.TheVariants.{Find, Replace}
+pub use Rattle.bx_rows.specs.RowPicture.{letter_glyphs}
+pub use Rattle.bx_document.specs.Drawing.{glyph_row, query_glyphs, typed_glyphs}
+use Rattle.bx_document.specs.PlaceLevel.{place_level}
+use Rattle.bx_editor.specs.declared.search_state.SearchPurpose.{SearchPurpose}
+use Rattle.bx_editor.specs.declared.search_state.SearchPurpose.TheVariants.{Find, Replace}
 use Rattle.bx_editor.specs.declared.message.Message.{Message}
 use Rattle.bx_editor.specs.declared.message.Message.TheVariants.{Saved, SaveFailed, TextFull, NothingToUndo, NothingToRedo, Unsaved, Direction, MarkSet, MarkOff}
 use Rattle.bx_editor.specs.declared.message.Message.TheVariants.{Copied, LineCopied, NothingToCopy, NothingToPut, FromStart, FromEnd, NotFound, Help}
 use Rattle.bx_editor.specs.declared.message.Message.TheVariants.{MoreHelp, MoreThanOneLine, NoSuchCharacter, Pasting, Replaced, Told, TooLongForClipboard, Notice}
-use Rattle.bx_editor.specs.declared.seek.Seek.{Seek}
-use Rattle.bx_editor.specs.declared.seek.Seek.TheVariants.{Off, Begun, Typed, WithBegun, WithTyped, Replacing}
+use Rattle.bx_editor.specs.declared.search_state.SearchState.{SearchState}
+use Rattle.bx_editor.specs.declared.search_state.SearchState.TheVariants.{Off, Begun, Typed, WithBegun, WithTyped, Replacing}
 use Rattle.bx_ucd.specs.Data.{Data}
-use Rattle.bx_asking.specs.declared.question.Ask.{Ask}
-use Rattle.bx_asking.specs.declared.question.Ask.TheVariants as asks
-use Rattle.bx_editor.specs.Editor.{Editor}
-use Rattle.bx_editor.specs.Telling.{told_at_place}
+use Rattle.bx_editor.specs.declared.questions.answers.Prompt.{Prompt}
+use Rattle.bx_editor.specs.declared.questions.answers.Prompt.TheVariants as asks
+use Rattle.bx_editor.specs.questions.Told.{told_text}
+use Rattle.bx_editor.specs.Editor.{Editor, rows}
+
+-- the characters of the unit at the place with their classes, and its level; the text's end is told in words
+abbrev pub told_at_place : Data → Editor → List ℕ
+told_at_place d e =
+    if e.place == length e.content.text
+    then codes "end of text"
+    else
+    told_text d (chars (slice_range e.content.text e.place (step_logical (rows d e) Forward e.place))) (place_level d e.base e.content.text e.place)
 
 -- a failed save: the message has a colon and the cause, if the store tells one
 abbrev pub failed_text : Option SaveCause → List ℕ
@@ -93,12 +106,12 @@ status_text d e =
     status_line e.changed (paragraph_number d e.content.text e.place + 1) (unit_number d e.content.text e.place)
     ++ message_part (told_at_place d e) e.message
 
--- the prompt of a search: before the query, before the other text, or for the match that is shown
-abbrev pub query_prompt : Aim → List ℕ
+-- the prompt of a search: before the query, before the replacement, or for the match that is shown
+abbrev pub query_prompt : SearchPurpose → List ℕ
 query_prompt Find = codes " find: "
 query_prompt Replace = codes " replace: "
 
-abbrev pub search_prompt : Aim → Seek → List ℕ
+abbrev pub search_prompt : SearchPurpose → SearchState → List ℕ
 search_prompt aim Off = []
 search_prompt aim Begun = query_prompt aim
 search_prompt aim Typed = query_prompt aim
@@ -106,25 +119,24 @@ search_prompt aim WithBegun = codes " with: "
 search_prompt aim WithTyped = codes " with: "
 search_prompt aim Replacing = codes " Enter replace ^W next F4 all ^C end"
 
--- behind a search's prompt the query or the other text
-abbrev pub search_glyphs : Data → List ℕ → List ℕ → Seek → List Glyph
-search_glyphs d query other Off = []
+-- behind a search's prompt the query or the replacement
+abbrev pub search_glyphs : Data → List ℕ → List ℕ → SearchState → List Glyph
 search_glyphs d query other Begun = query_glyphs d query
 search_glyphs d query other Typed = query_glyphs d query
 search_glyphs d query other WithBegun = query_glyphs d other
 search_glyphs d query other WithTyped = query_glyphs d other
-search_glyphs d query other Replacing = []
+search_glyphs d query other _ = []
 
 -- the prompt of a question
-abbrev pub prompt_text : Ask → List ℕ
+abbrev pub prompt_text : Prompt → List ℕ
 prompt_text asks.Off = []
 prompt_text asks.Line = codes " line: "
 prompt_text asks.Name = codes " insert: "
 prompt_text asks.Code = codes " insert: U+"
 
 -- a question has its prompt and the answer as it was typed; without a question the search has its prompt and its text
-abbrev pub prompt_glyphs : Data → Editor → Ask → List Glyph
-prompt_glyphs d e asks.Off = letter_glyphs (search_prompt e.aim e.seek) ++ search_glyphs d e.query e.other e.seek
+abbrev pub prompt_glyphs : Data → Editor → Prompt → List Glyph
+prompt_glyphs d e asks.Off = letter_glyphs (search_prompt e.aim e.seek) ++ search_glyphs d e.query e.replacement e.seek
 prompt_glyphs d e ask = letter_glyphs (prompt_text ask) ++ typed_glyphs e.answer
 
 -- the glyphs of an editor's status row from left to right

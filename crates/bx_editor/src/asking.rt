@@ -1,10 +1,9 @@
 //! The keys that ask, and what answers a question: a line, and a character by name or by code.
 ghost use Rattle.std.specs.Prelude.{◌≡◌, IfOk, OnErr, OnOk};
 ghost use Rattle.bx_view.specs.Places.{IsTextPlace};
-ghost use Rattle.bx_asking.specs.Answers.{lengthened};
-ghost use Rattle.bx_asking.specs.Codes.{coded};
-ghost use Rattle.bx_asking.specs.Names.{closing, named};
-ghost use Rattle.bx_document.specs.QueryRow.{IsNarrow};
+ghost use Rattle.bx_editor.specs.questions.Answers.{lengthened};
+ghost use Rattle.bx_editor.specs.questions.Names.{closing, coded, named};
+ghost use Rattle.bx_document.specs.Narrow.{IsNarrow};
 ghost use Rattle.bx_editor.specs.Answers.{limit_of};
 ghost use Rattle.bx_editor.specs.Asking.{after_answer_letter, after_code, after_code_letter, after_going, after_line_letter, after_name_letter};
 ghost use Rattle.bx_editor.specs.Asking.{after_named, after_shorter_answer, asking, target_place, with_answer, with_character, without_ask};
@@ -14,41 +13,41 @@ ghost use Rattle.bx_editor.specs.Putting.{only_paste};
 use crate::editor::Editor;
 use crate::message::Message;
 use crate::putting::{is_paste, only_paste};
-use bx_asking::{
-    Ask, Target, asked, asks_code, closing, coded, is_code_letter, is_line_letter, lengthened,
+use crate::questions::{
+    Prompt, Target, asked, asks_code, closing, coded, is_code_letter, is_line_letter, lengthened,
     named, shortened,
 };
-use bx_runs::Kind;
-use bx_terms::OutOfMemory;
+use crate::undo_groups::Kind;
+use bx_common::OutOfMemory;
 use bx_ucd::BidiData;
 
-/// The most characters of the answer to a question: `longest_line` and `longest_code` of specs/Asking.antt, where their reasons are.
-/// A name has none, since its one letter answers; without a question the answer is the latest one.
-fn limit_of(ask: Ask) -> usize
+/// The most characters of the answer to a question: `longest_line` and `longest_code` of specs/Asking.antt, where their reasons
+/// are. A name has none, since its one letter answers; without a question the answer is the latest one.
+fn limit_of(ask: Prompt) -> usize
     ensures { result ≡ limit_of ask }
 {
     match ask {
-        Ask::Off | Ask::Line => 16,
-        Ask::Name => 0,
-        Ask::Code => 6,
+        Prompt::Off | Prompt::Line => 16,
+        Prompt::Name => 0,
+        Prompt::Code => 6,
     }
 }
 
 impl<D: BidiData + Drop> Editor<D> {
     /// Asks, with an empty answer. Allocates nothing.
-    pub(crate) fn begin_question(&mut self, ask: Ask)
+    pub(crate) fn begin_question(&mut self, ask: Prompt)
         ensures { self.new ≡ record self.old { editor = asking (cleared self.old.editor) ask } }
     {
         self.ask = ask;
         self.answer = String::new(*self.answer.allocator());
-        self.clear();
+        self.reset_after_key();
     }
 
     /// Ends the question, if there is one. Allocates nothing.
     pub(crate) fn leave_question(&mut self)
         ensures { self.new ≡ record self.old { editor = without_ask self.old.editor } }
     {
-        self.ask = Ask::Off;
+        self.ask = Prompt::Off;
     }
 
     /// Appends a character to the answer, unless it has as many as it may.
@@ -62,7 +61,7 @@ impl<D: BidiData + Drop> Editor<D> {
         let limit = limit_of(self.ask);
         let answer = lengthened(*self.answer.allocator(), self.answer.as_str(), c, limit)?;
         self.answer = answer;
-        self.clear();
+        self.reset_after_key();
         Ok(())
     }
 
@@ -83,7 +82,7 @@ impl<D: BidiData + Drop> Editor<D> {
         ensures err { OnErr result (self.new ≡ self.old) }
     {
         match asked(self.answer.as_str()) {
-            None => self.clear(),
+            None => self.reset_after_key(),
             Some(target) => {
                 let place = self.place_of(target)?;
                 self.set_place(place);
@@ -95,7 +94,7 @@ impl<D: BidiData + Drop> Editor<D> {
 
     /// Takes a character of the answer to the question for a line; a paste's line end answers nothing.
     fn answer_line(&mut self, c: char) -> Result<(), OutOfMemory>
-        requires ask { self.old.editor.ask ≡ Ask.Line }
+        requires ask { self.old.editor.ask ≡ Prompt.Line }
         ensures ok { OnOk result (self.new ≡ record self.old {
           editor = with_typing (after_line_letter (D.data self.old.tables) self.old.editor.typing (cleared self.old.editor) c)
               (only_paste self.old.editor.typing);
@@ -108,13 +107,13 @@ impl<D: BidiData + Drop> Editor<D> {
         } else if is_line_letter(c) {
             self.lengthen(c)?;
         } else {
-            self.clear();
+            self.reset_after_key();
         }
         self.typing = only_paste(typing);
         Ok(())
     }
 
-    /// Puts a character in at the place, as the beginning of a run; a selection's text stays.
+    /// Puts a character in at the place, as the beginning of an undo group; a selection's text stays.
     fn put_character(&mut self, c: char) -> Result<(), OutOfMemory>
         ensures ok { OnOk result (self.new ≡ record self.old {
           editor = with_character (D.data self.old.tables) (cleared self.old.editor) c;
@@ -126,7 +125,7 @@ impl<D: BidiData + Drop> Editor<D> {
         let new = c.encode_utf8(&mut buffer);
         let kind = Kind::of(self.document.class(c));
         let room = self.insert_text(new, false)?;
-        self.clear();
+        self.reset_after_key();
         if room {
             self.typing = kind.typing();
         } else {
@@ -151,7 +150,7 @@ impl<D: BidiData + Drop> Editor<D> {
 
     /// Takes a letter that names a character.
     fn answer_name(&mut self, letter: char) -> Result<(), OutOfMemory>
-        requires ask { self.old.editor.ask ≡ Ask.Name }
+        requires ask { self.old.editor.ask ≡ Prompt.Name }
         ensures ok { OnOk result (self.new ≡ record self.old {
           editor = after_name_letter (D.data self.old.tables) (cleared self.old.editor) letter (named letter);
         }) }
@@ -162,9 +161,9 @@ impl<D: BidiData + Drop> Editor<D> {
             self.leave_question();
             return Ok(());
         }
-        self.clear();
+        self.reset_after_key();
         if asks_code(letter) {
-            self.ask = Ask::Code;
+            self.ask = Prompt::Code;
         } else if letter == '\n' {
             self.leave_question();
         }
@@ -189,7 +188,7 @@ impl<D: BidiData + Drop> Editor<D> {
 
     /// Takes a digit of a code, or LF, which ends it.
     fn answer_code(&mut self, letter: char) -> Result<(), OutOfMemory>
-        requires ask { self.old.editor.ask ≡ Ask.Code }
+        requires ask { self.old.editor.ask ≡ Prompt.Code }
         ensures ok { OnOk result (self.new ≡ record self.old {
           editor = after_code_letter (D.data self.old.tables) (cleared self.old.editor) letter;
         }) }
@@ -203,7 +202,7 @@ impl<D: BidiData + Drop> Editor<D> {
         if is_code_letter(letter) {
             return self.lengthen(letter);
         }
-        self.clear();
+        self.reset_after_key();
         Ok(())
     }
 
@@ -215,17 +214,17 @@ impl<D: BidiData + Drop> Editor<D> {
         ensures err { OnErr result (self.new ≡ self.old) }
     {
         match self.ask {
-            Ask::Off => {
-                self.clear();
+            Prompt::Off => {
+                self.reset_after_key();
                 Ok(())
             }
-            Ask::Line => self.answer_line(c),
-            Ask::Name | Ask::Code if is_paste(self.typing) => {
-                self.rest();
+            Prompt::Line => self.answer_line(c),
+            Prompt::Name | Prompt::Code if is_paste(self.typing) => {
+                self.clear_message();
                 Ok(())
             }
-            Ask::Name => self.answer_name(c),
-            Ask::Code => self.answer_code(c),
+            Prompt::Name => self.answer_name(c),
+            Prompt::Code => self.answer_code(c),
         }
     }
 
@@ -237,14 +236,14 @@ impl<D: BidiData + Drop> Editor<D> {
         ensures err { OnErr result (self.new ≡ self.old) }
     {
         match self.ask {
-            Ask::Off | Ask::Name => {}
-            Ask::Code if self.answer.is_empty() => self.ask = Ask::Name,
-            Ask::Line | Ask::Code => {
+            Prompt::Off | Prompt::Name => {}
+            Prompt::Code if self.answer.is_empty() => self.ask = Prompt::Name,
+            Prompt::Line | Prompt::Code => {
                 let answer = shortened(*self.answer.allocator(), self.answer.as_str())?;
                 self.answer = answer;
             }
         }
-        self.clear();
+        self.reset_after_key();
         Ok(())
     }
 }

@@ -1,6 +1,6 @@
 //! What goes out to a clipboard.
 ghost use Rattle.std.specs.Prelude.{◌≡◌, None, Some, MatchOption};
-ghost use Rattle.bx_editor.specs.Clipboard.{clip_of, is_clip, tells_copy};
+ghost use Rattle.bx_editor.specs.Region.{clip_of, is_clip, tells_copy};
 ghost use Rattle.bx_editor.specs.Editor.{with_clipboard};
 
 use crate::editor::Editor;

@@ -1,29 +1,28 @@
-//! The editor.
+//! The editor's state, which each key changes, and the calls that read it and set the window's size and its first row.
 ghost use Rattle.std.specs.Prelude.{◌≡◌, ℕ, List, true, None};
 ghost use Rattle.std.specs.Borrow.{Bor};
 ghost use Rattle.std.specs.Iterator.{Drains};
-ghost use Rattle.bx_terms.specs.Sizes.{is_side};
+ghost use Rattle.bx_common.specs.Characters.{is_side};
 ghost use Rattle.bx_text.specs.Slices.{joined, lends};
 ghost use Rattle.bx_grid.specs.Picture.{is_size};
 ghost use Rattle.bx_editor.specs.Editor.{with_size, with_top};
 ghost use Rattle.bx_editor.specs.Search.{without_search};
 
-use crate::aim::Aim;
-use crate::cursor::Cursor;
+use crate::cursor::{Cursor, Soft};
 use crate::message::Message;
 use crate::past::Past;
-use crate::seek::Seek;
-use crate::soft::Soft;
-use bx_asking::Ask;
+use crate::questions::Prompt;
+use crate::search_state::{SearchPurpose, SearchState};
+use crate::undo_groups::Typing;
 use bx_document::Document;
-use bx_runs::Typing;
 use bx_text::Slices;
 use bx_ucd::BidiData;
 use std::marker::Model;
 
 /// A text under edit, the cursor's place in it, the mark, the text copied or cut last, the query of a search, and the message
 /// of the last key, in a window of rows and columns. `specs/Editor.antt` says what each field means and counts; `view` says which
-/// of its fields are in `document`, `cursor` and `past`. 64: `LONGEST_QUERY`.
+/// of its fields are in `document`, `cursor` and `past`. `invariant` says what holds of them between any two calls: whoever sets a field
+/// has to keep it. 64: `LONGEST_QUERY`.
 #[derive(Drop)]
 pub struct Editor<D: BidiData + Drop> {
     pub(crate) document: Document<D>,
@@ -31,12 +30,12 @@ pub struct Editor<D: BidiData + Drop> {
     pub(crate) past: Past,
     pub(crate) held: String,
     pub(crate) query: String,
-    pub(crate) aim: Aim,
+    pub(crate) aim: SearchPurpose,
     pub(crate) origin: usize,
-    pub(crate) other: String,
+    pub(crate) replacement: String,
     pub(crate) at: usize,
     pub(crate) count: usize,
-    pub(crate) ask: Ask,
+    pub(crate) ask: Prompt,
     pub(crate) answer: String,
     pub(crate) pasted: Option<String>,
     pub(crate) typing: Typing,
@@ -51,10 +50,10 @@ pub struct Editor<D: BidiData + Drop> {
 
 impl<D: BidiData + Drop> Model for Editor<D> {
     ghost use Rattle.std.specs.Prelude.{◌≡◌, ◌≤◌, true, IfSome, chars, length, option_map, string_bytes};
-    ghost use Rattle.bx_terms.specs.Sizes.{is_side};
+    ghost use Rattle.bx_common.specs.Characters.{is_side};
     ghost use Rattle.bx_view.specs.Places.{IsTextPlace};
     ghost use Rattle.bx_editor.specs.Answers.{IsAnswer};
-    ghost use Rattle.bx_editor.specs.Editor.{EditorState};
+    ghost use Rattle.bx_editor.specs.Functions.{EditorState};
     ghost use Rattle.bx_editor.specs.Origin.{BeganAt, StandsAt};
 
     ghost Value = { EditorState D };
@@ -71,13 +70,13 @@ impl<D: BidiData + Drop> Model for Editor<D> {
         seek = e.cursor.seek;
         aim = e.aim;
         origin = e.origin;
-        other = string_bytes e.other;
+        replacement = string_bytes e.replacement;
         at = e.at;
         count = e.count;
         ask = e.ask;
         answer = string_bytes e.answer;
         pasted = option_map string_bytes e.pasted;
-        runs = e.past.runs.numbers;
+        undo_groups = e.past.undo_groups.numbers;
         typing = e.typing;
         stored = e.past.stored;
         changed = e.past.changed;
@@ -97,7 +96,7 @@ impl<D: BidiData + Drop> Model for Editor<D> {
         × (is_side e.height ≡ true)
         × IfSome e.cursor.mark (IsTextPlace (D.data e.document.tables) e.document.document.content.text)
         × (length (chars (string_bytes e.query)) ≤ 64)
-        × (length (chars (string_bytes e.other)) ≤ 64)
+        × (length (chars (string_bytes e.replacement)) ≤ 64)
         × IsAnswer e.ask (string_bytes e.answer)
         × BeganAt (D.data e.document.tables) e.document.document.content.text e.cursor.seek e.origin
         × StandsAt (D.data e.document.tables) e.aim (string_bytes e.query) e.document.document.content.text e.cursor.seek e.at e.count };
@@ -165,28 +164,28 @@ impl<D: BidiData + Drop> Editor<D> {
     }
 
     /// The text that replaces matches. Allocates nothing.
-    pub fn other(&self) -> &str
-        ensures { result.now ≡ self.now.editor.other }
+    pub fn replacement(&self) -> &str
+        ensures { result.now ≡ self.now.editor.replacement }
     {
-        self.other.as_str()
+        self.replacement.as_str()
     }
 
     /// How far the search is. Allocates nothing.
-    pub fn seek(&self) -> Seek
+    pub fn seek(&self) -> SearchState
         ensures { result ≡ self.now.editor.seek }
     {
         self.cursor.seek
     }
 
     /// What the search, or the latest one, is for. Allocates nothing.
-    pub fn aim(&self) -> Aim
+    pub fn aim(&self) -> SearchPurpose
         ensures { result ≡ self.now.editor.aim }
     {
         self.aim
     }
 
     /// What the user is asked. Allocates nothing.
-    pub fn ask(&self) -> Ask
+    pub fn ask(&self) -> Prompt
         ensures { result ≡ self.now.editor.ask }
     {
         self.ask
@@ -233,6 +232,6 @@ impl<D: BidiData + Drop> Editor<D> {
     pub(crate) fn leave_search(&mut self)
         ensures { self.new ≡ record self.old { editor = without_search self.old.editor } }
     {
-        self.cursor.seek = Seek::Off;
+        self.cursor.seek = SearchState::Off;
     }
 }

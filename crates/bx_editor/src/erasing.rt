@@ -1,21 +1,23 @@
 //! The keys that remove a unit, a word or a point, or the selection.
 ghost use Rattle.std.specs.Prelude.{◌≡◌, true, false, IfOk, OnErr, OnOk};
-ghost use Rattle.bx_text.specs.Edits.{IsRange};
-ghost use Rattle.bx_view.specs.Moves.{moved, step_logical};
+ghost use Rattle.bx_text.specs.Changes.{IsRange};
+ghost use Rattle.bx_view.specs.Moves.{step_logical};
+ghost use Rattle.bx_view.specs.Moved.{moved};
 ghost use Rattle.bx_view.specs.Words.{step_word};
 ghost use Rattle.bx_editor.specs.Editor.{cleared, rows, with_removal};
-ghost use Rattle.bx_editor.specs.Erasing.{after_erasing, after_erasing_word, after_removing, goes_back, goes_on, point_before, removed_on};
+ghost use Rattle.bx_editor.specs.Erasing.{after_erasing, after_erasing_word, after_removing, point_before, removed_on};
+ghost use Rattle.bx_editor.specs.Functions.{goes_back, goes_on};
 ghost use Rattle.bx_editor.specs.Region.{region};
-ghost use Rattle.bx_runs.specs.declared.typing.Removal.{Removal};
+ghost use Rattle.bx_editor.specs.declared.undo_groups.typing.Removal.{Removal};
 
 use crate::editor::Editor;
-use bx_runs::Removal;
-use bx_terms::OutOfMemory;
+use crate::undo_groups::Removal;
+use bx_common::OutOfMemory;
 use bx_ucd::BidiData;
 use bx_view::{Logical, Move};
 
 impl<D: BidiData + Drop> Editor<D> {
-    /// Removes the bytes from `start` to `stop`, as an edit that goes on with the run before or begins one.
+    /// Removes the bytes from `start` to `stop`, as an edit that goes on with the undo group before or begins one.
     pub(crate) fn remove(
         &mut self,
         start: usize,
@@ -28,12 +30,12 @@ impl<D: BidiData + Drop> Editor<D> {
         }) }
         ensures err { OnErr result (self.new ≡ self.old) }
     {
-        self.past.runs.reserve()?;
+        self.past.undo_groups.reserve()?;
         let n = self.document.past_len();
         let place = self.document.remove(start, stop, self.cursor.place)?;
         self.past.edited(n, goes_on);
-        self.cursor.settle(place);
-        self.clear();
+        self.cursor.move_after_edit(place);
+        self.reset_after_key();
         Ok(())
     }
 
@@ -47,7 +49,7 @@ impl<D: BidiData + Drop> Editor<D> {
         ensures err { OnErr result (self.new ≡ self.old) }
     {
         if start == stop {
-            self.clear();
+            self.reset_after_key();
             return Ok(());
         }
         let goes_on = self.typing.goes_on_removing(how);
@@ -65,7 +67,7 @@ impl<D: BidiData + Drop> Editor<D> {
         ensures err { OnErr result (self.new ≡ self.old) }
     {
         if start == stop {
-            self.clear();
+            self.reset_after_key();
             return Ok(());
         }
         self.remove(start, stop, false)
@@ -90,6 +92,7 @@ impl<D: BidiData + Drop> Editor<D> {
             (rows (D.data self.old.tables) self.old.editor) back self.old.editor.place) }
         ensures range { IfOk result (λ p. IsRange self.old.editor.content.text p self.old.editor.place) }
     {
+        // The proof compares the place, so it has a name.
         let place = self.document.moved(back, self.cursor.place)?;
         Ok(place)
     }
@@ -102,6 +105,7 @@ impl<D: BidiData + Drop> Editor<D> {
             (rows (D.data self.old.tables) self.old.editor) on self.old.editor.place) }
         ensures range { IfOk result (λ p. IsRange self.old.editor.content.text self.old.editor.place p) }
     {
+        // The proof compares the place, so it has a name.
         let place = self.document.moved(on, self.cursor.place)?;
         Ok(place)
     }

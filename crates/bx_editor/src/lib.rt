@@ -1,43 +1,49 @@
 //! The editor: a text, the cursor's place, the effect of keys on them, and the picture of the window.
 #![tactic(auto)]
 
-pub mod aim;
 mod asking;
 mod clipboard;
 mod cursor;
 mod editor;
 mod erasing;
-mod error;
 mod keys;
 mod laws;
 mod matches;
 pub mod message;
 mod moving;
 mod opening;
-mod other;
 mod past;
 mod pasting;
 mod picture;
 mod pointing;
 mod putting;
 mod query;
+mod questions;
 mod region;
+mod replacement;
 mod replacing;
 mod replay;
 mod search_keys;
+pub mod search_state;
 mod searching;
-pub mod seek;
 mod selecting;
-pub mod soft;
 mod status;
 mod telling;
+mod undo_groups;
 mod undoing;
 mod wrapping;
 
-pub use aim::Aim;
+pub use cursor::Soft;
 pub use editor::Editor;
-pub use error::OpenError;
 pub use laws::{copies_go_out, paste_is_one_edit, paste_is_unseen};
 pub use message::Message;
-pub use seek::Seek;
-pub use soft::Soft;
+pub use opening::OpenError;
+pub use questions::{
+    Prompt, Target, asked, asks_code, closing, coded, is_code_letter, is_line_letter, lengthened,
+    named, shortened, told_is_printable, write_told,
+};
+pub use search_state::{SearchPurpose, SearchState};
+pub use undo_groups::{
+    Kind, Removal, Typing, UndoGroups, begin_where_edits_begin, edit_is_of_its_run,
+    redo_ends_with_a_run, undo_ends_with_a_run, undo_then_redo,
+};

@@ -7,9 +7,9 @@ ghost use Rattle.bx_document.specs.Document.{rows};
 ghost use Rattle.bx_editor.specs.Search.{backward, forward, match_or, not_found};
 
 use crate::message::Message;
+use bx_common::OutOfMemory;
 use bx_document::Document;
 use bx_find::{Query, Reading};
-use bx_terms::OutOfMemory;
 use bx_ucd::BidiData;
 
 /// Where a search leads.

@@ -1,15 +1,16 @@
 //! The keys that move the cursor, and the call that moves it to an offset.
 ghost use Rattle.std.specs.Prelude.{◌≡◌, IfOk, OnErr, OnOk};
-ghost use Rattle.bx_view.specs.Moves.{moved, place_from};
+ghost use Rattle.bx_view.specs.Moves.{place_from};
+ghost use Rattle.bx_view.specs.Moved.{moved};
 ghost use Rattle.bx_view.specs.Places.{IsTextPlace};
 ghost use Rattle.bx_editor.specs.Editor.{rows, text_height, with_place, cleared};
-ghost use Rattle.bx_editor.specs.Goal.{after_row_move, goal_behind, goal_column};
-ghost use Rattle.bx_editor.specs.Selecting.{unselected};
+ghost use Rattle.bx_editor.specs.Effects.{after_row_move, goal_behind, goal_column};
+ghost use Rattle.bx_editor.specs.Region.{unselected};
 
 use crate::editor::Editor;
 use crate::picture::text_height;
+use bx_common::OutOfMemory;
 use bx_keys::Key;
-use bx_terms::OutOfMemory;
 use bx_ucd::BidiData;
 use bx_view::{Move, Vertical};
 
@@ -31,7 +32,7 @@ impl<D: BidiData + Drop> Editor<D> {
         ensures { self.new ≡ record self.old { editor = with_place (cleared self.old.editor) place } }
     {
         self.cursor.place = place;
-        self.clear();
+        self.reset_after_key();
     }
 
     /// Moves the cursor to the first place at or after an offset, in bytes from 0, or to the text's end for an offset past

@@ -1,23 +1,37 @@
-//! Opening a file.
+//! Opening a file, and why it is refused.
 ghost use Rattle.std.specs.Prelude.{◌≡◌, ◌<◌, ◌≤◌, true, IfErr, IfOk, IsUtf8, OnOk, length, string_bytes};
-ghost use Rattle.bx_terms.specs.Sizes.{largest_text};
+ghost use Rattle.bx_common.specs.Characters.{largest_text};
 ghost use Rattle.bx_grid.specs.Picture.{is_size};
-ghost use Rattle.bx_editor.specs.Editor.{at_start};
-ghost use Rattle.bx_editor.specs.Opening.{Causes, IsLongestUtf8};
+ghost use Rattle.bx_editor.specs.Editor.{Causes, IsLongestUtf8, at_start};
 
-use crate::aim::Aim;
-use crate::cursor::Cursor;
+use crate::cursor::{Cursor, Soft};
 use crate::editor::Editor;
-use crate::error::OpenError;
 use crate::past::Past;
-use crate::seek::Seek;
-use crate::soft::Soft;
-use bx_asking::Ask;
+use crate::questions::Prompt;
+use crate::search_state::{SearchPurpose, SearchState};
+use crate::undo_groups::{Typing, UndoGroups};
+use bx_common::{Base, LARGEST_TEXT, is_side};
 use bx_document::Document;
-use bx_runs::{Runs, Typing};
-use bx_terms::{Base, LARGEST_TEXT, is_side};
 use bx_ucd::BidiData;
 use simdutf8::compat::from_utf8;
+use thiserror::Error;
+
+/// Why a file was not opened.
+#[derive(Clone, Copy, Debug, Error)]
+pub enum OpenError {
+    /// The file has more than 16,777,216 bytes.
+    #[error("file too long")]
+    TooLong,
+    /// The file is not UTF-8: its longest UTF-8 prefix has this many bytes.
+    #[error("not UTF-8 at byte {0}")]
+    NotUtf8(usize),
+    /// A side of the window is not from 1 to 500.
+    #[error("a side is not from 1 to 500")]
+    SizeOutOfRange,
+    /// Memory ran out.
+    #[error("out of memory")]
+    OutOfMemory,
+}
 
 /// Converts bytes to a text without copying them. The error is the length of their longest UTF-8 prefix.
 fn text_of(bytes: Vec<u8>) -> Result<String, usize>
@@ -69,21 +83,21 @@ impl<D: BidiData + Drop> Editor<D> {
                     place: 0,
                     mark: None,
                     soft: Soft::Off,
-                    seek: Seek::Off,
+                    seek: SearchState::Off,
                 },
                 past: Past {
-                    runs: Runs::new(alloc),
+                    undo_groups: UndoGroups::new(alloc),
                     stored: Some(0),
                     changed: false,
                 },
                 held: String::new(alloc),
                 query: String::new(alloc),
-                aim: Aim::Find,
+                aim: SearchPurpose::Find,
                 origin: 0,
-                other: String::new(alloc),
+                replacement: String::new(alloc),
                 at: 0,
                 count: 0,
-                ask: Ask::Off,
+                ask: Prompt::Off,
                 answer: String::new(alloc),
                 pasted: None,
                 typing: Typing::Off,

@@ -1,19 +1,19 @@
 //! A paste: what stands between PasteStart and PasteEnd goes into the text at once.
-ghost use Rattle.std.specs.Prelude.{◌≡◌, None, false, is_some, option_map, string_bytes, IsOk, OnErr, OnOk};
-ghost use Rattle.bx_editor.specs.Pasting.{after_paste_end, after_paste_start, after_pasted_letter, has_changes, has_pasted, longer};
-ghost use Rattle.bx_editor.specs.Pasting.{paste_begun, paste_ended, pasted_with, pastes_crlf, with_paste, with_pasted};
-ghost use Rattle.bx_editor.specs.Keys.{after_user, is_of_paste, is_save, is_told_key, needs_no_painting};
-ghost use Rattle.bx_editor.specs.Pasting.{as_before, without_paste};
+ghost use Rattle.std.specs.Prelude.{◌≡◌, None, is_some, option_map, string_bytes, IsOk, OnErr, OnOk};
+ghost use Rattle.bx_editor.specs.Putting.{after_paste_end, after_paste_start, after_pasted_letter, longer, paste_begun, paste_ended, pasted_with, pastes_crlf, with_paste, with_pasted, without_paste};
+ghost use Rattle.bx_editor.specs.Functions.{as_before, has_changes, has_pasted};
+ghost use Rattle.bx_editor.specs.Keys.{after_user, is_of_paste, needs_no_painting};
 
 use crate::editor::Editor;
 use crate::message::Message;
 use crate::past::Past;
-use crate::seek::Seek;
+use crate::questions::Prompt;
+use crate::search_state::SearchState;
 use crate::selecting::aged;
-use bx_asking::Ask;
+use crate::undo_groups::Typing;
+use bx_common::{LARGEST_TEXT, OutOfMemory};
 use bx_keys::Key;
-use bx_runs::Typing;
-use bx_terms::{LARGEST_TEXT, OutOfMemory};
+use bx_store::StoreFault;
 use bx_ucd::BidiData;
 
 /// Appends a character to what a paste has brought, or CR LF in its place. A list that is longer than any text stays as it is.
@@ -100,7 +100,7 @@ impl<D: BidiData + Drop> Editor<D> {
         ensures { self.new ≡ record self.old { editor = paste_begun self.old.editor.ask self.old.editor.seek self.old.editor.pasted self.old.editor } }
     {
         match (self.ask, self.cursor.seek, &self.pasted) {
-            (Ask::Off, Seek::Off, None) => self.begin_paste(),
+            (Prompt::Off, SearchState::Off, None) => self.begin_paste(),
             _ => {}
         }
     }
@@ -198,39 +198,44 @@ impl<D: BidiData + Drop> Editor<D> {
     /// Puts in what a paste has brought, and applies a key with its usual effect.
     ///
     /// Errors: `OutOfMemory`. The key has changed nothing, but the text may have what was put in.
-    fn put_and_press(&mut self, list: &str, key: Key) -> Result<(), OutOfMemory>
-        requires no_save { is_save key ≡ false }
-        requires typed { is_told_key key ≡ false }
-        ensures ok { OnOk result (self.new.editor ≡ after_user (D.data self.old.tables) None (with_pasted (D.data self.old.tables) self.old.editor list.now) key) }
+    fn put_and_press(
+        &mut self,
+        list: &str,
+        key: Key,
+        fault: Option<StoreFault>,
+    ) -> Result<(), OutOfMemory>
+        ensures ok { OnOk result (self.new.editor ≡ after_user (D.data self.old.tables) fault (with_pasted (D.data self.old.tables) self.old.editor list.now) key) }
         ensures tables { self.new.tables ≡ self.old.tables }
         ensures err { OnErr result (as_before self.old.editor self.new.editor ≡ self.old.editor) }
     {
         self.put_pasted(list)?;
-        self.press_key(key)
+        self.press_key(key, fault)
     }
 
     /// Ends the paste, and applies a key with its usual effect. A refused key leaves the paste as it was: for that the text is copied
     /// first, with its history. Only a paste whose end was lost is ended so.
-    pub(crate) fn press_behind_paste(&mut self, key: Key) -> Result<(), OutOfMemory>
-        requires no_save { is_save key ≡ false }
-        requires typed { is_told_key key ≡ false }
-        ensures ok { OnOk result (self.new.editor ≡ after_user (D.data self.old.tables) None (paste_ended (D.data self.old.tables) self.old.editor) key) }
+    pub(crate) fn press_behind_paste(
+        &mut self,
+        key: Key,
+        fault: Option<StoreFault>,
+    ) -> Result<(), OutOfMemory>
+        ensures ok { OnOk result (self.new.editor ≡ after_user (D.data self.old.tables) fault (paste_ended (D.data self.old.tables) self.old.editor) key) }
         ensures tables { self.new.tables ≡ self.old.tables }
         ensures err { OnErr result (self.new ≡ self.old) }
     {
         let document = self.document.backup()?;
-        let runs = self.past.runs.copy()?;
+        let runs = self.past.undo_groups.copy()?;
         let (stored, changed) = (self.past.stored, self.past.changed);
         let (cursor, typing, message) = (self.cursor, self.typing, self.message);
         let Some(list) = self.pasted.take() else {
-            return self.press_key(key);
+            return self.press_key(key, fault);
         };
-        match self.put_and_press(list.as_str(), key) {
+        match self.put_and_press(list.as_str(), key, fault) {
             Ok(()) => Ok(()),
             Err(refused) => {
                 self.document.restore(document);
                 self.past = Past {
-                    runs,
+                    undo_groups: runs,
                     stored,
                     changed,
                 };

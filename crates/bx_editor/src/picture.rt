@@ -1,6 +1,6 @@
 //! The picture of an editor.
 ghost use Rattle.std.specs.Prelude.{◌≡◌, ◌*◌, ◌≤◌, ◌++◌, false, true, IfOk, OnOk, length, take};
-ghost use Rattle.bx_terms.specs.Sizes.{is_side};
+ghost use Rattle.bx_common.specs.Characters.{is_side};
 ghost use Rattle.bx_view.specs.Position.{IsPosition};
 ghost use Rattle.bx_editor.specs.Editor.{rows, text_height};
 ghost use Rattle.bx_editor.specs.Picture.{StandsOnItsCell, next_top, picture};
@@ -8,8 +8,8 @@ ghost use Rattle.bx_editor.specs.Status.{status_columns};
 
 use crate::editor::Editor;
 use crate::status::status_line;
+use bx_common::OutOfMemory;
 use bx_grid::{Cell, Grid, Picture};
-use bx_terms::OutOfMemory;
 use bx_ucd::BidiData;
 use bx_view::Position;
 use std::alloc::Global;

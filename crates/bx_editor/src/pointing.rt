@@ -3,12 +3,12 @@ ghost use Rattle.std.specs.Prelude.{◌≡◌, IfOk, OnErr, OnOk};
 ghost use Rattle.bx_view.specs.Places.{IsTextPlace};
 ghost use Rattle.bx_editor.specs.Editor.{cleared, with_place, with_top};
 ghost use Rattle.bx_editor.specs.Picture.{next_top};
-ghost use Rattle.bx_editor.specs.Pointing.{pointed_place};
-ghost use Rattle.bx_editor.specs.Selecting.{unselected};
+ghost use Rattle.bx_editor.specs.Effects.{pointed_place};
+ghost use Rattle.bx_editor.specs.Region.{unselected};
 
 use crate::editor::Editor;
 use crate::picture::text_height;
-use bx_terms::OutOfMemory;
+use bx_common::OutOfMemory;
 use bx_ucd::BidiData;
 
 impl<D: BidiData + Drop> Editor<D> {

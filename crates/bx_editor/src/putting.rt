@@ -7,8 +7,8 @@ ghost use Rattle.bx_editor.specs.Region.{region};
 
 use crate::editor::Editor;
 use crate::message::Message;
-use bx_runs::{Kind, Typing};
-use bx_terms::OutOfMemory;
+use crate::undo_groups::{Kind, Typing};
+use bx_common::OutOfMemory;
 use bx_ucd::BidiData;
 use std::mem;
 
@@ -30,7 +30,8 @@ pub(crate) fn only_paste(typing: Typing) -> Typing
 }
 
 impl<D: BidiData + Drop> Editor<D> {
-    /// Inserts bytes at the place, as an edit that goes on with the run before or begins one. Returns whether there was room.
+    /// Inserts bytes at the place, as an edit that goes on with the undo group before or begins one. Returns whether there was
+    /// room.
     pub(crate) fn insert_text(&mut self, new: &str, goes_on: bool) -> Result<bool, OutOfMemory>
         ensures room { IfOk result (λ room. room ≡ fits self.old.editor.content.text self.old.editor.place self.old.editor.place new.now) }
         ensures ok { IfOk result (λ room. self.new ≡ record self.old {
@@ -38,17 +39,17 @@ impl<D: BidiData + Drop> Editor<D> {
         }) }
         ensures err { OnErr result (self.new ≡ self.old) }
     {
-        self.past.runs.reserve()?;
+        self.past.undo_groups.reserve()?;
         let n = self.document.past_len();
         let Some(place) = self.document.insert(self.cursor.place, new)? else {
             return Ok(false);
         };
         self.past.edited(n, goes_on);
-        self.cursor.settle(place);
+        self.cursor.move_after_edit(place);
         Ok(true)
     }
 
-    /// Puts bytes in place of the region, as two edits of one run. Returns whether there was room.
+    /// Puts bytes in place of the region, as two edits of one undo group. Returns whether there was room.
     fn replace_region(&mut self, new: &str) -> Result<bool, OutOfMemory>
         ensures room { IfOk result (λ room. room ≡ fits self.old.editor.content.text (region self.old.editor).0 (region self.old.editor).1 new.now) }
         ensures ok { IfOk result (λ room. self.new ≡ record self.old {
@@ -57,14 +58,15 @@ impl<D: BidiData + Drop> Editor<D> {
         ensures err { OnErr result (self.new ≡ self.old) }
     {
         let (start, stop) = self.region();
-        self.past.runs.reserve()?;
+        self.past.undo_groups.reserve()?;
         let n = self.document.past_len();
         let Some(place) = self.document.replace(start, stop, new, self.cursor.place)? else {
             return Ok(false);
         };
-        // Two edits are noted as one: the second goes on with the first one's run, and changes neither `runs` nor `stored`.
+        // Two edits are noted as one: the second goes on with the first one's undo group, and changes neither `undo_groups` nor
+        // `stored`.
         self.past.edited(n, false);
-        self.cursor.settle(place);
+        self.cursor.move_after_edit(place);
         Ok(true)
     }
 
@@ -81,7 +83,7 @@ impl<D: BidiData + Drop> Editor<D> {
         } else {
             self.insert_text(new, goes_on)?
         };
-        self.clear();
+        self.reset_after_key();
         if !room {
             self.message = Some(Message::TextFull);
         }

@@ -1,13 +1,13 @@
 //! The mark, and the keys that copy and cut.
 ghost use Rattle.std.specs.Prelude.{◌≡◌, OnErr, OnOk, slice_range};
-ghost use Rattle.bx_text.specs.Edits.{IsRange};
+ghost use Rattle.bx_text.specs.Changes.{IsRange};
 ghost use Rattle.bx_editor.specs.Editor.{cleared};
 ghost use Rattle.bx_editor.specs.Region.{after_copy, after_cut, after_mark, held_message, is_at_mark, region, taken, with_held, without_mark};
 
+use crate::cursor::Soft;
 use crate::editor::Editor;
 use crate::message::Message;
-use crate::soft::Soft;
-use bx_terms::OutOfMemory;
+use bx_common::OutOfMemory;
 use bx_ucd::BidiData;
 
 /// Whether the mark is at the place.
@@ -54,7 +54,7 @@ impl<D: BidiData + Drop> Editor<D> {
     {
         self.cursor.mark = None;
         self.cursor.soft = Soft::Off;
-        self.clear();
+        self.reset_after_key();
     }
 
     /// The offsets of the region's start and end: the mark and the place in order. Equal if there is no mark.
@@ -62,7 +62,7 @@ impl<D: BidiData + Drop> Editor<D> {
         ensures region { result ≡ region self.now.editor }
         ensures range { IsRange self.now.editor.content.text result.0 result.1 }
     {
-        // proof only: the text is UTF-8
+        // `len` promises that the text is UTF-8.
         let _utf8 = self.document.len();
         let mark = self.cursor.mark.unwrap_or(self.cursor.place);
         (mark.min(self.cursor.place), mark.max(self.cursor.place))
@@ -89,7 +89,7 @@ impl<D: BidiData + Drop> Editor<D> {
         ensures err { OnErr result (self.new ≡ self.old) }
     {
         let held = self.document.copy(start, stop)?;
-        self.clear();
+        self.reset_after_key();
         self.message = held_message(self.clipboard, held.as_str(), Some(message));
         self.held = held;
         self.cursor.mark = None;

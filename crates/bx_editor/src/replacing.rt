@@ -1,25 +1,27 @@
 //! A match that is shown: it is replaced or passed over, or it and all that follow are replaced.
 ghost use Rattle.std.specs.Prelude.{◌≡◌, ◌+◌, ◌≤◌, true, if◌then◌else◌, IfOk, IfSome, IsCharBoundary, IsUtf8, OnErr, OnOk};
-ghost use Rattle.bx_terms.specs.Sizes.{largest_text};
-ghost use Rattle.bx_text.specs.Edits.{IsRange, fits, splice};
+ghost use Rattle.bx_common.specs.Characters.{largest_text};
+ghost use Rattle.bx_text.specs.Edits.{fits, splice};
+ghost use Rattle.bx_text.specs.Changes.{IsRange};
 ghost use Rattle.bx_view.specs.Places.{IsTextPlace};
 ghost use Rattle.bx_editor.specs.Editor.{cleared};
 ghost use Rattle.bx_editor.specs.Replacing.{after_ending, after_passing_over, after_replacing, after_replacing_all};
-ghost use Rattle.bx_editor.specs.Replacing.{match_stop, next_behind, next_match, seen, with_matches_replaced};
+ghost use Rattle.bx_editor.specs.Replacing.{match_stop, next_match, seen, with_matches_replaced};
+ghost use Rattle.bx_editor.specs.Functions.{next_behind};
 ghost use Rattle.bx_editor.specs.Search.{sought};
 
 use crate::editor::Editor;
 use crate::message::Message;
 use crate::query::reading_of;
-use crate::seek::Seek;
+use crate::search_state::SearchState;
+use bx_common::OutOfMemory;
 use bx_find::Query;
-use bx_terms::OutOfMemory;
 use bx_ucd::BidiData;
 
 impl<D: BidiData + Drop> Editor<D> {
     /// The query, of which a match is shown. Allocates nothing.
     fn shown_query(&self) -> Query
-        requires shown { self.now.editor.seek ≡ Seek.Replacing }
+        requires shown { self.now.editor.seek ≡ SearchState.Replacing }
         ensures query { result ≡ sought (D.data self.now.tables) self.now.editor }
         ensures utf8 { IsUtf8 self.now.editor.content.text }
     {
@@ -31,7 +33,7 @@ impl<D: BidiData + Drop> Editor<D> {
 
     /// The offset behind the match that is shown. Allocates nothing.
     fn match_stop(&self) -> usize
-        requires shown { self.now.editor.seek ≡ Seek.Replacing }
+        requires shown { self.now.editor.seek ≡ SearchState.Replacing }
         ensures stop { result ≡ match_stop (D.data self.now.tables) self.now.editor }
         ensures range { IsRange self.now.editor.content.text self.now.editor.at result }
         ensures utf8 { IsUtf8 self.now.editor.content.text }
@@ -47,14 +49,14 @@ impl<D: BidiData + Drop> Editor<D> {
         ensures { result ≡ seen (D.data self.now.tables) self.now.editor }
     {
         match self.cursor.seek {
-            Seek::Replacing => (self.cursor.place, self.match_stop()),
+            SearchState::Replacing => (self.cursor.place, self.match_stop()),
             _ => self.region(),
         }
     }
 
     /// The offset of the first match at or after `x`. Allocates nothing.
     fn next_match(&self, x: usize) -> Option<usize>
-        requires shown { self.now.editor.seek ≡ Seek.Replacing }
+        requires shown { self.now.editor.seek ≡ SearchState.Replacing }
         requires bounds { IsCharBoundary self.now.editor.content.text x }
         ensures next { result ≡ next_match (D.data self.now.tables) self.now.editor x }
         ensures boundary { IfSome result (IsCharBoundary self.now.editor.content.text) }
@@ -69,12 +71,12 @@ impl<D: BidiData + Drop> Editor<D> {
         ensures { self.new ≡ record self.old { editor = after_ending (cleared self.old.editor) } }
     {
         self.tell(Message::Replaced(self.count));
-        self.cursor.seek = Seek::Off;
+        self.cursor.seek = SearchState::Off;
     }
 
     /// Goes on to the next match behind the first character of this one; if there is none, replacing ends.
     pub(crate) fn pass_over(&mut self) -> Result<(), OutOfMemory>
-        requires shown { self.old.editor.seek ≡ Seek.Replacing }
+        requires shown { self.old.editor.seek ≡ SearchState.Replacing }
         ensures ok { OnOk result (self.new ≡ record self.old {
           editor = after_passing_over (D.data self.old.tables) (cleared self.old.editor);
         }) }
@@ -87,14 +89,14 @@ impl<D: BidiData + Drop> Editor<D> {
         };
         self.cursor.place = self.document.place_at(at)?;
         self.at = at;
-        self.clear();
+        self.reset_after_key();
         Ok(())
     }
 
     /// The next match behind `stop`, once the bytes from the match to `stop` have given way to `new`: its offset then, and its
     /// place.
     fn next_behind(&mut self, stop: usize, new: &str) -> Result<Option<(usize, usize)>, OutOfMemory>
-        requires shown { self.old.editor.seek ≡ Seek.Replacing }
+        requires shown { self.old.editor.seek ≡ SearchState.Replacing }
         requires range { IsRange self.old.editor.content.text self.old.editor.at stop }
         requires fits { fits self.old.editor.content.text self.old.editor.at stop new.now ≡ true }
         ensures same { self.new ≡ self.old }
@@ -122,7 +124,7 @@ impl<D: BidiData + Drop> Editor<D> {
         }) }
         ensures err { OnErr result (self.new ≡ self.old) }
     {
-        self.past.runs.reserve()?;
+        self.past.undo_groups.reserve()?;
         let n = self.document.past_len();
         let Some(place) = self
             .document
@@ -130,45 +132,49 @@ impl<D: BidiData + Drop> Editor<D> {
         else {
             return Ok(false);
         };
-        // One or two edits are noted as one: a second one goes on with the first one's run, and changes neither `runs` nor `stored`.
+        // One or two edits are noted as one: a second one goes on with the first one's undo group, and changes neither
+        // `undo_groups` nor `stored`.
         self.past.edited(n, false);
-        self.cursor.settle(place);
+        self.cursor.move_after_edit(place);
         self.origin = 0;
         self.count += count;
         Ok(true)
     }
 
-    /// Replaces the match by the other text, and goes on to the next one; if there is none, replacing ends. Without room only sets
+    /// Replaces the match by the replacement, and goes on to the next one; if there is none, replacing ends. Without room only sets
     /// a message.
     pub(crate) fn replace_match(&mut self) -> Result<(), OutOfMemory>
-        requires shown { self.old.editor.seek ≡ Seek.Replacing }
+        requires shown { self.old.editor.seek ≡ SearchState.Replacing }
         ensures ok { OnOk result (self.new ≡ record self.old {
           editor = after_replacing (D.data self.old.tables) (cleared self.old.editor);
         }) }
         ensures err { OnErr result (self.new ≡ self.old) }
     {
         let stop = self.match_stop();
-        if !self.document.has_room(self.at, stop, self.other.as_str()) {
+        if !self
+            .document
+            .has_room(self.at, stop, self.replacement.as_str())
+        {
             self.tell(Message::TextFull);
             return Ok(());
         }
-        let other = self.other.clone()?;
-        let next = self.next_behind(stop, other.as_str())?;
-        self.exchange(stop, other.as_str(), 1)?;
+        let replacement = self.replacement.clone()?;
+        let next = self.next_behind(stop, replacement.as_str())?;
+        self.exchange(stop, replacement.as_str(), 1)?;
         let Some((at, place)) = next else {
             self.end_replacing();
             return Ok(());
         };
         self.at = at;
         self.cursor.place = place;
-        self.cursor.seek = Seek::Replacing;
-        self.clear();
+        self.cursor.seek = SearchState::Replacing;
+        self.reset_after_key();
         Ok(())
     }
 
-    /// Replaces the match and all that follow it by the other text, and ends replacing. Without room only sets a message.
+    /// Replaces the match and all that follow it by the replacement, and ends replacing. Without room only sets a message.
     pub(crate) fn replace_all(&mut self) -> Result<(), OutOfMemory>
-        requires shown { self.old.editor.seek ≡ Seek.Replacing }
+        requires shown { self.old.editor.seek ≡ SearchState.Replacing }
         ensures ok { OnOk result (self.new ≡ record self.old {
           editor = after_replacing_all (D.data self.old.tables) (cleared self.old.editor);
         }) }
@@ -176,8 +182,8 @@ impl<D: BidiData + Drop> Editor<D> {
     {
         let reading = reading_of(self.aim);
         let query = self.shown_query();
-        let other = self.other.as_str();
-        let Some(swap) = self.document.swap(reading, &query, self.at, other)? else {
+        let replacement = self.replacement.as_str();
+        let Some(swap) = self.document.swap(reading, &query, self.at, replacement)? else {
             self.tell(Message::TextFull);
             return Ok(());
         };

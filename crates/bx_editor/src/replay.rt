@@ -1,13 +1,13 @@
-//! What a replay does in place of keys of a journal that save or quit, and its end. Each of the calls wants a paste to be ended before
-//! ([`Editor::end_paste`]).
+//! What a replay does in place of keys of a journal that save or quit, and its end. Each of the calls wants a paste to be ended
+//! before ([`Editor::end_paste`]).
 ghost use Rattle.std.specs.Prelude.{◌≡◌, None};
 ghost use Rattle.bx_editor.specs.Replay.{after_passed_quit, after_passed_save, at_replay_end};
 
 use crate::editor::Editor;
-use crate::seek::Seek;
+use crate::questions::Prompt;
+use crate::search_state::SearchState;
 use crate::selecting::aged;
-use bx_asking::Ask;
-use bx_runs::Typing;
+use crate::undo_groups::Typing;
 use bx_ucd::BidiData;
 
 impl<D: BidiData + Drop> Editor<D> {
@@ -28,19 +28,19 @@ impl<D: BidiData + Drop> Editor<D> {
         ensures { self.new ≡ record self.old { editor = after_passed_save self.old.editor } }
     {
         self.pass_quit();
-        self.cursor.seek = Seek::Off;
-        self.ask = Ask::Off;
+        self.cursor.seek = SearchState::Off;
+        self.ask = Prompt::Off;
         self.past.stored = None;
     }
 
-    /// Ends a replay: no search is on, nothing is asked, the next edit begins a run, and the text is the stored one unless it counts
-    /// as changed. Allocates nothing.
+    /// Ends a replay: no search is on, nothing is asked, the next edit begins an undo group, and the text is the stored one unless
+    /// it counts as changed. Allocates nothing.
     pub fn end_replay(&mut self)
         requires no_paste { self.old.editor.pasted ≡ None }
         ensures { self.new ≡ record self.old { editor = at_replay_end self.old.editor } }
     {
-        self.cursor.seek = Seek::Off;
-        self.ask = Ask::Off;
+        self.cursor.seek = SearchState::Off;
+        self.ask = Prompt::Off;
         self.typing = Typing::Off;
         self.past.stored = if self.past.changed {
             None

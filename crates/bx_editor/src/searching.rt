@@ -3,32 +3,30 @@
 ghost use Rattle.std.specs.Prelude.{◌≡◌, ◌==◌, not, length, IfOk, IfSome, OnErr, OnOk};
 ghost use Rattle.bx_view.specs.Places.{IsTextPlace};
 ghost use Rattle.bx_editor.specs.Editor.{cleared};
-ghost use Rattle.bx_editor.specs.Search.{after_beginning, after_find, after_find_back, after_find_next, after_giving_up, after_letter, after_shortening};
-ghost use Rattle.bx_editor.specs.Search.{landed, next_or_start, sought, without_search};
-ghost use Rattle.bx_editor.specs.Selecting.{unselected};
+ghost use Rattle.bx_editor.specs.Search.{after_beginning, after_find, after_find_back, after_find_next, after_giving_up, after_letter, after_shortening, landed, next_or_start, sought, without_search};
+ghost use Rattle.bx_editor.specs.Region.{unselected};
 
-use crate::aim::Aim;
 use crate::editor::Editor;
 use crate::matches::{Landing, backward, forward, has_letters};
 use crate::query::{LONGEST_QUERY, kept, reading_of};
-use crate::seek::Seek;
-use bx_asking::{lengthened, shortened};
+use crate::questions::{lengthened, shortened};
+use crate::search_state::{SearchPurpose, SearchState};
+use crate::undo_groups::Typing;
+use bx_common::OutOfMemory;
 use bx_find::Reading;
-use bx_runs::Typing;
-use bx_terms::OutOfMemory;
 use bx_ucd::BidiData;
 use bx_view::{Logical, Move};
 
 impl<D: BidiData + Drop> Editor<D> {
     /// Begins a search at the place, with the query of the latest one. An old selection is taken off.
-    pub(crate) fn begin_search(&mut self, aim: Aim)
+    pub(crate) fn begin_search(&mut self, aim: SearchPurpose)
         ensures { self.new ≡ record self.old { editor = after_beginning aim (unselected (cleared self.old.editor)) } }
     {
         self.unselect();
         self.origin = self.cursor.place;
-        self.cursor.seek = Seek::Begun;
+        self.cursor.seek = SearchState::Begun;
         self.aim = aim;
-        self.clear();
+        self.reset_after_key();
     }
 
     /// Ends the search.
@@ -36,7 +34,7 @@ impl<D: BidiData + Drop> Editor<D> {
         ensures { self.new ≡ record self.old { editor = without_search (cleared self.old.editor) } }
     {
         self.leave_search();
-        self.clear();
+        self.reset_after_key();
     }
 
     /// Ends the search, and returns to where it began.
@@ -64,10 +62,10 @@ impl<D: BidiData + Drop> Editor<D> {
     fn land(&mut self, landing: Landing)
         requires origin { IsTextPlace (D.data self.old.tables) self.old.editor.content.text self.old.editor.origin }
         requires place { IfSome landing.place (IsTextPlace (D.data self.old.tables) self.old.editor.content.text) }
-        ensures { self.new ≡ record self.old { editor = landed (record (cleared self.old.editor) { seek = Seek.Typed }) landing } }
+        ensures { self.new ≡ record self.old { editor = landed (record (cleared self.old.editor) { seek = SearchState.Typed }) landing } }
     {
         self.settle_at(landing);
-        self.cursor.seek = Seek::Typed;
+        self.cursor.seek = SearchState::Typed;
     }
 
     /// Appends a character to the query, and seeks it from the place on. A tab, or a character that separates paragraphs, only clears
@@ -80,7 +78,7 @@ impl<D: BidiData + Drop> Editor<D> {
         ensures err { OnErr result (self.new ≡ self.old) }
     {
         if c == '\t' || self.document.separates(c) {
-            self.clear();
+            self.reset_after_key();
             return Ok(());
         }
         let kept = kept(self.cursor.seek, self.query.as_str());
@@ -91,7 +89,7 @@ impl<D: BidiData + Drop> Editor<D> {
             query.as_str(),
             self.cursor.place,
         )?;
-        self.cursor.seek = Seek::Typed;
+        self.cursor.seek = SearchState::Typed;
         self.query = query;
         self.land(landing);
         Ok(())
@@ -113,7 +111,7 @@ impl<D: BidiData + Drop> Editor<D> {
             query.as_str(),
             self.origin,
         )?;
-        self.cursor.seek = Seek::Typed;
+        self.cursor.seek = SearchState::Typed;
         self.query = query;
         self.cursor.place = self.origin;
         self.land(landing);
@@ -169,15 +167,15 @@ impl<D: BidiData + Drop> Editor<D> {
         ensures err { OnErr result (self.new ≡ self.old) }
     {
         if !self.has_query() {
-            self.begin_search(Aim::Find);
+            self.begin_search(SearchPurpose::Find);
             return Ok(());
         }
         let next = self.next_or_start()?;
         let query = self.query.as_str();
         let landing = forward(&mut self.document, Reading::Wide, query, next)?;
         self.settle_at(landing);
-        self.cursor.seek = Seek::Off;
-        self.aim = Aim::Find;
+        self.cursor.seek = SearchState::Off;
+        self.aim = SearchPurpose::Find;
         self.unselect();
         Ok(())
     }

@@ -1,10 +1,10 @@
 //! Selections: the key that begins one or goes on with it, and what takes it off.
 ghost use Rattle.std.specs.Prelude.{◌≡◌};
 ghost use Rattle.bx_editor.specs.Editor.{cleared};
-ghost use Rattle.bx_editor.specs.Selecting.{after_select, aged, is_selection, is_soft, mark_left, soft_behind, soft_left, unselected};
+ghost use Rattle.bx_editor.specs.Region.{after_select, aged, is_selection, is_soft, mark_left, soft_behind, soft_left, unselected};
 
+use crate::cursor::Soft;
 use crate::editor::Editor;
-use crate::soft::Soft;
 use bx_keys::Key;
 use bx_ucd::BidiData;
 
@@ -61,7 +61,7 @@ impl<D: BidiData + Drop> Editor<D> {
             (Some(_), Soft::Old) => self.cursor.soft = Soft::Fresh,
             (Some(_), _) => {}
         }
-        self.clear();
+        self.reset_after_key();
     }
 
     /// Takes an old selection off.

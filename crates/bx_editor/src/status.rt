@@ -1,16 +1,15 @@
 //! The status row.
 ghost use Rattle.std.specs.Prelude.{◌≡◌, ◌++◌, true, All, IfOk, chars, length, string_bytes};
-ghost use Rattle.bx_terms.specs.Characters.{are_ascii_printable};
-ghost use Rattle.bx_document.specs.QueryRow.{IsNarrow};
+ghost use Rattle.bx_common.specs.Characters.{are_ascii_printable};
+ghost use Rattle.bx_document.specs.Narrow.{IsNarrow};
 ghost use Rattle.bx_editor.specs.Status.{glyph_row, letter_glyphs, prompt_glyphs, prompt_text, query_prompt, search_glyphs, search_prompt, status_line, typed_glyphs};
 
-use crate::aim::Aim;
 use crate::editor::Editor;
-use crate::seek::Seek;
-use bx_asking::Ask;
+use crate::questions::Prompt;
+use crate::search_state::{SearchPurpose, SearchState};
+use bx_common::OutOfMemory;
 use bx_document::Document;
 use bx_grid::Grid;
-use bx_terms::OutOfMemory;
 use bx_ucd::BidiData;
 use itoa::Buffer;
 use std::alloc::{AllocError, Global};
@@ -46,47 +45,48 @@ pub(crate) fn status_line(
     ensures line { IfOk result (λ t. string_bytes t ≡ status_line changed paragraph unit) }
     ensures printable { IfOk result (λ t. are_ascii_printable (string_bytes t) ≡ true) }
 {
+    // The proof compares the text, so it has a name.
     let line = write_line(alloc, changed, paragraph, unit)?;
     Ok(line)
 }
 
 /// The prompt before the query.
-fn query_prompt(aim: Aim) -> &'static str
+fn query_prompt(aim: SearchPurpose) -> &'static str
     ensures text { result.now ≡ query_prompt aim }
     ensures printable { are_ascii_printable result.now ≡ true }
 {
     match aim {
-        Aim::Find => " find: ",
-        Aim::Replace => " replace: ",
+        SearchPurpose::Find => " find: ",
+        SearchPurpose::Replace => " replace: ",
     }
 }
 
 /// The prompt of a search, empty if none is on.
-fn search_prompt(aim: Aim, seek: Seek) -> &'static str
+fn search_prompt(aim: SearchPurpose, seek: SearchState) -> &'static str
     ensures text { result.now ≡ search_prompt aim seek }
     ensures printable { are_ascii_printable result.now ≡ true }
 {
     match seek {
-        Seek::Off => "",
-        Seek::Begun | Seek::Typed => query_prompt(aim),
-        Seek::WithBegun | Seek::WithTyped => " with: ",
-        Seek::Replacing => " Enter replace ^W next F4 all ^C end",
+        SearchState::Off => "",
+        SearchState::Begun | SearchState::Typed => query_prompt(aim),
+        SearchState::WithBegun | SearchState::WithTyped => " with: ",
+        SearchState::Replacing => " Enter replace ^W next F4 all ^C end",
     }
 }
 
-/// Draws a status row whose text has the prompt of a search after it, and the query or the other text.
+/// Draws a status row whose text has the prompt of a search after it, and the query or the replacement.
 fn draw_search<D: BidiData + Drop>(
     document: &Document<D>,
     line: String,
-    aim: Aim,
-    seek: Seek,
+    aim: SearchPurpose,
+    seek: SearchState,
     query: &str,
-    other: &str,
+    replacement: &str,
 ) -> Result<Grid, OutOfMemory>
     requires { are_ascii_printable (string_bytes line) ≡ true }
     ensures row { IfOk result (λ row. row.columns ≡ glyph_row document.now.document.w
         (letter_glyphs (string_bytes line)
-        ++ (letter_glyphs (search_prompt aim seek) ++ search_glyphs (D.data document.now.tables) query.now other.now seek))) }
+        ++ (letter_glyphs (search_prompt aim seek) ++ search_glyphs (D.data document.now.tables) query.now replacement.now seek))) }
     ensures filled { IfOk result (λ row. length row.columns ≡ document.now.document.w) }
     ensures one { IfOk result (λ row. row.height ≡ 1) }
     ensures wide { IfOk result (λ row. row.width ≡ document.now.document.w) }
@@ -94,22 +94,25 @@ fn draw_search<D: BidiData + Drop>(
     let mut line = line;
     line.push_str(search_prompt(aim, seek))?;
     match seek {
-        Seek::Off | Seek::Replacing => document.draw_text(line.as_str()),
-        Seek::Begun | Seek::Typed => document.draw_query(line.as_str(), query),
-        Seek::WithBegun | Seek::WithTyped => document.draw_query(line.as_str(), other),
+        SearchState::Off | SearchState::Replacing => document.draw_text(line.as_str()),
+        SearchState::Begun | SearchState::Typed => document.draw_query(line.as_str(), query),
+        SearchState::WithBegun | SearchState::WithTyped => document.draw_query(
+            line.as_str(),
+            replacement,
+        ),
     }
 }
 
 /// The prompt of a question, empty if nothing is asked.
-fn prompt_text(ask: Ask) -> &'static str
+fn prompt_text(ask: Prompt) -> &'static str
     ensures text { result.now ≡ prompt_text ask }
     ensures printable { are_ascii_printable result.now ≡ true }
 {
     match ask {
-        Ask::Off => "",
-        Ask::Line => " line: ",
-        Ask::Name => " insert: ",
-        Ask::Code => " insert: U+",
+        Prompt::Off => "",
+        Prompt::Line => " line: ",
+        Prompt::Name => " insert: ",
+        Prompt::Code => " insert: U+",
     }
 }
 
@@ -117,7 +120,7 @@ fn prompt_text(ask: Ask) -> &'static str
 fn draw_question<D: BidiData + Drop>(
     document: &Document<D>,
     line: String,
-    ask: Ask,
+    ask: Prompt,
     answer: &str,
 ) -> Result<Grid, OutOfMemory>
     requires line { are_ascii_printable (string_bytes line) ≡ true }
@@ -130,6 +133,7 @@ fn draw_question<D: BidiData + Drop>(
 {
     let mut line = line;
     line.push_str(prompt_text(ask))?;
+    // The proof compares the row, so it has a name.
     let row = document.draw_typed(line.as_str(), answer)?;
     Ok(row)
 }
@@ -145,15 +149,15 @@ impl<D: BidiData + Drop> Editor<D> {
         ensures wide { IfOk result (λ row. row.width ≡ self.now.editor.width) }
     {
         match self.ask {
-            Ask::Off => draw_search(
+            Prompt::Off => draw_search(
                 &self.document,
                 line,
                 self.aim,
                 self.cursor.seek,
                 self.query.as_str(),
-                self.other.as_str(),
+                self.replacement.as_str(),
             ),
-            Ask::Line | Ask::Name | Ask::Code => {
+            Prompt::Line | Prompt::Name | Prompt::Code => {
                 draw_question(&self.document, line, self.ask, self.answer.as_str())
             }
         }

@@ -1,13 +1,12 @@
 //! What stands at the cursor's place, and the message of the status row.
 ghost use Rattle.std.specs.Prelude.{◌≡◌, ◌++◌, [], true, IfOk, string_bytes};
-ghost use Rattle.bx_terms.specs.Characters.{are_ascii_printable};
-ghost use Rattle.bx_editor.specs.Status.{message_part, shown_text};
-ghost use Rattle.bx_editor.specs.Telling.{told_at_place};
+ghost use Rattle.bx_common.specs.Characters.{are_ascii_printable};
+ghost use Rattle.bx_editor.specs.Status.{message_part, shown_text, told_at_place};
 
 use crate::editor::Editor;
 use crate::message::Message;
-use bx_asking::write_told;
-use bx_terms::OutOfMemory;
+use crate::questions::write_told;
+use bx_common::OutOfMemory;
 use bx_ucd::BidiData;
 use bx_view::{Logical, Move};
 use itoa::Buffer;

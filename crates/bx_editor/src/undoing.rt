@@ -1,12 +1,11 @@
-//! The keys that undo and redo: one edit, or a run of them.
+//! The keys that undo and redo: one edit, or an undo group.
 ghost use Rattle.std.specs.Prelude.{◌≡◌, true, OnErr, OnOk};
-ghost use Rattle.bx_editor.specs.Editor.{after_step, cleared, nothing_left};
-ghost use Rattle.bx_editor.specs.Runs.{after_run_step, is_changed_at, run_length};
+ghost use Rattle.bx_editor.specs.Editor.{after_run_step, after_step, cleared, is_changed_at, nothing_left, run_length};
 
 use crate::editor::Editor;
 use crate::message::Message;
+use bx_common::OutOfMemory;
 use bx_document::HistoryStep;
-use bx_terms::OutOfMemory;
 use bx_ucd::BidiData;
 
 /// The message where there is nothing to undo, or to redo.
@@ -37,24 +36,27 @@ impl<D: BidiData + Drop> Editor<D> {
             self.tell(nothing_left(step));
             return Ok(());
         };
-        self.cursor.settle(place);
+        self.cursor.move_after_edit(place);
         self.past.changed = true;
-        self.clear();
+        self.reset_after_key();
         Ok(())
     }
 
-    /// How many edits are undone, back to where a run began, or redone, up to where the next begins.
+    /// How many edits are undone, back to where an undo group began, or redone, up to where the next begins.
     fn run_length(&self, step: HistoryStep) -> usize
         ensures { result ≡ run_length step self.now.editor }
     {
         let n = self.document.past_len();
         match step {
-            HistoryStep::Undo => n - self.past.runs.start_before(n),
-            HistoryStep::Redo => self.past.runs.redo_count(n, self.document.future_len()),
+            HistoryStep::Undo => n - self.past.undo_groups.start_before(n),
+            HistoryStep::Redo => self
+                .past
+                .undo_groups
+                .redo_count(n, self.document.future_len()),
         }
     }
 
-    /// Undoes the edits since a run began, or redoes those up to the next run; if there is none, sets a message.
+    /// Undoes the edits since an undo group began, or redoes those up to the next undo group; if there is none, sets a message.
     pub(crate) fn step_run(&mut self, step: HistoryStep) -> Result<(), OutOfMemory>
         ensures ok { OnOk result (self.new ≡ record self.old { editor = after_run_step step (cleared self.old.editor) }) }
         ensures err { OnErr result (self.new ≡ self.old) }
@@ -64,9 +66,9 @@ impl<D: BidiData + Drop> Editor<D> {
             self.tell(nothing_left(step));
             return Ok(());
         };
-        self.cursor.settle(place);
+        self.cursor.move_after_edit(place);
         self.past.changed = is_changed_at(self.document.past_len(), self.past.stored);
-        self.clear();
+        self.reset_after_key();
         Ok(())
     }
 }

@@ -1,12 +1,12 @@
 //! The region between two characters that isolate, embed or override it.
 ghost use Rattle.std.specs.Prelude.{◌≡◌, IfOk, OnErr, OnOk};
 ghost use Rattle.bx_editor.specs.Editor.{cleared};
-ghost use Rattle.bx_editor.specs.Wrapping.{after_wrapping, cursor_end, spans_lines};
+ghost use Rattle.bx_editor.specs.Asking.{after_wrapping, cursor_end, spans_lines};
 
 use crate::editor::Editor;
 use crate::message::Message;
+use bx_common::OutOfMemory;
 use bx_document::RegionEnd;
-use bx_terms::OutOfMemory;
 use bx_ucd::BidiData;
 
 impl<D: BidiData + Drop> Editor<D> {
@@ -32,8 +32,8 @@ impl<D: BidiData + Drop> Editor<D> {
         }
     }
 
-    /// Puts `opener` before the region and `closer` behind it, as two edits of one run; if the region spans lines or the text is
-    /// full, sets a message instead.
+    /// Puts `opener` before the region and `closer` behind it, as two edits of one undo group; if the region spans lines or the
+    /// text is full, sets a message instead.
     pub(crate) fn wrap(&mut self, opener: char, closer: char) -> Result<(), OutOfMemory>
         ensures ok { OnOk result (self.new ≡ record self.old {
           editor = after_wrapping (D.data self.old.tables) (cleared self.old.editor) opener closer;
@@ -50,7 +50,7 @@ impl<D: BidiData + Drop> Editor<D> {
         let (mut front, mut back) = ([0; 4], [0; 4]);
         let front = opener.encode_utf8(&mut front);
         let back = closer.encode_utf8(&mut back);
-        self.past.runs.reserve()?;
+        self.past.undo_groups.reserve()?;
         let n = self.document.past_len();
         let Some(place) = self
             .document
@@ -60,8 +60,8 @@ impl<D: BidiData + Drop> Editor<D> {
             return Ok(());
         };
         self.past.edited(n, false);
-        self.cursor.settle(place);
-        self.clear();
+        self.cursor.move_after_edit(place);
+        self.reset_after_key();
         Ok(())
     }
 }

@@ -1,24 +1,22 @@
 -- One UndoRun takes back what an answer put in.
 use Rattle.std.proofs.Common.{◌≡◌, ℕ, suc, ◌+◌, ◌<◌, Bool, true, false, List, length, refl, sym, ap, subst, ◌∙◌, arith, inl, inr, if◌then◌else◌}
 use Rattle.std.specs.Prelude.{◌≢◌, ◌⊎◌, ◌==◌, chars, encode_utf8, Option, Some, None}
-use Rattle.bx_asking.specs.declared.line.Target.{Target}
-use Rattle.bx_asking.specs.declared.question.Ask.{Ask}
-use Rattle.bx_asking.specs.declared.question.Ask.TheVariants.{Off, Line, Name, Code}
-use Rattle.bx_asking.specs.Answers.{lengthened}
-use Rattle.bx_asking.specs.Codes.{coded, is_code_letter}
-use Rattle.bx_asking.specs.Line.{asked, is_line_letter}
-use Rattle.bx_asking.specs.Names.{asks_code, closing, named}
+use Rattle.bx_editor.specs.declared.questions.line.Target.{Target}
+use Rattle.bx_editor.specs.declared.questions.answers.Prompt.{Prompt}
+use Rattle.bx_editor.specs.declared.questions.answers.Prompt.TheVariants.{Off, Line, Name, Code}
+use Rattle.bx_editor.specs.questions.Answers.{lengthened, asked, is_line_letter}
+use Rattle.bx_editor.specs.questions.Names.{coded, is_code_letter, asks_code, closing, named}
 use Rattle.bx_keys.specs.declared.key.Key.{Key}
 use Rattle.bx_keys.specs.declared.key.Key.TheVariants as keys
 use Rattle.bx_text.specs.Edits.{fits, fits_both}
-use Rattle.bx_runs.specs.Runs.{edited, run_start}
-use Rattle.bx_runs.specs.Typing.{after_insertion, kind_of}
-use Rattle.bx_runs.specs.declared.typing.Typing.{Typing}
-use Rattle.bx_runs.proofs.RunLaws.{edit-is-of-its-run}
+use Rattle.bx_editor.specs.undo_groups.Groups.{edited, run_start, after_insertion, kind_of}
+use Rattle.bx_editor.specs.declared.undo_groups.typing.Typing.{Typing}
+use Rattle.bx_editor.proofs.undo_groups_lemmas.RunLaws.{edit-is-of-its-run}
 use Rattle.bx_ucd.specs.Data.{Data}
 use Rattle.bx_editor.specs.declared.message.Message.TheVariants as messages
-use Rattle.bx_editor.specs.Asking.{after_answer_letter, after_code, after_code_letter, after_going, after_line_letter, after_name_letter, after_named}
-use Rattle.bx_editor.specs.Asking.{gone_to, longest_code, longest_line, with_answer, with_character, without_ask}
+use Rattle.bx_editor.specs.Asking.{after_answer_letter, after_code, after_code_letter, after_going, after_line_letter, after_name_letter}
+use Rattle.bx_editor.specs.Asking.{after_named, gone_to, longest_code, longest_line, with_answer, with_character, without_ask}
+use Rattle.bx_editor.specs.Asking.{after_wrapping, spans_lines, with_wrap}
 use Rattle.bx_editor_laws.specs.AskingLaws.{AnswerIsARun, types}
 use Rattle.bx_editor.specs.Editor.{Editor, cleared, with_insertion, with_typing}
 use Rattle.bx_editor.specs.Keys.{after_key, as_left}
@@ -26,14 +24,13 @@ use Rattle.bx_editor_laws.specs.Laws.{after_typing}
 use Rattle.bx_editor.specs.Putting.{is_paste}
 use Rattle.bx_editor.specs.Region.{is_empty, region}
 use Rattle.bx_editor_laws.specs.RunLaws.{IsBackBefore}
-use Rattle.bx_editor.specs.Wrapping.{after_wrapping, spans_lines, with_wrap}
-use Rattle.bx_editor.proofs.Questions as answers
+use Rattle.bx_editor.proofs.QuestionSteps as answers
 use Rattle.bx_editor_laws.proofs.AskingKeys.{name-is}
 use Rattle.bx_editor_laws.proofs.OneRun.{goes-back, insertion-begins, IsOneRun}
 use Rattle.bx_editor_laws.proofs.QuestionKeys.{asked-key, last-asked, typed-leaves}
 use Rattle.bx_editor.proofs.TwoEdits.{runs-of-two}
 
--- ---- two edits of one run
+-- ---- two edits of one undo group
 
 two-start : (numbers : List ℕ) (n : ℕ) → run_start (edited numbers n false) (suc (suc n)) ≡ n
 two-start numbers n =
@@ -43,11 +40,11 @@ two-start numbers n =
     ∙ edit-is-of-its-run (edited numbers n false) (suc n) true ∙ ap (run_start (edited numbers n false)) first ∙ edit-is-of-its-run numbers n false
 
 wrap-begins : (d : Data) (e : Editor) (opener closer : List ℕ) → IsOneRun e (with_wrap d e opener closer)
-wrap-begins d e opener closer = record { more = 1; over = (refl, (refl, refl)); start = two-start e.runs (length e.content.past) }
+wrap-begins d e opener closer = record { more = 1; over = (refl, (refl, refl)); start = two-start e.undo_groups (length e.content.past) }
 
 -- ---- an answer
 
--- text and history stay, or a run is put in
+-- text and history stay, or an undo group is put in
 abbrev PutsRun : Editor → Editor → Type 0
 PutsRun e new = (new.content ≡ e.content) ⊎ IsOneRun e new
 
@@ -109,7 +106,7 @@ code-letter-puts d e letter =
     either e (letter == 0xA) put (if is_code_letter letter then longer else e) (freed e put (code-puts d (without_ask e) (coded e.answer)))
     (either e (is_code_letter letter) longer e (inl refl) (inl refl))
 
-letter-puts : (d : Data) (typing : Typing) (ask : Ask) (e : Editor) (c : ℕ) → PutsRun e (after_answer_letter d typing ask e c)
+letter-puts : (d : Data) (typing : Typing) (ask : Prompt) (e : Editor) (c : ℕ) → PutsRun e (after_answer_letter d typing ask e c)
 letter-puts d typing Off e c = inl refl
 letter-puts d typing Line e c = inl (line-puts d typing e c)
 letter-puts d typing Name e c =

@@ -7,53 +7,51 @@ use Rattle.std.proofs.lemmas.Bool.Decides.{nat_tests}
 use Rattle.std.proofs.lemmas.List.{length-take}
 use Rattle.std.proofs.lemmas.List.Elements.{All-append, All-cons, All-head, All-nil, All-tail}
 use Rattle.std.proofs.lemmas.Str.{chars-nil, scalars-chars, IsUtf8-append, IsUtf8-encode, IsUtf8-nil}
-use Rattle.bx_terms.specs.Characters.{are_ascii_printable, is_ascii_printable}
+use Rattle.bx_common.specs.Characters.{are_ascii_printable, is_ascii_printable}
 use Rattle.bx_grid.proofs.Laid.{plain_run_width}
-use Rattle.bx_cells.proofs.Rest.{chars_encoded}
+use Rattle.bx_rows.proofs.cells_lemmas.Rest.{chars_encoded}
 use Rattle.bx_rows.specs.RowPicture.{glyph, letter_glyphs}
-use Rattle.bx_asking.specs.declared.line.Target.{Target}
-use Rattle.bx_asking.specs.declared.question.Ask.{Ask}
-use Rattle.bx_asking.specs.declared.question.Ask.TheVariants.{Off, Line, Name, Code}
-use Rattle.bx_asking.specs.Answers.{lengthened, shortened}
-use Rattle.bx_asking.specs.Codes.{coded, is_code_letter}
-use Rattle.bx_asking.specs.Line.{asked, is_line_letter}
-use Rattle.bx_asking.specs.Names.{asks_code, closing, named}
-use Rattle.bx_asking.proofs.OneMore.{no-chars, one_more}
+use Rattle.bx_editor.specs.declared.questions.line.Target.{Target}
+use Rattle.bx_editor.specs.declared.questions.answers.Prompt.{Prompt}
+use Rattle.bx_editor.specs.declared.questions.answers.Prompt.TheVariants.{Off, Line, Name, Code}
+use Rattle.bx_editor.specs.questions.Answers.{lengthened, shortened, asked, is_line_letter}
+use Rattle.bx_editor.specs.questions.Names.{coded, is_code_letter, asks_code, closing, named}
+use Rattle.bx_editor.proofs.questions_lemmas.OneMore.{no-chars, one_more}
 use Rattle.bx_keys.specs.declared.key.Key.{Key}
 use Rattle.bx_store.specs.declared.store.StoreFault.{StoreFault}
-use Rattle.bx_runs.specs.Typing.{after_insertion, kind_of}
-use Rattle.bx_runs.specs.declared.typing.Typing.{Typing}
+use Rattle.bx_editor.specs.undo_groups.Groups.{after_insertion, kind_of}
+use Rattle.bx_editor.specs.declared.undo_groups.typing.Typing.{Typing}
 use Rattle.bx_text.specs.Edits.{fits, fits_both}
 use Rattle.bx_ucd.specs.Data.{Data}
-use Rattle.bx_document.specs.QueryRow.{IsNarrow, typed_glyph, typed_glyphs}
+use Rattle.bx_document.specs.Drawing.{typed_glyph, typed_glyphs}
+use Rattle.bx_document.specs.Narrow.{IsNarrow}
 use Rattle.bx_editor.specs.Answers.{IsAnswer, limit_of}
 use Rattle.bx_editor.specs.declared.message.Message.TheVariants as messages
-use Rattle.bx_editor.specs.declared.seek.Seek.{Seek}
-use Rattle.bx_editor.specs.declared.seek.Seek.TheVariants as seeks
-use Rattle.bx_editor.specs.Asking.{after_answer_letter, after_code, after_code_letter, after_going, after_line_letter, after_name_letter, after_named, after_shorter_answer}
-use Rattle.bx_editor.specs.Asking.{gone_to, longest_code, longest_line, with_answer, with_character, without_ask}
+use Rattle.bx_editor.specs.declared.search_state.SearchState.{SearchState}
+use Rattle.bx_editor.specs.declared.search_state.SearchState.TheVariants as seeks
+use Rattle.bx_editor.specs.Asking.{after_answer_letter, after_code, after_code_letter, after_going, after_line_letter, after_name_letter}
+use Rattle.bx_editor.specs.Asking.{after_named, after_shorter_answer, gone_to, longest_code, longest_line, with_answer, with_character}
+use Rattle.bx_editor.specs.Asking.{without_ask, after_wrapping, spans_lines, with_wrap}
 use Rattle.bx_editor_laws.specs.AskingLaws.{IsShown, PromptsAreShown}
 use Rattle.bx_editor.specs.Editor.{Editor, at_start, cleared, with_exchange, with_insertion, with_typing}
 use Rattle.bx_editor.specs.Effects.{Effect, AsksLine, AsksName, Before, before, by}
 use Rattle.bx_editor.specs.Keys.{Answer, Letter, Shortens, GoesBack, Stays, after_any, after_key, after_searching, answer_of, answered_question, effect_of}
 use Rattle.bx_editor_laws.specs.Laws.{after_typing}
-use Rattle.bx_editor.specs.Pasting.{paste_ended}
-use Rattle.bx_editor.specs.Putting.{is_paste}
+use Rattle.bx_editor.specs.Putting.{paste_ended, is_paste}
 use Rattle.bx_editor.specs.Region.{is_empty, region}
 use Rattle.bx_editor.specs.Search.{without_search}
 use Rattle.bx_editor.specs.Status.{prompt_glyphs, prompt_text}
-use Rattle.bx_editor.specs.Wrapping.{after_wrapping, spans_lines, with_wrap}
 use Rattle.bx_editor.proofs.EffectsKept.{IsKeptPasting, start-keeps}
 use Rattle.bx_editor.proofs.InSearch.{each-key, press-keeps}
 use Rattle.bx_editor_laws.proofs.PasteEnded.{ended-by}
 use Rattle.bx_editor.proofs.QuestionKept.{Asks, effect-keeps}
-use Rattle.bx_editor.proofs.Searches.{IsKeptSeeking, match-keeps, other-keeps, query-keeps}
+use Rattle.bx_editor.proofs.Searches.{IsKeptSeeking, match-keeps, replacement-keeps, query-keeps}
 use Rattle.bx_editor.proofs.Narrow.{narrow-code, narrow-line, narrow-longer, narrow-shorter}
 
 -- ---- an answer
 
 -- short and narrow text
-pub record IsGood (ask : Ask) (answer : List ℕ) : Type 0 where
+pub record IsGood (ask : Prompt) (answer : List ℕ) : Type 0 where
   pub utf8 : IsUtf8 answer
   pub is_answer : IsAnswer ask answer
 
@@ -61,7 +59,7 @@ pub record IsGood (ask : Ask) (answer : List ℕ) : Type 0 where
 few-none : (limit : ℕ) → length (chars []) ≤ limit
 few-none limit = omega (arith, ap length chars-nil)
 
-good-empty : (ask : Ask) → IsGood ask []
+good-empty : (ask : Prompt) → IsGood ask []
 good-empty ask = record {
   utf8 = IsUtf8-nil;
   is_answer = record { short = few-none (limit_of ask); narrow = subst (All IsNarrow) (sym chars-nil) (All-nil IsNarrow) };
@@ -101,7 +99,7 @@ utf8-longer limit answer c u v =
     ]
 
 -- one more, and one less
-longer-good : (ask : Ask) (answer : List ℕ) (c : ℕ) → scalar c ≡ true → IsNarrow c → IsGood ask answer → IsGood ask (lengthened (limit_of ask) answer c)
+longer-good : (ask : Prompt) (answer : List ℕ) (c : ℕ) → scalar c ≡ true → IsNarrow c → IsGood ask answer → IsGood ask (lengthened (limit_of ask) answer c)
 longer-good ask answer c is one h =
     let v = IsUtf8-encode c is in
     let limit = limit_of ask in
@@ -113,7 +111,7 @@ longer-good ask answer c is one h =
       };
     }
 
-shorter-good : (ask : Ask) (answer : List ℕ) → IsGood ask answer → IsGood ask (shortened answer)
+shorter-good : (ask : Prompt) (answer : List ℕ) → IsGood ask answer → IsGood ask (shortened answer)
 shorter-good ask answer h =
     let u = utf8-shorter answer h.utf8 in
     let cs = chars answer in
@@ -124,17 +122,17 @@ shorter-good ask answer h =
     }
 
 -- for another question
-good-for : (ask other : Ask) (answer : List ℕ) → limit_of ask ≤ limit_of other → IsGood ask answer → IsGood other answer
+good-for : (ask other : Prompt) (answer : List ℕ) → limit_of ask ≤ limit_of other → IsGood ask answer → IsGood other answer
 good-for ask other answer more h =
     record { utf8 = h.utf8; is_answer = record { short = omega (arith, h.is_answer.short, more); narrow = h.is_answer.narrow } }
 
-few : (ask : Ask) → limit_of ask ≤ 16
+few : (ask : Prompt) → limit_of ask ≤ 16
 few Off = omega arith
 few Line = omega arith
 few Name = omega arith
 few Code = omega arith
 
-good-off : (ask : Ask) (answer : List ℕ) → IsGood ask answer → IsGood Off answer
+good-off : (ask : Prompt) (answer : List ℕ) → IsGood ask answer → IsGood Off answer
 good-off ask answer h = good-for ask Off answer (few ask) h
 
 -- ---- what a key leaves
@@ -147,7 +145,7 @@ either true p q h k = h
 either false p q h k = k
 
 -- where question and answer are these
-good-as : (ask : Ask) (answer : List ℕ) (new : Editor) → Asks ask answer new → IsGood ask answer → Good new
+good-as : (ask : Prompt) (answer : List ℕ) (new : Editor) → Asks ask answer new → IsGood ask answer → Good new
 good-as ask answer new same h = subst (λ a. IsGood a new.answer) (sym same.0) (subst (IsGood ask) (sym same.1) h)
 
 effect-good : (d : Data) (fault : Option StoreFault) (was : Before) (e : Editor) (one : Effect) → Good e → Good (by d fault was e one)
@@ -170,13 +168,13 @@ sought-good d = record {
   sought = λ e seek aim origin query other at count h. h;
 }
 
-search-good : (d : Data) (fault : Option StoreFault) (was : Before) (seek : Seek) (e : Editor) (key : Key) → Good e
+search-good : (d : Data) (fault : Option StoreFault) (was : Before) (seek : SearchState) (e : Editor) (key : Key) → Good e
     → Good (after_searching d fault was seek e key)
 search-good d fault was seeks.Off e key h = effect-good d fault was e (effect_of d e key) h
 search-good d fault was seeks.WithBegun e key h =
-    other-keeps d Good (sought-good d) fault was e key (answer_of key) h h (λ ends. effect-good d fault was (without_search e) (effect_of d (without_search e) key) h)
+    replacement-keeps d Good (sought-good d) fault was e key (answer_of key) h h (λ ends. effect-good d fault was (without_search e) (effect_of d (without_search e) key) h)
 search-good d fault was seeks.WithTyped e key h =
-    other-keeps d Good (sought-good d) fault was e key (answer_of key) h h (λ ends. effect-good d fault was (without_search e) (effect_of d (without_search e) key) h)
+    replacement-keeps d Good (sought-good d) fault was e key (answer_of key) h h (λ ends. effect-good d fault was (without_search e) (effect_of d (without_search e) key) h)
 search-good d fault was seeks.Replacing e key h =
     match-keeps d Good (sought-good d) fault was e key (answer_of key) h h (λ ends. effect-good d fault was (without_search e) (effect_of d (without_search e) key) h)
 search-good d fault was _ e key h =
@@ -246,13 +244,13 @@ module _ (e : Editor) (h : Good e) where
       (longer-good Code e.answer letter (code-scalar letter digit) (narrow-code letter digit) own))
       (λ other. h))
 
-  letter-good : (d : Data) (typing : Typing) (ask : Ask) (c : ℕ) → e.ask ≡ ask → Good (after_answer_letter d typing ask e c)
+  letter-good : (d : Data) (typing : Typing) (ask : Prompt) (c : ℕ) → e.ask ≡ ask → Good (after_answer_letter d typing ask e c)
   letter-good d typing Off c is = h
   letter-good d typing Line c is = line-good d typing c is
   letter-good d typing Name c is = either (is_paste typing) (with_typing e typing) (after_name_letter d e c (named c)) h (name-good d c (named c) is)
   letter-good d typing Code c is = either (is_paste typing) (with_typing e typing) (after_code_letter d e c) h (code-letter-good d c is)
 
-  erased-good : (ask : Ask) → e.ask ≡ ask → Good (after_shorter_answer ask e)
+  erased-good : (ask : Prompt) → e.ask ≡ ask → Good (after_shorter_answer ask e)
   erased-good Off is = h
   erased-good Line is = shorter-good e.ask e.answer h
   erased-good Name is = h
@@ -275,7 +273,7 @@ question-good d fault was e key GoesBack h = freed-good e h
 question-good d fault was e key Stays h = h
 question-good d fault was e key _ h = effect-good d fault was (without_ask e) (effect_of d (without_ask e) key) (freed-good e h)
 
-any-good : (d : Data) (fault : Option StoreFault) (was : Before) (ask : Ask) (seek : Seek) (e : Editor) (key : Key) → Good e
+any-good : (d : Data) (fault : Option StoreFault) (was : Before) (ask : Prompt) (seek : SearchState) (e : Editor) (key : Key) → Good e
     → Good (after_any d fault was ask seek e key)
 any-good d fault was Off seek e key h = search-good d fault was seek e key h
 any-good d fault was Line seek e key h = question-good d fault was e key (answer_of key) h
@@ -319,7 +317,7 @@ shown-prompt : (d : Data) (e : Editor) (text : List ℕ) → are_ascii_printable
 shown-prompt d e text h good =
     All-append IsShown (letter_glyphs text) (typed_glyphs e.answer) (shown-letters text h) (shown-typed (chars e.answer) good.is_answer.narrow)
 
-prompt-shown : (d : Data) (e : Editor) (ask : Ask) → ask ≢ Off → Good e → All IsShown (prompt_glyphs d e ask)
+prompt-shown : (d : Data) (e : Editor) (ask : Prompt) → ask ≢ Off → Good e → All IsShown (prompt_glyphs d e ask)
 prompt-shown d e Off on good = absurd (on refl)
 prompt-shown d e Line on good = shown-prompt d e (prompt_text Line) refl good
 prompt-shown d e Name on good = shown-prompt d e (prompt_text Name) refl good

@@ -1,27 +1,27 @@
 -- The keys that ask, whatever was on before.
 use Rattle.std.proofs.Common.{◌≡◌, [], refl, sym, ap, ◌∙◌}
 use Rattle.std.specs.Prelude.{None}
-use Rattle.bx_asking.specs.declared.question.Ask.{Ask}
-use Rattle.bx_asking.specs.declared.question.Ask.TheVariants as asks
+use Rattle.bx_editor.specs.declared.questions.answers.Prompt.{Prompt}
+use Rattle.bx_editor.specs.declared.questions.answers.Prompt.TheVariants as asks
 use Rattle.bx_keys.specs.declared.key.Key.TheVariants.{GoTo, Name}
 use Rattle.bx_ucd.specs.Data.{Data}
-use Rattle.bx_editor.specs.declared.seek.Seek.{Seek}
-use Rattle.bx_editor.specs.declared.seek.Seek.TheVariants.{Off, Begun, Typed, WithBegun, WithTyped, Replacing}
+use Rattle.bx_editor.specs.declared.search_state.SearchState.{SearchState}
+use Rattle.bx_editor.specs.declared.search_state.SearchState.TheVariants.{Off, Begun, Typed, WithBegun, WithTyped, Replacing}
 use Rattle.bx_editor.specs.Editor.{Editor, cleared}
 use Rattle.bx_editor.specs.Effects.{Before, before}
 use Rattle.bx_editor.specs.Keys.{after_any, after_key, as_left}
-use Rattle.bx_editor.specs.Selecting.{aged, unselected}
+use Rattle.bx_editor.specs.Region.{aged, unselected}
 use Rattle.bx_editor.proofs.InSearch.{any-key}
 
 -- a character, or a line, is asked for
-abbrev pub asked_name : Editor → Seek → Editor
+abbrev pub asked_name : Editor → SearchState → Editor
 asked_name e seek = record (cleared e) { ask = asks.Name; answer = []; seek = seek; goal = None; soft = aged e.soft }
 
-abbrev pub asked_line : Editor → Seek → Editor
+abbrev pub asked_line : Editor → SearchState → Editor
 asked_line e seek =
     let free = unselected e in record (cleared free) { ask = asks.Line; answer = []; seek = seek; goal = None; soft = aged free.soft }
 
-name-any : (d : Data) (was : Before) (ask : Ask) (seek : Seek) (e : Editor) → let new = after_any d None was ask seek (cleared e) Name in
+name-any : (d : Data) (was : Before) (ask : Prompt) (seek : SearchState) (e : Editor) → let new = after_any d None was ask seek (cleared e) Name in
     as_left Name new ≡ asked_name e new.seek
 name-any d was asks.Off Off e = refl
 name-any d was asks.Off Begun e = refl
@@ -33,7 +33,7 @@ name-any d was asks.Line seek e = refl
 name-any d was asks.Name seek e = refl
 name-any d was asks.Code seek e = refl
 
-line-any : (d : Data) (was : Before) (ask : Ask) (seek : Seek) (e : Editor) → let new = after_any d None was ask seek (cleared e) GoTo in
+line-any : (d : Data) (was : Before) (ask : Prompt) (seek : SearchState) (e : Editor) → let new = after_any d None was ask seek (cleared e) GoTo in
     as_left GoTo new ≡ asked_line e new.seek
 line-any d was asks.Off Off e = refl
 line-any d was asks.Off Begun e = refl

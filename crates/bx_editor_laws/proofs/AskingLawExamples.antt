@@ -5,20 +5,19 @@ use Rattle.std.specs.Fmt.{digits}
 use Rattle.std.specs.Str.{chars}
 use Rattle.unicode_segmentation.proofs.Computing.{unicode_segmentation}
 use Rattle.unicode_width.proofs.Computing.{unicode_width}
-use Rattle.bx_terms.specs.declared.base.Base.TheVariants.{Auto}
+use Rattle.bx_common.specs.declared.base.Base.TheVariants.{Auto}
 use Rattle.bx_keys.specs.declared.key.Key.{Key}
 use Rattle.bx_keys.specs.declared.key.Key.TheVariants.{Insert, NewLine, Erase, Forward, TextEnd, Back, Mark, UndoRun, GoTo, Name, Tell}
-use Rattle.bx_resolve.specs.Laws.{level_at}
+use Rattle.bx_levels.specs.resolve.Laws.{level_at}
 use Rattle.bx_rows.specs.RowPicture.{letter_glyphs}
-use Rattle.bx_text.specs.Edits.{IsRange}
-use Rattle.bx_view.specs.Standing.{body_at}
-use Rattle.bx_document.specs.QueryRow.{typed_glyphs}
+use Rattle.bx_text.specs.Changes.{IsRange}
+use Rattle.bx_view.specs.Numbers.{body_at}
+use Rattle.bx_document.specs.Drawing.{typed_glyphs}
 use Rattle.bx_store.specs.declared.store.StoreFault.{StoreFault}
 use Rattle.bx_editor_laws.specs.AskingLaws.{AnswerIsARun, CodePutsIn, IsAbove, IsShown, PromptsAreShown, IsolatesRaise, LetterIsolates, LetterPutsIn}
 use Rattle.bx_editor_laws.specs.AskingLaws.{LetterWraps, QuestionsChangeThemselves, TellShows, TellsWhatStands, ToldNumbersLeadBack}
 use Rattle.bx_editor.specs.Editor.{Editor}
-use Rattle.bx_editor.specs.Status.{status_text}
-use Rattle.bx_editor.specs.Telling.{told_at_place}
+use Rattle.bx_editor.specs.Status.{status_text, told_at_place}
 use Rattle.bx_editor.proofs.Computed.{tables, start, after, letters}
 
 abbrev typed : List Key → List (Key × Option StoreFault)

@@ -2,8 +2,7 @@
 use Rattle.std.proofs.Common.{◌≡◌, ℕ, zero, suc, ◌≤◌, Bool, true, false, List, [], ◌∷◌, length, refl, sym, subst, ◌∙◌, arith, nat_lt}
 use Rattle.std.specs.Prelude.{Option, Some, None, if◌then◌else◌}
 use Rattle.std.proofs.lemmas.Bool.Decides.{nat_tests}
-use Rattle.bx_text.specs.Edits.{Edit, Edited, redone, replaced, undone}
-use Rattle.bx_text.specs.Times.{redone_times, undone_times}
+use Rattle.bx_text.specs.Edits.{Edit, Edited, redone, replaced, undone, redone_times, undone_times}
 use Rattle.bx_editor.specs.Editor.{stored_behind}
 use Rattle.bx_editor.proofs.ManySteps.{version, IsFutureOf, IsPastOf}
 

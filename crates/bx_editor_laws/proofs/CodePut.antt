@@ -7,23 +7,23 @@ use Rattle.std.specs.Str.Parse.{digits_value}
 use Rattle.std.proofs.lemmas.Bool.{and_parts, eqb-true, or_cases}
 use Rattle.std.proofs.lemmas.Bool.Decides.{nat_tests}
 use Rattle.std.proofs.lemmas.Str.{chars-IsAscii, encode_ascii}
-use Rattle.bx_terms.specs.Sizes.{largest_text}
-use Rattle.bx_terms.specs.declared.base.Base.{Base}
-use Rattle.bx_asking.specs.declared.question.Ask.TheVariants.{Off, Code}
-use Rattle.bx_asking.specs.Answers.{lengthened}
-use Rattle.bx_asking.specs.Codes.{coded, is_code, is_code_letter, is_scalar}
-use Rattle.bx_asking.specs.Names.{asks_code, named}
+use Rattle.bx_common.specs.Characters.{largest_text}
+use Rattle.bx_common.specs.declared.base.Base.{Base}
+use Rattle.bx_editor.specs.declared.questions.answers.Prompt.TheVariants.{Off, Code}
+use Rattle.bx_editor.specs.questions.Answers.{lengthened}
+use Rattle.bx_editor.specs.questions.Names.{coded, is_code, is_code_letter, is_scalar, asks_code, named}
 use Rattle.bx_keys.specs.declared.key.Key.{Key}
 use Rattle.bx_keys.specs.declared.key.Key.TheVariants as keys
-use Rattle.bx_runs.specs.Typing.{after_insertion, kind_of}
-use Rattle.bx_runs.specs.declared.typing.Typing.TheVariants as typings
+use Rattle.bx_editor.specs.undo_groups.Groups.{after_insertion, kind_of}
+use Rattle.bx_editor.specs.declared.undo_groups.typing.Typing.TheVariants as typings
 use Rattle.bx_text.specs.Edits.{Edited}
 use Rattle.bx_ucd.specs.Data.{Data}
-use Rattle.bx_editor.specs.declared.seek.Seek.{Seek}
+use Rattle.bx_editor.specs.declared.search_state.SearchState.{SearchState}
 use Rattle.bx_editor.specs.Asking.{after_answer_letter, after_code, after_name_letter, longest_code, with_answer, without_ask}
 use Rattle.bx_editor_laws.specs.AskingLaws.{CodePutsIn, IsPutIn, is_enter}
 use Rattle.bx_editor.specs.Editor.{Editor, cleared, place_after, with_insertion, with_typing}
-use Rattle.bx_editor.specs.Keys.{after_key, after_keys, as_left}
+use Rattle.bx_editor.specs.Keys.{after_key, as_left}
+use Rattle.bx_editor.specs.Functions.{after_keys}
 use Rattle.bx_editor.proofs.InSearch.{any-key}
 use Rattle.bx_editor_laws.proofs.AskingKeys.{asked_name, name-is}
 use Rattle.bx_editor_laws.proofs.LettersPut.{character-in}
@@ -158,7 +158,7 @@ entered d first e code c _ end h read few = absurd (cc end)
 -- ---- the law
 
 -- what a letter leaves that asks for a code
-abbrev asked_code : Editor → Seek → ℕ → Editor
+abbrev asked_code : Editor → SearchState → ℕ → Editor
 asked_code e seek letter = as_left (keys.Insert letter) (record (cleared (asked_name e seek)) { ask = Code })
 
 no-name : (letter : ℕ) → asks_code letter ≡ true → named letter ≡ None

@@ -9,9 +9,10 @@ use Rattle.bx_view.specs.declared.moves.Vertical.{Vertical}
 use Rattle.bx_view.specs.declared.moves.Vertical.TheVariants.{Up, Down}
 use Rattle.bx_view.specs.Moves.{rows_away}
 use Rattle.bx_view.specs.TextRows.{cell_of}
-use Rattle.bx_editor.specs.declared.seek.Seek.TheVariants.{Off}
+use Rattle.bx_editor.specs.declared.search_state.SearchState.TheVariants.{Off}
 use Rattle.bx_editor.specs.Editor.{Editor, rows}
-use Rattle.bx_editor.specs.Keys.{after_key, after_keys}
+use Rattle.bx_editor.specs.Keys.{after_key}
+use Rattle.bx_editor.specs.Functions.{after_keys}
 use Rattle.bx_editor_laws.specs.WorkLaws.{ColumnIsKept, keeps_column}
 use Rattle.bx_editor_laws.proofs.RowMoves.{Marks, key-moves, kept-at, keys-from, left, move_key, size}
 

@@ -9,14 +9,14 @@ use Rattle.std.proofs.lemmas.List.{map-append, reverse-append}
 use Rattle.std.proofs.lemmas.List.Elements.{Contains-append_left, Contains-append_right}
 use Rattle.std.proofs.lemmas.List.Folds.{find-append}
 use Rattle.std.proofs.lemmas.List.Sums.{sum_by-cons}
-use Rattle.bx_cells.specs.declared.unit.Unit.{Unit}
-use Rattle.bx_cells.specs.declared.unit.Face.TheVariants.{Tab}
+use Rattle.bx_rows.specs.declared.cells.unit.Unit.{Unit}
+use Rattle.bx_rows.specs.declared.cells.unit.Face.TheVariants.{Tab}
 use Rattle.bx_rows.specs.RowPicture.{columns_used, unit_columns}
-use Rattle.bx_rows.specs.VisualOrder.{visual}
+use Rattle.bx_rows.specs.RowLevels.{visual}
 use Rattle.bx_rows.proofs.NumbersBelow.{below_if_visual}
 use Rattle.bx_rows.proofs.PictureSums.{columns-length}
 use Rattle.bx_paragraph.specs.declared.moves.Visual.TheVariants.{Left, Right}
-use Rattle.bx_paragraph.specs.declared.slot.Slot.{Slot}
+use Rattle.bx_paragraph.specs.declared.slots.Slot.{Slot}
 use Rattle.bx_paragraph.specs.BodyRows.{BodyRow}
 use Rattle.bx_paragraph.specs.Slots.{column_of, covers, end_slot, entry, extent_of, first_in, left_column, opposite, or_else, row_slots, side_by_side, slot, slot_offsets, toward}
 use Rattle.bx_paragraph.proofs.RowSlots.{columns-in-order, extent-is}

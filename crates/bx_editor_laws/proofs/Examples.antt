@@ -10,7 +10,7 @@ use Rattle.bx_store.specs.declared.cause.SaveCause.{SaveCause}
 use Rattle.bx_store.specs.declared.cause.SaveCause.TheVariants.{NoSpace}
 use Rattle.bx_editor.specs.declared.message.Message.TheVariants.{NothingToUndo, NothingToRedo, Unsaved}
 use Rattle.bx_editor.specs.Editor.{Editor}
-use Rattle.bx_runs.specs.declared.typing.Typing.TheVariants.{Off}
+use Rattle.bx_editor.specs.declared.undo_groups.typing.Typing.TheVariants.{Off}
 use Rattle.bx_editor.specs.Keys.{after_key}
 use Rattle.bx_editor.proofs.Computed.{tables, start, after, letters, shown, ascii_columns}
 

@@ -7,10 +7,8 @@ use Rattle.unicode_segmentation.specs.Grapheme.{graphemes, is_grapheme_break}
 use Rattle.unicode_segmentation.specs.Segments.{with_offsets}
 use Rattle.unicode_segmentation.proofs.SegmentsLemmas.{AllPieces, concat-segments, segments_nonempty}
 use Rattle.bx_ucd.specs.Data.{Data}
-use Rattle.bx_index.specs.Paragraphs.{Paragraph, bare, lengths, lengths_of, paragraphs}
-use Rattle.bx_index.specs.Positions.{paragraph_of, spans, total}
-use Rattle.bx_view.specs.Numbers.{paragraph_number, unit_number, units_before}
-use Rattle.bx_view.specs.Standing.{body_at, count, start_at}
+use Rattle.bx_text.specs.index.Paragraphs.{Paragraph, bare, lengths, lengths_of, paragraphs, paragraph_of, spans, total}
+use Rattle.bx_view.specs.Numbers.{paragraph_number, unit_number, units_before, body_at, count, start_at}
 use Rattle.bx_view.proofs.Numbers.{ahead, behind, body-range, body-utf8, falls-at, here, parts-at, start-is}
 use Rattle.bx_view.proofs.Parts.{AreEnded, text-parts}
 use Rattle.bx_view.proofs.RowsAround.{AllEnded, ahead-ended}
@@ -39,26 +37,26 @@ few-units start place body utf8 =
       ap length (concat-segments (is_grapheme_break true) body utf8),
     )
 
-pub few-numbers : (says : Data) (text : List ℕ) (place : ℕ) → IsUtf8 text → paragraph_number says text place + unit_number says text place ≤ length text + 1
-few-numbers says text place utf8 =
-    let n = paragraph_of (lengths says text) place in
-    let falls = falls-at says text place n utf8 refl in
-    let body : get_or (map (λ p. p.body) (paragraphs says text)) n [] ≡ body_at says text n =
-    get_or-map (λ p. p.body) (paragraphs says text) n (bare []) [] falls.within in
-    let start = (get_or (spans (lengths says text)) n (0, 0)).0 in
-    let units : unit_number says text place ≡ units_before start place (body_at says text n) + 1 = ap (λ b. units_before start place b + 1) body in
-    let ended : AllEnded (ahead says text n falls.within) =
-    ahead-ended (ahead says text n falls.within) (here says text n falls.within) (behind says text n falls.within)
-    (subst AreEnded (parts-at says text n falls.within) (text-parts says text utf8).ended) in
-    let range = body-range says text n falls.within utf8 in
-    let bounds : IsCharBoundary text (start_at says text n + length (body_at says text n)) = range.stop_bounds in
-    let within : n ≤ count says text = omega (arith, falls.within) in
+pub few-numbers : (ucd : Data) (text : List ℕ) (place : ℕ) → IsUtf8 text → paragraph_number ucd text place + unit_number ucd text place ≤ length text + 1
+few-numbers ucd text place utf8 =
+    let n = paragraph_of (lengths ucd text) place in
+    let falls = falls-at ucd text place n utf8 refl in
+    let body : get_or (map (λ p. p.body) (paragraphs ucd text)) n [] ≡ body_at ucd text n =
+    get_or-map (λ p. p.body) (paragraphs ucd text) n (bare []) [] falls.within in
+    let start = (get_or (spans (lengths ucd text)) n (0, 0)).0 in
+    let units : unit_number ucd text place ≡ units_before start place (body_at ucd text n) + 1 = ap (λ b. units_before start place b + 1) body in
+    let ended : AllEnded (ahead ucd text n falls.within) =
+    ahead-ended (ahead ucd text n falls.within) (here ucd text n falls.within) (behind ucd text n falls.within)
+    (subst AreEnded (parts-at ucd text n falls.within) (text-parts ucd text utf8).ended) in
+    let range = body-range ucd text n falls.within utf8 in
+    let bounds : IsCharBoundary text (start_at ucd text n + length (body_at ucd text n)) = range.stop_bounds in
+    let within : n ≤ count ucd text = omega (arith, falls.within) in
     omega (
       arith,
       units,
-      few-units start place (body_at says text n) (body-utf8 says text n falls.within utf8),
-      ended-long (ahead says text n falls.within) ended,
-      length-take-le n (paragraphs says text) within,
-      start-is says text n,
+      few-units start place (body_at ucd text n) (body-utf8 ucd text n falls.within utf8),
+      ended-long (ahead ucd text n falls.within) ended,
+      length-take-le n (paragraphs ucd text) within,
+      start-is ucd text n,
       bounds.0,
     )

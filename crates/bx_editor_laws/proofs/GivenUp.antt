@@ -4,29 +4,28 @@ use Rattle.std.specs.Prelude.{◌==◌, Option, Some, None}
 use Rattle.bx_keys.specs.declared.key.Key.{Key}
 use Rattle.bx_keys.specs.declared.key.Key.TheVariants.{Quit, Copy, Find, FindBack, FindNext, Replace, Cancel}
 use Rattle.bx_store.specs.declared.store.StoreFault.{StoreFault}
-use Rattle.bx_runs.specs.declared.typing.Typing.{Typing}
-use Rattle.bx_runs.specs.declared.typing.Typing.TheVariants as typings
+use Rattle.bx_editor.specs.declared.undo_groups.typing.Typing.{Typing}
+use Rattle.bx_editor.specs.declared.undo_groups.typing.Typing.TheVariants as typings
 use Rattle.bx_ucd.specs.Data.{Data}
-use Rattle.bx_asking.specs.declared.question.Ask.{Ask}
-use Rattle.bx_asking.specs.declared.question.Ask.TheVariants as asks
+use Rattle.bx_editor.specs.declared.questions.answers.Prompt.{Prompt}
+use Rattle.bx_editor.specs.declared.questions.answers.Prompt.TheVariants as asks
 use Rattle.bx_editor.specs.Asking.{without_ask}
-use Rattle.bx_editor.specs.declared.aim.Aim.{Aim}
-use Rattle.bx_editor.specs.declared.aim.Aim.TheVariants as aims
-use Rattle.bx_editor.specs.declared.seek.Seek.{Seek}
-use Rattle.bx_editor.specs.declared.seek.Seek.TheVariants.{Off, Begun, Typed, WithBegun, WithTyped, Replacing}
+use Rattle.bx_editor.specs.declared.search_state.SearchPurpose.{SearchPurpose}
+use Rattle.bx_editor.specs.declared.search_state.SearchPurpose.TheVariants as aims
+use Rattle.bx_editor.specs.declared.search_state.SearchState.{SearchState}
+use Rattle.bx_editor.specs.declared.search_state.SearchState.TheVariants.{Off, Begun, Typed, WithBegun, WithTyped, Replacing}
 use Rattle.bx_editor.specs.Editor.{Editor, cleared, with_typing}
 use Rattle.bx_editor.specs.Effects.{Before, before}
 use Rattle.bx_editor.specs.Keys.{Answer, Letter, Shortens, GoesBack, Next, Previous, Replaces, Stays, Ends, after_any, after_key, after_press}
-use Rattle.bx_editor.specs.Keys.{answer_of, answered, answered_other, effect_of}
+use Rattle.bx_editor.specs.Keys.{answer_of, answered, answered_replacement, effect_of}
 use Rattle.bx_editor_laws.specs.Laws.{after_typing, begins_anew, finds, is_on}
 use Rattle.bx_editor_laws.specs.Laws.{BeginsSearch, GivesUp, GivingUpGoesBack, IsGivenUp, StaysOn}
-use Rattle.bx_editor.specs.Pasting.{paste_begun, paste_ended, with_paste}
-use Rattle.bx_editor.specs.Putting.{is_paste}
-use Rattle.bx_editor.specs.Replacing.{after_asking_other, after_other_letter, after_showing, after_sought_end, after_sought_letter, asked_at}
-use Rattle.bx_editor.specs.Replacing.{is_replacing, longest_other, next_match, other_typed, shown_at, with_other}
+use Rattle.bx_editor.specs.Putting.{paste_begun, paste_ended, with_paste, is_paste}
+use Rattle.bx_editor.specs.Replacing.{after_asking_replacement, after_replacement_letter, after_showing, after_sought_end, after_sought_letter, asked_at}
+use Rattle.bx_editor.specs.Replacing.{is_replacing, next_match, replacement_typed, shown_at, with_replacement}
 use Rattle.bx_editor.specs.Search.{after_beginning, after_giving_up, after_letter, is_no_letter, kept, landed, landing_from}
 use Rattle.bx_editor.specs.Search.{lengthened, longest_query, search_from, sought, with_query, without_search}
-use Rattle.bx_editor.specs.Selecting.{unselected}
+use Rattle.bx_editor.specs.Region.{unselected}
 use Rattle.bx_editor.proofs.InSearch.{any-key, behind, each-key}
 use Rattle.bx_editor.proofs.Searches.{is_end}
 use Rattle.bx_editor_laws.proofs.PasteEnded.{none-ended}
@@ -66,7 +65,7 @@ asked-keeps e went None h = record { origin_is = h.origin_is; mark_is = h.mark_i
 asked-keeps e went (Some place) h =
     record { origin_is = h.origin_is; mark_is = h.mark_is; content_is = h.content_is; ask_is = h.ask_is; pasted_is = h.pasted_is }
 
-asking-keeps : (d : Data) (e : Editor) → KeepsSearch e (after_asking_other d e)
+asking-keeps : (d : Data) (e : Editor) → KeepsSearch e (after_asking_replacement d e)
 asking-keeps d e =
     let aimed : Editor = record e { aim = aims.Replace } in
     let l = landing_from d aimed.place aimed in
@@ -78,8 +77,8 @@ asking-keeps d e =
 sought-end-keeps : (d : Data) (typing : Typing) (e : Editor) → is_on (after_sought_end d typing e).seek ≡ true → KeepsSearch e (after_sought_end d typing e)
 sought-end-keeps d typing e =
     let left = without_search e in
-    either-on (is_replacing e.aim) e (if is_paste typing then e else after_asking_other d e) (if is_paste typing then with_paste left else left)
-    (λ on. either-keeps (is_paste typing) e e (after_asking_other d e) (keeps-all e) (asking-keeps d e))
+    either-on (is_replacing e.aim) e (if is_paste typing then e else after_asking_replacement d e) (if is_paste typing then with_paste left else left)
+    (λ on. either-keeps (is_paste typing) e e (after_asking_replacement d e) (keeps-all e) (asking-keeps d e))
     (either-on (is_paste typing) e (with_paste left) left (λ on. absurd (cc on)) (λ on. absurd (cc on)))
 
 sought-keeps : (d : Data) (typing : Typing) (e : Editor) (c : ℕ) → is_on (after_sought_letter d typing e c).seek ≡ true
@@ -100,18 +99,18 @@ answered-keeps d fault was e key Replaces on = asking-keeps d e
 answered-keeps d fault was e key Stays on = record { origin_is = refl; mark_is = refl; content_is = refl; ask_is = refl; pasted_is = refl }
 answered-keeps d fault was e key Ends on = absurd (cc on)
 
--- ---- while the other text is asked for
+-- ---- while the replacement is asked for
 
 shown-keeps : (e : Editor) (at : Option ℕ) → is_on (shown_at e at).seek ≡ true → KeepsSearch e (shown_at e at)
 shown-keeps e None on = keeps-all e
 shown-keeps e (Some at) on = absurd (cc on)
 
-other-letter-keeps : (d : Data) (typing : Typing) (e : Editor) (c : ℕ) → is_on (after_other_letter d typing e c).seek ≡ true
-    → KeepsSearch e (after_other_letter d typing e c)
-other-letter-keeps d typing e c =
-    let longer = with_other e (lengthened longest_other (kept e.seek e.other) c) in
+replacement-letter-keeps : (d : Data) (typing : Typing) (e : Editor) (c : ℕ) → is_on (after_replacement_letter d typing e c).seek ≡ true
+    → KeepsSearch e (after_replacement_letter d typing e c)
+replacement-letter-keeps d typing e c =
+    let longer = with_replacement e (lengthened longest_query (kept e.seek e.replacement) c) in
     let same : KeepsSearch e longer = record { origin_is = refl; mark_is = refl; content_is = refl; ask_is = refl; pasted_is = refl } in
-    either-on (c == 0xA) e (if is_paste typing then e else after_showing d e) (other_typed d e c)
+    either-on (c == 0xA) e (if is_paste typing then e else after_showing d e) (replacement_typed d e c)
     (either-on (is_paste typing) e e (after_showing d e) (λ on. keeps-all e) (shown-keeps e (next_match d e e.place)))
     (λ on. either-keeps (is_no_letter d c) e e longer (keeps-all e) same)
 
@@ -121,20 +120,20 @@ is_search Next = true
 is_search Previous = true
 is_search _ = false
 
-other-keeps : (d : Data) (fault : Option StoreFault) (was : Before) (e : Editor) (key : Key) (answer : Answer)
+replacement-keeps : (d : Data) (fault : Option StoreFault) (was : Before) (e : Editor) (key : Key) (answer : Answer)
     → is_search answer ≡ false
     → (is_end answer ≡ true → is_seeking (effect_of d (without_search e) key) ≡ false)
-    → is_on (answered_other d fault was e key answer).seek ≡ true → KeepsSearch e (answered_other d fault was e key answer)
-other-keeps d fault was e key (Letter c) other ends on =
-    let keeps = other-letter-keeps d was.typing e c on in
+    → is_on (answered_replacement d fault was e key answer).seek ≡ true → KeepsSearch e (answered_replacement d fault was e key answer)
+replacement-keeps d fault was e key (Letter c) other ends on =
+    let keeps = replacement-letter-keeps d was.typing e c on in
     record { origin_is = keeps.origin_is; mark_is = keeps.mark_is; content_is = keeps.content_is; ask_is = keeps.ask_is; pasted_is = keeps.pasted_is }
-other-keeps d fault was e key Shortens other ends on = record { origin_is = refl; mark_is = refl; content_is = refl; ask_is = refl; pasted_is = refl }
-other-keeps d fault was e key GoesBack other ends on = absurd (cc on)
-other-keeps d fault was e key Next other ends on = absurd (cc other)
-other-keeps d fault was e key Previous other ends on = absurd (cc other)
-other-keeps d fault was e key Replaces other ends on = shown-keeps e (next_match d e e.place) on
-other-keeps d fault was e key Stays other ends on = record { origin_is = refl; mark_is = refl; content_is = refl; ask_is = refl; pasted_is = refl }
-other-keeps d fault was e key Ends other ends on =
+replacement-keeps d fault was e key Shortens other ends on = record { origin_is = refl; mark_is = refl; content_is = refl; ask_is = refl; pasted_is = refl }
+replacement-keeps d fault was e key GoesBack other ends on = absurd (cc on)
+replacement-keeps d fault was e key Next other ends on = absurd (cc other)
+replacement-keeps d fault was e key Previous other ends on = absurd (cc other)
+replacement-keeps d fault was e key Replaces other ends on = shown-keeps e (next_match d e e.place) on
+replacement-keeps d fault was e key Stays other ends on = record { origin_is = refl; mark_is = refl; content_is = refl; ask_is = refl; pasted_is = refl }
+replacement-keeps d fault was e key Ends other ends on =
     let off = effect-unsought d fault was (without_search e) (effect_of d (without_search e) key) (ends refl) refl in
     let none : false ≡ true = sym (ap is_on off) ∙ on in
     absurd (cc none)
@@ -155,7 +154,7 @@ ends-all d e _ h = refl
 
 -- ---- any key
 
-any-keeps : (d : Data) (fault : Option StoreFault) (was : Before) (ask : Ask) (seek : Seek) (e : Editor) (key : Key)
+any-keeps : (d : Data) (fault : Option StoreFault) (was : Before) (ask : Prompt) (seek : SearchState) (e : Editor) (key : Key)
     → ask ≡ asks.Off → is_on seek ≡ true
     → begins_anew seek key ≡ false → is_on (after_any d fault was ask seek e key).seek ≡ true
     → KeepsSearch e (after_any d fault was ask seek e key)
@@ -163,16 +162,16 @@ any-keeps d fault was asks.Off Off e key unasked sought same on = absurd (cc sou
 any-keeps d fault was asks.Off Begun e key unasked sought same on = answered-keeps d fault was e key (answer_of key) on
 any-keeps d fault was asks.Off Typed e key unasked sought same on = answered-keeps d fault was e key (answer_of key) on
 any-keeps d fault was asks.Off WithBegun e key unasked sought same on =
-    other-keeps d fault was e key (answer_of key) (begins-none key same) (ends-all d (without_search e) key) on
+    replacement-keeps d fault was e key (answer_of key) (begins-none key same) (ends-all d (without_search e) key) on
 any-keeps d fault was asks.Off WithTyped e key unasked sought same on =
-    other-keeps d fault was e key (answer_of key) (begins-none key same) (ends-all d (without_search e) key) on
+    replacement-keeps d fault was e key (answer_of key) (begins-none key same) (ends-all d (without_search e) key) on
 any-keeps d fault was asks.Off Replacing e key unasked sought same on = absurd (cc sought)
 any-keeps d fault was asks.Line seek e key unasked sought same on = absurd (cc unasked)
 any-keeps d fault was asks.Name seek e key unasked sought same on = absurd (cc unasked)
 any-keeps d fault was asks.Code seek e key unasked sought same on = absurd (cc unasked)
 
 -- while a search is on PasteStart leaves the text, and no paste ends
-begun-keeps : (e : Editor) (ask : Ask) (seek : Seek) (pasted : Option (List ℕ)) → is_on seek ≡ true → paste_begun ask seek pasted e ≡ e
+begun-keeps : (e : Editor) (ask : Prompt) (seek : SearchState) (pasted : Option (List ℕ)) → is_on seek ≡ true → paste_begun ask seek pasted e ≡ e
 begun-keeps e asks.Off Off pasted on = absurd (cc on)
 begun-keeps e asks.Off Begun pasted on = refl
 begun-keeps e asks.Off Typed pasted on = refl
@@ -238,24 +237,24 @@ same-key : (d : Data) (e : Editor) (key other : Key) (new : Editor) → key ≡ 
 same-key d e key other new is done = subst (λ k. after_key d None e k ≡ new) (sym is) done
 
 -- an editor in which a search begins
-abbrev pub begun-at : Aim → Editor → Editor
+abbrev pub begun-at : SearchPurpose → Editor → Editor
 begun-at aim e = after_beginning aim (unselected (without_ask (cleared e)))
 
-find-any : (d : Data) (was : Before) (ask : Ask) (e : Editor) → e.ask ≡ ask
+find-any : (d : Data) (was : Before) (ask : Prompt) (e : Editor) → e.ask ≡ ask
     → after_any d None was ask Off e Find ≡ after_beginning aims.Find (unselected (without_ask e))
 find-any d was asks.Off e is = ap (λ a. record (after_beginning aims.Find (unselected e)) { ask = a }) is
 find-any d was asks.Line e is = refl
 find-any d was asks.Name e is = refl
 find-any d was asks.Code e is = refl
 
-find-back-any : (d : Data) (was : Before) (ask : Ask) (e : Editor) → e.ask ≡ ask
+find-back-any : (d : Data) (was : Before) (ask : Prompt) (e : Editor) → e.ask ≡ ask
     → after_any d None was ask Off e FindBack ≡ after_beginning aims.Find (unselected (without_ask e))
 find-back-any d was asks.Off e is = ap (λ a. record (after_beginning aims.Find (unselected e)) { ask = a }) is
 find-back-any d was asks.Line e is = refl
 find-back-any d was asks.Name e is = refl
 find-back-any d was asks.Code e is = refl
 
-replace-any : (d : Data) (was : Before) (ask : Ask) (e : Editor) → e.ask ≡ ask
+replace-any : (d : Data) (was : Before) (ask : Prompt) (e : Editor) → e.ask ≡ ask
     → after_any d None was ask Off e Replace ≡ after_beginning aims.Replace (unselected (without_ask e))
 replace-any d was asks.Off e is = ap (λ a. record (after_beginning aims.Replace (unselected e)) { ask = a }) is
 replace-any d was asks.Line e is = refl
@@ -278,14 +277,14 @@ replace-begins d e settled off =
     ∙ ap behind (replace-any d (before e) e.ask (cleared e) refl)
 
 begin-is : (d : Data) (e : Editor) (begin : Key) → e.pasted ≡ None → e.seek ≡ Off → BeginsSearch begin
-    → (aim : Aim) × (after_key d None e begin ≡ behind (begun-at aim e))
+    → (aim : SearchPurpose) × (after_key d None e begin ≡ behind (begun-at aim e))
 begin-is d e begin settled off (inl is) = (aims.Find, same-key d e begin Find (behind (begun-at aims.Find e)) is (find-begins d e settled off))
 begin-is d e begin settled off (inr (inl is)) =
     (aims.Find, same-key d e begin FindBack (behind (begun-at aims.Find e)) is (find-back-begins d e settled off))
 begin-is d e begin settled off (inr (inr is)) =
     (aims.Replace, same-key d e begin Replace (behind (begun-at aims.Replace e)) is (replace-begins d e settled off))
 
-quit-any : (d : Data) (was : Before) (ask : Ask) (seek : Seek) (e : Editor) → ask ≡ asks.Off → is_on seek ≡ true
+quit-any : (d : Data) (was : Before) (ask : Prompt) (seek : SearchState) (e : Editor) → ask ≡ asks.Off → is_on seek ≡ true
     → after_any d None was ask seek e Quit ≡ after_giving_up e
 quit-any d was asks.Off Off e unasked on = absurd (cc on)
 quit-any d was asks.Off Begun e unasked on = refl
@@ -297,7 +296,7 @@ quit-any d was asks.Line seek e unasked on = absurd (cc unasked)
 quit-any d was asks.Name seek e unasked on = absurd (cc unasked)
 quit-any d was asks.Code seek e unasked on = absurd (cc unasked)
 
-copy-any : (d : Data) (was : Before) (ask : Ask) (seek : Seek) (e : Editor) → ask ≡ asks.Off → is_on seek ≡ true
+copy-any : (d : Data) (was : Before) (ask : Prompt) (seek : SearchState) (e : Editor) → ask ≡ asks.Off → is_on seek ≡ true
     → after_any d None was ask seek e Copy ≡ after_giving_up e
 copy-any d was asks.Off Off e unasked on = absurd (cc on)
 copy-any d was asks.Off Begun e unasked on = refl
@@ -309,7 +308,7 @@ copy-any d was asks.Line seek e unasked on = absurd (cc unasked)
 copy-any d was asks.Name seek e unasked on = absurd (cc unasked)
 copy-any d was asks.Code seek e unasked on = absurd (cc unasked)
 
-cancel-any : (d : Data) (was : Before) (ask : Ask) (seek : Seek) (e : Editor) → ask ≡ asks.Off → is_on seek ≡ true
+cancel-any : (d : Data) (was : Before) (ask : Prompt) (seek : SearchState) (e : Editor) → ask ≡ asks.Off → is_on seek ≡ true
     → after_any d None was ask seek e Cancel ≡ after_giving_up e
 cancel-any d was asks.Off Off e unasked on = absurd (cc on)
 cancel-any d was asks.Off Begun e unasked on = refl

@@ -4,7 +4,7 @@ use Rattle.std.proofs.Common.{arith, if◌then◌else◌, append-nil, length-app
 use Rattle.std.specs.Prelude.{◌≢◌, ◌==◌, ◌&&◌, not, nat_le, encode_utf8, Some, None}
 use Rattle.std.proofs.lemmas.Bool.Decides.{nat_tests}
 use Rattle.std.proofs.lemmas.List.{length-drop, length-take}
-use Rattle.bx_terms.specs.Sizes.{largest_text}
+use Rattle.bx_common.specs.Characters.{largest_text}
 use Rattle.bx_keys.specs.declared.key.Key.{Key}
 use Rattle.bx_keys.specs.declared.key.Key.TheVariants.{Insert, Erase, Delete, Back, Forward, Up, Down, Right, Left, RowHome, RowEnd, PageUp, PageDown, Save}
 use Rattle.bx_keys.specs.declared.key.Key.TheVariants.{Quit, Undo, Redo, Repaint, Direction, Size, Mark, Copy, Cut, Put}
@@ -12,22 +12,22 @@ use Rattle.bx_keys.specs.declared.key.Key.TheVariants.{Find, FindBack, WordLeft,
 use Rattle.bx_keys.specs.declared.key.Key.TheVariants.{EraseWord, DeleteWord, ErasePoint, NewLine, FindNext, Cancel, LineUp, LineDown, PageBack, PageOn}
 use Rattle.bx_keys.specs.declared.key.Key.TheVariants.{Select, UndoRun, RedoRun, GoTo, Replace, Name, Tell, PasteStart, PasteEnd, Point}
 use Rattle.bx_text.specs.Edits.{fits, splice}
-use Rattle.bx_runs.specs.Typing.{goes_on, kind_of}
-use Rattle.bx_runs.specs.declared.typing.Kind.{Kind}
-use Rattle.bx_runs.specs.declared.typing.Kind.TheVariants.{Separator}
-use Rattle.bx_runs.specs.declared.typing.Typing.{Typing}
+use Rattle.bx_editor.specs.undo_groups.Groups.{goes_on, kind_of}
+use Rattle.bx_editor.specs.declared.undo_groups.typing.Kind.{Kind}
+use Rattle.bx_editor.specs.declared.undo_groups.typing.Kind.TheVariants.{Separator}
+use Rattle.bx_editor.specs.declared.undo_groups.typing.Typing.{Typing}
 use Rattle.bx_ucd.specs.Data.{Data}
 use Rattle.bx_editor.specs.declared.message.Message.TheVariants.{NothingToPut, TextFull}
-use Rattle.bx_editor.specs.declared.soft.Soft.{Soft}
-use Rattle.bx_editor.specs.declared.soft.Soft.TheVariants.{Off, Fresh, Old}
+use Rattle.bx_editor.specs.declared.cursor.Soft.{Soft}
+use Rattle.bx_editor.specs.declared.cursor.Soft.TheVariants.{Off, Fresh, Old}
 use Rattle.bx_editor.specs.Editor.{Editor, cleared, place_after, with_insertion, with_removal}
 use Rattle.bx_editor.specs.Effects.{Effect, Types, BeginsLine, Puts, Removes, RemovesWord, Steps, StepsRun, Goes, GoesByRows, Marks, Selects}
 use Rattle.bx_editor.specs.Effects.{Unmarks, Copies, Cuts, Seeks, SeeksNext, Saves, Quits, Turns, Helps, AsksLine, AsksName, Tells, Rests, Before, before, by}
 use Rattle.bx_editor.specs.Erasing.{after_removing, or_selection, removed_on}
-use Rattle.bx_editor.specs.Keys.{after_any, after_key, as_left, effect_of, is_told_key}
+use Rattle.bx_editor.specs.Keys.{after_any, after_key, as_left, effect_of}
+use Rattle.bx_editor.specs.Functions.{is_told_key}
 use Rattle.bx_editor.specs.Putting.{after_character, after_new_line, has_room, line_end, put_in, typed, with_selection_replaced, yielding}
-use Rattle.bx_editor.specs.Region.{is_empty, region}
-use Rattle.bx_editor.specs.Selecting.{is_selection, is_soft}
+use Rattle.bx_editor.specs.Region.{is_empty, region, is_selection, is_soft}
 use Rattle.bx_editor_laws.specs.SelectionLaws.{bytes_put, is_removal, rest, rest_with, seam, HasSelection, IsRefused, IsReplacedBy, IsRest}
 use Rattle.bx_editor_laws.specs.SelectionLaws.{SelectionComesBack, SelectionGivesWay, SelectionIsRemoved}
 use Rattle.bx_editor.proofs.InSearch.{any-key}
@@ -158,7 +158,7 @@ selection-is-removed d e key has is =
 
 -- ---- something is put in its place
 
--- the bytes stand in its place, of one run with its removal, or were refused
+-- the bytes stand in its place, of one undo group with its removal, or were refused
 record Yields (d : Data) (e : Editor) (bytes : List ℕ) (new : Editor) : Type 0 where
   pub fits : length (rest_with d e bytes) ≤ largest_text → IsReplacedBy d e bytes new
   pub goes : length (rest_with d e bytes) ≤ largest_text → IsOneRun e new × (new.pasted ≡ None)

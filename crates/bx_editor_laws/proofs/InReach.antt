@@ -12,23 +12,23 @@ use Rattle.bx_text.specs.Edits.{Edit, splice}
 use Rattle.bx_document.specs.History.{next_changes}
 use Rattle.bx_document.specs.declared.history.HistoryStep.{HistoryStep}
 use Rattle.bx_document.specs.declared.history.HistoryStep.TheVariants as steps
-use Rattle.bx_runs.specs.Typing.{after_removal, goes_on, goes_on_removing, kind_of}
-use Rattle.bx_runs.specs.declared.typing.Kind.{Kind}
-use Rattle.bx_runs.specs.declared.typing.Kind.TheVariants as kinds
-use Rattle.bx_runs.specs.declared.typing.Removal.{Removal}
-use Rattle.bx_runs.specs.declared.typing.Typing.{Typing}
+use Rattle.bx_editor.specs.undo_groups.Groups.{after_removal, goes_on, goes_on_removing, kind_of}
+use Rattle.bx_editor.specs.declared.undo_groups.typing.Kind.{Kind}
+use Rattle.bx_editor.specs.declared.undo_groups.typing.Kind.TheVariants as kinds
+use Rattle.bx_editor.specs.declared.undo_groups.typing.Removal.{Removal}
+use Rattle.bx_editor.specs.declared.undo_groups.typing.Typing.{Typing}
 use Rattle.bx_ucd.specs.Data.{Data}
-use Rattle.bx_asking.specs.declared.question.Ask.{Ask}
-use Rattle.bx_asking.specs.declared.question.Ask.TheVariants as asks
-use Rattle.bx_editor.specs.declared.aim.Aim.TheVariants as aims
+use Rattle.bx_editor.specs.declared.questions.answers.Prompt.{Prompt}
+use Rattle.bx_editor.specs.declared.questions.answers.Prompt.TheVariants as asks
+use Rattle.bx_editor.specs.declared.search_state.SearchPurpose.TheVariants as aims
 use Rattle.bx_editor.specs.declared.message.Message.TheVariants as messages
-use Rattle.bx_editor.specs.declared.seek.Seek.{Seek}
-use Rattle.bx_editor.specs.declared.seek.Seek.TheVariants as seeks
-use Rattle.bx_editor.specs.declared.soft.Soft.{Soft}
-use Rattle.bx_editor.specs.declared.soft.Soft.TheVariants as softness
-use Rattle.bx_editor.specs.Asking.{without_ask}
-use Rattle.bx_editor.specs.Editor.{Editor, after_redo, after_save, after_step, after_undo, cleared, stored_behind}
-use Rattle.bx_editor.specs.Editor.{with_exchange, with_insertion, with_insertion_at, with_removal}
+use Rattle.bx_editor.specs.declared.search_state.SearchState.{SearchState}
+use Rattle.bx_editor.specs.declared.search_state.SearchState.TheVariants as seeks
+use Rattle.bx_editor.specs.declared.cursor.Soft.{Soft}
+use Rattle.bx_editor.specs.declared.cursor.Soft.TheVariants as softness
+use Rattle.bx_editor.specs.Asking.{without_ask, with_wrap}
+use Rattle.bx_editor.specs.Editor.{Editor, after_redo, after_save, after_step, after_undo, cleared, stored_behind, with_exchange}
+use Rattle.bx_editor.specs.Editor.{with_insertion, with_insertion_at, with_removal, by_run, run_length}
 use Rattle.bx_editor.specs.Effects.{Effect, Types, BeginsLine, Puts, Removes, RemovesWord, Steps, StepsRun, Goes, GoesByRows, Marks}
 use Rattle.bx_editor.specs.Effects.{Selects}
 use Rattle.bx_editor.specs.Effects.{Unmarks, Copies, Cuts, Seeks, SeeksNext, Saves, Quits, Turns, Helps, AsksLine, AsksName, Tells, Rests}
@@ -36,21 +36,18 @@ use Rattle.bx_editor.specs.Effects.{Before, before, by}
 use Rattle.bx_editor.specs.Erasing.{after_erasing, after_erasing_word, after_removing, removed_on}
 use Rattle.bx_editor.specs.Keys.{Answer, Letter, Shortens, GoesBack, Next, Previous, Replaces, Stays, Ends, after_any}
 use Rattle.bx_editor.specs.Keys.{after_in_paste, after_key, after_press}
-use Rattle.bx_editor.specs.Keys.{after_pressing, answer_of, answered, answered_match, answered_other, answered_question, effect_of, is_save}
-use Rattle.bx_editor.specs.Pasting.{paste_ended, without_paste}
-use Rattle.bx_editor.specs.Putting.{after_put, has_room, line_end, put_in, typed}
-use Rattle.bx_editor.specs.Putting.{with_selection_replaced, yielding}
+use Rattle.bx_editor.specs.Keys.{after_pressing, answer_of, answered, answered_match, answered_replacement, answered_question, effect_of, is_save}
+use Rattle.bx_editor.specs.Putting.{paste_ended, without_paste, after_put, has_room, line_end, put_in, typed, with_selection_replaced}
+use Rattle.bx_editor.specs.Putting.{yielding}
 use Rattle.bx_editor.specs.Region.{after_copy, after_cut, bytes_in, held_message, is_at_mark, is_empty, line, region, taken, with_held}
+use Rattle.bx_editor.specs.Region.{is_selection, selecting, unselected}
 use Rattle.bx_editor.specs.Replacing.{at_match, next_match}
 use Rattle.bx_document.specs.Swapped.{behind_character}
-use Rattle.bx_editor.specs.Runs.{by_run, run_length}
 use Rattle.bx_editor.specs.Search.{after_beginning, next_or_start, search_from, sought, without_search}
-use Rattle.bx_editor.specs.Selecting.{is_selection, selecting, unselected}
-use Rattle.bx_editor.specs.Wrapping.{with_wrap}
 use Rattle.bx_editor.proofs.EffectsKept.{IsKeptPasting, start-keeps}
 use Rattle.bx_editor.proofs.InSearch.{each-key}
-use Rattle.bx_editor.proofs.Questions.{IsKept, letter-keeps, shorter-keeps}
-use Rattle.bx_editor.proofs.Searches.{IsKeptSeeking, match-keeps, other-keeps, query-keeps}
+use Rattle.bx_editor.proofs.QuestionSteps.{IsKept, letter-keeps, shorter-keeps}
+use Rattle.bx_editor.proofs.Searches.{IsKeptSeeking, match-keeps, replacement-keeps, query-keeps}
 use Rattle.bx_editor_laws.specs.Laws.{after_typing}
 use Rattle.bx_editor_laws.specs.StoredLaws.{KeepsInReach, StaysInReach, may_edit, stores}
 use Rattle.bx_editor_laws.proofs.PasteEnded.{ended-by, none-ended}
@@ -308,15 +305,15 @@ module _ (n : ℕ) (d : Data) where
     query Stays q = h
     query Ends q = pressed
 
-    other-text : (one : Answer) → (is_typed one ≡ true → InPast e) → InReach (answered_other d fault was e key one)
-    other-text (Letter c) q = (other-keeps d InPast seeking fault was e key (Letter c) (q refl) (q refl) (λ ends. absurd (cc ends))).0
-    other-text Shortens q = h
-    other-text GoesBack q = h
-    other-text Next q = h
-    other-text Previous q = h
-    other-text Replaces q = (other-keeps d InPast seeking fault was e key Replaces (q refl) (q refl) (λ ends. absurd (cc ends))).0
-    other-text Stays q = h
-    other-text Ends q = freed
+    replacement : (one : Answer) → (is_typed one ≡ true → InPast e) → InReach (answered_replacement d fault was e key one)
+    replacement (Letter c) q = (replacement-keeps d InPast seeking fault was e key (Letter c) (q refl) (q refl) (λ ends. absurd (cc ends))).0
+    replacement Shortens q = h
+    replacement GoesBack q = h
+    replacement Next q = h
+    replacement Previous q = h
+    replacement Replaces q = (replacement-keeps d InPast seeking fault was e key Replaces (q refl) (q refl) (λ ends. absurd (cc ends))).0
+    replacement Stays q = h
+    replacement Ends q = freed
 
     shown : (one : Answer) → (is_typed one ≡ true → InPast e) → InReach (answered_match d fault was e key one)
     shown (Letter c) q = (match-keeps d InPast seeking fault was e key (Letter c) (q refl) (q refl) (λ ends. absurd (cc ends))).0
@@ -338,12 +335,12 @@ module _ (n : ℕ) (d : Data) where
     answering : is_typed (answer_of key) ≡ true → InPast e
     answering is = p (typed-key key is)
 
-    any : (ask : Ask) (seek : Seek) → InReach (after_any d fault was ask seek e key)
+    any : (ask : Prompt) (seek : SearchState) → InReach (after_any d fault was ask seek e key)
     any asks.Off seeks.Off = pressed
     any asks.Off seeks.Begun = query (answer_of key) answering
     any asks.Off seeks.Typed = query (answer_of key) answering
-    any asks.Off seeks.WithBegun = other-text (answer_of key) answering
-    any asks.Off seeks.WithTyped = other-text (answer_of key) answering
+    any asks.Off seeks.WithBegun = replacement (answer_of key) answering
+    any asks.Off seeks.WithTyped = replacement (answer_of key) answering
     any asks.Off seeks.Replacing = shown (answer_of key) answering
     any asks.Line seek = question (answer_of key) answering
     any asks.Name seek = question (answer_of key) answering

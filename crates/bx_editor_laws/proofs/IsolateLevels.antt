@@ -8,19 +8,19 @@ use Rattle.std.proofs.lemmas.List.Sums.{sum_by-cons}
 use Rattle.bx_ucd.specs.Data.{Data}
 use Rattle.bx_ucd.specs.declared.class.Class.{Class}
 use Rattle.bx_ucd.specs.declared.class.Class.TheVariants.{ON, LRI, RLI, FSI}
-use Rattle.bx_explicit.specs.declared.entry.ExplicitChar.{ExplicitChar}
-use Rattle.bx_explicit.specs.declared.state.State.{State}
-use Rattle.bx_explicit.specs.Explicit.{even_above, explicit_from, explicit_levels, first_above, isolate, next_state, odd_above, start, top}
-use Rattle.bx_explicit.specs.Laws.{states, states_from}
-use Rattle.bx_explicit.specs.Matching.{before_pdi, match_after, match_of, one_more}
-use Rattle.bx_explicit.specs.ParagraphLevel.{base_level, isolate_level}
-use Rattle.bx_explicit.specs.Role.{role_of}
-use Rattle.bx_explicit.proofs.FirstLow.{pick, resumes_at}
-use Rattle.bx_explicit.proofs.Inside.{IsInside, out_at}
-use Rattle.bx_explicit.proofs.Steps.{first_higher, state_at}
-use Rattle.bx_resolve.specs.Laws.{entry_at, entry_by, level_at}
-use Rattle.bx_resolve.specs.Levels.{is_kept, paragraph_levels}
-use Rattle.bx_resolve.proofs.KeptLevels.{base_low, kept_each, paragraph_kept}
+use Rattle.bx_levels.specs.declared.embedding.entry.ExplicitChar.{ExplicitChar}
+use Rattle.bx_levels.specs.declared.embedding.state.State.{State}
+use Rattle.bx_levels.specs.embedding.Explicit.{even_above, explicit_from, explicit_levels, first_above, isolate, next_state, odd_above, start, top}
+use Rattle.bx_levels.specs.embedding.Explicit.{role_of}
+use Rattle.bx_levels.specs.embedding.Laws.{states, states_from}
+use Rattle.bx_levels.specs.embedding.ParagraphLevel.{before_pdi, match_after, match_of, one_more, base_level, isolate_level}
+use Rattle.bx_levels.proofs.embedding_lemmas.FirstLow.{pick, resumes_at}
+use Rattle.bx_levels.proofs.embedding_lemmas.Inside.{IsInside, out_at}
+use Rattle.bx_levels.proofs.embedding_lemmas.Steps.{first_higher, state_at}
+use Rattle.bx_levels.specs.resolve.Laws.{entry_at, entry_by, level_at}
+use Rattle.bx_levels.specs.resolve.Levels.{paragraph_levels}
+use Rattle.bx_levels.specs.resolve.Kept.{is_kept}
+use Rattle.bx_levels.proofs.resolve_lemmas.KeptLevels.{base_low, kept_each, paragraph_kept}
 use Rattle.bx_editor_laws.specs.AskingLaws.{IsAbove, IsolatesRaise, begins_level, embedding_at}
 use Rattle.bx_editor_laws.proofs.LeastLevels.{IsLeast, levels-are-least}
 use Rattle.bx_editor_laws.proofs.ShallowStates.{IsShallow, first-near, isolated-now, low-more, low-top, raise, shallow-next, shallow-start, valid-now}
@@ -141,8 +141,8 @@ above-level l (Some k) None some e a b = absurd (cc e)
 above-level l (Some k) (Some level) some e a b = omega (arith, a, b)
 
 -- in classes
-module _ (says : Data) (chars : List ℕ) (paragraph : ℕ) (low : paragraph ≤ 1) (front : List Class) (o : Class) (inside back : List Class)
-    (parts : map says.class chars ≡ front ++ o ∷ (inside ++ back)) (few : count_by begins_level front ≤ 61) where
+module _ (ucd : Data) (chars : List ℕ) (paragraph : ℕ) (low : paragraph ≤ 1) (front : List Class) (o : Class) (inside back : List Class)
+    (parts : map ucd.class chars ≡ front ++ o ∷ (inside ++ back)) (few : count_by begins_level front ≤ 61) where
   abbrev n : ℕ
   n = length front
 
@@ -162,7 +162,7 @@ module _ (says : Data) (chars : List ℕ) (paragraph : ℕ) (low : paragraph ≤
       (ap (match_after n) (sym (drop_at front rest n refl)) ∙ e)
 
   raised : match_of (front ++ rest) n ≡ Some (n + 1 + length inside) → (i : ℕ) → i < length inside → is_kept (get_or inside i ON) ≡ true
-      → IsAbove (top before).level (get_or (paragraph_levels says paragraph chars) (n + 1 + i) None)
+      → IsAbove (top before).level (get_or (paragraph_levels ucd paragraph chars) (n + 1 + i) None)
   raised e i h kept =
       let b = matched e in
       let t = next_state (role_of o) (inside ++ back) before in
@@ -173,12 +173,12 @@ module _ (says : Data) (chars : List ℕ) (paragraph : ℕ) (low : paragraph ≤
       let is-kept : is_some (get_or (explicit_from t (inside ++ back)) i None) ≡ true =
       kept-at (explicit_from t (inside ++ back)) (inside ++ back) i (kept_each t (inside ++ back)) (omega (arith, h, length-append inside back))
       ∙ ap is_kept (get_or_append_left inside back ON i h) ∙ kept in
-      let levels = paragraph_levels says paragraph chars in
+      let levels = paragraph_levels ucd paragraph chars in
       let both : map is_some levels ≡ map is_some (explicit_levels paragraph cs) =
-      paragraph_kept says paragraph chars low ∙ ap (map is_kept) parts ∙ sym (kept_each (start paragraph) cs) in
+      paragraph_kept ucd paragraph chars low ∙ ap (map is_kept) parts ∙ sym (kept_each (start paragraph) cs) in
       let least : IsLeast (get_or (explicit_levels paragraph cs) (n + 1 + i) None) (get_or levels (n + 1 + i) None) =
       subst (λ ks. IsLeast (get_or (explicit_levels paragraph ks) (n + 1 + i) None) (get_or levels (n + 1 + i) None)) parts
-      (levels-are-least says paragraph chars (n + 1 + i) low) in
+      (levels-are-least ucd paragraph chars (n + 1 + i) low) in
       let k = get_or (explicit_levels paragraph cs) (n + 1 + i) None in
       above-level (top before).level k (get_or levels (n + 1 + i) None) (ap is_some there ∙ is-kept)
       (some-at (explicit_levels paragraph cs) levels (n + 1 + i) both) (subst (AboveIfKept (top before).level) (sym there) above) least
@@ -193,25 +193,25 @@ module _ (says : Data) (chars : List ℕ) (paragraph : ℕ) (low : paragraph ≤
       ∙ ap (λ x. x.level) ((matched e).top_is t)
 
 pub isolates-raise : IsolatesRaise
-isolates-raise says base front inside back opener e few i h kept =
+isolates-raise ucd base front inside back opener e few i h kept =
     let chars = front ++ opener ∷ (inside ++ back) in
-    let cs = map says.class chars in
-    let fs = map says.class front in
-    let is = map says.class inside in
-    let bs = map says.class back in
-    let o = says.class opener in
+    let cs = map ucd.class chars in
+    let fs = map ucd.class front in
+    let is = map ucd.class inside in
+    let bs = map ucd.class back in
+    let o = ucd.class opener in
     let paragraph = base_level base cs in
     let parts : cs ≡ fs ++ o ∷ (is ++ bs) =
-    map-append says.class front (opener ∷ (inside ++ back)) ∙ ap (λ xs. fs ++ o ∷ xs) (map-append says.class inside back) in
-    let n-is : length fs ≡ length front = length-map front says.class in
-    let m-is : length is ≡ length inside = length-map inside says.class in
+    map-append ucd.class front (opener ∷ (inside ++ back)) ∙ ap (λ xs. fs ++ o ∷ xs) (map-append ucd.class inside back) in
+    let n-is : length fs ≡ length front = length-map front ucd.class in
+    let m-is : length is ≡ length inside = length-map inside ucd.class in
     let matched : match_of (fs ++ o ∷ (is ++ bs)) (length fs) ≡ Some (length fs + 1 + length is) =
     ap (match_of (fs ++ o ∷ (is ++ bs))) n-is ∙ ap (λ xs. match_of xs (length front)) (sym parts) ∙ e
     ∙ ap Some (let same : length front + 1 + length inside ≡ length fs + 1 + length is = omega (arith, n-is, m-is) in same) in
     let low = base_low base cs in
-    let above = raised says chars paragraph low fs o is bs parts few matched i (omega (arith, h, m-is)) kept in
-    let at : embedding_at says base chars (length front) ≡ (top (before says chars paragraph low fs o is bs parts few)).level =
+    let above = raised ucd chars paragraph low fs o is bs parts few matched i (omega (arith, h, m-is)) kept in
+    let at : embedding_at ucd base chars (length front) ≡ (top (before ucd chars paragraph low fs o is bs parts few)).level =
     ap (λ xs. (entry_at paragraph xs (length front)).level) parts ∙ ap (λ k. (entry_at paragraph (fs ++ o ∷ (is ++ bs)) k).level) (sym n-is)
-    ∙ stands says chars paragraph low fs o is bs parts few matched in
-    subst (λ l. IsAbove l (level_at says base chars (length front + 1 + i))) (sym at)
-    (subst (λ k. IsAbove (top (before says chars paragraph low fs o is bs parts few)).level (level_at says base chars (k + 1 + i))) n-is above)
+    ∙ stands ucd chars paragraph low fs o is bs parts few matched in
+    subst (λ l. IsAbove l (level_at ucd base chars (length front + 1 + i))) (sym at)
+    (subst (λ k. IsAbove (top (before ucd chars paragraph low fs o is bs parts few)).level (level_at ucd base chars (k + 1 + i))) n-is above)

@@ -13,17 +13,17 @@ use Rattle.bx_ucd.specs.Class.{is_initiator}
 use Rattle.bx_ucd.specs.Data.{Data}
 use Rattle.bx_ucd.specs.declared.class.Class.{Class}
 use Rattle.bx_ucd.specs.declared.class.Class.TheVariants.{B, PDI}
-use Rattle.bx_explicit.specs.Matching.{before_pdi, count_after, match_after, match_of, one_more}
-use Rattle.bx_resolve.specs.Laws.{level_at}
-use Rattle.bx_asking.specs.Names.{beside, closing, closings, named, names}
+use Rattle.bx_levels.specs.embedding.ParagraphLevel.{before_pdi, count_after, match_after, match_of, one_more}
+use Rattle.bx_levels.specs.resolve.Laws.{level_at}
+use Rattle.bx_editor.specs.questions.Names.{beside, closing, closings, named, names}
 use Rattle.bx_keys.specs.declared.key.Key.TheVariants.{Insert, Name}
-use Rattle.bx_index.specs.Paragraphs.{Paragraph, bare, cut, is_separator, paragraphs}
-use Rattle.bx_view.specs.Standing.{body_at, count}
+use Rattle.bx_text.specs.index.Paragraphs.{Paragraph, bare, cut, is_separator, paragraphs}
+use Rattle.bx_view.specs.Numbers.{body_at, count}
 use Rattle.bx_view.proofs.Numbers.{body-utf8}
 use Rattle.bx_view.proofs.Parts.{text-parts}
 use Rattle.bx_editor_laws.specs.AskingLaws.{CanIsolate, IsAbove, Isolates, IsWhole, LetterIsolates, embedding_at, region_chars}
 use Rattle.bx_editor.specs.Editor.{Editor}
-use Rattle.bx_editor.specs.Keys.{after_keys}
+use Rattle.bx_editor.specs.Functions.{after_keys}
 use Rattle.bx_editor_laws.specs.Laws.{IsPart}
 use Rattle.bx_editor.specs.Region.{bytes_in, region}
 use Rattle.bx_editor_laws.proofs.IsolateLevels.{isolates-raise}

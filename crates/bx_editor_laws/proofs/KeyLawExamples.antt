@@ -6,8 +6,8 @@ use Rattle.std.specs.Prelude.{codes, Option, Some, None}
 use Rattle.std.specs.Fmt.{digits}
 use Rattle.unicode_segmentation.proofs.Computing.{unicode_segmentation}
 use Rattle.unicode_width.proofs.Computing.{unicode_width}
-use Rattle.bx_terms.specs.Sizes.{largest_text}
-use Rattle.bx_terms.specs.declared.base.Base.TheVariants.{Auto}
+use Rattle.bx_common.specs.Characters.{largest_text}
+use Rattle.bx_common.specs.declared.base.Base.TheVariants.{Auto}
 use Rattle.bx_keys.specs.declared.key.Key.{Key}
 use Rattle.bx_keys.specs.declared.key.Key.TheVariants.{Cancel, DeleteWord, EraseWord, Forward, GoTo, Mark, NewLine, RedoRun, Save, Select}
 use Rattle.bx_keys.specs.declared.key.Key.TheVariants.{TextEnd, UndoRun}
@@ -153,7 +153,7 @@ behind_ab = after (start [] 5 40) (letters (codes "ab"))
 abbrev saved_ab : Editor
 saved_ab = after behind_ab (Save ∷ [])
 
--- the blank is a run, and cd another
+-- the blank is an undo group, and cd another
 abbrev one_run_undone : List Key
 one_run_undone = letters (codes " cd") ++ UndoRun ∷ []
 

@@ -7,11 +7,11 @@ use Rattle.ucd_case.proofs.Computing.{ucd_case}
 use Rattle.unicode_normalization.proofs.Computing.{unicode_normalization}
 use Rattle.unicode_segmentation.proofs.Computing.{unicode_segmentation}
 use Rattle.unicode_width.proofs.Computing.{unicode_width}
-use Rattle.bx_terms.specs.declared.base.Base.TheVariants.{Auto}
+use Rattle.bx_common.specs.declared.base.Base.TheVariants.{Auto}
 use Rattle.bx_keys.specs.declared.key.Key.TheVariants.{Insert, Erase, Delete, Down, Forward, Find, FindBack, Mark, Save, TextEnd, Undo, Redo}
 use Rattle.bx_text.specs.Edits.{Edit, Edited, edit_of}
 use Rattle.bx_find.specs.Nearest.{MatchesAt}
-use Rattle.bx_find.specs.declared.reading.Reading.TheVariants.{Wide}
+use Rattle.bx_find.specs.declared.letters.Reading.TheVariants.{Wide}
 use Rattle.bx_view.specs.Moves.{place_at}
 use Rattle.bx_editor.specs.Editor.{Editor, rows}
 use Rattle.bx_editor_laws.specs.Laws.{FindBackGoesToPrevious, FindGoesToNext, RedoMirrorsUndo, TopStays, UndoGivesBack}

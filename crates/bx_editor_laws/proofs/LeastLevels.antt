@@ -8,18 +8,17 @@ use Rattle.std.proofs.lemmas.List.{reverse-append}
 use Rattle.std.proofs.lemmas.List.Elements.{All-cons, All-nil, All-head, All-tail}
 use Rattle.bx_ucd.specs.Data.{Data}
 use Rattle.bx_ucd.specs.declared.class.Class.{Class}
-use Rattle.bx_explicit.specs.declared.entry.ExplicitChar.{ExplicitChar}
-use Rattle.bx_explicit.specs.declared.runs.Run.{Run}
-use Rattle.bx_explicit.specs.Explicit.{explicit_levels}
-use Rattle.bx_explicit.specs.OpenChains.{is_over, sequence_of_runs, with_run}
-use Rattle.bx_explicit.specs.Runs.{IsRunWithin, join_run, run, runs_from}
-use Rattle.bx_explicit.specs.Sequences.{RunSequence, chain_indexes, sequences}
-use Rattle.bx_explicit.specs.Walk.{AreGiven, ending, over_before, sequences_of, still_open}
-use Rattle.bx_explicit.proofs.LevelRuns.{all_within}
-use Rattle.bx_explicit.proofs.SequenceOrder.{given_by_levels}
-use Rattle.bx_explicit.proofs.Spans.{Spans, each_of_chain}
-use Rattle.bx_resolve.specs.Levels.{chars_at, levels_in, paragraph_levels, sequence_types, types_at, with_levels, with_sequences}
-use Rattle.bx_resolve.specs.Neutral.{implicit, implicit_at, rise_even, rise_odd}
+use Rattle.bx_levels.specs.declared.embedding.entry.ExplicitChar.{ExplicitChar}
+use Rattle.bx_levels.specs.declared.embedding.runs.Run.{Run}
+use Rattle.bx_levels.specs.embedding.Explicit.{explicit_levels}
+use Rattle.bx_levels.specs.embedding.OpenChains.{is_over, sequence_of_runs, with_run}
+use Rattle.bx_levels.specs.embedding.Sequences.{join_run, run, runs_from, RunSequence, chain_indexes, sequences}
+use Rattle.bx_levels.specs.embedding.Walk.{IsRunWithin, AreGiven, ending, over_before, sequences_of, still_open}
+use Rattle.bx_levels.proofs.embedding_lemmas.LevelRuns.{all_within}
+use Rattle.bx_levels.proofs.embedding_lemmas.SequenceOrder.{given_by_levels}
+use Rattle.bx_levels.proofs.embedding_lemmas.Spans.{Spans, each_of_chain}
+use Rattle.bx_levels.specs.resolve.Levels.{chars_at, levels_in, paragraph_levels, sequence_types, types_at, with_levels, with_sequences}
+use Rattle.bx_levels.specs.resolve.Neutral.{implicit, implicit_at, rise_even, rise_odd}
 
 -- ---- the runs
 
@@ -247,12 +246,12 @@ least-none (None ∷ ks) (suc n) = (tt, least-none ks n)
 least-none (Some k ∷ ks) zero = tt
 least-none (Some k ∷ ks) (suc n) = (tt, least-none ks n)
 
-least-after : (says : Data) (chars : List ℕ) (paragraph : ℕ) (cs : List Class) (kept : List (Option ExplicitChar)) (ss : List RunSequence) (each : List (Option ℕ))
-    → AreLevel paragraph cs kept ss → AreLeast kept each → AreLeast kept (with_sequences says chars kept ss each)
-least-after says chars paragraph cs kept [] each a h = h
-least-after says chars paragraph cs kept (s ∷ ss) each a h =
-    least-after says chars paragraph cs kept ss (with_levels s.indexes (levels_in says chars kept s) each) a.1
-    (least-with kept s.level (sequence_types says s.level s.sos s.eos (chars_at chars s.indexes) (types_at kept s.indexes)) s.indexes each a.0 h)
+least-after : (ucd : Data) (chars : List ℕ) (paragraph : ℕ) (cs : List Class) (kept : List (Option ExplicitChar)) (ss : List RunSequence) (each : List (Option ℕ))
+    → AreLevel paragraph cs kept ss → AreLeast kept each → AreLeast kept (with_sequences ucd chars kept ss each)
+least-after ucd chars paragraph cs kept [] each a h = h
+least-after ucd chars paragraph cs kept (s ∷ ss) each a h =
+    least-after ucd chars paragraph cs kept ss (with_levels s.indexes (levels_in ucd chars kept s) each) a.1
+    (least-with kept s.level (sequence_types ucd s.level s.sos s.eos (chars_at chars s.indexes) (types_at kept s.indexes)) s.indexes each a.0 h)
 
 least-none-at : (k : Option ExplicitChar) → IsLeast k None
 least-none-at None = tt
@@ -264,10 +263,10 @@ least-at (k ∷ ks) [] i h = least-none-at (get_or (k ∷ ks) i None)
 least-at (k ∷ ks) (l ∷ ls) zero h = h.0
 least-at (k ∷ ks) (l ∷ ls) (suc i) h = least-at ks ls i h.1
 
-pub levels-are-least : (says : Data) (level : ℕ) (chars : List ℕ) (i : ℕ) → level ≤ 1
-    → IsLeast (get_or (explicit_levels level (map says.class chars)) i None) (get_or (paragraph_levels says level chars) i None)
-levels-are-least says level chars i low =
-    let cs : List Class = map says.class chars in
+pub levels-are-least : (ucd : Data) (level : ℕ) (chars : List ℕ) (i : ℕ) → level ≤ 1
+    → IsLeast (get_or (explicit_levels level (map ucd.class chars)) i None) (get_or (paragraph_levels ucd level chars) i None)
+levels-are-least ucd level chars i low =
+    let cs : List Class = map ucd.class chars in
     let kept : List (Option ExplicitChar) = explicit_levels level cs in
-    least-at kept (paragraph_levels says level chars) i
-    (least-after says chars level cs kept (sequences level cs kept) (replicate (length chars) None) (sequences-level level cs low) (least-none kept (length chars)))
+    least-at kept (paragraph_levels ucd level chars) i
+    (least-after ucd chars level cs kept (sequences level cs kept) (replicate (length chars) None) (sequences-level level cs low) (least-none kept (length chars)))

@@ -2,31 +2,32 @@
 use Rattle.std.proofs.Common.{◌≡◌, ℕ, ◌+◌, ◌-◌, ◌<◌, ◌≤◌, Bool, true, false, [], ◌∷◌, ◌++◌, length, take, drop, append_assoc, refl, sym, ap, subst, ◌∙◌, arith, inl, inr, if◌then◌else◌}
 use Rattle.std.specs.Prelude.{◌⊎◌, ◌==◌, encode_utf8, nat_le, slice_range, Option, Some, None}
 use Rattle.std.proofs.lemmas.Bool.Decides.{nat_tests}
-use Rattle.bx_terms.specs.Sizes.{largest_text}
-use Rattle.bx_asking.specs.Names.{closing, named}
+use Rattle.bx_common.specs.Characters.{largest_text}
+use Rattle.bx_editor.specs.questions.Names.{closing, named}
 use Rattle.bx_keys.specs.declared.key.Key.TheVariants.{Insert, Name}
-use Rattle.bx_runs.specs.Typing.{after_insertion, kind_of}
+use Rattle.bx_editor.specs.undo_groups.Groups.{after_insertion, kind_of}
 use Rattle.bx_text.specs.Edits.{fits_both}
 use Rattle.bx_ucd.specs.Data.{Data}
-use Rattle.bx_document.specs.Document.{wrapped_end, wrapped_text}
+use Rattle.bx_document.specs.Swapped.{wrapped_end, wrapped_text}
 use Rattle.bx_document.proofs.PlacesKept.{wrapped_is}
 use Rattle.bx_editor.specs.declared.message.Message.{Message}
 use Rattle.bx_editor.specs.declared.message.Message.TheVariants.{MoreThanOneLine, TextFull}
-use Rattle.bx_editor.specs.declared.seek.Seek.{Seek}
-use Rattle.bx_editor.specs.Asking.{after_name_letter, after_named, with_character, without_ask}
+use Rattle.bx_editor.specs.declared.search_state.SearchState.{SearchState}
+use Rattle.bx_editor.specs.Asking.{after_name_letter, after_named, with_character, without_ask, after_wrapping, cursor_end, spans_lines}
+use Rattle.bx_editor.specs.Asking.{with_wrap}
 use Rattle.bx_editor_laws.specs.AskingLaws.{IsPutIn, IsRefusedWith, IsWrapped, LetterPutsIn, LetterWraps, WrapsRegion, wrapped_region}
 use Rattle.bx_editor.specs.Editor.{Editor, cleared, place_after, with_insertion, with_typing}
-use Rattle.bx_editor.specs.Keys.{after_key, after_keys, as_left}
+use Rattle.bx_editor.specs.Keys.{after_key, as_left}
+use Rattle.bx_editor.specs.Functions.{after_keys}
 use Rattle.bx_editor_laws.specs.Laws.{IsPart}
 use Rattle.bx_editor.specs.Region.{is_empty, region}
-use Rattle.bx_editor.specs.Wrapping.{after_wrapping, cursor_end, spans_lines, with_wrap}
 use Rattle.bx_editor.proofs.InSearch.{any-key}
 use Rattle.bx_editor_laws.proofs.AskingKeys.{asked_name, name-is}
 
 -- ---- Name and a letter
 
 -- what the letter finds
-abbrev asked : Editor → Seek → Editor
+abbrev asked : Editor → SearchState → Editor
 asked e seek = without_ask (cleared (asked_name e seek))
 
 letter-is : (d : Data) (e : Editor) (letter c : ℕ) → e.pasted ≡ None → named letter ≡ Some c

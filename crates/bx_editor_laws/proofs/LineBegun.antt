@@ -6,11 +6,11 @@ use Rattle.std.specs.Prelude.{◌≢◌, ◌==◌, ◌&&◌, nat_le, Some, None}
 use Rattle.std.proofs.lemmas.Bool.{eqb-true}
 use Rattle.std.proofs.lemmas.Bool.Decides.{nat_tests}
 use Rattle.std.proofs.lemmas.List.{take-append-drop}
-use Rattle.bx_terms.specs.Sizes.{largest_text}
+use Rattle.bx_common.specs.Characters.{largest_text}
 use Rattle.bx_keys.specs.declared.key.Key.TheVariants.{NewLine}
-use Rattle.bx_document.specs.FirstSeparator.{is_cr_lf}
-use Rattle.bx_runs.specs.Typing.{after_insertion, goes_on}
-use Rattle.bx_runs.specs.declared.typing.Kind.TheVariants.{Separator}
+use Rattle.bx_document.specs.Line.{is_cr_lf}
+use Rattle.bx_editor.specs.undo_groups.Groups.{after_insertion, goes_on}
+use Rattle.bx_editor.specs.declared.undo_groups.typing.Kind.TheVariants.{Separator}
 use Rattle.bx_text.specs.Edits.{fits, splice}
 use Rattle.bx_ucd.specs.Data.{Data}
 use Rattle.bx_editor.specs.declared.message.Message.TheVariants.{TextFull}
@@ -18,8 +18,7 @@ use Rattle.bx_editor.specs.Editor.{Editor, cleared, with_insertion}
 use Rattle.bx_editor.specs.Effects.{before}
 use Rattle.bx_editor.specs.Keys.{after_any, after_key}
 use Rattle.bx_editor.specs.Putting.{has_room, line_end, only_paste, typed, with_selection_replaced, yielding}
-use Rattle.bx_editor.specs.Region.{region}
-use Rattle.bx_editor.specs.Selecting.{is_selection}
+use Rattle.bx_editor.specs.Region.{region, is_selection}
 use Rattle.bx_editor.proofs.InSearch.{any-key, behind}
 use Rattle.bx_editor_laws.specs.LineLaws.{NewLinePutsSeparator, PutsIfRoom, PutsIn, cr_lf, first_separator}
 use Rattle.bx_editor_laws.specs.SelectionLaws.{IsRefused}

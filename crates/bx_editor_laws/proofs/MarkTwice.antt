@@ -4,22 +4,22 @@ use Rattle.std.specs.Prelude.{◌==◌, Option, Some, None, if◌then◌else◌}
 use Rattle.std.proofs.lemmas.Bool.Decides.{nat_tests}
 use Rattle.bx_keys.specs.declared.key.Key.TheVariants.{Mark, TextStart, TextEnd}
 use Rattle.bx_ucd.specs.Data.{Data}
-use Rattle.bx_asking.specs.declared.question.Ask.{Ask}
-use Rattle.bx_asking.specs.declared.question.Ask.TheVariants as asks
+use Rattle.bx_editor.specs.declared.questions.answers.Prompt.{Prompt}
+use Rattle.bx_editor.specs.declared.questions.answers.Prompt.TheVariants as asks
 use Rattle.bx_editor.specs.declared.message.Message.{Message}
 use Rattle.bx_editor.specs.declared.message.Message.TheVariants.{MarkOff, MarkSet}
-use Rattle.bx_editor.specs.declared.seek.Seek.{Seek}
-use Rattle.bx_editor.specs.declared.seek.Seek.TheVariants.{Off, Begun, Typed, WithBegun, WithTyped, Replacing}
-use Rattle.bx_editor.specs.declared.soft.Soft.{Soft}
-use Rattle.bx_editor.specs.declared.soft.Soft.TheVariants as softness
-use Rattle.bx_runs.specs.declared.typing.Typing.TheVariants as typings
+use Rattle.bx_editor.specs.declared.search_state.SearchState.{SearchState}
+use Rattle.bx_editor.specs.declared.search_state.SearchState.TheVariants.{Off, Begun, Typed, WithBegun, WithTyped, Replacing}
+use Rattle.bx_editor.specs.declared.cursor.Soft.{Soft}
+use Rattle.bx_editor.specs.declared.cursor.Soft.TheVariants as softness
+use Rattle.bx_editor.specs.declared.undo_groups.typing.Typing.TheVariants as typings
 use Rattle.bx_editor.specs.Editor.{Editor, cleared, with_place}
 use Rattle.bx_editor.specs.Effects.{Before, before}
-use Rattle.bx_editor.specs.Keys.{after_any, after_key, after_keys}
+use Rattle.bx_editor.specs.Keys.{after_any, after_key}
+use Rattle.bx_editor.specs.Functions.{after_keys}
 use Rattle.bx_editor_laws.specs.Laws.{GoesToBothEnds, MarkTwiceIsNothing, hard_mark, only_at}
-use Rattle.bx_editor.specs.Region.{after_mark, is_at_mark}
+use Rattle.bx_editor.specs.Region.{after_mark, is_at_mark, aged, mark_left, soft_left, unselected}
 use Rattle.bx_editor.specs.Search.{without_search}
-use Rattle.bx_editor.specs.Selecting.{aged, mark_left, soft_left, unselected}
 use Rattle.bx_editor.proofs.InSearch.{any-key, behind}
 
 -- ---- Mark
@@ -32,10 +32,10 @@ mark-by there e =
     else record e { mark = Some e.place; soft = softness.Off; message = Some MarkSet }
 
 -- nothing is asked, and the search is in this state
-abbrev ended : Seek → Editor → Editor
+abbrev ended : SearchState → Editor → Editor
 ended seek e = record e { ask = asks.Off; seek = seek }
 
-mark-ended : (there : Bool) (e : Editor) (seek : Seek) → mark-by there (ended seek e) ≡ ended seek (mark-by there e)
+mark-ended : (there : Bool) (e : Editor) (seek : SearchState) → mark-by there (ended seek e) ≡ ended seek (mark-by there e)
 mark-ended true e seek = refl
 mark-ended false e seek = refl
 
@@ -47,7 +47,7 @@ search-ended false e unasked = ap (λ a. record (mark-by false e) { ask = a; see
 free-ended : (there : Bool) (e : Editor) → e.ask ≡ asks.Off → mark-by there (without_search e) ≡ ended Off (mark-by there e)
 free-ended there e unasked = ap (λ a. mark-by there (record e { ask = a; seek = Off })) unasked ∙ mark-ended there e Off
 
-mark-free : (d : Data) (was : Before) (seek : Seek) (e : Editor) → e.ask ≡ asks.Off → e.seek ≡ seek
+mark-free : (d : Data) (was : Before) (seek : SearchState) (e : Editor) → e.ask ≡ asks.Off → e.seek ≡ seek
     → after_any d None was asks.Off seek e Mark ≡ ended Off (after_mark e)
 mark-free d was Off e unasked unsought =
     let there = is_at_mark e.mark e.place in
@@ -59,14 +59,14 @@ mark-free d was WithTyped e unasked on = free-ended (is_at_mark e.mark e.place) 
 mark-free d was Replacing e unasked on = free-ended (is_at_mark e.mark e.place) e unasked
 
 -- it ends a question alone, or a search
-mark-any : (d : Data) (was : Before) (ask : Ask) (seek : Seek) (e : Editor) → e.ask ≡ ask → e.seek ≡ seek
-    → (s : Seek) × (after_any d None was ask seek e Mark ≡ ended s (after_mark e))
+mark-any : (d : Data) (was : Before) (ask : Prompt) (seek : SearchState) (e : Editor) → e.ask ≡ ask → e.seek ≡ seek
+    → (s : SearchState) × (after_any d None was ask seek e Mark ≡ ended s (after_mark e))
 mark-any d was asks.Off seek e unasked is = (Off, mark-free d was seek e unasked is)
 mark-any d was asks.Line seek e asked is = (e.seek, mark-ended (is_at_mark e.mark e.place) e e.seek)
 mark-any d was asks.Name seek e asked is = (e.seek, mark-ended (is_at_mark e.mark e.place) e e.seek)
 mark-any d was asks.Code seek e asked is = (e.seek, mark-ended (is_at_mark e.mark e.place) e e.seek)
 
-mark-once : (d : Data) (e : Editor) → e.pasted ≡ None → (s : Seek) × (after_key d None e Mark ≡ behind (ended s (after_mark (cleared e))))
+mark-once : (d : Data) (e : Editor) → e.pasted ≡ None → (s : SearchState) × (after_key d None e Mark ≡ behind (ended s (after_mark (cleared e))))
 mark-once d e settled =
     let one = mark-any d (before e) e.ask e.seek (cleared e) refl refl in (one.0, any-key d None e Mark settled refl ∙ ap behind one.1)
 
@@ -76,7 +76,7 @@ mark-again d e settled unasked =
     ∙ ap behind (mark-free d (before e) e.seek (cleared e) unasked refl)
 
 -- once the message is cleared, a question and a selection are over and no column is kept, with a mark and a message
-abbrev marked : Editor → Seek → Option ℕ → Option Message → Editor
+abbrev marked : Editor → SearchState → Option ℕ → Option Message → Editor
 marked e seek mark message = record e {
   mark = mark;
   soft = softness.Off;
@@ -91,14 +91,14 @@ marked e seek mark message = record e {
 at-itself : (place : ℕ) → (place == place) ≡ true
 at-itself place = grind (arith, nat_tests)
 
-abbrev left : Editor → Seek → Bool → Editor
+abbrev left : Editor → SearchState → Bool → Editor
 left e seek there = behind (ended seek (mark-by there (cleared e)))
 
-mark-there : (e : Editor) (seek : Seek) → is_at_mark e.mark e.place ≡ true
+mark-there : (e : Editor) (seek : SearchState) → is_at_mark e.mark e.place ≡ true
     → behind (ended seek (after_mark (cleared e))) ≡ marked e seek None (Some MarkOff)
 mark-there e seek is = ap (left e seek) is
 
-mark-not-there : (e : Editor) (seek : Seek) → is_at_mark e.mark e.place ≡ false
+mark-not-there : (e : Editor) (seek : SearchState) → is_at_mark e.mark e.place ≡ false
     → behind (ended seek (after_mark (cleared e))) ≡ marked e seek (Some e.place) (Some MarkSet)
 mark-not-there e seek is = ap (left e seek) is
 
@@ -138,7 +138,7 @@ mark-twice-is-nothing d e settled =
 
 -- ---- the text's ends
 
-end-free : (d : Data) (was : Before) (seek : Seek) (e : Editor) → e.ask ≡ asks.Off → e.seek ≡ seek
+end-free : (d : Data) (was : Before) (seek : SearchState) (e : Editor) → e.ask ≡ asks.Off → e.seek ≡ seek
     → after_any d None was asks.Off seek e TextEnd ≡ ended Off (with_place (unselected e) (length e.content.text))
 end-free d was Off e unasked unsought = ap₂ (λ a s. record (with_place (unselected e) (length e.content.text)) { ask = a; seek = s }) unasked unsought
 end-free d was Begun e unasked on = ap (λ a. record (with_place (unselected e) (length e.content.text)) { ask = a; seek = Off }) unasked
@@ -147,14 +147,14 @@ end-free d was WithBegun e unasked on = ap (λ a. record (with_place (unselected
 end-free d was WithTyped e unasked on = ap (λ a. record (with_place (unselected e) (length e.content.text)) { ask = a; seek = Off }) unasked
 end-free d was Replacing e unasked on = ap (λ a. record (with_place (unselected e) (length e.content.text)) { ask = a; seek = Off }) unasked
 
-end-any : (d : Data) (was : Before) (ask : Ask) (seek : Seek) (e : Editor) → e.ask ≡ ask → e.seek ≡ seek
-    → (s : Seek) × (after_any d None was ask seek e TextEnd ≡ ended s (with_place (unselected e) (length e.content.text)))
+end-any : (d : Data) (was : Before) (ask : Prompt) (seek : SearchState) (e : Editor) → e.ask ≡ ask → e.seek ≡ seek
+    → (s : SearchState) × (after_any d None was ask seek e TextEnd ≡ ended s (with_place (unselected e) (length e.content.text)))
 end-any d was asks.Off seek e unasked is = (Off, end-free d was seek e unasked is)
 end-any d was asks.Line seek e asked is = (e.seek, refl)
 end-any d was asks.Name seek e asked is = (e.seek, refl)
 end-any d was asks.Code seek e asked is = (e.seek, refl)
 
-start-free : (d : Data) (was : Before) (seek : Seek) (e : Editor) → e.ask ≡ asks.Off → e.seek ≡ seek
+start-free : (d : Data) (was : Before) (seek : SearchState) (e : Editor) → e.ask ≡ asks.Off → e.seek ≡ seek
     → after_any d None was asks.Off seek e TextStart ≡ ended Off (with_place (unselected e) 0)
 start-free d was Off e unasked unsought = ap₂ (λ a s. record (with_place (unselected e) 0) { ask = a; seek = s }) unasked unsought
 start-free d was Begun e unasked on = ap (λ a. record (with_place (unselected e) 0) { ask = a; seek = Off }) unasked
@@ -163,8 +163,8 @@ start-free d was WithBegun e unasked on = ap (λ a. record (with_place (unselect
 start-free d was WithTyped e unasked on = ap (λ a. record (with_place (unselected e) 0) { ask = a; seek = Off }) unasked
 start-free d was Replacing e unasked on = ap (λ a. record (with_place (unselected e) 0) { ask = a; seek = Off }) unasked
 
-start-any : (d : Data) (was : Before) (ask : Ask) (seek : Seek) (e : Editor) → e.ask ≡ ask → e.seek ≡ seek
-    → (s : Seek) × (after_any d None was ask seek e TextStart ≡ ended s (with_place (unselected e) 0))
+start-any : (d : Data) (was : Before) (ask : Prompt) (seek : SearchState) (e : Editor) → e.ask ≡ ask → e.seek ≡ seek
+    → (s : SearchState) × (after_any d None was ask seek e TextStart ≡ ended s (with_place (unselected e) 0))
 start-any d was asks.Off seek e unasked is = (Off, start-free d was seek e unasked is)
 start-any d was asks.Line seek e asked is = (e.seek, refl)
 start-any d was asks.Name seek e asked is = (e.seek, refl)

@@ -5,9 +5,9 @@ use Rattle.std.specs.Prelude.{encode_utf8}
 use Rattle.std.proofs.lemmas.List.{drop-drop}
 use Rattle.std.proofs.lemmas.Str.{IsUtf8-drop}
 use Rattle.bx_ucd.specs.Data.{Data}
-use Rattle.bx_find.specs.declared.reading.Reading.TheVariants.{Close}
+use Rattle.bx_find.specs.declared.letters.Reading.TheVariants.{Close}
 use Rattle.bx_find.specs.Letters.{letters_of}
-use Rattle.bx_find.specs.Spans.{behind_letters, is_attached}
+use Rattle.bx_find.specs.Matches.{behind_letters, is_attached}
 use Rattle.bx_find.proofs.Nearest.{text_at}
 use Rattle.bx_find.proofs.Offsets.{widths, widths-more}
 use Rattle.bx_find.proofs.SpansOf.{ends_here, ends_with, goes_on}

@@ -14,13 +14,13 @@ use Rattle.bx_ucd.specs.Class.{is_unlettered}
 use Rattle.bx_ucd.specs.Data.{Data}
 use Rattle.bx_ucd.specs.declared.class.Class.{Class}
 use Rattle.bx_ucd.specs.declared.class.Class.TheVariants.{NSM}
-use Rattle.bx_terms.specs.Characters.{is_direction_mark}
-use Rattle.bx_find.specs.declared.reading.Reading.TheVariants.{Close}
+use Rattle.bx_common.specs.Characters.{is_direction_mark}
+use Rattle.bx_find.specs.declared.letters.Reading.TheVariants.{Close}
 use Rattle.bx_find_laws.specs.Laws.{AreSpans}
 use Rattle.bx_find.specs.Nearest.{MatchesAt}
 use Rattle.bx_find.specs.Letters.{is_passed_over, letters, letters_of}
-use Rattle.bx_find.specs.Matches.{begins, begins_some, is_match, is_some}
-use Rattle.bx_find.specs.Spans.{behind_letters, is_attached, is_nonspacing, match_end}
+use Rattle.bx_find.specs.Matches.{begins, begins_some, is_match, is_some, behind_letters, is_attached, match_end}
+use Rattle.bx_ucd.specs.Class.{is_nsm}
 use Rattle.bx_find.proofs.Offsets.{widths, width-some, widths-more}
 use Rattle.bx_find.proofs.SpansOf.{end_bound, ends_here, goes_on}
 use Rattle.bx_document.specs.Swapped.{last_stop, swapped}
@@ -46,7 +46,7 @@ scalars-front (c ∷ front) rest h =
 
 -- ---- attached characters give no letters
 
-nonspacing-none : (class : Class) → is_nonspacing class ≡ true → is_unlettered class ≡ true
+nonspacing-none : (class : Class) → is_nsm class ≡ true → is_unlettered class ≡ true
 nonspacing-none NSM h = refl
 nonspacing-none _ h = absurd (cc h)
 
@@ -59,7 +59,7 @@ or-weaker false false c e h is = absurd (cc is)
 module _ (d : Data) where
   attached-passed : (c : ℕ) → is_attached d c ≡ true → is_passed_over d c ≡ true
   attached-passed c h =
-      or-weaker (is_nonspacing (d.class c)) (c == 0x640) (is_unlettered (d.class c)) (is_direction_mark c) (nonspacing-none (d.class c)) h
+      or-weaker (is_nsm (d.class c)) (c == 0x640) (is_unlettered (d.class c)) (is_direction_mark c) (nonspacing-none (d.class c)) h
 
   no-letter : (c : ℕ) → is_passed_over d c ≡ true → letters_of d Close c ≡ []
   no-letter c passed = ap (λ b. if b then [] else to_ascii_lowercase c ∷ []) passed

@@ -5,25 +5,24 @@ use Rattle.std.specs.Prelude.{◌==◌, ◌&&◌, not, nat_le, slice_range, IsUt
 use Rattle.std.proofs.lemmas.Bool.Decides.{nat_tests}
 use Rattle.std.proofs.lemmas.List.{drop_at, length-drop, length-take-le, take_at}
 use Rattle.std.proofs.lemmas.Str.{IsUtf8-append, IsUtf8-drop, IsUtf8-take}
-use Rattle.bx_terms.specs.Sizes.{largest_text}
+use Rattle.bx_common.specs.Characters.{largest_text}
 use Rattle.bx_keys.specs.declared.key.Key.{Key}
 use Rattle.bx_keys.specs.declared.key.Key.TheVariants.{Find, Insert, NewLine, Replace}
 use Rattle.bx_text.specs.Edits.{fits, splice}
-use Rattle.bx_runs.specs.declared.typing.Typing.{Typing}
+use Rattle.bx_editor.specs.declared.undo_groups.typing.Typing.{Typing}
 use Rattle.bx_ucd.specs.Data.{Data}
-use Rattle.bx_asking.specs.declared.question.Ask.TheVariants as asks
+use Rattle.bx_editor.specs.declared.questions.answers.Prompt.TheVariants as asks
 use Rattle.bx_find_laws.specs.Laws.{AreSpans}
 use Rattle.bx_find.specs.Nearest.{IsFirst, MatchesAt}
-use Rattle.bx_find.specs.Matches.{first_from}
-use Rattle.bx_find.specs.Spans.{match_end}
-use Rattle.bx_find.specs.declared.reading.Reading.{Reading}
-use Rattle.bx_find.specs.declared.reading.Reading.TheVariants.{Close}
+use Rattle.bx_find.specs.Matches.{first_from, match_end}
+use Rattle.bx_find.specs.declared.letters.Reading.{Reading}
+use Rattle.bx_find.specs.declared.letters.Reading.TheVariants.{Close}
 use Rattle.bx_find.proofs.Nearest.{first_is}
 use Rattle.bx_find_laws.proofs.Following.{spans_are}
 use Rattle.bx_document.specs.Swapped.{behind_character, last_stop, swapped}
-use Rattle.bx_editor.specs.declared.aim.Aim.TheVariants as aims
+use Rattle.bx_editor.specs.declared.search_state.SearchPurpose.TheVariants as aims
 use Rattle.bx_editor.specs.declared.message.Message.TheVariants.{TextFull}
-use Rattle.bx_editor.specs.declared.seek.Seek.TheVariants.{Off, Replacing}
+use Rattle.bx_editor.specs.declared.search_state.SearchState.TheVariants.{Off, Replacing}
 use Rattle.bx_editor_laws.specs.AskingLaws.{is_enter}
 use Rattle.bx_editor.specs.Editor.{Editor, cleared, place_after, with_exchange, with_typing}
 use Rattle.bx_editor.specs.Effects.{before}
@@ -190,17 +189,17 @@ module _ (d : Data) (e : Editor) (h : IsShowing d e) where
   full : (key : Key) (typing : Typing) → IsFull e (as_left key (record was { message = Some TextFull; typing = typing }))
   full key typing = record { content_is = refl; place_is = refl; shown = h.shown; at_is = refl; count_is = refl; message_is = refl }
 
-  one-is : (key : Key) (typing : Typing) → fits e.content.text e.at (match_stop d e) e.other ≡ true
+  one-is : (key : Key) (typing : Typing) → fits e.content.text e.at (match_stop d e) e.replacement ≡ true
       → HasReplacedOne d e (as_left key (with_typing (after_replacing d was) typing))
   one-is key typing room =
       let stop = match_stop d e in
-      let now = with_matches_replaced d was stop e.other 1 in
-      let put = exchanged d was e.at stop e.other there.begins.0 in
+      let now = with_matches_replaced d was stop e.replacement 1 in
+      let put = exchanged d was e.at stop e.replacement there.begins.0 in
       let utf8 : IsUtf8 now.content.text =
-      subst IsUtf8 (sym put.text_is) (spliced-utf8 e.content.text e.other e.at stop h.text h.other there.begins there.ends) in
-      let went = went-on d now (e.at + length e.other) utf8 (put.aim_is ∙ h.stands.aim_is) in
+      subst IsUtf8 (sym put.text_is) (spliced-utf8 e.content.text e.replacement e.at stop h.text h.replacement there.begins there.ends) in
+      let went = went-on d now (e.at + length e.replacement) utf8 (put.aim_is ∙ h.stands.aim_is) in
       subst (λ (x : Editor). HasReplacedOne d e (as_left key (with_typing x typing)))
-      (sym (ap (λ b. if b then on_from d (e.at + length e.other) now else record was { message = Some TextFull }) room))
+      (sym (ap (λ b. if b then on_from d (e.at + length e.replacement) now else record was { message = Some TextFull }) room))
       (record {
         letters_are = there.letters_are;
         text_is = ap (λ t. t.text) went.content_is ∙ put.text_is;
@@ -209,10 +208,10 @@ module _ (d : Data) (e : Editor) (h : IsShowing d e) where
         ended = λ off. went.ended off ∙ put.place_is;
       })
 
-  one-full : (key : Key) (typing : Typing) → fits e.content.text e.at (match_stop d e) e.other ≡ false
+  one-full : (key : Key) (typing : Typing) → fits e.content.text e.at (match_stop d e) e.replacement ≡ false
       → IsFull e (as_left key (with_typing (after_replacing d was) typing))
   one-full key typing none =
-      let now = on_from d (e.at + length e.other) (with_matches_replaced d was (match_stop d e) e.other 1) in
+      let now = on_from d (e.at + length e.replacement) (with_matches_replaced d was (match_stop d e) e.replacement 1) in
       subst (λ (x : Editor). IsFull e (as_left key (with_typing x typing))) (sym (ap (λ b. if b then now else record was { message = Some TextFull }) none))
       (full key typing)
 
@@ -221,8 +220,8 @@ module _ (d : Data) (e : Editor) (h : IsShowing d e) where
       let stop = match_stop d e in
       let order : e.at ≤ stop = omega (arith, there.some) in
       record {
-        fits = λ few. one-is key typing (has-room e.content.text e.at stop e.other order there.ends.0 few);
-        full = λ many. one-full key typing (has-none e.content.text e.at stop e.other order there.ends.0 many);
+        fits = λ few. one-is key typing (has-room e.content.text e.at stop e.replacement order there.ends.0 few);
+        full = λ many. one-full key typing (has-none e.content.text e.at stop e.replacement order there.ends.0 many);
       }
 
   -- ---- all are replaced
@@ -231,7 +230,7 @@ module _ (d : Data) (e : Editor) (h : IsShowing d e) where
   all = matches_on d e
 
   abbrev put_in : List ℕ
-  put_in = swapped e.at e.content.text e.other all
+  put_in = swapped e.at e.content.text e.replacement all
 
   all-is : fits e.content.text e.at (last_stop e.at all) put_in ≡ true → HasReplacedAll d e all (as_left Replace (after_replacing_all d was))
   all-is room =
@@ -264,25 +263,25 @@ module _ (d : Data) (e : Editor) (h : IsShowing d e) where
   abbrev Same : Editor → Type 0
   Same new = spelt d new.content.text ≡ spelt d e.content.text
 
-  one-same : spelt d e.other ≡ sought d e → (room : Bool)
-      → Same (if room then on_from d (e.at + length e.other) (with_matches_replaced d was (match_stop d e) e.other 1) else record was { message = Some TextFull })
+  one-same : spelt d e.replacement ≡ sought d e → (room : Bool)
+      → Same (if room then on_from d (e.at + length e.replacement) (with_matches_replaced d was (match_stop d e) e.replacement 1) else record was { message = Some TextFull })
   one-same same false = refl
   one-same same true =
       let stop = match_stop d e in
       let text = e.content.text in
-      let now = with_matches_replaced d was stop e.other 1 in
-      let put = exchanged d was e.at stop e.other there.begins.0 in
+      let now = with_matches_replaced d was stop e.replacement 1 in
+      let put = exchanged d was e.at stop e.replacement there.begins.0 in
       let order : e.at ≤ stop = omega (arith, there.some) in
-      ap (λ t. spelt d t.text) (on-content d now (next_match d now (e.at + length e.other))) ∙ ap (spelt d) put.text_is
-      ∙ ap (spelt d) (append_assoc (take e.at text) e.other (drop stop text))
-      ∙ end-letters d text h.text e.at (e.other ++ drop stop text) there.begins
-      (one-swapped d text h.text e.at stop e.other order there.begins there.ends h.other (same ∙ sym there.letters_are))
+      ap (λ t. spelt d t.text) (on-content d now (next_match d now (e.at + length e.replacement))) ∙ ap (spelt d) put.text_is
+      ∙ ap (spelt d) (append_assoc (take e.at text) e.replacement (drop stop text))
+      ∙ end-letters d text h.text e.at (e.replacement ++ drop stop text) there.begins
+      (one-swapped d text h.text e.at stop e.replacement order there.begins there.ends h.replacement (same ∙ sym there.letters_are))
     where
       on-content : (d : Data) (now : Editor) (o : Option ℕ) → (at_match d now o).content ≡ now.content
       on-content d now None = refl
       on-content d now (Some at) = refl
 
-  all-same : spelt d e.other ≡ sought d e → (room : Bool)
+  all-same : spelt d e.replacement ≡ sought d e → (room : Bool)
       → Same (if room then after_ending (with_matches_replaced d was (last_stop e.at all) put_in (length all)) else record was { message = Some TextFull })
   all-same same false = refl
   all-same same true =
@@ -291,7 +290,7 @@ module _ (d : Data) (e : Editor) (h : IsShowing d e) where
       let put = exchanged d was e.at stop put_in there.begins.0 in
       ap (spelt d) put.text_is ∙ ap (spelt d) (append_assoc (take e.at text) put_in (drop stop text))
       ∙ end-letters d text h.text e.at (put_in ++ drop stop text) there.begins
-      (all-swapped d text h.text (sought d e) e.other h.other same e.at all there.begins (follow d e h))
+      (all-swapped d text h.text (sought d e) e.replacement h.replacement same e.at all there.begins (follow d e h))
 
 -- ---- the laws
 
@@ -313,7 +312,7 @@ find-passes-over d e h =
 pub replace-replaces-all : ReplaceReplacesAll
 replace-replaces-all d e h =
     let stop = last_stop e.at (matches_on d e) in
-    let new = swapped e.at e.content.text e.other (matches_on d e) in
+    let new = swapped e.at e.content.text e.replacement (matches_on d e) in
     let order = all-order d e h in
     let inside = (all-ends d e h).0 in
     subst (ReplacesMatches d e) (sym (replaced-on d e h.settled h.unasked h.shown))
@@ -328,5 +327,5 @@ pub same-letters-stay : SameLettersStay
 same-letters-stay d e key h does same =
     let was = cleared e in
     each-replaces (λ (new : Editor). spelt d new.content.text ≡ spelt d e.content.text) d e key h.settled h.unasked h.shown does (λ typing. refl)
-    (λ typing. one-same d e h same (fits e.content.text e.at (match_stop d e) e.other))
-    (all-same d e h same (fits e.content.text e.at (last_stop e.at (matches_on d e)) (swapped e.at e.content.text e.other (matches_on d e))))
+    (λ typing. one-same d e h same (fits e.content.text e.at (match_stop d e) e.replacement))
+    (all-same d e h same (fits e.content.text e.at (last_stop e.at (matches_on d e)) (swapped e.at e.content.text e.replacement (matches_on d e))))

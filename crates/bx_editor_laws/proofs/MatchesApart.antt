@@ -4,10 +4,10 @@ use Rattle.std.specs.Prelude.{slice_range, All, IsUtf8}
 use Rattle.std.proofs.lemmas.Bool.{cases_lt}
 use Rattle.std.proofs.lemmas.List.Elements.{All-cons, All-nil, Contains-append_right}
 use Rattle.bx_ucd.specs.Data.{Data}
-use Rattle.bx_find.specs.declared.reading.Reading.TheVariants.{Close}
+use Rattle.bx_find.specs.declared.letters.Reading.TheVariants.{Close}
 use Rattle.bx_find_laws.specs.Laws.{AreSpans}
 use Rattle.bx_find.specs.Nearest.{MatchesAt}
-use Rattle.bx_find.specs.Spans.{match_end}
+use Rattle.bx_find.specs.Matches.{match_end}
 use Rattle.bx_document.specs.Swapped.{last_stop}
 use Rattle.bx_editor_laws.specs.ReplaceLaws.{AreApart, LiesIn}
 use Rattle.bx_editor_laws.proofs.MatchLetters.{match-bound, match-letters, match-some, spelt}

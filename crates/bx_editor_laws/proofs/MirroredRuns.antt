@@ -3,19 +3,18 @@ use Rattle.std.proofs.Common.{◌≡◌, ℕ, suc, ◌+◌, ◌-◌, ◌≤◌, 
 use Rattle.std.specs.Prelude.{None}
 use Rattle.std.specs.Fn.{iterate}
 use Rattle.bx_keys.specs.declared.key.Key.TheVariants.{RedoRun, UndoRun}
-use Rattle.bx_text.specs.Edits.{Edit, Edited}
-use Rattle.bx_text.specs.Times.{redone_times, undone_times}
+use Rattle.bx_text.specs.Edits.{Edit, Edited, redone_times, undone_times}
 use Rattle.bx_document.specs.declared.history.HistoryStep.TheVariants as steps
-use Rattle.bx_runs.specs.Laws.{BeginsAt, EndsAt}
-use Rattle.bx_runs.specs.Runs.{run_end, run_start}
-use Rattle.bx_runs.proofs.RunLaws.{undo-then-redo}
-use Rattle.bx_runs.proofs.Steps.{end-last, start-bound}
+use Rattle.bx_editor.specs.undo_groups.Laws.{BeginsAt, EndsAt}
+use Rattle.bx_editor.specs.undo_groups.Groups.{run_end, run_start}
+use Rattle.bx_editor.proofs.undo_groups_lemmas.RunLaws.{undo-then-redo}
+use Rattle.bx_editor.proofs.undo_groups_lemmas.Steps.{end-last, start-bound}
 use Rattle.bx_ucd.specs.Data.{Data}
-use Rattle.bx_editor.specs.Editor.{Editor, at_start}
-use Rattle.bx_editor.specs.Keys.{after_key, after_keys}
+use Rattle.bx_editor.specs.Editor.{Editor, at_start, is_changed_at, run_goal, run_length}
+use Rattle.bx_editor.specs.Keys.{after_key}
+use Rattle.bx_editor.specs.Functions.{after_keys}
 use Rattle.bx_editor_laws.specs.Laws.{after_typing, IsUnmarkedAt}
 use Rattle.bx_editor_laws.specs.RunLaws.{RedoRunMirrorsUndoRun}
-use Rattle.bx_editor.specs.Runs.{is_changed_at, run_goal, run_length}
 use Rattle.bx_editor.proofs.ManySteps.{again, again-and-back, again-place, back, back-and-again, back-place, future-back, past-again, past-back}
 use Rattle.bx_editor.proofs.ManySteps.{version, IsFutureOf, IsPastOf}
 use Rattle.bx_editor_laws.proofs.RunKeys.{redo-length, redo-run, run_to, undo-length, undo-run}
@@ -31,7 +30,7 @@ ran-to : (e new : Editor) (t now : Edited) (place there : ℕ) (changed : Bool) 
 ran-to e new t now place there changed is same at =
     subst (IsUnmarked t place) (sym is) (record { content_is = same; unmarked = record { place_is = at; mark_is = refl } })
 
--- a run is redone from an editor of any history that has enough edits
+-- an undo group is redone from an editor of any history that has enough edits
 redo-any : (d : Data) (e : Editor) (n : ℕ) (text : List ℕ) (past future : List Edit) → e.pasted ≡ None → suc n ≤ length future
     → let t : Edited = version text past future in let now : Editor = record e { content = t } in run_length steps.Redo now ≡ suc n
     → after_key d None now RedoRun
@@ -60,21 +59,21 @@ undo-lasts numbers p f q n begins to long =
     omega (arith, from, to, long)
 
 undo-and-redo : (d : Data) (e : Editor) (text : List ℕ) (edit : Edit) (past future : List Edit) → e.pasted ≡ None → IsPastOf text (edit ∷ past)
-    → EndsAt e.runs (suc (length past) + length future) (suc (length past))
+    → EndsAt e.undo_groups (suc (length past) + length future) (suc (length past))
     → let t : Edited = version text (edit ∷ past) future in IsUnmarked t edit.after.place (after_keys d None (record e { content = t }) (UndoRun ∷ RedoRun ∷ []))
 undo-and-redo d e text edit past future settled h ends =
     let p = suc (length past) in
     let t : Edited = version text (edit ∷ past) future in
     let now : Editor = record e { content = t } in
-    let n = length past - run_start e.runs p in
-    let long : p - run_start e.runs p ≡ suc n = undo-length e.runs (length past) in
+    let n = length past - run_start e.undo_groups p in
+    let long : p - run_start e.undo_groups p ≡ suc n = undo-length e.undo_groups (length past) in
     let undone = undone_times (suc n) t in
     let place = (iterate back (suc n) (t, e.place)).1 in
     let first : Editor = run_to e undone place (is_changed_at (run_goal steps.Undo now) e.stored) in
     let few : n ≤ length past = omega arith in
     let left : length undone.future ≡ suc n + length future = future-back (suc n) text (edit ∷ past) future (omega (arith, few)) in
-    let from : length undone.past ≡ run_start e.runs p = past-back (suc n) text (edit ∷ past) future ∙ omega (arith, long, start-bound e.runs p) in
-    let lasts : run_length steps.Redo first ≡ suc n = redo-lasts e.runs p (length future) (length undone.past) (length undone.future) n ends from long left in
+    let from : length undone.past ≡ run_start e.undo_groups p = past-back (suc n) text (edit ∷ past) future ∙ omega (arith, long, start-bound e.undo_groups p) in
+    let lasts : run_length steps.Redo first ≡ suc n = redo-lasts e.undo_groups p (length future) (length undone.past) (length undone.future) n ends from long left in
     let second = redo-any d first n undone.text undone.past undone.future settled (omega (arith, left)) lasts in
     ran-to first (after_keys d None now (UndoRun ∷ RedoRun ∷ [])) t (redone_times (suc n) undone) edit.after.place
     ((iterate again (suc n) (undone, place)).1) (is_changed_at (run_goal steps.Redo first) e.stored)
@@ -82,22 +81,22 @@ undo-and-redo d e text edit past future settled h ends =
     (back-and-again (suc n) text (edit ∷ past) future (omega (arith, few)) h) (again-place n text past future edit place few h)
 
 redo-and-undo : (d : Data) (e : Editor) (text : List ℕ) (edit : Edit) (past future : List Edit) → e.pasted ≡ None → IsFutureOf text (edit ∷ future)
-    → BeginsAt e.runs (length past + suc (length future)) (length past)
+    → BeginsAt e.undo_groups (length past + suc (length future)) (length past)
     → let t : Edited = version text past (edit ∷ future) in IsUnmarked t edit.before.place (after_keys d None (record e { content = t }) (RedoRun ∷ UndoRun ∷ []))
 redo-and-undo d e text edit past future settled h begins =
     let p = length past in
     let last = p + suc (length future) in
     let t : Edited = version text past (edit ∷ future) in
     let now : Editor = record e { content = t } in
-    let n = run_end e.runs p last - p - 1 in
-    let long : run_end e.runs p last - p ≡ suc n = redo-length e.runs p (length future) in
+    let n = run_end e.undo_groups p last - p - 1 in
+    let long : run_end e.undo_groups p last - p ≡ suc n = redo-length e.undo_groups p (length future) in
     let redone = redone_times (suc n) t in
     let place = (iterate again (suc n) (t, e.place)).1 in
     let first : Editor = run_to e redone place (is_changed_at (run_goal steps.Redo now) e.stored) in
-    let few : n ≤ length future = omega (arith, long, end-last e.runs p last) in
+    let few : n ≤ length future = omega (arith, long, end-last e.undo_groups p last) in
     let size : length redone.past ≡ p + suc n = past-again (suc n) text past (edit ∷ future) (omega (arith, few)) in
-    let to : length redone.past ≡ run_end e.runs p last = size ∙ omega (arith, long) in
-    let lasts : run_length steps.Undo first ≡ suc n = undo-lasts e.runs p (suc (length future)) (length redone.past) n begins to long in
+    let to : length redone.past ≡ run_end e.undo_groups p last = size ∙ omega (arith, long) in
+    let lasts : run_length steps.Undo first ≡ suc n = undo-lasts e.undo_groups p (suc (length future)) (length redone.past) n begins to long in
     let second = undo-any d first n redone.text redone.past redone.future settled (omega (arith, size)) lasts in
     ran-to first (after_keys d None now (RedoRun ∷ UndoRun ∷ [])) t (undone_times (suc n) redone) edit.before.place
     ((iterate back (suc n) (redone, place)).1) (is_changed_at (run_goal steps.Undo first) e.stored)
@@ -106,7 +105,7 @@ redo-and-undo d e text edit past future settled h begins =
 
 -- ---- whatever the history
 
-redo-mirrors : (d : Data) (e : Editor) (text : List ℕ) (past future : List Edit) → e.pasted ≡ None → IsPastOf text past → EndsAt e.runs (length past + length future) (length past)
+redo-mirrors : (d : Data) (e : Editor) (text : List ℕ) (past future : List Edit) → e.pasted ≡ None → IsPastOf text past → EndsAt e.undo_groups (length past + length future) (length past)
     → let t : Edited = version text past future in let new = after_keys d None (record e { content = t }) (UndoRun ∷ RedoRun ∷ []) in
     (new.content ≡ t) × ((edit : Edit) (rest : List Edit) → past ≡ edit ∷ rest → IsUnmarkedAt edit.after.place new)
 redo-mirrors d e text [] future settled h ends = absurd (omega (arith, ends.0))
@@ -115,7 +114,7 @@ redo-mirrors d e text (latest ∷ past) future settled h ends =
     let new = after_keys d None (record e { content = version text (latest ∷ past) future }) (UndoRun ∷ RedoRun ∷ []) in
     (there.content_is, λ edit rest is. let same : latest ≡ edit = cc in subst (λ (x : Edit). IsUnmarkedAt x.after.place new) same there.unmarked)
 
-undo-mirrors : (d : Data) (e : Editor) (text : List ℕ) (past future : List Edit) → e.pasted ≡ None → IsFutureOf text future → BeginsAt e.runs (length past + length future) (length past)
+undo-mirrors : (d : Data) (e : Editor) (text : List ℕ) (past future : List Edit) → e.pasted ≡ None → IsFutureOf text future → BeginsAt e.undo_groups (length past + length future) (length past)
     → let t : Edited = version text past future in let new = after_keys d None (record e { content = t }) (RedoRun ∷ UndoRun ∷ []) in
     (new.content ≡ t) × ((edit : Edit) (rest : List Edit) → future ≡ edit ∷ rest → IsUnmarkedAt edit.before.place new)
 undo-mirrors d e text past [] settled h begins = absurd (omega (arith, begins.0))

@@ -8,20 +8,21 @@ use Rattle.bx_keys.specs.declared.key.Key.TheVariants.{Find, FindBack, WordLeft,
 use Rattle.bx_keys.specs.declared.key.Key.TheVariants.{EraseWord, DeleteWord, ErasePoint, NewLine, FindNext, Cancel, LineUp, LineDown, PageBack, PageOn}
 use Rattle.bx_keys.specs.declared.key.Key.TheVariants.{Select, UndoRun, RedoRun, GoTo, Replace, Name, Tell, PasteStart, PasteEnd, Point}
 use Rattle.bx_ucd.specs.Data.{Data}
-use Rattle.bx_asking.specs.declared.question.Ask.{Ask}
-use Rattle.bx_asking.specs.declared.question.Ask.TheVariants as asks
-use Rattle.bx_editor.specs.declared.aim.Aim.TheVariants as aims
-use Rattle.bx_editor.specs.declared.seek.Seek.{Seek}
-use Rattle.bx_editor.specs.declared.seek.Seek.TheVariants as searches
-use Rattle.bx_editor.specs.declared.soft.Soft.{Soft}
-use Rattle.bx_editor.specs.declared.soft.Soft.TheVariants.{Off, Fresh, Old}
+use Rattle.bx_editor.specs.declared.questions.answers.Prompt.{Prompt}
+use Rattle.bx_editor.specs.declared.questions.answers.Prompt.TheVariants as asks
+use Rattle.bx_editor.specs.declared.search_state.SearchPurpose.TheVariants as aims
+use Rattle.bx_editor.specs.declared.search_state.SearchState.{SearchState}
+use Rattle.bx_editor.specs.declared.search_state.SearchState.TheVariants as searches
+use Rattle.bx_editor.specs.declared.cursor.Soft.{Soft}
+use Rattle.bx_editor.specs.declared.cursor.Soft.TheVariants.{Off, Fresh, Old}
 use Rattle.bx_editor.specs.Asking.{without_ask}
 use Rattle.bx_editor.specs.Editor.{Editor, cleared}
 use Rattle.bx_editor.specs.Effects.{Effect, Types, BeginsLine, Puts, Removes, RemovesWord, Steps, StepsRun, Goes, GoesByRows, Marks, Selects}
 use Rattle.bx_editor.specs.Effects.{Unmarks, Copies, Cuts, Seeks, SeeksNext, Saves, Quits, Turns, Helps, AsksLine, AsksName, Tells, Rests, Before, before, by}
-use Rattle.bx_editor.specs.Keys.{Ends, after_any, after_asking, after_key, after_pressing, answer_of, answered, answered_match, answered_other, answered_question, effect_of, is_told_key}
+use Rattle.bx_editor.specs.Keys.{Ends, after_any, after_asking, after_key, after_pressing, answer_of, answered, answered_match, answered_replacement, answered_question, effect_of}
+use Rattle.bx_editor.specs.Functions.{is_told_key}
 use Rattle.bx_editor.specs.Search.{after_beginning, after_find_next, next_or_start, search_from, sought, without_search}
-use Rattle.bx_editor.specs.Selecting.{mark_left, selecting, unselected}
+use Rattle.bx_editor.specs.Region.{mark_left, selecting, unselected}
 use Rattle.bx_editor_laws.specs.SelectionLaws.{is_move, seeks, LeavesMark, MoveTakesSelectionOff, SeekingTakesSelectionOff}
 use Rattle.bx_editor.proofs.InSearch.{any-key}
 
@@ -125,7 +126,7 @@ from-search : (d : Data) (was : Before) (e : Editor) (key : Key) → is_move key
     → (after_pressing d None was (without_search e) key).mark ≡ mark_left e.soft e.mark
 from-search d was e key is = let off = without_search e in effect d was off (effect_of d off key) ((each d off key is).0)
 
-any : (d : Data) (was : Before) (ask : Ask) (seek : Seek) (e : Editor) (key : Key) → is_move key ≡ true
+any : (d : Data) (was : Before) (ask : Prompt) (seek : SearchState) (e : Editor) (key : Key) → is_move key ≡ true
     → (after_any d None was ask seek e key).mark ≡ mark_left e.soft e.mark
 any d was asks.Off searches.Off e key is = effect d was e (effect_of d e key) ((each d e key is).0)
 any d was asks.Off searches.Begun e key is =
@@ -133,9 +134,9 @@ any d was asks.Off searches.Begun e key is =
 any d was asks.Off searches.Typed e key is =
     ap (λ a. (answered d None was e key a).mark) ((each d e key is).1.0) ∙ effect d was e (effect_of d e key) ((each d e key is).0)
 any d was asks.Off searches.WithBegun e key is =
-    ap (λ a. (answered_other d None was e key a).mark) ((each d e key is).1.0) ∙ from-search d was e key is
+    ap (λ a. (answered_replacement d None was e key a).mark) ((each d e key is).1.0) ∙ from-search d was e key is
 any d was asks.Off searches.WithTyped e key is =
-    ap (λ a. (answered_other d None was e key a).mark) ((each d e key is).1.0) ∙ from-search d was e key is
+    ap (λ a. (answered_replacement d None was e key a).mark) ((each d e key is).1.0) ∙ from-search d was e key is
 any d was asks.Off searches.Replacing e key is =
     ap (λ a. (answered_match d None was e key a).mark) ((each d e key is).1.0) ∙ from-search d was e key is
 any d was asks.Line seek e key is = in-question d was e key is
@@ -160,7 +161,7 @@ selected e (Some mark) Off marked softly = (marked, λ is. let both = sym softly
 selected e (Some mark) Fresh marked softly = (marked, λ is. let both = sym softly ∙ is in cc both)
 selected e (Some mark) Old marked softly = (marked, λ is. cc is)
 
-select-any : (d : Data) (was : Before) (ask : Ask) (seek : Seek) (e : Editor) → let new = after_any d None was ask seek e Select in
+select-any : (d : Data) (was : Before) (ask : Prompt) (seek : SearchState) (e : Editor) → let new = after_any d None was ask seek e Select in
     (new.mark ≡ Some (unwrap_or e.mark e.place)) × (new.soft ≢ Old)
 select-any d was asks.Off searches.Off e = selected e e.mark e.soft refl refl
 select-any d was asks.Off searches.Begun e = selected e e.mark e.soft refl refl
@@ -178,7 +179,7 @@ selecting-seek e (Some mark) Off = refl
 selecting-seek e (Some mark) Fresh = refl
 selecting-seek e (Some mark) Old = refl
 
-select-off-any : (d : Data) (was : Before) (ask : Ask) (e : Editor) → (after_any d None was ask searches.Off e Select).seek ≡ e.seek
+select-off-any : (d : Data) (was : Before) (ask : Prompt) (e : Editor) → (after_any d None was ask searches.Off e Select).seek ≡ e.seek
 select-off-any d was asks.Off e = selecting-seek e e.mark e.soft
 select-off-any d was asks.Line e = selecting-seek (without_ask e) e.mark e.soft
 select-off-any d was asks.Name e = selecting-seek (without_ask e) e.mark e.soft
@@ -195,7 +196,7 @@ selecting-pasted e (Some mark) Off = refl
 selecting-pasted e (Some mark) Fresh = refl
 selecting-pasted e (Some mark) Old = refl
 
-select-pasted-any : (d : Data) (was : Before) (ask : Ask) (seek : Seek) (e : Editor) → (after_any d None was ask seek e Select).pasted ≡ e.pasted
+select-pasted-any : (d : Data) (was : Before) (ask : Prompt) (seek : SearchState) (e : Editor) → (after_any d None was ask seek e Select).pasted ≡ e.pasted
 select-pasted-any d was asks.Off searches.Off e = selecting-pasted e e.mark e.soft
 select-pasted-any d was asks.Off searches.Begun e = selecting-pasted e e.mark e.soft
 select-pasted-any d was asks.Off searches.Typed e = selecting-pasted e e.mark e.soft
@@ -216,19 +217,19 @@ either-mark : (b : Bool) (mark : Option ℕ) (p q : Editor) → p.mark ≡ mark 
 either-mark true mark p q h k = h
 either-mark false mark p q h k = k
 
-find-mark : (d : Data) (was : Before) (ask : Ask) (e : Editor) → (after_any d None was ask searches.Off e Find).mark ≡ mark_left e.soft e.mark
+find-mark : (d : Data) (was : Before) (ask : Prompt) (e : Editor) → (after_any d None was ask searches.Off e Find).mark ≡ mark_left e.soft e.mark
 find-mark d was asks.Off e = refl
 find-mark d was asks.Line e = refl
 find-mark d was asks.Name e = refl
 find-mark d was asks.Code e = refl
 
-find-back-mark : (d : Data) (was : Before) (ask : Ask) (e : Editor) → (after_any d None was ask searches.Off e FindBack).mark ≡ mark_left e.soft e.mark
+find-back-mark : (d : Data) (was : Before) (ask : Prompt) (e : Editor) → (after_any d None was ask searches.Off e FindBack).mark ≡ mark_left e.soft e.mark
 find-back-mark d was asks.Off e = refl
 find-back-mark d was asks.Line e = refl
 find-back-mark d was asks.Name e = refl
 find-back-mark d was asks.Code e = refl
 
-replace-mark : (d : Data) (was : Before) (ask : Ask) (e : Editor) → (after_any d None was ask searches.Off e Replace).mark ≡ mark_left e.soft e.mark
+replace-mark : (d : Data) (was : Before) (ask : Prompt) (e : Editor) → (after_any d None was ask searches.Off e Replace).mark ≡ mark_left e.soft e.mark
 replace-mark d was asks.Off e = refl
 replace-mark d was asks.Line e = refl
 replace-mark d was asks.Name e = refl
@@ -239,7 +240,7 @@ next-mark-by d e =
     let free = unselected e in
     either-mark (length (sought d free) == 0) free.mark (after_beginning aims.Find free) (search_from d (next_or_start d free) (record free { seek = searches.Off; aim = aims.Find })) refl refl
 
-next-mark : (d : Data) (was : Before) (ask : Ask) (e : Editor) → (after_any d None was ask searches.Off e FindNext).mark ≡ mark_left e.soft e.mark
+next-mark : (d : Data) (was : Before) (ask : Prompt) (e : Editor) → (after_any d None was ask searches.Off e FindNext).mark ≡ mark_left e.soft e.mark
 next-mark d was asks.Off e = next-mark-by d e
 next-mark d was asks.Line e = next-mark-by d (without_ask e)
 next-mark d was asks.Name e = next-mark-by d (without_ask e)

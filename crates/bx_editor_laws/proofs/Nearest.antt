@@ -2,16 +2,16 @@
 use Rattle.std.proofs.Common.{◌≡◌, ◌⊎◌, inl, inr, ℕ, true, length, Option, Some, None, refl, sym, ap, subst}
 use Rattle.std.specs.Prelude.{MatchOption, unwrap_or}
 use Rattle.bx_ucd.specs.Data.{Data}
-use Rattle.bx_asking.specs.declared.question.Ask.{Ask}
-use Rattle.bx_asking.specs.declared.question.Ask.TheVariants as asks
+use Rattle.bx_editor.specs.declared.questions.answers.Prompt.{Prompt}
+use Rattle.bx_editor.specs.declared.questions.answers.Prompt.TheVariants as asks
 use Rattle.bx_find.specs.Nearest.{IsFirst, IsLast}
 use Rattle.bx_find.specs.Matches.{first_from, last_before}
 use Rattle.bx_find.proofs.Nearest.{first_is, last_is}
 use Rattle.bx_keys.specs.declared.key.Key.TheVariants.{Find, FindBack}
 use Rattle.bx_editor.specs.declared.matches.Landing.{Landing}
 use Rattle.bx_editor.specs.declared.message.Message.TheVariants.{FromEnd, FromStart}
-use Rattle.bx_editor.specs.declared.seek.Seek.{Seek}
-use Rattle.bx_editor.specs.declared.seek.Seek.TheVariants.{Off, Begun, Typed, WithBegun, WithTyped, Replacing}
+use Rattle.bx_editor.specs.declared.search_state.SearchState.{SearchState}
+use Rattle.bx_editor.specs.declared.search_state.SearchState.TheVariants.{Off, Begun, Typed, WithBegun, WithTyped, Replacing}
 use Rattle.bx_editor.specs.Editor.{Editor, rows, cleared}
 use Rattle.bx_editor.specs.Effects.{Before, before}
 use Rattle.bx_editor.specs.Keys.{after_any}
@@ -54,7 +54,7 @@ previous-of d e l None (Some at) none last is = inr (inl (none, (at, last, (ap (
 previous-of d e l None None none nowhere is = inr (inr (nowhere, (ap (λ m. unwrap_or m.place e.place) is, ap (λ m. m.message) is)))
 
 -- whichever state the search is in
-on-find : (d : Data) (e : Editor) (was : Before) (ask : Ask) (seek : Seek) (P : Editor → Type 0) → ask ≡ asks.Off → is_queried seek ≡ true
+on-find : (d : Data) (e : Editor) (was : Before) (ask : Prompt) (seek : SearchState) (P : Editor → Type 0) → ask ≡ asks.Off → is_queried seek ≡ true
     → P (after_find d (cleared e)) → P (after_any d None was ask seek (cleared e) Find)
 on-find d e was asks.Off Off P unasked on h = absurd (cc on)
 on-find d e was asks.Off Begun P unasked on h = h
@@ -66,7 +66,7 @@ on-find d e was asks.Line seek P unasked on h = absurd (cc unasked)
 on-find d e was asks.Name seek P unasked on h = absurd (cc unasked)
 on-find d e was asks.Code seek P unasked on h = absurd (cc unasked)
 
-on-find-back : (d : Data) (e : Editor) (was : Before) (ask : Ask) (seek : Seek) (P : Editor → Type 0) → ask ≡ asks.Off → is_queried seek ≡ true
+on-find-back : (d : Data) (e : Editor) (was : Before) (ask : Prompt) (seek : SearchState) (P : Editor → Type 0) → ask ≡ asks.Off → is_queried seek ≡ true
     → P (after_find_back d (cleared e)) → P (after_any d None was ask seek (cleared e) FindBack)
 on-find-back d e was asks.Off Off P unasked on h = absurd (cc on)
 on-find-back d e was asks.Off Begun P unasked on h = h

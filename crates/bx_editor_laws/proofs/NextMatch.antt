@@ -2,21 +2,22 @@
 use Rattle.std.proofs.Common.{◌≡◌, ℕ, false, List, [], ◌∷◌, length, refl, sym, ap, ap₂, ◌∙◌, arith, ne_eqb}
 use Rattle.std.specs.Prelude.{◌≢◌, ◌==◌, chars, None, if◌then◌else◌}
 use Rattle.bx_keys.specs.declared.key.Key.TheVariants.{Find, FindNext}
-use Rattle.bx_editor.specs.declared.aim.Aim.TheVariants as aims
-use Rattle.bx_editor.specs.declared.seek.Seek.TheVariants.{Off, Typed}
-use Rattle.bx_editor.specs.declared.soft.Soft.{Soft}
-use Rattle.bx_editor.specs.declared.soft.Soft.TheVariants as softness
+use Rattle.bx_editor.specs.declared.search_state.SearchPurpose.TheVariants as aims
+use Rattle.bx_editor.specs.declared.search_state.SearchState.TheVariants.{Off, Typed}
+use Rattle.bx_editor.specs.declared.cursor.Soft.{Soft}
+use Rattle.bx_editor.specs.declared.cursor.Soft.TheVariants as softness
 use Rattle.bx_ucd.specs.Data.{Data}
-use Rattle.bx_asking.specs.declared.question.Ask.{Ask}
-use Rattle.bx_asking.specs.declared.question.Ask.TheVariants as asks
+use Rattle.bx_editor.specs.declared.questions.answers.Prompt.{Prompt}
+use Rattle.bx_editor.specs.declared.questions.answers.Prompt.TheVariants as asks
 use Rattle.bx_editor.specs.Asking.{without_ask}
 use Rattle.bx_editor.specs.Editor.{Editor, cleared}
 use Rattle.bx_editor.specs.Effects.{Before, before}
-use Rattle.bx_editor.specs.Keys.{after_any, after_key, after_keys}
+use Rattle.bx_editor.specs.Keys.{after_any, after_key}
+use Rattle.bx_editor.specs.Functions.{after_keys}
 use Rattle.bx_find.specs.Letters.{letters}
-use Rattle.bx_editor.specs.Pasting.{paste_ended}
+use Rattle.bx_editor.specs.Putting.{paste_ended}
 use Rattle.bx_editor.specs.Search.{after_beginning, after_find_next, next_or_start, reading, search_from, sought}
-use Rattle.bx_editor.specs.Selecting.{aged, soft_left, unselected}
+use Rattle.bx_editor.specs.Region.{aged, soft_left, unselected}
 use Rattle.bx_editor_laws.proofs.GivenUp.{find-begins}
 use Rattle.bx_editor.proofs.InSearch.{any-key, behind}
 use Rattle.bx_editor_laws.proofs.PasteEnded.{ended-by, ends-first, over}
@@ -32,7 +33,7 @@ aged-twice softness.Fresh = refl
 aged-twice softness.Old = refl
 
 -- it ends a question
-next-any : (d : Data) (was : Before) (ask : Ask) (e : Editor) → e.ask ≡ ask → after_any d None was ask Off e FindNext ≡ after_find_next d (unselected (without_ask e))
+next-any : (d : Data) (was : Before) (ask : Prompt) (e : Editor) → e.ask ≡ ask → after_any d None was ask Off e FindNext ≡ after_find_next d (unselected (without_ask e))
 next-any d was asks.Off e is = ap (λ a. after_find_next d (unselected (record e { ask = a }))) is
 next-any d was asks.Line e is = refl
 next-any d was asks.Name e is = refl

@@ -1,4 +1,4 @@
--- Characters that go on with each other are one run, which one UndoRun takes back.
+-- Characters that go on with each other are one undo group, which one UndoRun takes back.
 use Rattle.std.proofs.Common.{◌≡◌, ℕ, zero, suc, ◌+◌, ◌-◌, ◌≤◌, ◌<◌, Bool, true, false, List, [], ◌∷◌, ◌++◌, length, map, take, drop}
 use Rattle.std.proofs.Common.{refl, sym, ap}
 use Rattle.std.proofs.Common.{ap₂, subst, ◌∙◌, arith, inl, inr, if◌then◌else◌, length-append}
@@ -7,33 +7,30 @@ use Rattle.std.specs.Fn.{iterate}
 use Rattle.std.proofs.lemmas.Bool.Decides.{nat_tests}
 use Rattle.std.proofs.lemmas.List.{length-drop, length-take}
 use Rattle.std.proofs.lemmas.List.Elements.{All-head, All-tail}
-use Rattle.bx_terms.specs.Sizes.{largest_text}
+use Rattle.bx_common.specs.Characters.{largest_text}
 use Rattle.bx_keys.specs.declared.key.Key.TheVariants.{Insert, PasteEnd, UndoRun}
 use Rattle.bx_text.specs.Edits.{Edit, Edited, splice}
 use Rattle.bx_document.specs.declared.history.HistoryStep.TheVariants as steps
-use Rattle.bx_runs.specs.Runs.{edited, run_start}
-use Rattle.bx_runs.specs.Typing.{after_insertion, goes_on, kind_of}
-use Rattle.bx_runs.specs.declared.typing.Kind.{Kind}
-use Rattle.bx_runs.specs.declared.typing.Kind.TheVariants.{Blank, Letter}
-use Rattle.bx_runs.specs.declared.typing.Typing.{Typing}
-use Rattle.bx_runs.specs.declared.typing.Typing.TheVariants as typings
-use Rattle.bx_runs.proofs.RunLaws.{edit-is-of-its-run}
+use Rattle.bx_editor.specs.undo_groups.Groups.{edited, run_start, after_insertion, goes_on, kind_of}
+use Rattle.bx_editor.specs.declared.undo_groups.typing.Kind.{Kind}
+use Rattle.bx_editor.specs.declared.undo_groups.typing.Kind.TheVariants.{Blank, Letter}
+use Rattle.bx_editor.specs.declared.undo_groups.typing.Typing.{Typing}
+use Rattle.bx_editor.specs.declared.undo_groups.typing.Typing.TheVariants as typings
+use Rattle.bx_editor.proofs.undo_groups_lemmas.RunLaws.{edit-is-of-its-run}
 use Rattle.bx_ucd.specs.Data.{Data}
-use Rattle.bx_asking.specs.declared.question.Ask.TheVariants as asks
+use Rattle.bx_editor.specs.declared.questions.answers.Prompt.TheVariants as asks
 use Rattle.bx_editor.specs.declared.message.Message.TheVariants.{TextFull}
-use Rattle.bx_editor.specs.declared.seek.Seek.TheVariants as seeks
-use Rattle.bx_editor.specs.declared.soft.Soft.TheVariants as softness
-use Rattle.bx_editor.specs.Editor.{Editor, cleared, with_insertion, with_removal, with_typing}
+use Rattle.bx_editor.specs.declared.search_state.SearchState.TheVariants as seeks
+use Rattle.bx_editor.specs.declared.cursor.Soft.TheVariants as softness
+use Rattle.bx_editor.specs.Editor.{Editor, cleared, with_insertion, with_removal, with_typing, run_length}
 use Rattle.bx_editor.specs.Effects.{before}
-use Rattle.bx_editor.specs.Keys.{after_any, after_key, after_keys, after_press, as_left}
+use Rattle.bx_editor.specs.Keys.{after_any, after_key, after_press, as_left}
+use Rattle.bx_editor.specs.Functions.{after_keys}
 use Rattle.bx_editor.specs.PasteLaws.{after_paste}
-use Rattle.bx_editor.specs.Pasting.{after_paste_start, ended_with, longer, paste_begun, pasted_with, pastes_crlf, with_pasted}
-use Rattle.bx_editor.specs.Pasting.{without_paste}
-use Rattle.bx_editor.specs.Putting.{after_character, has_room, only_paste, put_in, typed, with_selection_replaced, yielding}
-use Rattle.bx_editor.specs.Region.{is_empty, region}
+use Rattle.bx_editor.specs.Putting.{after_paste_start, ended_with, longer, paste_begun, pasted_with, pastes_crlf, with_pasted}
+use Rattle.bx_editor.specs.Putting.{without_paste, after_character, has_room, only_paste, put_in, typed, with_selection_replaced, yielding}
+use Rattle.bx_editor.specs.Region.{is_empty, region, is_selection, is_soft}
 use Rattle.bx_editor_laws.specs.RunLaws.{AreOfKind, IsBackBefore, WordIsARun}
-use Rattle.bx_editor.specs.Runs.{run_length}
-use Rattle.bx_editor.specs.Selecting.{is_selection, is_soft}
 use Rattle.bx_editor.proofs.InSearch.{any-key}
 use Rattle.bx_editor.proofs.ManySteps.{back, undone-back, version}
 use Rattle.bx_editor.proofs.Pasted.{ended-none}
@@ -60,14 +57,14 @@ over-back first zero text place past future h = h
 over-back first (suc n) text place [] future h = absurd (cc h)
 over-back first (suc n) text place (edit ∷ past) future h = over-back first n edit.before.text edit.before.place past (edit ∷ future) h
 
--- at least one edit, of one run that began at `first`
+-- at least one edit, of one undo group that began at `first`
 pub record Going (first : Editor) (t : Edited) (place : ℕ) (runs : List ℕ) : Type 0 where
   pub more : ℕ
   pub over : IsOver first (suc more) t.text place t.past
   pub start : run_start runs (length t.past) ≡ length first.content.past
 
 abbrev pub IsOneRun : Editor → Editor → Type 0
-IsOneRun first e = Going first e.content e.place e.runs
+IsOneRun first e = Going first e.content e.place e.undo_groups
 
 undo-going : (d : Data) (first e : Editor) (text : List ℕ) (past future : List Edit) → e.pasted ≡ None
     → let now : Editor = record e { content = version text past future } in IsOneRun first now
@@ -103,21 +100,21 @@ pub insertion-begins : (d : Data) (first e : Editor) (new : List ℕ) → Nothin
 insertion-begins d first e new h = record {
   more = 0;
   over = h;
-  start = next e.runs (length e.content.past) false ∙ ap length h.1.1;
+  start = next e.undo_groups (length e.content.past) false ∙ ap length h.1.1;
 }
 
 pub removal-begins : (d : Data) (first e : Editor) (start stop : ℕ) → Nothing first e → IsOneRun first (with_removal d e start stop false)
 removal-begins d first e start stop h = record {
   more = 0;
   over = h;
-  start = next e.runs (length e.content.past) false ∙ ap length h.1.1;
+  start = next e.undo_groups (length e.content.past) false ∙ ap length h.1.1;
 }
 
 insertion-goes : (d : Data) (first e : Editor) (new : List ℕ) → IsOneRun first e → IsOneRun first (with_insertion d e new true)
 insertion-goes d first e new h = record {
   more = suc h.more;
   over = h.over;
-  start = next e.runs (length e.content.past) true ∙ h.start;
+  start = next e.undo_groups (length e.content.past) true ∙ h.start;
 }
 
 pub replacement-begins : (d : Data) (first e : Editor) (new : List ℕ) → Nothing first e → IsOneRun first (with_selection_replaced d e new)
@@ -166,7 +163,7 @@ letter-waits d first e c h =
     subst (Waits first) (sym (ap (λ pasted. after_press d None pasted e (Insert c)) h.pasted))
     (record { nothing = h.nothing; list = longer is_crlf h.list c; pasted = ap (λ pasted. pasted_with is_crlf pasted c) h.pasted })
 
--- nothing was put in, or edits of one run were made
+-- nothing was put in, or edits of one undo group were made
 abbrev InRun : Editor → Editor → Type 0
 InRun first e = Nothing first e ⊎ IsOneRun first e
 
@@ -318,7 +315,7 @@ with-size : (first e : Editor) (typing : Typing) (c : ℕ) (cs : List ℕ) → T
     → Types first e typing (length (encode_utf8 c) + length (encode_utf8_all cs))
 with-size first e typing c cs h = subst (Types first e typing) (length-append (encode_utf8 c) (encode_utf8_all cs)) h
 
--- what was typed is one run, and no paste is under way
+-- what was typed is one undo group, and no paste is under way
 abbrev Ran : Editor → Editor → Type 0
 Ran first e = IsOneRun first e × (e.pasted ≡ None)
 

@@ -3,34 +3,34 @@ use Rattle.std.proofs.Common.{◌≡◌, ◌≢◌, ℕ, zero, suc, ◌<◌, ◌
 use Rattle.std.proofs.Common.{append_assoc, chars, encode_utf8, encode_utf8_all, IsUtf8, refl, sym, ap, ◌∙◌, arith}
 use Rattle.std.proofs.lemmas.Str.{chars_past_char, IsUtf8-past_char}
 use Rattle.bx_ucd.specs.Data.{Data}
-use Rattle.bx_index.specs.Paragraphs.{Paragraph, after_character, after_cr, bare, begins_with_lf, cut, is_separator}
+use Rattle.bx_text.specs.index.Paragraphs.{Paragraph, after_character, after_cr, bare, begins_with_lf, cut, is_separator}
 
 abbrev pub AreInLine : Data → List ℕ → Type 0
-AreInLine says [] = Unit {0}
-AreInLine says (c ∷ cs) = (is_separator (says.class c) ≡ false) × AreInLine says cs
+AreInLine ucd [] = Unit {0}
+AreInLine ucd (c ∷ cs) = (is_separator (ucd.class c) ≡ false) × AreInLine ucd cs
 
 -- ---- a cut, character by character
 
-cut-plain : (says : Data) (c : ℕ) (cs : List ℕ) → is_separator (says.class c) ≡ false → cut says (c ∷ cs) ≡ after_character c (cut says cs)
-cut-plain says c cs h = ap (λ b. elim b as (λ x. List Paragraph) [
-  | false ↦ after_character c (cut says cs)
-  | true ↦ elim ((c == 13) && begins_with_lf says cs) [
-    | true ↦ after_cr (cut says cs)
-    | false ↦ bare (encode_utf8 c) ∷ cut says cs
+cut-plain : (ucd : Data) (c : ℕ) (cs : List ℕ) → is_separator (ucd.class c) ≡ false → cut ucd (c ∷ cs) ≡ after_character c (cut ucd cs)
+cut-plain ucd c cs h = ap (λ b. elim b as (λ x. List Paragraph) [
+  | false ↦ after_character c (cut ucd cs)
+  | true ↦ elim ((c == 13) && begins_with_lf ucd cs) [
+    | true ↦ after_cr (cut ucd cs)
+    | false ↦ bare (encode_utf8 c) ∷ cut ucd cs
   ]
 ]) h
 
-cut-end : (says : Data) (c : ℕ) (cs : List ℕ) (pair : Bool) → is_separator (says.class c) ≡ true → ((c == 13) && begins_with_lf says cs) ≡ pair
-    → cut says (c ∷ cs) ≡ elim pair [ true ↦ after_cr (cut says cs) | false ↦ bare (encode_utf8 c) ∷ cut says cs ]
-cut-end says c cs pair h e =
+cut-end : (ucd : Data) (c : ℕ) (cs : List ℕ) (pair : Bool) → is_separator (ucd.class c) ≡ true → ((c == 13) && begins_with_lf ucd cs) ≡ pair
+    → cut ucd (c ∷ cs) ≡ elim pair [ true ↦ after_cr (cut ucd cs) | false ↦ bare (encode_utf8 c) ∷ cut ucd cs ]
+cut-end ucd c cs pair h e =
     ap (λ b. elim b as (λ x. List Paragraph) [
-      | false ↦ after_character c (cut says cs)
-      | true ↦ elim ((c == 13) && begins_with_lf says cs) [
-        | true ↦ after_cr (cut says cs)
-        | false ↦ bare (encode_utf8 c) ∷ cut says cs
+      | false ↦ after_character c (cut ucd cs)
+      | true ↦ elim ((c == 13) && begins_with_lf ucd cs) [
+        | true ↦ after_cr (cut ucd cs)
+        | false ↦ bare (encode_utf8 c) ∷ cut ucd cs
       ]
     ]) h
-    ∙ ap (λ b. elim b as (λ x. List Paragraph) [ true ↦ after_cr (cut says cs) | false ↦ bare (encode_utf8 c) ∷ cut says cs ]) e
+    ∙ ap (λ b. elim b as (λ x. List Paragraph) [ true ↦ after_cr (cut ucd cs) | false ↦ bare (encode_utf8 c) ∷ cut ucd cs ]) e
 
 -- bytes in front of the first body
 abbrev prepended : List ℕ → List Paragraph → List Paragraph
@@ -41,11 +41,11 @@ one-in-front : (c : ℕ) (bs : List ℕ) (ps : List Paragraph) → after_charact
 one-in-front c bs [] = refl
 one-in-front c bs (p ∷ ps) = ap (λ b. record p { body = b } ∷ ps) (sym (append_assoc (encode_utf8 c) bs p.body))
 
-cut-line : (says : Data) (cs rest : List ℕ) (p : Paragraph) (ps : List Paragraph) → AreInLine says cs → cut says rest ≡ p ∷ ps
-    → cut says (cs ++ rest) ≡ record p { body = encode_utf8_all cs ++ p.body } ∷ ps
-cut-line says [] rest p ps h is = is
-cut-line says (c ∷ cs) rest p ps h is =
-    cut-plain says c (cs ++ rest) h.0 ∙ ap (after_character c) (cut-line says cs rest p ps h.1 is)
+cut-line : (ucd : Data) (cs rest : List ℕ) (p : Paragraph) (ps : List Paragraph) → AreInLine ucd cs → cut ucd rest ≡ p ∷ ps
+    → cut ucd (cs ++ rest) ≡ record p { body = encode_utf8_all cs ++ p.body } ∷ ps
+cut-line ucd [] rest p ps h is = is
+cut-line ucd (c ∷ cs) rest p ps h is =
+    cut-plain ucd c (cs ++ rest) h.0 ∙ ap (after_character c) (cut-line ucd cs rest p ps h.1 is)
     ∙ ap (λ b. record p { body = b } ∷ ps) (sym (append_assoc (encode_utf8 c) (encode_utf8_all cs) p.body))
 
 -- ---- two lists that differ in one body
@@ -144,46 +144,46 @@ and-none : (b : Bool) → (b && false) ≡ false
 and-none true = refl
 and-none false = refl
 
-no-lf : (says : Data) (c : ℕ) (cs : List ℕ) → is_separator (says.class c) ≡ false → begins_with_lf says (c ∷ cs) ≡ false
-no-lf says c cs h = ap (λ b. (c == 10) && b) h ∙ and-none (c == 10)
+no-lf : (ucd : Data) (c : ℕ) (cs : List ℕ) → is_separator (ucd.class c) ≡ false → begins_with_lf ucd (c ∷ cs) ≡ false
+no-lf ucd c cs h = ap (λ b. (c == 10) && b) h ∙ and-none (c == 10)
 
-module _ (says : Data) (r n : ℕ) (rs ns rest : List ℕ) (olds : AreInLine says (r ∷ rs)) (news : AreInLine says (n ∷ ns))
-    (p : Paragraph) (ps : List Paragraph) (cut-rest : cut says rest ≡ p ∷ ps) where
+module _ (ucd : Data) (r n : ℕ) (rs ns rest : List ℕ) (olds : AreInLine ucd (r ∷ rs)) (news : AreInLine ucd (n ∷ ns))
+    (p : Paragraph) (ps : List Paragraph) (cut-rest : cut ucd rest ≡ p ∷ ps) where
   abbrev old : List ℕ
   old = r ∷ rs
 
   abbrev new : List ℕ
   new = n ∷ ns
 
-  lf-same : (before : List ℕ) → begins_with_lf says (before ++ (old ++ rest)) ≡ begins_with_lf says (before ++ (new ++ rest))
-  lf-same [] = no-lf says r (rs ++ rest) olds.0 ∙ sym (no-lf says n (ns ++ rest) news.0)
+  lf-same : (before : List ℕ) → begins_with_lf ucd (before ++ (old ++ rest)) ≡ begins_with_lf ucd (before ++ (new ++ rest))
+  lf-same [] = no-lf ucd r (rs ++ rest) olds.0 ∙ sym (no-lf ucd n (ns ++ rest) news.0)
   lf-same (a ∷ before) = refl
 
-  pub differ : (before : List ℕ) → DifferInOne (cut says (before ++ (old ++ rest))) (cut says (before ++ (new ++ rest))) (encode_utf8_all old) (encode_utf8_all new)
+  pub differ : (before : List ℕ) → DifferInOne (cut ucd (before ++ (old ++ rest))) (cut ucd (before ++ (new ++ rest))) (encode_utf8_all old) (encode_utf8_all new)
   differ [] = record {
     ahead = [];
     behind = ps;
     front = [];
     tail = p.body;
     separator = p.separator;
-    old_is = cut-line says old rest p ps olds cut-rest;
-    new_is = cut-line says new rest p ps news cut-rest;
+    old_is = cut-line ucd old rest p ps olds cut-rest;
+    new_is = cut-line ucd new rest p ps news cut-rest;
   }
   differ (c ∷ before) =
       let xs = before ++ (old ++ rest) in
       let ys = before ++ (new ++ rest) in
       let h = differ before in
       let Differ = λ (qs rs : List Paragraph). DifferInOne qs rs (encode_utf8_all old) (encode_utf8_all new) in
-      elim (is_separator (says.class c)) as (λ b. is_separator (says.class c) ≡ b → Differ (cut says (c ∷ xs)) (cut says (c ∷ ys))) [
-        | false ↦ λ e. differ-as (cut says (c ∷ xs)) (cut says (c ∷ ys)) (after_character c (cut says xs)) (after_character c (cut says ys)) (cut-plain says c xs e) (cut-plain says c ys e)
-            (character-in c (cut says xs) (cut says ys) (encode_utf8_all old) (encode_utf8_all new) h)
-        | true ↦ λ e. elim ((c == 13) && begins_with_lf says xs) as (λ b. ((c == 13) && begins_with_lf says xs) ≡ b → Differ (cut says (c ∷ xs)) (cut says (c ∷ ys))) [
-          | true ↦ λ pair. differ-as (cut says (c ∷ xs)) (cut says (c ∷ ys)) (after_cr (cut says xs)) (after_cr (cut says ys))
-              (cut-end says c xs true e pair) (cut-end says c ys true e (ap (λ b. (c == 13) && b) (sym (lf-same before)) ∙ pair))
-              (cr-in (cut says xs) (cut says ys) (encode_utf8_all old) (encode_utf8_all new) h)
-          | false ↦ λ pair. differ-as (cut says (c ∷ xs)) (cut says (c ∷ ys)) (bare (encode_utf8 c) ∷ cut says xs) (bare (encode_utf8 c) ∷ cut says ys)
-              (cut-end says c xs false e pair) (cut-end says c ys false e (ap (λ b. (c == 13) && b) (sym (lf-same before)) ∙ pair))
-              (bare-in c (cut says xs) (cut says ys) (encode_utf8_all old) (encode_utf8_all new) h)
+      elim (is_separator (ucd.class c)) as (λ b. is_separator (ucd.class c) ≡ b → Differ (cut ucd (c ∷ xs)) (cut ucd (c ∷ ys))) [
+        | false ↦ λ e. differ-as (cut ucd (c ∷ xs)) (cut ucd (c ∷ ys)) (after_character c (cut ucd xs)) (after_character c (cut ucd ys)) (cut-plain ucd c xs e) (cut-plain ucd c ys e)
+            (character-in c (cut ucd xs) (cut ucd ys) (encode_utf8_all old) (encode_utf8_all new) h)
+        | true ↦ λ e. elim ((c == 13) && begins_with_lf ucd xs) as (λ b. ((c == 13) && begins_with_lf ucd xs) ≡ b → Differ (cut ucd (c ∷ xs)) (cut ucd (c ∷ ys))) [
+          | true ↦ λ pair. differ-as (cut ucd (c ∷ xs)) (cut ucd (c ∷ ys)) (after_cr (cut ucd xs)) (after_cr (cut ucd ys))
+              (cut-end ucd c xs true e pair) (cut-end ucd c ys true e (ap (λ b. (c == 13) && b) (sym (lf-same before)) ∙ pair))
+              (cr-in (cut ucd xs) (cut ucd ys) (encode_utf8_all old) (encode_utf8_all new) h)
+          | false ↦ λ pair. differ-as (cut ucd (c ∷ xs)) (cut ucd (c ∷ ys)) (bare (encode_utf8 c) ∷ cut ucd xs) (bare (encode_utf8 c) ∷ cut ucd ys)
+              (cut-end ucd c xs false e pair) (cut-end ucd c ys false e (ap (λ b. (c == 13) && b) (sym (lf-same before)) ∙ pair))
+              (bare-in c (cut ucd xs) (cut ucd ys) (encode_utf8_all old) (encode_utf8_all new) h)
         ] refl
       ] refl
 

@@ -6,36 +6,35 @@ use Rattle.bx_keys.specs.declared.key.Key.TheVariants.{Insert, Repaint}
 use Rattle.bx_store.specs.declared.store.StoreFault.{StoreFault}
 use Rattle.bx_text.specs.Edits.{fits}
 use Rattle.bx_document.specs.Swapped.{behind_character, last_stop, swapped}
-use Rattle.bx_runs.specs.declared.typing.Typing.{Typing}
+use Rattle.bx_editor.specs.declared.undo_groups.typing.Typing.{Typing}
 use Rattle.bx_ucd.specs.Data.{Data}
-use Rattle.bx_asking.specs.declared.question.Ask.{Ask}
-use Rattle.bx_asking.specs.declared.question.Ask.TheVariants as asks
-use Rattle.bx_editor.specs.declared.aim.Aim.TheVariants as aims
-use Rattle.bx_editor.specs.declared.seek.Seek.{Seek}
-use Rattle.bx_editor.specs.declared.seek.Seek.TheVariants.{Off, Begun, Typed, WithBegun, WithTyped, Replacing}
+use Rattle.bx_editor.specs.declared.questions.answers.Prompt.{Prompt}
+use Rattle.bx_editor.specs.declared.questions.answers.Prompt.TheVariants as asks
+use Rattle.bx_editor.specs.declared.search_state.SearchPurpose.TheVariants as aims
+use Rattle.bx_editor.specs.declared.search_state.SearchState.{SearchState}
+use Rattle.bx_editor.specs.declared.search_state.SearchState.TheVariants.{Off, Begun, Typed, WithBegun, WithTyped, Replacing}
 use Rattle.bx_editor.specs.Asking.{without_ask}
 use Rattle.bx_editor.specs.Editor.{Editor, after_save, at_start, cleared}
 use Rattle.bx_editor.specs.Effects.{Effect, Seeks, SeeksNext, AsksLine, AsksName, Before, before, by}
 use Rattle.bx_editor.specs.Keys.{Answer, Letter, Shortens, GoesBack, Next, Previous, Replaces, Stays, Ends, after_any, after_asking, after_in_paste}
-use Rattle.bx_editor.specs.Keys.{after_key, after_press, after_user, answer_of, answered, answered_match, answered_other, effect_of}
-use Rattle.bx_editor.specs.Pasting.{paste_begun, paste_ended, with_paste}
-use Rattle.bx_editor.specs.Putting.{is_paste}
-use Rattle.bx_editor.specs.Replacing.{after_asking_other, after_match_letter, after_other_letter, after_replacing, after_showing, after_sought_end}
-use Rattle.bx_editor.specs.Replacing.{after_sought_letter, asked_at, is_replacing, longest_other, match_stop, matches_on, next_match, other_typed, shown_at}
-use Rattle.bx_editor.specs.Replacing.{with_other}
+use Rattle.bx_editor.specs.Keys.{after_key, after_press, after_user, answer_of, answered, answered_match, answered_replacement, effect_of}
+use Rattle.bx_editor.specs.Putting.{paste_begun, paste_ended, with_paste, is_paste}
+use Rattle.bx_editor.specs.Replacing.{after_asking_replacement, after_match_letter, after_replacement_letter, after_replacing, after_showing, after_sought_end}
+use Rattle.bx_editor.specs.Replacing.{after_sought_letter, asked_at, is_replacing, match_stop, matches_on, next_match, replacement_typed, shown_at}
+use Rattle.bx_editor.specs.Replacing.{with_replacement}
 use Rattle.bx_editor.specs.Search.{after_beginning, after_letter, is_no_letter, kept, landed, landing_from, lengthened, longest_query, next_or_start}
 use Rattle.bx_editor.specs.Search.{search_from, sought, with_query, without_search}
-use Rattle.bx_editor.specs.Selecting.{unselected}
+use Rattle.bx_editor.specs.Region.{unselected}
 use Rattle.bx_editor_laws.specs.Laws.{after_typing}
 use Rattle.bx_editor_laws.specs.PastingLaws.{PastesAreAlone}
 use Rattle.bx_editor.proofs.EffectsKept as kept_by
 use Rattle.bx_editor.proofs.InSearch.{each-key}
-use Rattle.bx_editor.proofs.Questions as questions
+use Rattle.bx_editor.proofs.QuestionSteps as questions
 use Rattle.bx_editor_laws.proofs.PasteEnded.{over}
 use Rattle.bx_editor_laws.proofs.ReplacedBack.{all-settled, match-settled, one-settled}
 
 -- no paste is under way
-abbrev IsSettled : Editor → Type 0
+abbrev pub IsSettled : Editor → Type 0
 IsSettled e = e.pasted ≡ None
 
 -- nothing is asked or sought, or no paste is under way
@@ -76,7 +75,7 @@ asking d fault was e AsksLine is h = h
 asking d fault was e AsksName is h = h
 asking d fault was e _ is h = absurd (cc is)
 
-effect-settled : (d : Data) (fault : Option StoreFault) (was : Before) (e : Editor) (one : Effect) → IsSettled e → IsSettled (by d fault was e one)
+pub effect-settled : (d : Data) (fault : Option StoreFault) (was : Before) (e : Editor) (one : Effect) → IsSettled e → IsSettled (by d fault was e one)
 effect-settled d fault was e one h = kept_by.effect-keeps d IsSettled (pressing d) fault was e one h (λ is. asking d fault was e one is h)
 
 answers : (d : Data) → questions.IsKept d IsSettled
@@ -89,7 +88,7 @@ answers d = record {
   asked = λ e ask answer h. h;
 }
 
-either : (P : Editor → Type 0) (b : Bool) (p q : Editor) → P p → P q → P (if b then p else q)
+pub either : (P : Editor → Type 0) (b : Bool) (p q : Editor) → P p → P q → P (if b then p else q)
 either P true p q h k = h
 either P false p q h k = k
 
@@ -99,13 +98,13 @@ asked-settled : (e : Editor) (place : Option ℕ) → IsSettled e → IsSettled 
 asked-settled e None h = h
 asked-settled e (Some place) h = h
 
-asking-settled : (d : Data) (e : Editor) → IsSettled e → IsSettled (after_asking_other d e)
+pub asking-settled : (d : Data) (e : Editor) → IsSettled e → IsSettled (after_asking_replacement d e)
 asking-settled d e h =
     let aimed : Editor = record e { aim = aims.Replace } in
     let l = landing_from d aimed.place aimed in
     either IsSettled (length (sought d aimed) == 0) aimed (asked_at l.place (landed aimed l)) h (asked-settled (landed aimed l) l.place h)
 
-letter-settled : (d : Data) (e : Editor) (c : ℕ) → IsSettled e → IsSettled (after_letter d e c)
+pub letter-settled : (d : Data) (e : Editor) (c : ℕ) → IsSettled e → IsSettled (after_letter d e c)
 letter-settled d e c h =
     let longer = search_from d e.place (with_query e (lengthened longest_query (kept e.seek e.query) c)) in
     either IsSettled (is_no_letter d c) e longer h h
@@ -114,8 +113,8 @@ letter-settled d e c h =
 end-alone : (d : Data) (typing : Typing) (e : Editor) → e.ask ≡ asks.Off → IsSettled e → IsAlone (after_sought_end d typing e)
 end-alone d typing e unasked h =
     let left = without_search e in
-    either IsAlone (is_replacing e.aim) (if is_paste typing then e else after_asking_other d e) (if is_paste typing then with_paste left else left)
-    (either IsAlone (is_paste typing) e (after_asking_other d e) (inl h) (inl (asking-settled d e h)))
+    either IsAlone (is_replacing e.aim) (if is_paste typing then e else after_asking_replacement d e) (if is_paste typing then with_paste left else left)
+    (either IsAlone (is_paste typing) e (after_asking_replacement d e) (inl h) (inl (asking-settled d e h)))
     (either IsAlone (is_paste typing) (with_paste left) left (inr (unasked, refl)) (inl h))
 
 sought-alone : (d : Data) (typing : Typing) (e : Editor) (c : ℕ) → e.ask ≡ asks.Off → IsSettled e → IsAlone (after_sought_letter d typing e c)
@@ -133,35 +132,35 @@ answered-alone d fault was e key Replaces unasked h = inl (asking-settled d e h)
 answered-alone d fault was e key Stays unasked h = inl h
 answered-alone d fault was e key Ends unasked h = inl (effect-settled d fault was e (effect_of d e key) h)
 
--- ---- while the other text is asked for, and while a match is shown
+-- ---- while the replacement is asked for, and while a match is shown
 
 shown-settled : (e : Editor) (at : Option ℕ) → IsSettled e → IsSettled (shown_at e at)
 shown-settled e None h = h
 shown-settled e (Some at) h = h
 
-other-letter-settled : (d : Data) (typing : Typing) (e : Editor) (c : ℕ) → IsSettled e → IsSettled (after_other_letter d typing e c)
-other-letter-settled d typing e c h =
-    either IsSettled (c == 0xA) (if is_paste typing then e else after_showing d e) (other_typed d e c)
+replacement-letter-settled : (d : Data) (typing : Typing) (e : Editor) (c : ℕ) → IsSettled e → IsSettled (after_replacement_letter d typing e c)
+replacement-letter-settled d typing e c h =
+    either IsSettled (c == 0xA) (if is_paste typing then e else after_showing d e) (replacement_typed d e c)
     (either IsSettled (is_paste typing) e (after_showing d e) h (shown-settled e (next_match d e e.place) h))
-    (either IsSettled (is_no_letter d c) e (with_other e (lengthened longest_other (kept e.seek e.other) c)) h h)
+    (either IsSettled (is_no_letter d c) e (with_replacement e (lengthened longest_query (kept e.seek e.replacement) c)) h h)
 
-other-settled : (d : Data) (fault : Option StoreFault) (was : Before) (e : Editor) (key : Key) (answer : Answer) → IsSettled e
-    → IsSettled (answered_other d fault was e key answer)
-other-settled d fault was e key (Letter c) h = other-letter-settled d was.typing e c h
-other-settled d fault was e key Shortens h = h
-other-settled d fault was e key GoesBack h = h
-other-settled d fault was e key Next h = h
-other-settled d fault was e key Previous h = h
-other-settled d fault was e key Replaces h = shown-settled e (next_match d e e.place) h
-other-settled d fault was e key Stays h = h
-other-settled d fault was e key Ends h = let left = without_search e in effect-settled d fault was left (effect_of d left key) h
+pub replacement-settled : (d : Data) (fault : Option StoreFault) (was : Before) (e : Editor) (key : Key) (answer : Answer) → IsSettled e
+    → IsSettled (answered_replacement d fault was e key answer)
+replacement-settled d fault was e key (Letter c) h = replacement-letter-settled d was.typing e c h
+replacement-settled d fault was e key Shortens h = h
+replacement-settled d fault was e key GoesBack h = h
+replacement-settled d fault was e key Next h = h
+replacement-settled d fault was e key Previous h = h
+replacement-settled d fault was e key Replaces h = shown-settled e (next_match d e e.place) h
+replacement-settled d fault was e key Stays h = h
+replacement-settled d fault was e key Ends h = let left = without_search e in effect-settled d fault was left (effect_of d left key) h
 
 match-letter-settled : (d : Data) (typing : Typing) (e : Editor) (c : ℕ) → IsSettled e → IsSettled (after_match_letter d typing e c)
 match-letter-settled d typing e c h =
     either IsSettled ((c == 0xA) && not (is_paste typing)) (after_replacing d e) e
-    (one-settled d e h (fits e.content.text e.at (match_stop d e) e.other)) h
+    (one-settled d e h (fits e.content.text e.at (match_stop d e) e.replacement)) h
 
-answered-match-settled : (d : Data) (fault : Option StoreFault) (was : Before) (e : Editor) (key : Key) (answer : Answer) → IsSettled e
+pub answered-match-settled : (d : Data) (fault : Option StoreFault) (was : Before) (e : Editor) (key : Key) (answer : Answer) → IsSettled e
     → IsSettled (answered_match d fault was e key answer)
 answered-match-settled d fault was e key (Letter c) h = match-letter-settled d was.typing e c h
 answered-match-settled d fault was e key Shortens h = h
@@ -171,24 +170,24 @@ answered-match-settled d fault was e key Previous h = h
 answered-match-settled d fault was e key Replaces h =
     let all = matches_on d e in
     let stop = last_stop e.at all in
-    let new = swapped e.at e.content.text e.other all in all-settled d e h stop (length all) new (fits e.content.text e.at stop new)
+    let new = swapped e.at e.content.text e.replacement all in all-settled d e h stop (length all) new (fits e.content.text e.at stop new)
 answered-match-settled d fault was e key Stays h = h
 answered-match-settled d fault was e key Ends h = let left = without_search e in effect-settled d fault was left (effect_of d left key) h
 
 -- ---- any key
 
-in-question : (d : Data) (fault : Option StoreFault) (was : Before) (e : Editor) (key : Key) → IsSettled e → IsSettled (after_asking d fault was e key)
+pub in-question : (d : Data) (fault : Option StoreFault) (was : Before) (e : Editor) (key : Key) → IsSettled e → IsSettled (after_asking d fault was e key)
 in-question d fault was e key h =
     let free = without_ask e in
     questions.question-keeps d IsSettled (answers d) fault was e key (answer_of key) h (effect-settled d fault was free (effect_of d free key) h)
 
-any-alone : (d : Data) (fault : Option StoreFault) (was : Before) (ask : Ask) (seek : Seek) (e : Editor) (key : Key) → e.ask ≡ ask → IsSettled e
+any-alone : (d : Data) (fault : Option StoreFault) (was : Before) (ask : Prompt) (seek : SearchState) (e : Editor) (key : Key) → e.ask ≡ ask → IsSettled e
     → IsAlone (after_any d fault was ask seek e key)
 any-alone d fault was asks.Off Off e key is h = inl (effect-settled d fault was e (effect_of d e key) h)
 any-alone d fault was asks.Off Begun e key is h = answered-alone d fault was e key (answer_of key) is h
 any-alone d fault was asks.Off Typed e key is h = answered-alone d fault was e key (answer_of key) is h
-any-alone d fault was asks.Off WithBegun e key is h = inl (other-settled d fault was e key (answer_of key) h)
-any-alone d fault was asks.Off WithTyped e key is h = inl (other-settled d fault was e key (answer_of key) h)
+any-alone d fault was asks.Off WithBegun e key is h = inl (replacement-settled d fault was e key (answer_of key) h)
+any-alone d fault was asks.Off WithTyped e key is h = inl (replacement-settled d fault was e key (answer_of key) h)
 any-alone d fault was asks.Off Replacing e key is h = inl (answered-match-settled d fault was e key (answer_of key) h)
 any-alone d fault was asks.Line seek e key is h = inl (in-question d fault was e key h)
 any-alone d fault was asks.Name seek e key is h = inl (in-question d fault was e key h)
@@ -198,7 +197,7 @@ user-alone : (d : Data) (fault : Option StoreFault) (e : Editor) (key : Key) →
 user-alone d fault e key h = any-alone d fault (before e) e.ask e.seek (cleared e) key refl h
 
 -- Repaint leaves a paste under way
-painted-alone : (d : Data) (fault : Option StoreFault) (e : Editor) (ask : Ask) (seek : Seek) → e.ask ≡ ask → e.seek ≡ seek → ask ≡ asks.Off → seek ≡ Off
+painted-alone : (d : Data) (fault : Option StoreFault) (e : Editor) (ask : Prompt) (seek : SearchState) → e.ask ≡ ask → e.seek ≡ seek → ask ≡ asks.Off → seek ≡ Off
     → IsAlone (after_any d fault (before e) ask seek (cleared e) Repaint)
 painted-alone d fault e asks.Off Off asked sought_is unasked unsought = inr (asked, sought_is)
 painted-alone d fault e asks.Off Begun asked sought_is unasked unsought = absurd (cc unsought)
@@ -230,7 +229,7 @@ press-alone : (d : Data) (fault : Option StoreFault) (e : Editor) (key : Key) (p
 press-alone d fault e key None is h = user-alone d fault e key is
 press-alone d fault e key (Some list) is h = in-paste d fault e key h (free-in-paste e list is h)
 
-begun-alone : (e : Editor) (ask : Ask) (seek : Seek) (pasted : Option (List ℕ)) → e.ask ≡ ask → e.seek ≡ seek → IsAlone e → IsAlone (paste_begun ask seek pasted e)
+begun-alone : (e : Editor) (ask : Prompt) (seek : SearchState) (pasted : Option (List ℕ)) → e.ask ≡ ask → e.seek ≡ seek → IsAlone e → IsAlone (paste_begun ask seek pasted e)
 begun-alone e asks.Off Off None asked sought_is h = inr (asked, sought_is)
 begun-alone e asks.Off Off (Some list) asked sought_is h = h
 begun-alone e asks.Off Begun pasted asked sought_is h = h

@@ -8,10 +8,9 @@ use Rattle.bx_ucd.specs.Data.{Data}
 use Rattle.bx_editor.specs.declared.message.Message.TheVariants.{TextFull}
 use Rattle.bx_editor.specs.Editor.{Editor, with_insertion, with_typing}
 use Rattle.bx_editor.specs.Keys.{after_in_paste, after_key, after_press, after_user, ends_paste}
-use Rattle.bx_editor.specs.Pasting.{ended_with, paste_ended, without_paste}
-use Rattle.bx_editor.specs.Putting.{has_room, put_in, with_selection_replaced}
-use Rattle.bx_editor.specs.Selecting.{is_selection}
-use Rattle.bx_runs.specs.declared.typing.Typing.TheVariants as typings
+use Rattle.bx_editor.specs.Putting.{ended_with, paste_ended, without_paste, has_room, put_in, with_selection_replaced}
+use Rattle.bx_editor.specs.Region.{is_selection}
+use Rattle.bx_editor.specs.declared.undo_groups.typing.Typing.TheVariants as typings
 use Rattle.bx_editor_laws.specs.PastingLaws.{KeysEndPastes}
 use Rattle.bx_editor.proofs.InSearch.{each-key, pressed-key}
 use Rattle.bx_editor.proofs.Pasted.{ended-none}
@@ -41,7 +40,7 @@ module _ (d : Data) (e : Editor) (P : Editor → Type 0) (same : P e) (bare : P 
 
 -- ---- the keys that end one
 
-in-ends : (d : Data) (fault : Option StoreFault) (e : Editor) (key : Key) → ends_paste key ≡ true
+pub in-ends : (d : Data) (fault : Option StoreFault) (e : Editor) (key : Key) → ends_paste key ≡ true
     → after_in_paste d fault e key ≡ after_user d fault (paste_ended d e) key
 in-ends d fault e (Insert c) ends = absurd (cc ends)
 in-ends d fault e Repaint ends = absurd (cc ends)

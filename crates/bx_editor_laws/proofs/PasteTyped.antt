@@ -8,26 +8,26 @@ use Rattle.std.proofs.lemmas.Bool.Decides.{nat_tests}
 use Rattle.std.proofs.lemmas.List.{drop_all, drop_at, length-drop, length-take, take_all, take_at}
 use Rattle.std.proofs.lemmas.List.Elements.{All-head, All-tail}
 use Rattle.unicode_segmentation.proofs.TextLemmas.{encode_utf8_nonempty}
-use Rattle.bx_terms.specs.Sizes.{largest_text}
+use Rattle.bx_common.specs.Characters.{largest_text}
 use Rattle.bx_keys.specs.declared.key.Key.TheVariants.{Insert, PasteEnd}
 use Rattle.bx_text.specs.Edits.{Edited, fits, splice}
-use Rattle.bx_runs.specs.Typing.{after_insertion, goes_on, kind_of}
-use Rattle.bx_runs.specs.declared.typing.Kind.{Kind}
-use Rattle.bx_runs.specs.declared.typing.Typing.TheVariants as typings
-use Rattle.bx_terms.specs.declared.base.Base.{Base}
+use Rattle.bx_editor.specs.undo_groups.Groups.{after_insertion, goes_on, kind_of}
+use Rattle.bx_editor.specs.declared.undo_groups.typing.Kind.{Kind}
+use Rattle.bx_editor.specs.declared.undo_groups.typing.Typing.TheVariants as typings
+use Rattle.bx_common.specs.declared.base.Base.{Base}
 use Rattle.bx_ucd.specs.Data.{Data}
-use Rattle.bx_asking.specs.declared.question.Ask.TheVariants as asks
+use Rattle.bx_editor.specs.declared.questions.answers.Prompt.TheVariants as asks
 use Rattle.bx_editor.specs.declared.message.Message.TheVariants.{Pasting, TextFull}
-use Rattle.bx_editor.specs.declared.seek.Seek.TheVariants as seeks
-use Rattle.bx_editor.specs.declared.soft.Soft.{Soft}
-use Rattle.bx_editor.specs.declared.soft.Soft.TheVariants.{Off, Fresh, Old}
+use Rattle.bx_editor.specs.declared.search_state.SearchState.TheVariants as seeks
+use Rattle.bx_editor.specs.declared.cursor.Soft.{Soft}
+use Rattle.bx_editor.specs.declared.cursor.Soft.TheVariants.{Off, Fresh, Old}
 use Rattle.bx_editor.specs.Editor.{Editor, cleared, place_after, with_insertion, with_typing}
-use Rattle.bx_editor.specs.Keys.{after_key, after_keys, as_left}
+use Rattle.bx_editor.specs.Keys.{after_key, as_left}
+use Rattle.bx_editor.specs.Functions.{after_keys}
 use Rattle.bx_editor.specs.PasteLaws.{after_paste, brought, place_between, written}
-use Rattle.bx_editor.specs.Pasting.{after_paste_end, after_paste_start, longer, paste_begun, pasted_bytes, pastes_crlf}
-use Rattle.bx_editor.specs.Putting.{has_room, only_paste, put_in, with_selection_replaced}
-use Rattle.bx_editor.specs.Region.{is_empty, region}
-use Rattle.bx_editor.specs.Selecting.{aged, is_selection, is_soft}
+use Rattle.bx_editor.specs.Putting.{after_paste_end, after_paste_start, longer, paste_begun, pasted_bytes, pastes_crlf, has_room}
+use Rattle.bx_editor.specs.Putting.{only_paste, put_in, with_selection_replaced}
+use Rattle.bx_editor.specs.Region.{is_empty, region, aged, is_selection, is_soft}
 use Rattle.bx_editor_laws.specs.PastingLaws.{EndAtTheirPlaces, IsFree, PasteComesBack, PasteIsTyping}
 use Rattle.bx_editor.proofs.OnePaste.{paste-is-one-edit}
 use Rattle.bx_editor_laws.proofs.OneRun.{insert-is, no-selection, paste-is-a-run}

@@ -19,9 +19,9 @@ use Rattle.bx_editor.specs.Editor.{Editor, cleared, rows, with_removal}
 use Rattle.bx_editor.specs.Erasing.{point_before, removed_on}
 use Rattle.bx_editor.specs.Effects.{before}
 use Rattle.bx_editor.specs.Region.{region}
-use Rattle.bx_runs.specs.declared.typing.Removal.TheVariants.{Erase}
-use Rattle.bx_runs.specs.declared.typing.Typing.{Typing}
-use Rattle.bx_runs.specs.Typing.{after_removal, goes_on_removing}
+use Rattle.bx_editor.specs.declared.undo_groups.typing.Removal.TheVariants.{Erase}
+use Rattle.bx_editor.specs.declared.undo_groups.typing.Typing.{Typing}
+use Rattle.bx_editor.specs.undo_groups.Groups.{after_removal, goes_on_removing}
 use Rattle.bx_editor.specs.Keys.{after_any, after_key}
 use Rattle.bx_editor_laws.specs.WorkLaws.{ErasePointLeavesBeginning}
 use Rattle.bx_editor.proofs.StepOrder.{between-back}

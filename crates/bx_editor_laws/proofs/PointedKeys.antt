@@ -5,13 +5,12 @@ use Rattle.std.specs.Prelude.{◌≢◌, ◌⊎◌}
 use Rattle.std.proofs.lemmas.Bool.{le-leb}
 use Rattle.bx_keys.specs.declared.key.Key.TheVariants.{Point}
 use Rattle.bx_ucd.specs.Data.{Data}
-use Rattle.bx_asking.specs.declared.question.Ask.{Ask}
-use Rattle.bx_asking.specs.declared.question.Ask.TheVariants as asks
-use Rattle.bx_runs.specs.declared.typing.Typing.TheVariants as typings
+use Rattle.bx_editor.specs.declared.questions.answers.Prompt.{Prompt}
+use Rattle.bx_editor.specs.declared.questions.answers.Prompt.TheVariants as asks
+use Rattle.bx_editor.specs.declared.undo_groups.typing.Typing.TheVariants as typings
 use Rattle.bx_paragraph.proofs.Starts.{side-some}
-use Rattle.bx_view.specs.Pointing.{pointed_at}
+use Rattle.bx_view.specs.Top.{pointed_at, follow}
 use Rattle.bx_view.specs.TextRows.{TextRow, cell_of, first, row_at, row_of}
-use Rattle.bx_view.specs.Top.{follow}
 use Rattle.bx_view.proofs.CellColumns.{cell-inside}
 use Rattle.bx_view.proofs.LeastMove.{falls-own}
 use Rattle.bx_view.proofs.TextPlaces.{place-in-window}
@@ -20,17 +19,17 @@ use Rattle.bx_view_laws.specs.Pointed.{ShowsUnit, TopStays, picture_row}
 use Rattle.bx_view_laws.specs.Pointed as pointed
 use Rattle.bx_view_laws.proofs.PointedTop as tops
 use Rattle.bx_view_laws.proofs.PointedUnits.{own-cells-stay, units-are-taken}
-use Rattle.bx_editor.specs.declared.seek.Seek.{Seek}
-use Rattle.bx_editor.specs.declared.seek.Seek.TheVariants.{Off, Begun, Typed, WithBegun, WithTyped, Replacing}
-use Rattle.bx_editor.specs.declared.soft.Soft.{Soft}
-use Rattle.bx_editor.specs.declared.soft.Soft.TheVariants as softness
-use Rattle.bx_editor.specs.Editor.{Editor, HasRows, cleared, rows, text_height, with_place}
-use Rattle.bx_editor.specs.Effects.{Before, before}
+use Rattle.bx_editor.specs.declared.search_state.SearchState.{SearchState}
+use Rattle.bx_editor.specs.declared.search_state.SearchState.TheVariants.{Off, Begun, Typed, WithBegun, WithTyped, Replacing}
+use Rattle.bx_editor.specs.declared.cursor.Soft.{Soft}
+use Rattle.bx_editor.specs.declared.cursor.Soft.TheVariants as softness
+use Rattle.bx_editor.specs.Editor.{Editor, cleared, rows, text_height, with_place}
+use Rattle.bx_editor.specs.Functions.{HasRows}
+use Rattle.bx_editor.specs.Effects.{Before, before, pointed_place}
 use Rattle.bx_editor.specs.Keys.{after_any, after_key}
 use Rattle.bx_editor.specs.Picture.{blank_picture, next_top, text_picture}
-use Rattle.bx_editor.specs.Pointing.{pointed_place}
 use Rattle.bx_editor.specs.Prompts.{HasOnePrompt}
-use Rattle.bx_editor.specs.Selecting.{aged, mark_left, soft_left, unselected}
+use Rattle.bx_editor.specs.Region.{aged, mark_left, soft_left, unselected}
 use Rattle.bx_editor_laws.specs.WorkLaws.{IsFullEnd, own_row}
 use Rattle.bx_editor_laws.specs.PointingLaws.{after_point, cursor_column, cursor_row, followed, PointStays, PointTakesUnits, PointTwiceIsOnce, StandsAt}
 use Rattle.bx_editor.proofs.InSearch.{any-key, behind}
@@ -39,14 +38,14 @@ use Rattle.bx_editor.proofs.TopOnce.{top-stays}
 -- ---- the key
 
 -- nothing is asked, and the search is in this state
-abbrev ended : Seek → Editor → Editor
+abbrev ended : SearchState → Editor → Editor
 ended seek e = record e { ask = asks.Off; seek = seek }
 
 -- the cursor goes to the place that is pointed at
 abbrev went : Data → Editor → ℕ → ℕ → Editor
 went d e row column = with_place (unselected e) (pointed_place d e row column)
 
-point-free : (d : Data) (was : Before) (seek : Seek) (e : Editor) (row column : ℕ) → e.ask ≡ asks.Off → e.seek ≡ seek
+point-free : (d : Data) (was : Before) (seek : SearchState) (e : Editor) (row column : ℕ) → e.ask ≡ asks.Off → e.seek ≡ seek
     → after_any d None was asks.Off seek e (Point row column) ≡ ended Off (went d e row column)
 point-free d was Off e row column unasked unsought = ap₂ (λ a s. record (went d e row column) { ask = a; seek = s }) unasked unsought
 point-free d was Begun e row column unasked on = ap (λ a. record (went d e row column) { ask = a; seek = Off }) unasked
@@ -57,9 +56,9 @@ point-free d was Replacing e row column unasked on = ap (λ a. record (went d e 
 
 -- it ends a question alone, or a search
 abbrev IsPointed : Data → Editor → ℕ → ℕ → Editor → Type 0
-IsPointed d e row column new = (s : Seek) × (new ≡ ended s (went d e row column)) × (HasOnePrompt e → s ≡ Off)
+IsPointed d e row column new = (s : SearchState) × (new ≡ ended s (went d e row column)) × (HasOnePrompt e → s ≡ Off)
 
-point-any : (d : Data) (was : Before) (ask : Ask) (seek : Seek) (e : Editor) (row column : ℕ) → e.ask ≡ ask → e.seek ≡ seek
+point-any : (d : Data) (was : Before) (ask : Prompt) (seek : SearchState) (e : Editor) (row column : ℕ) → e.ask ≡ ask → e.seek ≡ seek
     → IsPointed d e row column (after_any d None was ask seek e (Point row column))
 point-any d was asks.Off seek e row column unasked is = (Off, point-free d was seek e row column unasked is, λ one. refl)
 point-any d was asks.Line seek e row column asked is = (e.seek, refl, λ one. one (λ off. let both = sym asked ∙ off in cc both))
@@ -67,7 +66,7 @@ point-any d was asks.Name seek e row column asked is = (e.seek, refl, λ one. on
 point-any d was asks.Code seek e row column asked is = (e.seek, refl, λ one. one (λ off. let both = sym asked ∙ off in cc both))
 
 -- all that the key leaves
-abbrev at-point : Data → Editor → ℕ → ℕ → Seek → Editor
+abbrev at-point : Data → Editor → ℕ → ℕ → SearchState → Editor
 at-point d e row column seek = record e {
   place = pointed_place d e row column;
   mark = mark_left e.soft e.mark;
@@ -81,7 +80,7 @@ at-point d e row column seek = record e {
 }
 
 point-is : (d : Data) (e : Editor) (row column : ℕ) → e.pasted ≡ None
-    → (s : Seek) × (after_key d None e (Point row column) ≡ at-point d e row column s) × (HasOnePrompt e → s ≡ Off)
+    → (s : SearchState) × (after_key d None e (Point row column) ≡ at-point d e row column s) × (HasOnePrompt e → s ≡ Off)
 point-is d e row column settled =
     let one = point-any d (before e) e.ask e.seek (cleared e) row column refl refl in
     (one.0, any-key d None e (Point row column) settled refl ∙ ap behind one.1, one.2)

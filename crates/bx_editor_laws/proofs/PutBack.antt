@@ -5,24 +5,24 @@ use Rattle.std.specs.Prelude.{◌==◌, if◌then◌else◌, unwrap_or}
 use Rattle.std.proofs.lemmas.Bool.{cases_lt, le-leb}
 use Rattle.std.proofs.lemmas.Bool.Decides.{nat_tests}
 use Rattle.std.proofs.lemmas.List.{append-nil, drop-drop, drop_at, length-take-le, take-append-drop, take_at}
-use Rattle.bx_terms.specs.Sizes.{largest_text}
+use Rattle.bx_common.specs.Characters.{largest_text}
 use Rattle.bx_keys.specs.declared.key.Key.TheVariants.{Copy, Cut, Put}
 use Rattle.bx_text.specs.Edits.{fits, splice}
 use Rattle.bx_editor.specs.declared.message.Message.TheVariants.{Copied, LineCopied, NothingToCopy, NothingToPut, TextFull}
 use Rattle.bx_ucd.specs.Data.{Data}
-use Rattle.bx_asking.specs.declared.question.Ask.{Ask}
-use Rattle.bx_asking.specs.declared.question.Ask.TheVariants as asks
-use Rattle.bx_editor.specs.declared.seek.Seek.{Seek}
-use Rattle.bx_editor.specs.declared.seek.Seek.TheVariants.{Off, Begun, Typed, WithBegun, WithTyped, Replacing}
+use Rattle.bx_editor.specs.declared.questions.answers.Prompt.{Prompt}
+use Rattle.bx_editor.specs.declared.questions.answers.Prompt.TheVariants as asks
+use Rattle.bx_editor.specs.declared.search_state.SearchState.{SearchState}
+use Rattle.bx_editor.specs.declared.search_state.SearchState.TheVariants.{Off, Begun, Typed, WithBegun, WithTyped, Replacing}
 use Rattle.bx_editor.specs.Asking.{without_ask}
 use Rattle.bx_editor.specs.Editor.{Editor, cleared, place_after, with_insertion, with_removal}
-use Rattle.bx_editor.specs.declared.soft.Soft.TheVariants as softness
+use Rattle.bx_editor.specs.declared.cursor.Soft.TheVariants as softness
 use Rattle.bx_editor.specs.Effects.{Before, before}
 use Rattle.bx_editor.specs.Putting.{after_put, put_in, with_selection_replaced}
-use Rattle.bx_editor.specs.Selecting.{is_selection}
+use Rattle.bx_editor.specs.Region.{is_selection, after_copy, after_cut, bytes_in, held_message, is_empty, line, region, taken, with_held}
 use Rattle.bx_editor.proofs.InSearch.{any-key, behind as left_behind}
-use Rattle.bx_editor.specs.Keys.{after_any, after_key, after_keys}
-use Rattle.bx_editor.specs.Region.{after_copy, after_cut, bytes_in, held_message, is_empty, line, region, taken, with_held}
+use Rattle.bx_editor.specs.Keys.{after_any, after_key}
+use Rattle.bx_editor.specs.Functions.{after_keys}
 use Rattle.bx_editor.specs.Search.{without_search}
 use Rattle.bx_editor_laws.specs.Laws.{CopyPutsTwice, HasPut, IsPart, PutRestoresCut, twice}
 
@@ -145,8 +145,8 @@ copy-puts-twice d e unasked off settled is fit =
 -- ---- Cut and Put
 
 -- a Cut that removes something ends a search and a question
-cut-any : (d : Data) (was : Before) (ask : Ask) (seek : Seek) (e cut : Editor) → e.ask ≡ ask
-    → ((a : Ask) (s : Seek) → after_cut d (record e { ask = a; seek = s }) ≡ record cut { ask = a }) → cut ≡ without_search cut
+cut-any : (d : Data) (was : Before) (ask : Prompt) (seek : SearchState) (e cut : Editor) → e.ask ≡ ask
+    → ((a : Prompt) (s : SearchState) → after_cut d (record e { ask = a; seek = s }) ≡ record cut { ask = a }) → cut ≡ without_search cut
     → after_any d None was ask seek e Cut ≡ without_ask cut
 cut-any d was asks.Off Off e cut unasked is over = is e.ask e.seek ∙ ap (λ a. record cut { ask = a }) unasked
 cut-any d was asks.Off Begun e cut unasked is over =

@@ -1,44 +1,41 @@
 -- Keys while a question is on.
 use Rattle.std.proofs.Common.{◌≡◌, ℕ, Bool, true, false, List, [], ◌∷◌, length, refl, sym, ap, subst, ◌∙◌, if◌then◌else◌}
 use Rattle.std.specs.Prelude.{◌≢◌, ◌||◌, ◌==◌, chars, encode_utf8, Option, Some, None}
-use Rattle.bx_asking.specs.declared.question.Ask.{Ask}
-use Rattle.bx_asking.specs.declared.question.Ask.TheVariants.{Off, Line, Name, Code}
-use Rattle.bx_asking.specs.Answers.{lengthened, shortened}
-use Rattle.bx_asking.specs.Codes.{coded, is_code_letter}
-use Rattle.bx_asking.specs.declared.line.Target.{Target}
-use Rattle.bx_asking.specs.Line.{asked, is_line_letter}
-use Rattle.bx_asking.specs.Names.{asks_code, closing, named}
+use Rattle.bx_editor.specs.declared.questions.answers.Prompt.{Prompt}
+use Rattle.bx_editor.specs.declared.questions.answers.Prompt.TheVariants.{Off, Line, Name, Code}
+use Rattle.bx_editor.specs.questions.Answers.{lengthened, shortened, asked, is_line_letter}
+use Rattle.bx_editor.specs.questions.Names.{coded, is_code_letter, asks_code, closing, named}
+use Rattle.bx_editor.specs.declared.questions.line.Target.{Target}
 use Rattle.bx_keys.specs.declared.key.Key.{Key}
 use Rattle.bx_keys.specs.declared.key.Key.TheVariants as keys
 use Rattle.bx_store.specs.declared.store.StoreFault.{StoreFault}
-use Rattle.bx_runs.specs.declared.typing.Typing.{Typing}
-use Rattle.bx_runs.specs.declared.typing.Typing.TheVariants as typings
-use Rattle.bx_runs.specs.Typing.{after_insertion, kind_of}
+use Rattle.bx_editor.specs.declared.undo_groups.typing.Typing.{Typing}
+use Rattle.bx_editor.specs.declared.undo_groups.typing.Typing.TheVariants as typings
+use Rattle.bx_editor.specs.undo_groups.Groups.{after_insertion, kind_of}
 use Rattle.bx_text.specs.Edits.{fits, fits_both}
 use Rattle.bx_ucd.specs.Data.{Data}
 use Rattle.bx_editor.specs.declared.message.Message.TheVariants as messages
-use Rattle.bx_editor.specs.declared.seek.Seek.{Seek}
-use Rattle.bx_editor.specs.declared.soft.Soft.TheVariants as softness
-use Rattle.bx_editor.specs.Asking.{after_answer_letter, after_code, after_code_letter, after_going, after_line_letter, after_name_letter, after_named}
-use Rattle.bx_editor.specs.Asking.{after_shorter_answer, gone_to, longest_code, longest_line, with_answer, with_character, without_ask}
+use Rattle.bx_editor.specs.declared.search_state.SearchState.{SearchState}
+use Rattle.bx_editor.specs.declared.cursor.Soft.TheVariants as softness
+use Rattle.bx_editor.specs.Asking.{after_answer_letter, after_code, after_code_letter, after_going, after_line_letter, after_name_letter}
+use Rattle.bx_editor.specs.Asking.{after_named, after_shorter_answer, gone_to, longest_code, longest_line, with_answer, with_character}
+use Rattle.bx_editor.specs.Asking.{without_ask, after_wrapping, spans_lines, with_wrap}
 use Rattle.bx_editor_laws.specs.AskingLaws.{IsUntouched, QuestionsChangeThemselves, StaysAsked, erases, types}
 use Rattle.bx_editor.specs.Editor.{Editor, cleared, with_insertion, with_typing}
 use Rattle.bx_editor.specs.Effects.{Effect}
 use Rattle.bx_editor.specs.Effects.{AsksLine, AsksName, Before, before, by}
-use Rattle.bx_editor.specs.Keys.{Answer, Letter, Shortens, GoesBack, Stays, after_any, after_asking, after_key, answer_of, answered_question, as_left, effect_of, is_told_key}
+use Rattle.bx_editor.specs.Keys.{Answer, Letter, Shortens, GoesBack, Stays, after_any, after_asking, after_key, answer_of, answered_question, as_left, effect_of}
+use Rattle.bx_editor.specs.Functions.{is_told_key}
 use Rattle.bx_editor_laws.specs.Laws.{after_typing}
-use Rattle.bx_editor.specs.Pasting.{paste_begun, paste_ended}
-use Rattle.bx_editor.specs.Putting.{is_paste, only_paste}
-use Rattle.bx_editor.specs.Region.{is_empty, region}
-use Rattle.bx_editor.specs.Selecting.{aged, mark_left, soft_behind, soft_left}
-use Rattle.bx_editor.specs.Wrapping.{after_wrapping, spans_lines, with_wrap}
+use Rattle.bx_editor.specs.Putting.{paste_begun, paste_ended, is_paste, only_paste}
+use Rattle.bx_editor.specs.Region.{is_empty, region, aged, mark_left, soft_behind, soft_left}
 use Rattle.bx_editor.proofs.InSearch.{any-key}
 use Rattle.bx_editor.proofs.QuestionKept.{effect-keeps}
 use Rattle.bx_editor_laws.proofs.PasteEnded.{none-ended}
 
 -- ---- a question takes the keys
 
-pub asked-any : (d : Data) (fault : Option StoreFault) (was : Before) (ask : Ask) (seek : Seek) (e : Editor) (key : Key) → ask ≢ Off
+pub asked-any : (d : Data) (fault : Option StoreFault) (was : Before) (ask : Prompt) (seek : SearchState) (e : Editor) (key : Key) → ask ≢ Off
     → after_any d fault was ask seek e key ≡ after_asking d fault was e key
 asked-any d fault was Off seek e key on = absurd (on refl)
 asked-any d fault was Line seek e key on = refl
@@ -125,7 +122,7 @@ code-on d e letter =
 unless-on : (typing : Typing) (e new : Editor) → IsKeptIfOn e new → IsKeptIfOn e (if is_paste typing then with_typing e typing else new)
 unless-on typing e new h = either-on e (is_paste typing) (with_typing e typing) new (λ on. refl) h
 
-letter-on : (d : Data) (typing : Typing) (ask : Ask) (e : Editor) (c : ℕ) → IsKeptIfOn e (after_answer_letter d typing ask e c)
+letter-on : (d : Data) (typing : Typing) (ask : Prompt) (e : Editor) (c : ℕ) → IsKeptIfOn e (after_answer_letter d typing ask e c)
 letter-on d typing Off e c on = refl
 letter-on d typing Line e c on = line-on d typing e c on
 letter-on d typing Name e c on = unless-on typing e (after_name_letter d e c (named c)) (name-on d e c (named c)) on
@@ -135,7 +132,7 @@ either-kept : (e : Editor) (b : Bool) (p q : Editor) → IsKept e p → IsKept e
 either-kept e true p q h k = h
 either-kept e false p q h k = k
 
-shorter-on : (ask : Ask) (e : Editor) → IsKept e (after_shorter_answer ask e)
+shorter-on : (ask : Prompt) (e : Editor) → IsKept e (after_shorter_answer ask e)
 shorter-on Off e = refl
 shorter-on Line e = refl
 shorter-on Name e = refl
@@ -246,7 +243,7 @@ user-leaves d fault e key told settled on stays =
     (left-leaves e new key (answer-leaves d fault (before e) (cleared e) key (answer_of key) (still-on (after_key d fault e key) new key is stays)))
 
 -- while a question is on PasteStart begins no paste into the text
-begun-leaves : (e : Editor) (ask : Ask) (seek : Seek) (pasted : Option (List ℕ)) → ask ≢ Off → paste_begun ask seek pasted e ≡ e
+begun-leaves : (e : Editor) (ask : Prompt) (seek : SearchState) (pasted : Option (List ℕ)) → ask ≢ Off → paste_begun ask seek pasted e ≡ e
 begun-leaves e Off seek pasted on = absurd (on refl)
 begun-leaves e Line seek pasted on = refl
 begun-leaves e Name seek pasted on = refl

@@ -3,17 +3,17 @@ use Rattle.std.proofs.Common.{◌≡◌, Bool, true, false, length, refl, if◌t
 use Rattle.std.specs.Prelude.{◌==◌, Option, Some, None}
 use Rattle.bx_store.specs.declared.store.StoreFault.{StoreFault}
 use Rattle.bx_ucd.specs.Data.{Data}
-use Rattle.bx_editor.specs.declared.aim.Aim.TheVariants.{Find}
-use Rattle.bx_editor.specs.declared.seek.Seek.{Seek}
-use Rattle.bx_editor.specs.declared.seek.Seek.TheVariants.{Off, Begun, Typed}
+use Rattle.bx_editor.specs.declared.search_state.SearchPurpose.TheVariants.{Find}
+use Rattle.bx_editor.specs.declared.search_state.SearchState.{SearchState}
+use Rattle.bx_editor.specs.declared.search_state.SearchState.TheVariants.{Off, Begun, Typed}
 use Rattle.bx_editor.specs.Editor.{Editor, after_save}
 use Rattle.bx_editor.specs.Effects.{Effect, Seeks, SeeksNext, AsksLine, AsksName, Before, by}
 use Rattle.bx_editor.specs.Search.{after_beginning, next_or_start, search_from, sought}
-use Rattle.bx_editor.specs.Selecting.{unselected}
+use Rattle.bx_editor.specs.Region.{unselected}
 use Rattle.bx_editor.proofs.EffectsKept as kept
 
--- no match is shown, and no other text is asked for
-abbrev pub is_quiet : Seek → Bool
+-- no match is shown, and no replacement is asked for
+abbrev pub is_quiet : SearchState → Bool
 is_quiet Off = true
 is_quiet Begun = true
 is_quiet Typed = true

@@ -1,4 +1,4 @@
--- Worked examples: replacing, with its question, its matches and its runs.
+-- Worked examples: replacing, with its question, its matches and its undo groups.
 use Rattle.std.proofs.Common.{◌≡◌, ℕ, List, [], ◌∷◌, ◌++◌, length, replicate, Option, Some, None, refl}
 use Rattle.std.specs.Prelude.{codes, encode_utf8_all}
 use Rattle.std.specs.Fmt.{digits}
@@ -9,12 +9,12 @@ use Rattle.unicode_width.proofs.Computing.{unicode_width}
 use Rattle.bx_keys.specs.declared.key.Key.{Key}
 use Rattle.bx_keys.specs.declared.key.Key.TheVariants.{Insert, Erase, Delete, Copy, Find, FindBack, FindNext, Forward, Mark, Quit, Replace, Repaint, Right, TextEnd, Undo}
 use Rattle.bx_keys.specs.declared.key.Key.TheVariants.{Cancel, NewLine, PasteStart, PasteEnd, RedoRun, UndoRun}
-use Rattle.bx_editor.specs.declared.aim.Aim.{Aim}
-use Rattle.bx_editor.specs.declared.aim.Aim.TheVariants as aims
+use Rattle.bx_editor.specs.declared.search_state.SearchPurpose.{SearchPurpose}
+use Rattle.bx_editor.specs.declared.search_state.SearchPurpose.TheVariants as aims
 use Rattle.bx_editor.specs.declared.message.Message.{Message}
 use Rattle.bx_editor.specs.declared.message.Message.TheVariants.{FromStart, FromEnd, NotFound, Pasting, Replaced}
-use Rattle.bx_editor.specs.declared.seek.Seek.{Seek}
-use Rattle.bx_editor.specs.declared.seek.Seek.TheVariants.{Off, Begun, Typed, WithBegun, WithTyped, Replacing}
+use Rattle.bx_editor.specs.declared.search_state.SearchState.{SearchState}
+use Rattle.bx_editor.specs.declared.search_state.SearchState.TheVariants.{Off, Begun, Typed, WithBegun, WithTyped, Replacing}
 use Rattle.bx_editor.specs.Editor.{Editor}
 use Rattle.bx_editor.proofs.Computed.{start, after, letters}
 
@@ -22,15 +22,15 @@ abbrev from : List ℕ → List Key → Editor
 from text keys = after (start text 2 60) keys
 
 -- text, place, state, and what is told
-abbrev replaced : List ℕ → List Key → List ℕ × ℕ × Seek × Option Message
+abbrev replaced : List ℕ → List Key → List ℕ × ℕ × SearchState × Option Message
 replaced text keys = let e = from text keys in (e.content.text, e.place, e.seek, e.message)
 
 -- state, aim, place, and what is told
-abbrev asked : List ℕ → List Key → Seek × Aim × ℕ × Option Message
+abbrev asked : List ℕ → List Key → SearchState × SearchPurpose × ℕ × Option Message
 asked text keys = let e = from text keys in (e.seek, e.aim, e.place, e.message)
 
 abbrev runs : List ℕ → List Key → List ℕ × ℕ
-runs text keys = let e = from text keys in (e.runs, length e.content.past)
+runs text keys = let e = from text keys in (e.undo_groups, length e.content.past)
 
 -- text, place, mark, and where the search began
 abbrev marked : List ℕ → List Key → List ℕ × ℕ × Option ℕ × ℕ
@@ -40,14 +40,14 @@ marked text keys = let e = from text keys in (e.content.text, e.place, e.mark, e
 abbrev matched : List ℕ → List Key → ℕ × ℕ × ℕ
 matched text keys = let e = from text keys in (e.place, e.at, e.count)
 
--- state, aim, and the other text
-abbrev typed : List ℕ → List Key → Seek × Aim × List ℕ
-typed text keys = let e = from text keys in (e.seek, e.aim, e.other)
+-- state, aim, and the replacement
+abbrev typed : List ℕ → List Key → SearchState × SearchPurpose × List ℕ
+typed text keys = let e = from text keys in (e.seek, e.aim, e.replacement)
 
 abbrev pub enter : Key
 enter = Insert 10
 
--- what is sought, the other text, and the first match shown
+-- what is sought, the replacement, and the first match shown
 abbrev pub showing : List ℕ → List ℕ → List Key
 showing query other = Replace ∷ letters query ++ (enter ∷ letters other) ++ (enter ∷ [])
 
@@ -61,13 +61,13 @@ pub the_query_is_sought : asked (codes "abcabc") (Replace ∷ letters (codes "b"
 unfolding unicode_segmentation unicode_width digits
 the_query_is_sought = refl
 
-pub enter_asks_for_the_other_text : asked (codes "abcabc") (Replace ∷ letters (codes "b") ++ (enter ∷ [])) ≡ (WithBegun, aims.Replace, 1, None)
+pub enter_asks_for_the_replacement : asked (codes "abcabc") (Replace ∷ letters (codes "b") ++ (enter ∷ [])) ≡ (WithBegun, aims.Replace, 1, None)
 unfolding unicode_segmentation unicode_width digits
-enter_asks_for_the_other_text = refl
+enter_asks_for_the_replacement = refl
 
-pub the_other_text_is_typed : asked (codes "abcabc") (Replace ∷ letters (codes "b") ++ (enter ∷ letters (codes "XY"))) ≡ (WithTyped, aims.Replace, 1, None)
+pub the_replacement_is_typed : asked (codes "abcabc") (Replace ∷ letters (codes "b") ++ (enter ∷ letters (codes "XY"))) ≡ (WithTyped, aims.Replace, 1, None)
 unfolding unicode_segmentation unicode_width digits
-the_other_text_is_typed = refl
+the_replacement_is_typed = refl
 
 pub enter_shows_the_match : replaced (codes "abcabc") (showing (codes "b") (codes "XY")) ≡ (codes "abcabc", 1, Replacing, None)
 unfolding unicode_segmentation unicode_width digits
@@ -225,17 +225,17 @@ the_place_between_them = refl
 
 -- ---- the questions
 
-pub the_old_query_and_the_old_other_text : asked (codes "abab") (showing (codes "a") (codes "x") ++ (Replace ∷ UndoRun ∷ Replace ∷ enter ∷ Replace ∷ [])) ≡ (Replacing, aims.Replace, 0, None)
+pub the_old_query_and_the_old_replacement : asked (codes "abab") (showing (codes "a") (codes "x") ++ (Replace ∷ UndoRun ∷ Replace ∷ enter ∷ Replace ∷ [])) ≡ (Replacing, aims.Replace, 0, None)
 unfolding unicode_segmentation unicode_width digits
-the_old_query_and_the_old_other_text = refl
+the_old_query_and_the_old_replacement = refl
 
 pub copy_ends_with_the_number : replaced (codes "abab") (showing (codes "a") (codes "x") ++ (Copy ∷ [])) ≡ (codes "abab", 0, Off, Some (Replaced 0))
 unfolding unicode_segmentation unicode_width digits
 copy_ends_with_the_number = refl
 
-pub a_letter_takes_the_old_other_texts_place : (from (codes "abab") (showing (codes "a") (codes "x") ++ (Copy ∷ Replace ∷ enter ∷ Insert 0x79 ∷ []))).other ≡ codes "y"
+pub a_letter_takes_the_old_replacements_place : (from (codes "abab") (showing (codes "a") (codes "x") ++ (Copy ∷ Replace ∷ enter ∷ Insert 0x79 ∷ []))).replacement ≡ codes "y"
 unfolding unicode_segmentation unicode_width digits
-a_letter_takes_the_old_other_texts_place = refl
+a_letter_takes_the_old_replacements_place = refl
 
 pub an_erase_takes_it_whole : typed (codes "abab") (showing (codes "a") (codes "xy") ++ (Copy ∷ Replace ∷ enter ∷ Erase ∷ [])) ≡ (WithTyped, aims.Replace, [])
 unfolding unicode_segmentation unicode_width digits
@@ -281,11 +281,11 @@ pub tabs_and_separators_are_no_letters_of_it : typed (codes "ab") (Replace ∷ I
 unfolding unicode_segmentation unicode_width digits
 tabs_and_separators_are_no_letters_of_it = refl
 
-pub it_has_at_most_64_characters : (from (codes "ab") (Replace ∷ Insert 0x61 ∷ enter ∷ replicate 65 (Insert 0x78))).other ≡ replicate 64 0x78
+pub it_has_at_most_64_characters : (from (codes "ab") (Replace ∷ Insert 0x61 ∷ enter ∷ replicate 65 (Insert 0x78))).replacement ≡ replicate 64 0x78
 unfolding unicode_segmentation unicode_width digits
 it_has_at_most_64_characters = refl
 
-pub it_loses_its_last_character : (from (codes "ab") (Replace ∷ Insert 0x61 ∷ enter ∷ letters (codes "xy") ++ (Erase ∷ []))).other ≡ codes "x"
+pub it_loses_its_last_character : (from (codes "ab") (Replace ∷ Insert 0x61 ∷ enter ∷ letters (codes "xy") ++ (Erase ∷ []))).replacement ≡ codes "x"
 unfolding unicode_segmentation unicode_width digits
 it_loses_its_last_character = refl
 
@@ -311,9 +311,9 @@ pub find_back_begins_a_search : asked (codes "abab") (showing (codes "b") (codes
 unfolding unicode_segmentation unicode_width digits unicode_normalization ucd_case
 find_back_begins_a_search = refl
 
-pub find_begins_a_search_while_the_other_text_is_asked : typed (codes "abab") (Replace ∷ Insert 0x62 ∷ enter ∷ Insert 0x7a ∷ Find ∷ []) ≡ (Begun, aims.Find, codes "z")
+pub find_begins_a_search_while_the_replacement_is_asked : typed (codes "abab") (Replace ∷ Insert 0x62 ∷ enter ∷ Insert 0x7a ∷ Find ∷ []) ≡ (Begun, aims.Find, codes "z")
 unfolding unicode_segmentation unicode_width digits unicode_normalization ucd_case
-find_begins_a_search_while_the_other_text_is_asked = refl
+find_begins_a_search_while_the_replacement_is_asked = refl
 
 pub find_next_does_so_too : typed (codes "abab") (Replace ∷ Insert 0x62 ∷ enter ∷ Insert 0x7a ∷ FindNext ∷ []) ≡ (Begun, aims.Find, codes "z")
 unfolding unicode_segmentation unicode_width digits unicode_normalization ucd_case

@@ -7,15 +7,15 @@ use Rattle.std.specs.Str.{chars}
 use Rattle.std.proofs.lemmas.List.Elements.{All-cons, All-contains, All-head, All-nil, All-tail, All-weaker}
 use Rattle.unicode_segmentation.proofs.Computing.{unicode_segmentation}
 use Rattle.unicode_width.proofs.Computing.{unicode_width}
-use Rattle.bx_terms.specs.Sizes.{largest_text}
-use Rattle.bx_terms.specs.declared.base.Base.TheVariants.{Auto}
+use Rattle.bx_common.specs.Characters.{largest_text}
+use Rattle.bx_common.specs.declared.base.Base.TheVariants.{Auto}
 use Rattle.bx_keys.specs.declared.key.Key.{Key}
 use Rattle.bx_keys.specs.declared.key.Key.TheVariants.{Find, Insert, Replace, UndoRun}
 use Rattle.bx_store.specs.declared.store.StoreFault.{StoreFault}
 use Rattle.bx_find.specs.Nearest.{MatchesAt}
 use Rattle.bx_find.specs.Letters.{letters}
-use Rattle.bx_find.specs.Spans.{is_attached, match_end}
-use Rattle.bx_find.specs.declared.reading.Reading.TheVariants.{Close}
+use Rattle.bx_find.specs.Matches.{is_attached, match_end}
+use Rattle.bx_find.specs.declared.letters.Reading.TheVariants.{Close}
 use Rattle.bx_view.specs.Moves.{place_at}
 use Rattle.bx_editor.specs.Editor.{Editor, rows}
 use Rattle.bx_editor_laws.specs.ReplaceLaws.{with_all, AreApart, EnterReplaces, FindPassesOver, IsMatch, IsShowing, LiesIn}
@@ -25,7 +25,7 @@ use Rattle.bx_editor.proofs.Computed.{tables, start, after, letters as keys_of}
 abbrev enter : Key
 enter = Insert 0xA
 
--- a match of the query is shown, to be replaced by the other text
+-- a match of the query is shown, to be replaced by the replacement
 abbrev showing : List ℕ → List ℕ → List ℕ → Editor
 showing text query other = after (start text 2 60) (Replace ∷ keys_of query ++ (enter ∷ keys_of other) ++ (enter ∷ []))
 
@@ -61,7 +61,7 @@ b_is_shown : IsShowing tables at_b
 unfolding unicode_segmentation unicode_width digits
 b_is_shown = record {
   text = (codes "abcb", (refl, refl));
-  other = (codes "XY", (refl, refl));
+  replacement = (codes "XY", (refl, refl));
   unasked = refl;
   settled = refl;
   shown = refl;
@@ -80,7 +80,7 @@ alef_is_shown : IsShowing tables at_alef
 unfolding unicode_segmentation unicode_width digits
 alef_is_shown = record {
   text = (0x5d0 ∷ 0x200f ∷ 0x5d1 ∷ 0x200f ∷ 0x79 ∷ [], (refl, refl));
-  other = (codes "z", (refl, refl));
+  replacement = (codes "z", (refl, refl));
   unasked = refl;
   settled = refl;
   shown = refl;
@@ -150,7 +150,7 @@ points_are_shown : IsShowing tables at_points
 unfolding unicode_segmentation unicode_width digits
 points_are_shown = record {
   text = (0x78 ∷ 0x5d0 ∷ 0x301 ∷ 0x5d1 ∷ 0x301 ∷ 0x79 ∷ [], (refl, refl));
-  other = (0x5d0 ∷ 0x5d1 ∷ [], (refl, refl));
+  replacement = (0x5d0 ∷ 0x5d1 ∷ [], (refl, refl));
   unasked = refl;
   settled = refl;
   shown = refl;
@@ -184,7 +184,7 @@ both_are_shown : IsShowing tables at_both
 unfolding unicode_segmentation unicode_width digits
 both_are_shown = record {
   text = (codes "bb", (refl, refl));
-  other = (codes "x", (refl, refl));
+  replacement = (codes "x", (refl, refl));
   unasked = refl;
   settled = refl;
   shown = refl;

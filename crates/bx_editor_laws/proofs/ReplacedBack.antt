@@ -3,8 +3,8 @@ use Rattle.std.proofs.Common.{◌≡◌, ℕ, suc, ◌+◌, ◌<◌, Bool, true,
 use Rattle.std.specs.Prelude.{◌⊎◌}
 use Rattle.bx_keys.specs.declared.key.Key.TheVariants.{UndoRun}
 use Rattle.bx_text.specs.Edits.{Edit, fits}
-use Rattle.bx_runs.specs.Runs.{edited, run_start}
-use Rattle.bx_runs.proofs.RunLaws.{edit-is-of-its-run}
+use Rattle.bx_editor.specs.undo_groups.Groups.{edited, run_start}
+use Rattle.bx_editor.proofs.undo_groups_lemmas.RunLaws.{edit-is-of-its-run}
 use Rattle.bx_ucd.specs.Data.{Data}
 use Rattle.bx_document.specs.Swapped.{last_stop, swapped}
 use Rattle.bx_view.specs.Moves.{place_at}
@@ -17,7 +17,7 @@ use Rattle.bx_editor_laws.specs.RunLaws.{IsBackBefore}
 use Rattle.bx_editor_laws.proofs.OneRun.{goes-back, removal-begins, IsOneRun, IsOver, Nothing}
 use Rattle.bx_editor_laws.proofs.MatchReplaced.{each-replaces}
 
--- nothing was edited, or edits of one run were made
+-- nothing was edited, or edits of one undo group were made
 abbrev InRun : Editor → Editor → Type 0
 InRun first e = Nothing first e ⊎ IsOneRun first e
 
@@ -29,7 +29,7 @@ exchange-begins d first e start stop [] h = removal-begins d first e start stop 
 exchange-begins d first e start stop (b ∷ bs) h =
     let without = with_removal d e start stop false in
     let begun = removal-begins d first e start stop h in
-    record { more = suc begun.more; over = begun.over; start = goes-on without.runs (length without.content.past) ∙ begun.start }
+    record { more = suc begun.more; over = begun.over; start = goes-on without.undo_groups (length without.content.past) ∙ begun.start }
 
 -- text and place do not matter behind an edit
 elsewhere : (first : Editor) (n : ℕ) (text other : List ℕ) (place there : ℕ) (past : List Edit) → IsOver first (suc n) text place past
@@ -50,12 +50,12 @@ module _ (d : Data) (first e : Editor) (h : Nothing first e) where
   replaces : (stop n : ℕ) (new : List ℕ) → IsOneRun first (with_matches_replaced d e stop new n)
   replaces stop n new = let goes = exchange-begins d first e e.at stop new h in record { more = goes.more; over = goes.over; start = goes.start }
 
-  one-in-run : (room : Bool) → let now = with_matches_replaced d e (match_stop d e) e.other 1 in
-      InRun first (if room then on_from d (e.at + length e.other) now else record e { message = Some TextFull })
+  one-in-run : (room : Bool) → let now = with_matches_replaced d e (match_stop d e) e.replacement 1 in
+      InRun first (if room then on_from d (e.at + length e.replacement) now else record e { message = Some TextFull })
   one-in-run false = inl h
   one-in-run true =
-      let now = with_matches_replaced d e (match_stop d e) e.other 1 in
-      inr (went-on d first now (next_match d now (e.at + length e.other)) (replaces (match_stop d e) 1 e.other))
+      let now = with_matches_replaced d e (match_stop d e) e.replacement 1 in
+      inr (went-on d first now (next_match d now (e.at + length e.replacement)) (replaces (match_stop d e) 1 e.replacement))
 
   all-in-run : (stop n : ℕ) (new : List ℕ) (room : Bool)
       → InRun first (if room then after_ending (with_matches_replaced d e stop new n) else record e { message = Some TextFull })
@@ -73,12 +73,12 @@ match-settled d e None = refl
 match-settled d e (Some at) = refl
 
 module _ (d : Data) (e : Editor) (settled : e.pasted ≡ None) where
-  pub one-settled : (room : Bool) → let now = with_matches_replaced d e (match_stop d e) e.other 1 in
-      (if room then on_from d (e.at + length e.other) now else record e { message = Some TextFull }).pasted ≡ None
+  pub one-settled : (room : Bool) → let now = with_matches_replaced d e (match_stop d e) e.replacement 1 in
+      (if room then on_from d (e.at + length e.replacement) now else record e { message = Some TextFull }).pasted ≡ None
   one-settled false = settled
   one-settled true =
-      let now = with_matches_replaced d e (match_stop d e) e.other 1 in
-      match-settled d now (next_match d now (e.at + length e.other)) ∙ exchange-settled d e e.at (match_stop d e) e.other ∙ settled
+      let now = with_matches_replaced d e (match_stop d e) e.replacement 1 in
+      match-settled d now (next_match d now (e.at + length e.replacement)) ∙ exchange-settled d e e.at (match_stop d e) e.replacement ∙ settled
 
   pub all-settled : (stop n : ℕ) (new : List ℕ) (room : Bool)
       → (if room then after_ending (with_matches_replaced d e stop new n) else record e { message = Some TextFull }).pasted ≡ None
@@ -96,13 +96,13 @@ replaced-comes-back d e key unasked shown settled does more =
     let was = cleared e in
     let all = matches_on d e in
     let stop = last_stop e.at all in
-    let new = swapped e.at e.content.text e.other all in
+    let new = swapped e.at e.content.text e.replacement all in
     let none : Nothing e was = (refl, (refl, refl)) in
     let unpasted = each-replaces (λ (x : Editor). x.pasted ≡ None) d e key settled unasked shown does (λ typing. settled)
-    (λ typing. one-settled d was settled (fits e.content.text e.at (match_stop d e) e.other))
+    (λ typing. one-settled d was settled (fits e.content.text e.at (match_stop d e) e.replacement))
     (all-settled d was settled stop (length all) new (fits e.content.text e.at stop new)) in
     came-back d e (after_key d None e key) unpasted
     (each-replaces (InRun e) d e key settled unasked shown does (λ typing. inl none)
-    (λ typing. one-in-run d e was none (fits e.content.text e.at (match_stop d e) e.other))
+    (λ typing. one-in-run d e was none (fits e.content.text e.at (match_stop d e) e.replacement))
     (all-in-run d e was none stop (length all) new (fits e.content.text e.at stop new)))
     more

@@ -9,9 +9,9 @@ use Rattle.std.proofs.lemmas.List.Sorted.{Contains-permutation}
 use Rattle.bx_keys.specs.declared.key.Key.{Key}
 use Rattle.bx_keys.specs.declared.key.Key.TheVariants.{LineDown, LineUp, PageBack, PageOn}
 use Rattle.bx_ucd.specs.Data.{Data}
-use Rattle.bx_asking.specs.declared.question.Ask.{Ask}
-use Rattle.bx_asking.specs.declared.question.Ask.TheVariants as asks
-use Rattle.bx_terms.specs.declared.base.Base.{Base}
+use Rattle.bx_editor.specs.declared.questions.answers.Prompt.{Prompt}
+use Rattle.bx_editor.specs.declared.questions.answers.Prompt.TheVariants as asks
+use Rattle.bx_common.specs.declared.base.Base.{Base}
 use Rattle.bx_paragraph.specs.Slots.{entry}
 use Rattle.bx_view.specs.declared.moves.Vertical.{Vertical}
 use Rattle.bx_view.specs.declared.moves.Vertical.TheVariants.{Up, Down}
@@ -20,15 +20,15 @@ use Rattle.bx_view.specs.TextRows.{IsPlace, TextRow, cell_of, places_of, row_at,
 use Rattle.bx_view.proofs.Entered.{row-entered}
 use Rattle.bx_view.proofs.KeptPlaces.{counted-contains, places-kept}
 use Rattle.bx_view.proofs.OneSlot.{one-slot, row-slots}
-use Rattle.bx_editor.specs.declared.seek.Seek.TheVariants.{Off}
-use Rattle.bx_editor.specs.declared.soft.Soft.{Soft}
-use Rattle.bx_runs.specs.declared.typing.Typing.TheVariants as typings
+use Rattle.bx_editor.specs.declared.search_state.SearchState.TheVariants.{Off}
+use Rattle.bx_editor.specs.declared.cursor.Soft.{Soft}
+use Rattle.bx_editor.specs.declared.undo_groups.typing.Typing.TheVariants as typings
 use Rattle.bx_editor.specs.Asking.{without_ask}
 use Rattle.bx_editor.specs.Editor.{Editor, cleared, rows, text_height}
-use Rattle.bx_editor.specs.Effects.{Before, before}
-use Rattle.bx_editor.specs.Goal.{after_row_move}
-use Rattle.bx_editor.specs.Keys.{after_any, after_key, after_keys, as_left, is_told_key}
-use Rattle.bx_editor.specs.Selecting.{aged, mark_left, soft_left, unselected}
+use Rattle.bx_editor.specs.Effects.{Before, before, after_row_move}
+use Rattle.bx_editor.specs.Keys.{after_any, after_key, as_left}
+use Rattle.bx_editor.specs.Functions.{after_keys, is_told_key}
+use Rattle.bx_editor.specs.Region.{aged, mark_left, soft_left, unselected}
 use Rattle.bx_editor.proofs.InSearch.{any-key}
 
 -- ---- rows of a text that are entered in a column
@@ -38,9 +38,9 @@ some-entry : (x : Option ℕ) (P Q : ℕ → Type 0) (place : ℕ) → MatchOpti
 some-entry None P Q place h k = absurd h
 some-entry (Some q) P Q place h k = (refl, h, k)
 
-module _ (says : Data) (base : Base) (w : ℕ) (some : 1 ≤ w) (text : List ℕ) (utf8 : IsUtf8 text) (column : ℕ) where
+module _ (ucd : Data) (base : Base) (w : ℕ) (some : 1 ≤ w) (text : List ℕ) (utf8 : IsUtf8 text) (column : ℕ) where
   abbrev all : List TextRow
-  all = text_rows says base w text
+  all = text_rows ucd base w text
 
   -- where a row is entered
   abbrev pub enter : ℕ → ℕ
@@ -50,7 +50,7 @@ module _ (says : Data) (base : Base) (w : ℕ) (some : 1 ≤ w) (text : List ℕ
       → (unwrap_or (entry_in w (row_at all k) column) place ≡ enter k) × Contains (places_of (row_at all k)) (enter k) × IsPlace all (enter k)
   entered-there k place within =
       some-entry (entry_in w (row_at all k) column) (Contains (places_of (row_at all k))) (IsPlace all) place
-      (row-entered says base w some text utf8 k within column) ((places-kept says base w some text utf8).entry k column within)
+      (row-entered ucd base w some text utf8 k within column) ((places-kept ucd base w some text utf8).entry k column within)
 
   -- it falls in that row
   falls-by : (k : ℕ) → k < length all → (b : Bool) → (k == row_of all (enter k)) ≡ b → row_of all (enter k) ≡ k
@@ -58,9 +58,9 @@ module _ (says : Data) (base : Base) (w : ℕ) (some : 1 ≤ w) (text : List ℕ
   falls-by k within false e =
       let there = entered-there k 0 within in
       let other : k ≢ row_of all (enter k) = λ same. (let is = eq-eqb k (row_of all (enter k)) same in absurd (cc)) in
-      let none = (one-slot says base w some text utf8 (enter k) there.2).elsewhere k within other in
+      let none = (one-slot ucd base w some text utf8 (enter k) there.2).elsewhere k within other in
       let slot : Contains (slots w (row_at all k)) (enter k) =
-      Contains-permutation (places_of (row_at all k)) (slots w (row_at all k)) (enter k) (row-slots says base w some text utf8 k within) there.1 in
+      Contains-permutation (places_of (row_at all k)) (slots w (row_at all k)) (enter k) (row-slots ucd base w some text utf8 k within) there.1 in
       absurd (omega (arith, none, counted-contains (slots w (row_at all k)) (enter k) slot))
 
   pub falls-there : (k : ℕ) → k < length all → row_of all (enter k) ≡ k
@@ -120,7 +120,7 @@ left_after zero m = m
 left_after (suc n) m = left_after n (left m)
 
 -- a move ends a question
-moves-any : (d : Data) (was : Before) (paged : Bool) (way : Vertical) (ask : Ask) (e : Editor) → e.ask ≡ ask
+moves-any : (d : Data) (was : Before) (paged : Bool) (way : Vertical) (ask : Prompt) (e : Editor) → e.ask ≡ ask
     → after_any d None was ask Off e (move_key paged way) ≡ after_row_move d (unselected (without_ask e)) way (size paged e.height)
 moves-any d was false Up asks.Off e is = ap (λ a. after_row_move d (unselected (record e { ask = a })) Up 1) is
 moves-any d was false Up asks.Line e is = refl

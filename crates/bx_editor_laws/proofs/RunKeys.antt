@@ -6,25 +6,24 @@ use Rattle.std.specs.Fn.{iterate}
 use Rattle.std.specs.List.{fold}
 use Rattle.bx_keys.specs.declared.key.Key.{Key}
 use Rattle.bx_keys.specs.declared.key.Key.TheVariants.{Redo, RedoRun, Undo, UndoRun}
-use Rattle.bx_text.specs.Edits.{Edit, Edited, change_back, change_of}
-use Rattle.bx_text.specs.Times.{merged, next_redos, next_undos, redone_times, undone_times}
+use Rattle.bx_text.specs.Edits.{Edit, Edited, change_back, change_of, merged, next_redos, next_undos, redone_times, undone_times}
 use Rattle.bx_document.specs.History.{next_changes, stepped_times}
 use Rattle.bx_document.specs.declared.history.HistoryStep.TheVariants as steps
-use Rattle.bx_runs.specs.Runs.{run_end, run_start}
-use Rattle.bx_runs.proofs.RunLaws.{redo-ends, undo-ends}
-use Rattle.bx_runs.proofs.Steps.{end-bound, end-last, start-bound}
+use Rattle.bx_editor.specs.undo_groups.Groups.{run_end, run_start}
+use Rattle.bx_editor.proofs.undo_groups_lemmas.RunLaws.{redo-ends, undo-ends}
+use Rattle.bx_editor.proofs.undo_groups_lemmas.Steps.{end-bound, end-last, start-bound}
 use Rattle.bx_ucd.specs.Data.{Data}
-use Rattle.bx_asking.specs.declared.question.Ask.{Ask}
-use Rattle.bx_asking.specs.declared.question.Ask.TheVariants as asks
-use Rattle.bx_editor.specs.declared.seek.Seek.{Seek}
-use Rattle.bx_editor.specs.declared.seek.Seek.TheVariants as seeks
-use Rattle.bx_editor.specs.declared.soft.Soft.TheVariants as softness
+use Rattle.bx_editor.specs.declared.questions.answers.Prompt.{Prompt}
+use Rattle.bx_editor.specs.declared.questions.answers.Prompt.TheVariants as asks
+use Rattle.bx_editor.specs.declared.search_state.SearchState.{SearchState}
+use Rattle.bx_editor.specs.declared.search_state.SearchState.TheVariants as seeks
+use Rattle.bx_editor.specs.declared.cursor.Soft.TheVariants as softness
 use Rattle.bx_editor.specs.Asking.{without_ask}
-use Rattle.bx_editor.specs.Editor.{Editor, after_step, cleared, with_step}
+use Rattle.bx_editor.specs.Editor.{Editor, after_step, cleared, with_step, after_run_step, by_run, is_changed_at, run_goal, run_length}
 use Rattle.bx_editor.specs.Effects.{Before, before}
-use Rattle.bx_editor.specs.Keys.{after_any, after_key, after_keys, as_left}
+use Rattle.bx_editor.specs.Keys.{after_any, after_key, as_left}
+use Rattle.bx_editor.specs.Functions.{after_keys}
 use Rattle.bx_editor_laws.specs.RunLaws.{redos, undos, IsManySteps, RunKeysAreSteps}
-use Rattle.bx_editor.specs.Runs.{after_run_step, by_run, is_changed_at, run_goal, run_length}
 use Rattle.bx_editor.specs.Search.{without_search}
 use Rattle.bx_editor.proofs.InSearch.{any-key}
 use Rattle.bx_editor.proofs.RunSteps.{run-ends}
@@ -40,7 +39,7 @@ run_to e content place changed = record (stepped_to e content place) { changed =
 
 -- ---- Undo and Redo, one by one; each ends a search and a question
 
-undo-first : (d : Data) (was : Before) (ask : Ask) (seek : Seek) (e : Editor) (text : List ℕ) (edit : Edit) (past future : List Edit)
+undo-first : (d : Data) (was : Before) (ask : Prompt) (seek : SearchState) (e : Editor) (text : List ℕ) (edit : Edit) (past future : List Edit)
     → e.ask ≡ ask
     → as_left Undo (after_any d None was ask seek (record (cleared e) { content = version text (edit ∷ past) future }) Undo)
     ≡ stepped_to e (version edit.before.text past (edit ∷ future)) edit.before.place
@@ -54,7 +53,7 @@ undo-first d was asks.Line seek e text edit past future is = refl
 undo-first d was asks.Name seek e text edit past future is = refl
 undo-first d was asks.Code seek e text edit past future is = refl
 
-redo-first : (d : Data) (was : Before) (ask : Ask) (seek : Seek) (e : Editor) (text : List ℕ) (edit : Edit) (past future : List Edit)
+redo-first : (d : Data) (was : Before) (ask : Prompt) (seek : SearchState) (e : Editor) (text : List ℕ) (edit : Edit) (past future : List Edit)
     → e.ask ≡ ask
     → as_left Redo (after_any d None was ask seek (record (cleared e) { content = version text past (edit ∷ future) }) Redo)
     ≡ stepped_to e (version edit.after.text (edit ∷ past) future) edit.after.place
@@ -104,10 +103,10 @@ all-redos d e n text edit past future settled few =
     ∙ redo-first d (before e) e.ask e.seek e text edit past future refl)
     ∙ after-redos d e n edit.after.text (edit ∷ past) future edit.after.place settled few
 
--- ---- a run at once
+-- ---- an undo group at once
 
-undo-found : (d : Data) (was : Before) (ask : Ask) (seek : Seek) (e : Editor) (content : Edited) (place : ℕ) (changed : Bool) → e.ask ≡ ask
-    → ((a : Ask) (s : Seek) → after_run_step steps.Undo (record e { ask = a; seek = s }) ≡ with_step (record e { ask = a; seek = s }) content place changed)
+undo-found : (d : Data) (was : Before) (ask : Prompt) (seek : SearchState) (e : Editor) (content : Edited) (place : ℕ) (changed : Bool) → e.ask ≡ ask
+    → ((a : Prompt) (s : SearchState) → after_run_step steps.Undo (record e { ask = a; seek = s }) ≡ with_step (record e { ask = a; seek = s }) content place changed)
     → after_any d None was ask seek e UndoRun ≡ without_ask (with_step e content place changed)
 undo-found d was asks.Off seeks.Off e content place changed unasked h =
     h e.ask e.seek ∙ ap (λ a. record (with_step e content place changed) { ask = a }) unasked
@@ -125,8 +124,8 @@ undo-found d was asks.Line seek e content place changed asked h = h asks.Off e.s
 undo-found d was asks.Name seek e content place changed asked h = h asks.Off e.seek
 undo-found d was asks.Code seek e content place changed asked h = h asks.Off e.seek
 
-redo-found : (d : Data) (was : Before) (ask : Ask) (seek : Seek) (e : Editor) (content : Edited) (place : ℕ) (changed : Bool) → e.ask ≡ ask
-    → ((a : Ask) (s : Seek) → after_run_step steps.Redo (record e { ask = a; seek = s }) ≡ with_step (record e { ask = a; seek = s }) content place changed)
+redo-found : (d : Data) (was : Before) (ask : Prompt) (seek : SearchState) (e : Editor) (content : Edited) (place : ℕ) (changed : Bool) → e.ask ≡ ask
+    → ((a : Prompt) (s : SearchState) → after_run_step steps.Redo (record e { ask = a; seek = s }) ≡ with_step (record e { ask = a; seek = s }) content place changed)
     → after_any d None was ask seek e RedoRun ≡ without_ask (with_step e content place changed)
 redo-found d was asks.Off seeks.Off e content place changed unasked h =
     h e.ask e.seek ∙ ap (λ a. record (with_step e content place changed) { ask = a }) unasked
@@ -155,7 +154,7 @@ undo-run d e n text edit past future settled long =
     let changed = is_changed_at (run_goal steps.Undo was) e.stored in
     let one : next_changes steps.Undo (run_length steps.Undo was) t ≡ Some whole = ap (λ k. next_undos k t) long in
     let place = place-back n edit.before.text past (edit ∷ future) (change_back edit) in
-    let stepped : (a : Ask) (s : Seek)
+    let stepped : (a : Prompt) (s : SearchState)
     → after_run_step steps.Undo (record was { ask = a; seek = s })
     ≡ with_step (record was { ask = a; seek = s }) (undone_times (suc n) t) ((iterate back (suc n) (t, e.place)).1) changed =
     λ a s. ap (by_run steps.Undo (record was { ask = a; seek = s })) one
@@ -174,7 +173,7 @@ redo-run d e n text edit past future settled long =
     let changed = is_changed_at (run_goal steps.Redo was) e.stored in
     let one : next_changes steps.Redo (run_length steps.Redo was) t ≡ Some whole = ap (λ k. next_redos k t) long in
     let place = place-again n edit.after.text (edit ∷ past) future (change_of edit) in
-    let stepped : (a : Ask) (s : Seek)
+    let stepped : (a : Prompt) (s : SearchState)
     → after_run_step steps.Redo (record was { ask = a; seek = s })
     ≡ with_step (record was { ask = a; seek = s }) (redone_times (suc n) t) ((iterate again (suc n) (t, e.place)).1) changed =
     λ a s. ap (by_run steps.Redo (record was { ask = a; seek = s })) one
@@ -192,8 +191,8 @@ no-redos : (n : ℕ) (text : List ℕ) (past : List Edit) → next_redos n (vers
 no-redos zero text past = refl
 no-redos (suc n) text past = refl
 
-undo-either : (d : Data) (was : Before) (ask : Ask) (seek : Seek) (e : Editor)
-    → ((a : Ask) (s : Seek) → after_run_step steps.Undo (record e { ask = a; seek = s }) ≡ after_step steps.Undo (record e { ask = a; seek = s }))
+undo-either : (d : Data) (was : Before) (ask : Prompt) (seek : SearchState) (e : Editor)
+    → ((a : Prompt) (s : SearchState) → after_run_step steps.Undo (record e { ask = a; seek = s }) ≡ after_step steps.Undo (record e { ask = a; seek = s }))
     → after_any d None was ask seek e UndoRun ≡ after_any d None was ask seek e Undo
 undo-either d was asks.Off seeks.Off e h = h e.ask e.seek
 undo-either d was asks.Off seeks.Begun e h = ap without_search (h e.ask e.seek)
@@ -205,8 +204,8 @@ undo-either d was asks.Line seek e h = h asks.Off e.seek
 undo-either d was asks.Name seek e h = h asks.Off e.seek
 undo-either d was asks.Code seek e h = h asks.Off e.seek
 
-redo-either : (d : Data) (was : Before) (ask : Ask) (seek : Seek) (e : Editor)
-    → ((a : Ask) (s : Seek) → after_run_step steps.Redo (record e { ask = a; seek = s }) ≡ after_step steps.Redo (record e { ask = a; seek = s }))
+redo-either : (d : Data) (was : Before) (ask : Prompt) (seek : SearchState) (e : Editor)
+    → ((a : Prompt) (s : SearchState) → after_run_step steps.Redo (record e { ask = a; seek = s }) ≡ after_step steps.Redo (record e { ask = a; seek = s }))
     → after_any d None was ask seek e RedoRun ≡ after_any d None was ask seek e Redo
 redo-either d was asks.Off seeks.Off e h = h e.ask e.seek
 redo-either d was asks.Off seeks.Begun e h = ap without_search (h e.ask e.seek)
@@ -218,7 +217,7 @@ redo-either d was asks.Line seek e h = h asks.Off e.seek
 redo-either d was asks.Name seek e h = h asks.Off e.seek
 redo-either d was asks.Code seek e h = h asks.Off e.seek
 
--- ---- how long a run is
+-- ---- how long an undo group is
 
 pub undo-length : (numbers : List ℕ) (n : ℕ) → suc n - run_start numbers (suc n) ≡ suc (n - run_start numbers (suc n))
 undo-length numbers n = omega (arith, start-bound numbers (suc n))
@@ -254,9 +253,9 @@ undo-steps d e text [] future settled =
     ∙ sym (any-key d None now Undo settled refl))
 undo-steps d e text (edit ∷ past) future settled =
     let now : Editor = record e { content = version text (edit ∷ past) future } in
-    let n = length past - run_start e.runs (suc (length past)) in
-    let long : run_length steps.Undo now ≡ suc n = undo-length e.runs (length past) in
-    let same : undos now ≡ suc n = ap (λ k. suc (length past) - k) (sym (undo-ends e.runs (suc (length past)))) ∙ long in
+    let n = length past - run_start e.undo_groups (suc (length past)) in
+    let long : run_length steps.Undo now ≡ suc n = undo-length e.undo_groups (length past) in
+    let same : undos now ≡ suc n = ap (λ k. suc (length past) - k) (sym (undo-ends e.undo_groups (suc (length past)))) ∙ long in
     let at = iterate back (suc n) (version text (edit ∷ past) future, e.place) in
     let ran = undo-run d e n text edit past future settled long in
     let whole = ap (λ t. run_to e t at.1 (is_changed_at (run_goal steps.Undo now) e.stored)) (undone-back (suc n) (version text (edit ∷ past) future) e.place) in
@@ -285,10 +284,10 @@ redo-steps d e text past [] settled =
 redo-steps d e text past (edit ∷ future) settled =
     let now : Editor = record e { content = version text past (edit ∷ future) } in
     let last = length past + suc (length future) in
-    let n = run_end e.runs (length past) last - length past - 1 in
-    let long : run_length steps.Redo now ≡ suc n = redo-length e.runs (length past) (length future) in
-    let same : redos now ≡ suc n = ap (λ k. k - length past) (sym (redo-ends e.runs (length past) (suc (length future)))) ∙ long in
-    let few : n ≤ length future = omega (arith, end-last e.runs (length past) last) in
+    let n = run_end e.undo_groups (length past) last - length past - 1 in
+    let long : run_length steps.Redo now ≡ suc n = redo-length e.undo_groups (length past) (length future) in
+    let same : redos now ≡ suc n = ap (λ k. k - length past) (sym (redo-ends e.undo_groups (length past) (suc (length future)))) ∙ long in
+    let few : n ≤ length future = omega (arith, end-last e.undo_groups (length past) last) in
     let at = iterate again (suc n) (version text past (edit ∷ future), e.place) in
     let ran = redo-run d e n text edit past future settled long in
     let whole = ap (λ t. run_to e t at.1 (is_changed_at (run_goal steps.Redo now) e.stored)) (redone-again (suc n) (version text past (edit ∷ future)) e.place) in

@@ -1,4 +1,4 @@
--- Worked examples: runs of edits, from the definitions and each from a law alone.
+-- Worked examples: undo groups, from the definitions and each from a law alone.
 use Rattle.std.proofs.Common.{◌≡◌, ℕ, ◌<◌, ◌≤◌, Bool, true, false, List, [], ◌∷◌, ◌++◌, length, map, replicate, refl, ap, inr, arith}
 use Rattle.std.specs.Prelude.{codes, Option, Some, None}
 use Rattle.std.specs.Fmt.{digits}
@@ -7,18 +7,18 @@ use Rattle.ucd_case.proofs.Computing.{ucd_case}
 use Rattle.unicode_normalization.proofs.Computing.{unicode_normalization}
 use Rattle.unicode_segmentation.proofs.Computing.{unicode_segmentation}
 use Rattle.unicode_width.proofs.Computing.{unicode_width}
-use Rattle.bx_terms.specs.Sizes.{largest_text}
-use Rattle.bx_terms.specs.declared.base.Base.TheVariants.{Auto}
+use Rattle.bx_common.specs.Characters.{largest_text}
+use Rattle.bx_common.specs.declared.base.Base.TheVariants.{Auto}
 use Rattle.bx_keys.specs.declared.key.Key.{Key}
 use Rattle.bx_keys.specs.declared.key.Key.TheVariants.{Insert, Erase, Delete, Back, Forward, Save, Undo, Mark, Cut, Put, Find, TextEnd}
 use Rattle.bx_keys.specs.declared.key.Key.TheVariants.{TextStart}
 use Rattle.bx_keys.specs.declared.key.Key.TheVariants.{Repaint, UndoRun, RedoRun, PasteStart, PasteEnd}
 use Rattle.bx_store.specs.declared.store.StoreFault.{StoreFault}
 use Rattle.bx_text.specs.Edits.{Edited}
-use Rattle.bx_runs.specs.Typing.{kind_of}
-use Rattle.bx_runs.specs.declared.typing.Kind.TheVariants.{Blank, Letter}
-use Rattle.bx_runs.specs.declared.typing.Typing.{Typing}
-use Rattle.bx_runs.specs.declared.typing.Typing.TheVariants.{Off, Word, Erasing, Deleting}
+use Rattle.bx_editor.specs.undo_groups.Groups.{kind_of}
+use Rattle.bx_editor.specs.declared.undo_groups.typing.Kind.TheVariants.{Blank, Letter}
+use Rattle.bx_editor.specs.declared.undo_groups.typing.Typing.{Typing}
+use Rattle.bx_editor.specs.declared.undo_groups.typing.Typing.TheVariants.{Off, Word, Erasing, Deleting}
 use Rattle.bx_editor.specs.declared.message.Message.{Message}
 use Rattle.bx_editor.specs.declared.message.Message.TheVariants.{NothingToUndo}
 use Rattle.bx_editor.specs.Editor.{Editor}
@@ -30,9 +30,9 @@ use Rattle.bx_editor.proofs.Computed.{tables, start, after, letters}
 abbrev edited : List ℕ → List Key → List ℕ × ℕ
 edited text keys = let e = after (start text 5 40) keys in (e.content.text, e.place)
 
--- where runs begin, and what the next edit may go on with
+-- where undo groups begin, and what the next edit may go on with
 abbrev run_at : List ℕ → List Key → List ℕ × Typing
-run_at text keys = let e = after (start text 5 40) keys in (e.runs, e.typing)
+run_at text keys = let e = after (start text 5 40) keys in (e.undo_groups, e.typing)
 
 -- whether the text counts as changed, and the message
 abbrev told : List ℕ → List Key → Bool × Option Message
@@ -41,7 +41,7 @@ told text keys = let e = after (start text 5 40) keys in (e.changed, e.message)
 abbrev two_words : List Key
 two_words = letters (codes "ab cd")
 
--- ---- which edits are of one run
+-- ---- which edits are of one undo group
 
 pub a_word_and_blanks_are_a_run : run_at [] two_words ≡ (0 ∷ 3 ∷ [], Word)
 unfolding unicode_segmentation unicode_width digits

@@ -78,13 +78,13 @@ pub the_prompt_of_the_query : status 20 (Replace ∷ letters (codes "b")) ≡ no
 unfolding unicode_segmentation unicode_width digits
 the_prompt_of_the_query = refl
 
-pub the_prompt_of_the_other_text : status 16 (Replace ∷ letters (codes "b") ++ (enter ∷ [])) ≡ normal (codes "- 1:2 with:     ")
+pub the_prompt_of_the_replacement : status 16 (Replace ∷ letters (codes "b") ++ (enter ∷ [])) ≡ normal (codes "- 1:2 with:     ")
 unfolding unicode_segmentation unicode_width digits
-the_prompt_of_the_other_text = refl
+the_prompt_of_the_replacement = refl
 
-pub the_other_text_is_seen : status 16 (Replace ∷ letters (codes "b") ++ (enter ∷ letters (0x5d0 ∷ 0x5d1 ∷ []))) ≡ normal (codes "- 1:2 with: " ++ (0x5d1 ∷ 0x5d0 ∷ codes "  "))
+pub the_replacement_is_seen : status 16 (Replace ∷ letters (codes "b") ++ (enter ∷ letters (0x5d0 ∷ 0x5d1 ∷ []))) ≡ normal (codes "- 1:2 with: " ++ (0x5d1 ∷ 0x5d0 ∷ codes "  "))
 unfolding unicode_segmentation unicode_width digits
-the_other_text_is_seen = refl
+the_replacement_is_seen = refl
 
 pub the_keys_of_replacing : status 50 (showing (codes "b") (codes "x")) ≡ normal (codes "- 1:2 Enter replace ^W next F4 all ^C end         ")
 unfolding unicode_segmentation unicode_width digits

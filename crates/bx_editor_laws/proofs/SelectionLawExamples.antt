@@ -6,13 +6,13 @@ use Rattle.ucd_case.proofs.Computing.{ucd_case}
 use Rattle.unicode_normalization.proofs.Computing.{unicode_normalization}
 use Rattle.unicode_segmentation.proofs.Computing.{unicode_segmentation}
 use Rattle.unicode_width.proofs.Computing.{unicode_width}
-use Rattle.bx_terms.specs.Sizes.{largest_text}
+use Rattle.bx_common.specs.Characters.{largest_text}
 use Rattle.bx_keys.specs.declared.key.Key.{Key}
 use Rattle.bx_keys.specs.declared.key.Key.TheVariants.{Insert, Erase, Delete, Back, Forward, Mark, Copy, Cancel, Find, Put, TextEnd, EraseWord, DeleteWord, ErasePoint, NewLine}
 use Rattle.bx_keys.specs.declared.key.Key.TheVariants.{Select, UndoRun, PasteStart, PasteEnd, Help}
 use Rattle.bx_editor.specs.declared.message.Message.TheVariants.{Pasting}
-use Rattle.bx_editor.specs.declared.soft.Soft.{Soft}
-use Rattle.bx_editor.specs.declared.soft.Soft.TheVariants.{Off, Fresh, Old}
+use Rattle.bx_editor.specs.declared.cursor.Soft.{Soft}
+use Rattle.bx_editor.specs.declared.cursor.Soft.TheVariants.{Off, Fresh, Old}
 use Rattle.bx_editor.specs.Editor.{Editor}
 use Rattle.bx_editor_laws.specs.SelectionLaws.{HasSelection, MoveTakesSelectionOff, SeekingTakesSelectionOff, SelectionComesBack, SelectionGivesWay, SelectionIsRemoved}
 use Rattle.bx_editor.proofs.Computed.{tables, start, after, letters}
@@ -75,7 +75,7 @@ pub a_letter_takes_its_place : edited (codes "abcd") (two ++ Insert 0x78 ∷ [])
 unfolding unicode_segmentation unicode_width digits
 a_letter_takes_its_place = refl
 
-pub all_of_one_run : (after (start (codes "abcd") 4 40) (two ++ letters (codes "xy"))).runs ≡ 0 ∷ []
+pub all_of_one_run : (after (start (codes "abcd") 4 40) (two ++ letters (codes "xy"))).undo_groups ≡ 0 ∷ []
 unfolding unicode_segmentation unicode_width digits
 all_of_one_run = refl
 
@@ -157,7 +157,7 @@ pub delete_word_removes_no_more : edited (codes "ab cd ef") (in_a_word ++ Delete
 unfolding unicode_segmentation unicode_width digits
 delete_word_removes_no_more = refl
 
-pub the_next_erasure_is_another_run : (after (start (codes "ab cd ef") 4 40) (in_a_word ++ Erase ∷ Erase ∷ [])).runs ≡ 0 ∷ 1 ∷ []
+pub the_next_erasure_is_another_run : (after (start (codes "ab cd ef") 4 40) (in_a_word ++ Erase ∷ Erase ∷ [])).undo_groups ≡ 0 ∷ 1 ∷ []
 unfolding unicode_segmentation unicode_width digits
 the_next_erasure_is_another_run = refl
 

@@ -4,14 +4,14 @@ use Rattle.std.specs.Prelude.{◌&&◌, nat_le}
 use Rattle.std.proofs.lemmas.Bool.Decides.{nat_tests}
 use Rattle.bx_ucd.specs.declared.class.Class.{Class}
 use Rattle.bx_ucd.specs.declared.class.Class.TheVariants.{BN, LRE, LRO, RLE, RLO, PDF, LRI, RLI, FSI, PDI}
-use Rattle.bx_explicit.specs.declared.entry.Entry.{Entry}
-use Rattle.bx_explicit.specs.declared.entry.Override.{Override}
-use Rattle.bx_explicit.specs.declared.entry.Override.TheVariants.{Neutral, Left, Right}
-use Rattle.bx_explicit.specs.declared.state.State.{State}
-use Rattle.bx_explicit.specs.Stack.{entry, top_of, after_isolate, after_embedding}
-use Rattle.bx_explicit.specs.Explicit.{embed, end_embedding, end_isolate, even_above, first_above, is_valid, isolate, next_state, odd_above, start, top}
-use Rattle.bx_explicit.specs.ParagraphLevel.{isolate_level}
-use Rattle.bx_explicit.specs.Role.{role_of}
+use Rattle.bx_levels.specs.declared.embedding.entry.Entry.{Entry}
+use Rattle.bx_levels.specs.declared.embedding.entry.Override.{Override}
+use Rattle.bx_levels.specs.declared.embedding.entry.Override.TheVariants.{Neutral, Left, Right}
+use Rattle.bx_levels.specs.declared.embedding.state.State.{State}
+use Rattle.bx_levels.specs.embedding.Stack.{entry, top_of, after_isolate, after_embedding}
+use Rattle.bx_levels.specs.embedding.Explicit.{embed, end_embedding, end_isolate, even_above, first_above, is_valid, isolate, next_state}
+use Rattle.bx_levels.specs.embedding.Explicit.{odd_above, start, top, role_of}
+use Rattle.bx_levels.specs.embedding.ParagraphLevel.{isolate_level}
 use Rattle.bx_editor_laws.specs.AskingLaws.{begins_level}
 
 -- no entry is above the level `high`

@@ -2,41 +2,41 @@
 use Rattle.std.proofs.lemmas.Bool.Decides.{nat_tests}
 use Rattle.std.proofs.Common.{◌≡◌, ℕ, ◌+◌, ◌≤◌, Bool, true, false, List, [], ◌∷◌, length, Option, Some, None, unwrap_or, refl, sym, ap, subst, ◌∙◌, inl, if◌then◌else◌, arith}
 use Rattle.std.specs.Prelude.{◌≢◌, ◌==◌, ◌&&◌, find, not, nat_le, reverse, MatchOption, IsUtf8}
-use Rattle.bx_terms.specs.Sizes.{is_side}
+use Rattle.bx_common.specs.Characters.{is_side}
 use Rattle.bx_keys.specs.declared.key.Key.{Key}
 use Rattle.bx_keys.specs.declared.key.Key.TheVariants.{Insert, Repaint}
 use Rattle.bx_store.specs.declared.store.StoreFault.{StoreFault}
 use Rattle.bx_text.specs.Edits.{fits}
-use Rattle.bx_runs.specs.declared.typing.Typing.{Typing}
+use Rattle.bx_editor.specs.declared.undo_groups.typing.Typing.{Typing}
 use Rattle.bx_ucd.specs.Data.{Data}
-use Rattle.bx_asking.specs.declared.question.Ask.{Ask}
-use Rattle.bx_asking.specs.declared.question.Ask.TheVariants as asks
+use Rattle.bx_editor.specs.declared.questions.answers.Prompt.{Prompt}
+use Rattle.bx_editor.specs.declared.questions.answers.Prompt.TheVariants as asks
 use Rattle.bx_find.specs.Nearest.{IsFirst, MatchesAt}
 use Rattle.bx_find.specs.Matches.{first_from}
-use Rattle.bx_find.specs.declared.reading.Reading.TheVariants.{Close}
+use Rattle.bx_find.specs.declared.letters.Reading.TheVariants.{Close}
 use Rattle.bx_find.proofs.Nearest.{first_is}
 use Rattle.bx_document.specs.Swapped.{behind_character, last_stop, swapped}
 use Rattle.bx_view.specs.Moves.{place_at}
 use Rattle.bx_view.specs.TextRows.{TextRow}
 use Rattle.bx_view.proofs.TextPlaces.{places-are}
-use Rattle.bx_editor.specs.declared.aim.Aim.TheVariants as aims
+use Rattle.bx_editor.specs.declared.search_state.SearchPurpose.TheVariants as aims
 use Rattle.bx_editor.specs.declared.matches.Landing.{Landing}
 use Rattle.bx_editor.specs.declared.message.Message.{Message}
 use Rattle.bx_editor.specs.declared.message.Message.TheVariants.{FromStart, TextFull}
-use Rattle.bx_editor.specs.declared.seek.Seek.{Seek}
-use Rattle.bx_editor.specs.declared.seek.Seek.TheVariants.{Off, Begun, Typed, WithBegun, WithTyped, Replacing}
+use Rattle.bx_editor.specs.declared.search_state.SearchState.{SearchState}
+use Rattle.bx_editor.specs.declared.search_state.SearchState.TheVariants.{Off, Begun, Typed, WithBegun, WithTyped, Replacing}
 use Rattle.bx_editor.specs.Asking.{without_ask}
-use Rattle.bx_editor.specs.Editor.{Editor, at_start, cleared, rows, with_exchange, with_insertion, with_size, with_typing, HasRows}
+use Rattle.bx_editor.specs.Editor.{Editor, at_start, cleared, rows, with_exchange, with_insertion, with_size, with_typing}
+use Rattle.bx_editor.specs.Functions.{HasRows}
 use Rattle.bx_editor.specs.Effects.{Before, before}
 use Rattle.bx_editor.specs.Keys.{Answer, Letter, Shortens, GoesBack, Next, Previous, Replaces, Stays, Ends, after_any, after_asking, after_in_paste, after_key}
-use Rattle.bx_editor.specs.Keys.{after_press, after_pressing, after_user, answer_of, answered, answered_match, answered_other, effect_of}
+use Rattle.bx_editor.specs.Keys.{after_press, after_pressing, after_user, answer_of, answered, answered_match, answered_replacement, effect_of}
 use Rattle.bx_editor_laws.specs.Laws.{after_typing}
-use Rattle.bx_editor.specs.Pasting.{after_paste_start, paste_ended, with_paste, without_paste}
-use Rattle.bx_editor.specs.Putting.{is_paste, with_selection_replaced}
+use Rattle.bx_editor.specs.Putting.{after_paste_start, paste_ended, with_paste, without_paste, is_paste, with_selection_replaced}
 use Rattle.bx_editor_laws.specs.ReplaceLaws.{HaveRows, ShownStands}
-use Rattle.bx_editor.specs.Replacing.{after_asking_other, after_ending, after_other_letter, after_replacing, after_replacing_all}
-use Rattle.bx_editor.specs.Replacing.{after_shorter_other, after_showing, after_sought_end, after_sought_letter, asked_at, at_match, is_replacing, longest_other}
-use Rattle.bx_editor.specs.Replacing.{match_stop, matches_on, next_match, on_from, shown_at, with_matches_replaced, with_other}
+use Rattle.bx_editor.specs.Replacing.{after_asking_replacement, after_ending, after_replacement_letter, after_replacing, after_replacing_all}
+use Rattle.bx_editor.specs.Replacing.{after_shorter_replacement, after_showing, after_sought_end, after_sought_letter, asked_at, at_match, is_replacing}
+use Rattle.bx_editor.specs.Replacing.{match_stop, matches_on, next_match, on_from, shown_at, with_matches_replaced, with_replacement}
 use Rattle.bx_editor.specs.Search.{after_letter, forward, is_no_letter, kept, landed, landing_from, lengthened, longest_query, match_or, not_found, reading}
 use Rattle.bx_editor.specs.Search.{search_from, sought, with_query, without_search}
 use Rattle.bx_editor.proofs.EffectsKept.{start-keeps}
@@ -44,7 +44,7 @@ use Rattle.bx_editor.proofs.InSearch.{each-key}
 use Rattle.bx_editor_laws.proofs.PasteAlone.{free-in-paste, key-alone, IsAlone}
 use Rattle.bx_editor_laws.proofs.PasteEnded.{ended-by}
 use Rattle.bx_editor_laws.proofs.PlacesBetween.{place-before, place-between}
-use Rattle.bx_editor.proofs.Questions.{question-keeps, IsKept}
+use Rattle.bx_editor.proofs.QuestionSteps.{question-keeps, IsKept}
 use Rattle.bx_editor_laws.proofs.QuietSearch.{effect-quiet, is_quiet, IsQuiet}
 
 -- ---- what holds in each state of a search
@@ -57,7 +57,7 @@ IsNear d e = (e.aim ≡ aims.Replace) × ((at : ℕ) × MatchesAt d Close (sough
 abbrev IsThere : Data → Editor → Type 0
 IsThere d e = (e.aim ≡ aims.Replace) × (MatchesAt d Close (sought d e) e.content.text e.at × (e.place ≡ place_at (rows d e) e.at))
 
-abbrev Stands : Data → Editor → Seek → Type 0
+abbrev Stands : Data → Editor → SearchState → Type 0
 Stands d e WithBegun = IsNear d e
 Stands d e WithTyped = IsNear d e
 Stands d e Replacing = IsThere d e
@@ -67,7 +67,7 @@ Stands d e _ = Unit {0}
 abbrev IsSound : Data → Editor → Type 0
 IsSound d e = (e.ask ≢ asks.Off → IsQuiet e) × Stands d e e.seek
 
-quiet-stands : (d : Data) (e : Editor) (seek : Seek) → is_quiet seek ≡ true → Stands d e seek
+quiet-stands : (d : Data) (e : Editor) (seek : SearchState) → is_quiet seek ≡ true → Stands d e seek
 quiet-stands d e Off h = tt
 quiet-stands d e Begun h = tt
 quiet-stands d e Typed h = tt
@@ -109,7 +109,7 @@ module _ (d : Data) (e : Editor) (u : IsUtf8 e.content.text) (unasked : e.ask �
   free : (new : Editor) → new.ask ≡ e.ask → new.ask ≢ asks.Off → IsQuiet new
   free new same asked = absurd (asked (same ∙ unasked))
 
-  -- ---- the other text is asked for
+  -- ---- the replacement is asked for
 
   asked-sound : (landing : Landing) (place : Option ℕ) → landing.place ≡ place
       → let aimed : Editor = record e { aim = aims.Replace } in Lands d (sought d aimed) (rows d aimed) e.content.text landing
@@ -120,7 +120,7 @@ module _ (d : Data) (e : Editor) (u : IsUtf8 e.content.text) (unasked : e.ask �
       let new = asked_at (Some p) (landed (record e { aim = aims.Replace }) landing) in
       (free new refl, (refl, (there.0, there.1, ap (λ o. unwrap_or o e.place) is ∙ there.2)))
 
-  asking-sound : IsQuiet e → IsSound d (after_asking_other d e)
+  asking-sound : IsQuiet e → IsSound d (after_asking_replacement d e)
   asking-sound h =
       let aimed : Editor = record e { aim = aims.Replace } in
       let landing = landing_from d aimed.place aimed in
@@ -130,8 +130,8 @@ module _ (d : Data) (e : Editor) (u : IsUtf8 e.content.text) (unasked : e.ask �
   end-sound : (typing : Typing) → IsQuiet e → IsSound d (after_sought_end d typing e)
   end-sound typing h =
       let left = without_search e in
-      either d (is_replacing e.aim) (if is_paste typing then e else after_asking_other d e) (if is_paste typing then with_paste left else left)
-      (either d (is_paste typing) e (after_asking_other d e) (quiet-sound d e h) (asking-sound h))
+      either d (is_replacing e.aim) (if is_paste typing then e else after_asking_replacement d e) (if is_paste typing then with_paste left else left)
+      (either d (is_paste typing) e (after_asking_replacement d e) (quiet-sound d e h) (asking-sound h))
       (either d (is_paste typing) (with_paste left) left (quiet-sound d (with_paste left) refl) (quiet-sound d left refl))
 
   letter-sound : (typing : Typing) (c : ℕ) → IsQuiet e → IsSound d (after_sought_letter d typing e c)
@@ -171,9 +171,9 @@ module _ (d : Data) (e : Editor) (u : IsUtf8 e.content.text) (unasked : e.ask �
       subst (λ o. IsSound d (shown_at e o)) (sym closely)
       (shown-sound near (first_from d Close (sought d e) e.content.text e.place) (first_is d Close (sought d e) e.content.text e.place u) h)
 
-  other-letter-sound : (typing : Typing) (c : ℕ) → IsNear d e → IsSound d e → IsSound d (after_other_letter d typing e c)
-  other-letter-sound typing c near h =
-      let longer : Editor = with_other e (lengthened longest_other (kept e.seek e.other) c) in
+  replacement-letter-sound : (typing : Typing) (c : ℕ) → IsNear d e → IsSound d e → IsSound d (after_replacement_letter d typing e c)
+  replacement-letter-sound typing c near h =
+      let longer : Editor = with_replacement e (lengthened longest_query (kept e.seek e.replacement) c) in
       either d (c == 0xA) _ _ (either d (is_paste typing) e (after_showing d e) h (showing-sound near h))
       (either d (is_no_letter d c) e longer h (free longer refl, near))
 
@@ -183,16 +183,16 @@ module _ (d : Data) (e : Editor) (u : IsUtf8 e.content.text) (unasked : e.ask �
       let ended = without_search e in
       quiet-sound d (after_pressing d fault was ended key) (effect-quiet d fault was ended (effect_of d ended key) refl)
 
-  other-sound : (fault : Option StoreFault) (was : Before) (key : Key) (answer : Answer) → IsNear d e → IsSound d e
-      → IsSound d (answered_other d fault was e key answer)
-  other-sound fault was key (Letter c) near h = other-letter-sound was.typing c near h
-  other-sound fault was key Shortens near h = (free (after_shorter_other e) refl, near)
-  other-sound fault was key GoesBack near h = (λ asked. refl, tt)
-  other-sound fault was key Next near h = (λ asked. refl, tt)
-  other-sound fault was key Previous near h = (λ asked. refl, tt)
-  other-sound fault was key Replaces near h = showing-sound near h
-  other-sound fault was key Stays near h = h
-  other-sound fault was key Ends near h = ended-sound fault was key
+  replacement-sound : (fault : Option StoreFault) (was : Before) (key : Key) (answer : Answer) → IsNear d e → IsSound d e
+      → IsSound d (answered_replacement d fault was e key answer)
+  replacement-sound fault was key (Letter c) near h = replacement-letter-sound was.typing c near h
+  replacement-sound fault was key Shortens near h = (free (after_shorter_replacement e) refl, near)
+  replacement-sound fault was key GoesBack near h = (λ asked. refl, tt)
+  replacement-sound fault was key Next near h = (λ asked. refl, tt)
+  replacement-sound fault was key Previous near h = (λ asked. refl, tt)
+  replacement-sound fault was key Replaces near h = showing-sound near h
+  replacement-sound fault was key Stays near h = h
+  replacement-sound fault was key Ends near h = ended-sound fault was key
 
   -- ---- while a match is shown
 
@@ -217,24 +217,24 @@ module _ (d : Data) (e : Editor) (u : IsUtf8 e.content.text) (unasked : e.ask �
   on-text now (Some at) = refl
 
   -- where the text gives way, and then the next match is shown
-  by-room : (room : Bool) → e.aim ≡ aims.Replace → let now = with_matches_replaced d e (match_stop d e) e.other 1 in
-      let new = if room then on_from d (e.at + length e.other) now else record e { message = Some TextFull } in IsUtf8 new.content.text → IsSound d e → IsSound d new
+  by-room : (room : Bool) → e.aim ≡ aims.Replace → let now = with_matches_replaced d e (match_stop d e) e.replacement 1 in
+      let new = if room then on_from d (e.at + length e.replacement) now else record e { message = Some TextFull } in IsUtf8 new.content.text → IsSound d e → IsSound d new
   by-room false aim v h = h
   by-room true aim v h =
-      let z = e.at + length e.other in
-      let now = with_matches_replaced d e (match_stop d e) e.other 1 in
-      let keeps = exchange-keeps e.at (match_stop d e) e.other in
+      let z = e.at + length e.replacement in
+      let now = with_matches_replaced d e (match_stop d e) e.replacement 1 in
+      let keeps = exchange-keeps e.at (match_stop d e) e.replacement in
       on-sound z now (subst (λ t. IsUtf8 t.text) (on-text now (next_match d now z)) v) (keeps.0 ∙ unasked) (keeps.1 ∙ aim)
 
   by-enter : (enters : Bool) → e.aim ≡ aims.Replace → let new = if enters then after_replacing d e else e in IsUtf8 new.content.text → IsSound d e → IsSound d new
-  by-enter true aim v h = by-room (fits e.content.text e.at (match_stop d e) e.other) aim v h
+  by-enter true aim v h = by-room (fits e.content.text e.at (match_stop d e) e.replacement) aim v h
   by-enter false aim v h = h
 
   all-sound : IsSound d e → IsSound d (after_replacing_all d e)
   all-sound h =
       let all = matches_on d e in
       let stop = last_stop e.at all in
-      let new = swapped e.at e.content.text e.other all in
+      let new = swapped e.at e.content.text e.replacement all in
       either d (fits e.content.text e.at stop new) (after_ending (with_matches_replaced d e stop new (length all))) (record e { message = Some TextFull })
       (λ asked. refl, tt) h
 
@@ -267,14 +267,14 @@ question-quiet d fault was e key h =
 
 -- ---- any key
 
-any-sound : (d : Data) (fault : Option StoreFault) (was : Before) (ask : Ask) (seek : Seek) (e : Editor) (key : Key) → e.ask ≡ ask → e.seek ≡ seek
+any-sound : (d : Data) (fault : Option StoreFault) (was : Before) (ask : Prompt) (seek : SearchState) (e : Editor) (key : Key) → e.ask ≡ ask → e.seek ≡ seek
     → IsUtf8 e.content.text → IsUtf8 (after_any d fault was ask seek e key).content.text → IsSound d e → IsSound d (after_any d fault was ask seek e key)
 any-sound d fault was asks.Off Off e key unasked is u v h =
     quiet-sound d (after_pressing d fault was e key) (effect-quiet d fault was e (effect_of d e key) (ap is_quiet is))
 any-sound d fault was asks.Off Begun e key unasked is u v h = answer-sound d e u unasked fault was key (answer_of key) (ap is_quiet is)
 any-sound d fault was asks.Off Typed e key unasked is u v h = answer-sound d e u unasked fault was key (answer_of key) (ap is_quiet is)
-any-sound d fault was asks.Off WithBegun e key unasked is u v h = other-sound d e u unasked fault was key (answer_of key) (subst (Stands d e) is h.1) h
-any-sound d fault was asks.Off WithTyped e key unasked is u v h = other-sound d e u unasked fault was key (answer_of key) (subst (Stands d e) is h.1) h
+any-sound d fault was asks.Off WithBegun e key unasked is u v h = replacement-sound d e u unasked fault was key (answer_of key) (subst (Stands d e) is h.1) h
+any-sound d fault was asks.Off WithTyped e key unasked is u v h = replacement-sound d e u unasked fault was key (answer_of key) (subst (Stands d e) is h.1) h
 any-sound d fault was asks.Off Replacing e key unasked is u v h =
     let there : IsThere d e = subst (Stands d e) is h.1 in match-sound d e u unasked fault was key (answer_of key) there.0 v h
 any-sound d fault was asks.Line seek e key asked is u v h = quiet-sound d (after_asking d fault was e key) (question-quiet d fault was e key (h.0 (λ off. let both = sym asked ∙ off in cc both)))
@@ -297,7 +297,7 @@ module _ (d : Data) (e : Editor) (height width : ℕ) (old : HasRows e) (side : 
       ∙ sym (places-are d e.base width (side-some width side) text old.text) in
       ap (λ ps. unwrap_or (find (λ p. nat_le p at) (reverse ps)) 0) same
 
-  sized-stands : (seek : Seek) → Stands d e seek → Stands d wide seek
+  sized-stands : (seek : SearchState) → Stands d e seek → Stands d wide seek
   sized-stands Off h = tt
   sized-stands Begun h = tt
   sized-stands Typed h = tt
@@ -308,7 +308,7 @@ module _ (d : Data) (e : Editor) (height width : ℕ) (old : HasRows e) (side : 
 -- ---- a paste, in which no search is on
 
 -- outside a search no key shows a match, whatever the text
-quiet-any : (d : Data) (fault : Option StoreFault) (was : Before) (ask : Ask) (seek : Seek) (e : Editor) (key : Key) → e.seek ≡ seek → seek ≡ Off
+quiet-any : (d : Data) (fault : Option StoreFault) (was : Before) (ask : Prompt) (seek : SearchState) (e : Editor) (key : Key) → e.seek ≡ seek → seek ≡ Off
     → IsQuiet (after_any d fault was ask seek e key)
 quiet-any d fault was asks.Off Off e key is off = effect-quiet d fault was e (effect_of d e key) (ap is_quiet is)
 quiet-any d fault was asks.Off Begun e key is off = absurd (cc off)

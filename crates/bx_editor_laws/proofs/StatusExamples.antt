@@ -7,7 +7,7 @@ use Rattle.unicode_width.proofs.Computing.{unicode_width}
 use Rattle.bx_grid.specs.Columns.{Col, Glyph, glyph_columns}
 use Rattle.bx_editor.specs.declared.message.Message.{Message}
 use Rattle.bx_editor.specs.declared.message.Message.TheVariants.{NotFound}
-use Rattle.bx_editor.specs.declared.seek.Seek.TheVariants.{Typed}
+use Rattle.bx_editor.specs.declared.search_state.SearchState.TheVariants.{Typed}
 use Rattle.bx_editor.specs.Status.{status_columns}
 use Rattle.bx_editor.proofs.Computed.{tables, start, ascii_columns}
 

@@ -2,54 +2,53 @@
 use Rattle.std.proofs.Common.{◌≡◌, ℕ, ◌+◌, Bool, true, false, List, [], ◌∷◌, length, refl, sym, ap, subst, arith, if◌then◌else◌}
 use Rattle.std.specs.Prelude.{◌&&◌, ◌||◌, ◌==◌, not, encode_utf8, Option, Some, None, is_none}
 use Rattle.std.proofs.lemmas.Bool.Decides.{nat_tests}
-use Rattle.bx_terms.specs.declared.base.Base.{Base}
+use Rattle.bx_common.specs.declared.base.Base.{Base}
 use Rattle.bx_keys.specs.declared.key.Key.{Key}
 use Rattle.bx_keys.specs.declared.key.Key.TheVariants.{Insert, Repaint, Save}
 use Rattle.bx_store.specs.declared.store.StoreFault.{StoreFault}
 use Rattle.bx_text.specs.declared.change.Change.{Change}
 use Rattle.bx_text.specs.Edits.{Edit, Edited}
-use Rattle.bx_document.specs.Document.{wrapped_text}
+use Rattle.bx_document.specs.Swapped.{wrapped_text}
 use Rattle.bx_document.specs.History.{next_changes, stepped_times}
 use Rattle.bx_document.specs.declared.history.HistoryStep.{HistoryStep}
 use Rattle.bx_document.specs.declared.history.HistoryStep.TheVariants as steps
-use Rattle.bx_runs.specs.Typing.{goes_on, goes_on_removing, after_removal, kind_of}
-use Rattle.bx_runs.specs.declared.typing.Kind.{Kind}
-use Rattle.bx_runs.specs.declared.typing.Kind.TheVariants as kinds
-use Rattle.bx_runs.specs.declared.typing.Removal.{Removal}
-use Rattle.bx_runs.specs.declared.typing.Typing.{Typing}
+use Rattle.bx_editor.specs.undo_groups.Groups.{goes_on, goes_on_removing, after_removal, kind_of}
+use Rattle.bx_editor.specs.declared.undo_groups.typing.Kind.{Kind}
+use Rattle.bx_editor.specs.declared.undo_groups.typing.Kind.TheVariants as kinds
+use Rattle.bx_editor.specs.declared.undo_groups.typing.Removal.{Removal}
+use Rattle.bx_editor.specs.declared.undo_groups.typing.Typing.{Typing}
 use Rattle.bx_text.specs.Edits.{inserted, splice}
 use Rattle.bx_ucd.specs.Data.{Data}
-use Rattle.bx_asking.specs.declared.question.Ask.{Ask}
-use Rattle.bx_asking.specs.declared.question.Ask.TheVariants as asks
-use Rattle.bx_editor.specs.declared.aim.Aim.TheVariants as aims
+use Rattle.bx_editor.specs.declared.questions.answers.Prompt.{Prompt}
+use Rattle.bx_editor.specs.declared.questions.answers.Prompt.TheVariants as asks
+use Rattle.bx_editor.specs.declared.search_state.SearchPurpose.TheVariants as aims
 use Rattle.bx_editor.specs.declared.message.Message.TheVariants as messages
-use Rattle.bx_editor.specs.declared.seek.Seek.{Seek}
-use Rattle.bx_editor.specs.declared.seek.Seek.TheVariants as seeks
-use Rattle.bx_editor.specs.declared.soft.Soft.{Soft}
-use Rattle.bx_editor.specs.declared.soft.Soft.TheVariants as softness
-use Rattle.bx_editor.specs.Asking.{without_ask}
-use Rattle.bx_editor.specs.Editor.{Editor, after_redo, after_quit, after_save, after_step, after_undo, at_start, cleared, place_after, stored_behind}
-use Rattle.bx_editor.specs.Editor.{with_exchange, with_insertion, with_insertion_at, with_removal}
+use Rattle.bx_editor.specs.declared.search_state.SearchState.{SearchState}
+use Rattle.bx_editor.specs.declared.search_state.SearchState.TheVariants as seeks
+use Rattle.bx_editor.specs.declared.cursor.Soft.{Soft}
+use Rattle.bx_editor.specs.declared.cursor.Soft.TheVariants as softness
+use Rattle.bx_editor.specs.Asking.{without_ask, with_wrap}
+use Rattle.bx_editor.specs.Editor.{Editor, after_redo, after_quit, after_save, after_step, after_undo, at_start, cleared, place_after}
+use Rattle.bx_editor.specs.Editor.{stored_behind, with_exchange, with_insertion, with_insertion_at, with_removal, by_run, is_changed_at}
+use Rattle.bx_editor.specs.Editor.{run_goal, run_length}
 use Rattle.bx_editor.specs.Effects.{Effect, Types, BeginsLine, Puts, Removes, RemovesWord, Steps, StepsRun, Goes, GoesByRows, Marks, Selects}
 use Rattle.bx_editor.specs.Effects.{Unmarks, Copies, Cuts, Seeks, SeeksNext, Saves, Quits, Turns, Helps, AsksLine, AsksName, Tells, Rests, Before, before, by}
 use Rattle.bx_editor.specs.Erasing.{after_erasing, after_erasing_word, after_removing, removed_on}
 use Rattle.bx_editor.specs.Keys.{Answer, Letter, Shortens, GoesBack, Stays, Ends, after_any, after_asking, after_in_paste, after_key, after_press, after_pressing, after_user}
-use Rattle.bx_editor.specs.Keys.{answer_of, answered, answered_match, answered_other, answered_question, effect_of, is_save}
+use Rattle.bx_editor.specs.Keys.{answer_of, answered, answered_match, answered_replacement, answered_question, effect_of, is_save}
 use Rattle.bx_editor_laws.specs.Laws.{after_typing}
-use Rattle.bx_editor.specs.Pasting.{paste_ended, without_paste}
-use Rattle.bx_editor.specs.Putting.{after_character, after_new_line, after_put, has_room, line_end, put_in, typed, with_selection_replaced, yielding}
+use Rattle.bx_editor.specs.Putting.{paste_ended, without_paste, after_character, after_new_line, after_put, has_room, line_end, put_in}
+use Rattle.bx_editor.specs.Putting.{typed, with_selection_replaced, yielding}
 use Rattle.bx_editor.specs.Region.{after_copy, after_cut, bytes_in, held_message, is_at_mark, is_empty, line, region, taken, with_held}
+use Rattle.bx_editor.specs.Region.{is_selection, selecting, unselected}
 use Rattle.bx_editor_laws.specs.RunLaws.{stored_last, UnchangedIsStored}
-use Rattle.bx_editor.specs.Runs.{by_run, is_changed_at, run_goal, run_length}
 use Rattle.bx_editor.specs.Search.{after_beginning, next_or_start, search_from, sought, without_search}
-use Rattle.bx_editor.specs.Selecting.{is_selection, selecting, unselected}
 use Rattle.bx_editor_laws.proofs.PasteEnded.{ended-by, none-ended}
 use Rattle.bx_editor_laws.proofs.Chains.{Chain, opened-chain, redone-chain, replaced-chain, stored-chain, undone-chain}
-use Rattle.bx_editor.specs.Wrapping.{with_wrap}
 use Rattle.bx_editor.proofs.EffectsKept.{IsKeptPasting, start-keeps}
 use Rattle.bx_editor.proofs.InSearch.{each-key}
-use Rattle.bx_editor.proofs.Questions.{IsKept, letter-keeps, shorter-keeps}
-use Rattle.bx_editor.proofs.Searches.{IsKeptSeeking, is_end, match-keeps, other-keeps, query-keeps}
+use Rattle.bx_editor.proofs.QuestionSteps.{IsKept, letter-keeps, shorter-keeps}
+use Rattle.bx_editor.proofs.Searches.{IsKeptSeeking, is_end, match-keeps, replacement-keeps, query-keeps}
 use Rattle.bx_editor.proofs.TwoEdits.{stored-of-two}
 use Rattle.bx_editor.proofs.RunSteps.{run-ends}
 
@@ -258,11 +257,11 @@ module _ (s : List ℕ) (d : Data) (fault : Option StoreFault) (was : Before) (e
       no-save s e (answered d fault was e key one) fault (is_save key) it
       (query-keeps d (Has s) (sought-has s d) fault was e key one h (λ ends. absurd (cc ends)))
 
-  other-text : (one : Answer) → (is_end one || not (is_save key)) ≡ true → Has (stored_by s e (is_save key) fault) (answered_other d fault was e key one)
-  other-text Ends it = pressed s d fault was (without_search e) key h
-  other-text one it =
-      no-save s e (answered_other d fault was e key one) fault (is_save key) it
-      (other-keeps d (Has s) (sought-has s d) fault was e key one h h (λ ends. absurd (cc ends)))
+  replacement : (one : Answer) → (is_end one || not (is_save key)) ≡ true → Has (stored_by s e (is_save key) fault) (answered_replacement d fault was e key one)
+  replacement Ends it = pressed s d fault was (without_search e) key h
+  replacement one it =
+      no-save s e (answered_replacement d fault was e key one) fault (is_save key) it
+      (replacement-keeps d (Has s) (sought-has s d) fault was e key one h h (λ ends. absurd (cc ends)))
 
   at-match : (one : Answer) → (is_end one || not (is_save key)) ≡ true → Has (stored_by s e (is_save key) fault) (answered_match d fault was e key one)
   at-match Ends it = pressed s d fault was (without_search e) key h
@@ -272,7 +271,7 @@ module _ (s : List ℕ) (d : Data) (fault : Option StoreFault) (was : Before) (e
 
 -- ---- in a question
 
--- two edits of one run
+-- two edits of one undo group
 wrapping : (s : List ℕ) (d : Data) (e : Editor) (opener closer : List ℕ) → Has s e → Has s (with_wrap d e opener closer)
 wrapping s d e opener closer h =
     let t = e.content in
@@ -311,13 +310,13 @@ asking : (s : List ℕ) (d : Data) (fault : Option StoreFault) (was : Before) (e
     → Has (stored_by s e (is_save key) fault) (after_asking d fault was e key)
 asking s d fault was e key h = question-answer s d fault was e key (answer_of key) ((each d e key).1) h
 
-any : (s : List ℕ) (d : Data) (fault : Option StoreFault) (was : Before) (ask : Ask) (seek : Seek) (e : Editor) (key : Key) → Has s e
+any : (s : List ℕ) (d : Data) (fault : Option StoreFault) (was : Before) (ask : Prompt) (seek : SearchState) (e : Editor) (key : Key) → Has s e
     → Has (stored_by s e (is_save key) fault) (after_any d fault was ask seek e key)
 any s d fault was asks.Off seeks.Off e key h = pressed s d fault was e key h
 any s d fault was asks.Off seeks.Begun e key h = query s d fault was e key h (answer_of key) ((each d e key).1)
 any s d fault was asks.Off seeks.Typed e key h = query s d fault was e key h (answer_of key) ((each d e key).1)
-any s d fault was asks.Off seeks.WithBegun e key h = other-text s d fault was e key h (answer_of key) ((each d e key).1)
-any s d fault was asks.Off seeks.WithTyped e key h = other-text s d fault was e key h (answer_of key) ((each d e key).1)
+any s d fault was asks.Off seeks.WithBegun e key h = replacement s d fault was e key h (answer_of key) ((each d e key).1)
+any s d fault was asks.Off seeks.WithTyped e key h = replacement s d fault was e key h (answer_of key) ((each d e key).1)
 any s d fault was asks.Off seeks.Replacing e key h = at-match s d fault was e key h (answer_of key) ((each d e key).1)
 any s d fault was asks.Line seek e key h = asking s d fault was e key h
 any s d fault was asks.Name seek e key h = asking s d fault was e key h

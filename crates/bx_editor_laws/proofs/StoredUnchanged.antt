@@ -5,15 +5,15 @@ use Rattle.std.proofs.lemmas.Bool.Decides.{nat_tests}
 use Rattle.bx_keys.specs.declared.key.Key.TheVariants.{Redo, RedoRun, Save, Undo, UndoRun}
 use Rattle.bx_text.specs.Edits.{Edit}
 use Rattle.bx_ucd.specs.Data.{Data}
-use Rattle.bx_asking.specs.declared.question.Ask.{Ask}
-use Rattle.bx_asking.specs.declared.question.Ask.TheVariants as asks
-use Rattle.bx_editor.specs.declared.seek.Seek.{Seek}
-use Rattle.bx_editor.specs.declared.seek.Seek.TheVariants as seeks
-use Rattle.bx_editor.specs.Editor.{Editor, at_start, cleared}
+use Rattle.bx_editor.specs.declared.questions.answers.Prompt.{Prompt}
+use Rattle.bx_editor.specs.declared.questions.answers.Prompt.TheVariants as asks
+use Rattle.bx_editor.specs.declared.search_state.SearchState.{SearchState}
+use Rattle.bx_editor.specs.declared.search_state.SearchState.TheVariants as seeks
+use Rattle.bx_editor.specs.Editor.{Editor, at_start, cleared, is_changed_at}
 use Rattle.bx_editor.specs.Effects.{Before, before}
-use Rattle.bx_editor.specs.Keys.{after_any, after_key, after_keys, after_press}
-use Rattle.bx_editor.specs.Pasting.{paste_ended}
-use Rattle.bx_editor.specs.Runs.{is_changed_at}
+use Rattle.bx_editor.specs.Keys.{after_any, after_key, after_press}
+use Rattle.bx_editor.specs.Functions.{after_keys}
+use Rattle.bx_editor.specs.Putting.{paste_ended}
 use Rattle.bx_editor_laws.specs.Laws.{after_typing}
 use Rattle.bx_editor_laws.specs.RunLaws.{redos, undos}
 use Rattle.bx_editor_laws.specs.StoredLaws.{CountsChanges, RunsCountChanges, StoredIsUnchanged}
@@ -56,7 +56,7 @@ module _ (n : ℕ) (d : Data) where
 abbrev IsStored : Editor → Type 0
 IsStored e = e.stored ≡ Some (length e.content.past)
 
-save-any : (d : Data) (was : Before) (ask : Ask) (seek : Seek) (e : Editor) → IsStored (after_any d None was ask seek e Save)
+save-any : (d : Data) (was : Before) (ask : Prompt) (seek : SearchState) (e : Editor) → IsStored (after_any d None was ask seek e Save)
 save-any d was asks.Off seeks.Off e = refl
 save-any d was asks.Off seeks.Begun e = refl
 save-any d was asks.Off seeks.Typed e = refl

@@ -1,35 +1,35 @@
 -- Undo and redo restore earlier versions: past and future are chains of versions that begin with the opened text.
 use Rattle.std.proofs.Common.{◌≡◌, ℕ, zero, suc, Bool, true, false, List, [], ◌∷◌, length, replicate, refl, sym, ap, subst, ◌∙◌, if◌then◌else◌}
 use Rattle.std.specs.Prelude.{◌≢◌, ◌==◌, Option, Some, None}
-use Rattle.bx_terms.specs.declared.base.Base.{Base}
+use Rattle.bx_common.specs.declared.base.Base.{Base}
 use Rattle.bx_keys.specs.declared.key.Key.{Key}
 use Rattle.bx_keys.specs.declared.key.Key.TheVariants.{Undo, Redo}
 use Rattle.bx_store.specs.declared.store.StoreFault.{StoreFault}
 use Rattle.bx_text.specs.declared.change.Change.{Change}
-use Rattle.bx_text.specs.Edits.{Edit, Edited, redone, redone_in, undone, undone_in}
-use Rattle.bx_text.specs.Times.{redone_times, undone_times}
+use Rattle.bx_text.specs.Edits.{Edit, Edited, redone, redone_in, undone, undone_in, redone_times, undone_times}
 use Rattle.bx_document.specs.declared.history.HistoryStep.{HistoryStep}
 use Rattle.bx_document.specs.declared.history.HistoryStep.TheVariants as steps
 use Rattle.bx_document.specs.History.{next_changes, stepped_times}
 use Rattle.bx_ucd.specs.Data.{Data}
-use Rattle.bx_asking.specs.declared.question.Ask.{Ask}
-use Rattle.bx_asking.specs.declared.question.Ask.TheVariants as asks
-use Rattle.bx_editor.specs.declared.aim.Aim.TheVariants as aims
-use Rattle.bx_editor.specs.declared.seek.Seek.{Seek}
-use Rattle.bx_editor.specs.declared.seek.Seek.TheVariants.{Off, Begun, Typed, WithBegun, WithTyped, Replacing}
-use Rattle.bx_editor.specs.declared.soft.Soft.TheVariants as softness
+use Rattle.bx_editor.specs.declared.questions.answers.Prompt.{Prompt}
+use Rattle.bx_editor.specs.declared.questions.answers.Prompt.TheVariants as asks
+use Rattle.bx_editor.specs.declared.search_state.SearchPurpose.TheVariants as aims
+use Rattle.bx_editor.specs.declared.search_state.SearchState.{SearchState}
+use Rattle.bx_editor.specs.declared.search_state.SearchState.TheVariants.{Off, Begun, Typed, WithBegun, WithTyped, Replacing}
+use Rattle.bx_editor.specs.declared.cursor.Soft.TheVariants as softness
 use Rattle.bx_editor.specs.Asking.{without_ask}
-use Rattle.bx_editor.specs.Editor.{Editor, after_undo, after_redo, after_save, after_step, at_start, cleared, with_exchange, with_insertion, with_removal}
+use Rattle.bx_editor.specs.Editor.{Editor, after_undo, after_redo, after_save, after_step, at_start, cleared, with_exchange}
+use Rattle.bx_editor.specs.Editor.{with_insertion, with_removal, by_run, run_length}
 use Rattle.bx_editor.specs.Effects.{Effect, Seeks, SeeksNext, AsksLine, AsksName, Before, before, by}
-use Rattle.bx_editor.specs.Keys.{after_any, after_asking, after_key, after_keys, after_seeking, answer_of, answered_match, answered_other, effect_of}
-use Rattle.bx_editor.specs.Runs.{by_run, run_length}
+use Rattle.bx_editor.specs.Keys.{after_any, after_asking, after_key, after_seeking, answer_of, answered_match, answered_replacement, effect_of}
+use Rattle.bx_editor.specs.Functions.{after_keys}
 use Rattle.bx_editor.specs.Search.{after_beginning, next_or_start, search_from, sought, without_search}
-use Rattle.bx_editor.specs.Selecting.{unselected}
+use Rattle.bx_editor.specs.Region.{unselected}
 use Rattle.bx_editor_laws.specs.Laws.{after_typing, IsBackAt, IsUnmarkedAt, mark_behind, UndoGivesBack, RedoMirrorsUndo}
 use Rattle.bx_editor.proofs.EffectsKept.{IsKeptPasting, IsKeptPressing, asks_or_seeks, effect-keeps, ended-keeps, paste-end-keeps, start-keeps}
 use Rattle.bx_editor.proofs.InSearch.{any-key, behind, each-key, press-keeps}
-use Rattle.bx_editor.proofs.Questions.{IsKept, question-keeps}
-use Rattle.bx_editor.proofs.Searches.{IsKeptSeeking, match-keeps, other-keeps, query-keeps}
+use Rattle.bx_editor.proofs.QuestionSteps.{IsKept, question-keeps}
+use Rattle.bx_editor.proofs.Searches.{IsKeptSeeking, match-keeps, replacement-keeps, query-keeps}
 
 -- ---- chains of versions
 
@@ -169,9 +169,9 @@ answered_has d fault was first e key h =
     (λ ends. by_has d fault was first e (effect_of d e key) h)
 
 other_has : (d : Data) (fault : Option StoreFault) (was : Before) (first : List ℕ) (e : Editor) (key : Key) → HasVersions first e.content
-    → HasVersions first (answered_other d fault was e key (answer_of key)).content
+    → HasVersions first (answered_replacement d fault was e key (answer_of key)).content
 other_has d fault was first e key h =
-    other-keeps d (λ x. HasVersions first x.content) (sought_has d first) fault was e key (answer_of key) h h
+    replacement-keeps d (λ x. HasVersions first x.content) (sought_has d first) fault was e key (answer_of key) h h
     (λ ends. by_has d fault was first (without_search e) (effect_of d (without_search e) key) h)
 
 match_has : (d : Data) (fault : Option StoreFault) (was : Before) (first : List ℕ) (e : Editor) (key : Key) → HasVersions first e.content
@@ -197,7 +197,7 @@ asked_has d fault was first e key h =
     question-keeps d (λ x. HasVersions first x.content) (question_has d first) fault was e key (answer_of key) h
     (by_has d fault was first (without_ask e) (effect_of d (without_ask e) key) h)
 
-any_has : (d : Data) (fault : Option StoreFault) (was : Before) (first : List ℕ) (ask : Ask) (seek : Seek) (e : Editor) (key : Key) → HasVersions first e.content
+any_has : (d : Data) (fault : Option StoreFault) (was : Before) (first : List ℕ) (ask : Prompt) (seek : SearchState) (e : Editor) (key : Key) → HasVersions first e.content
     → HasVersions first (after_any d fault was ask seek e key).content
 any_has d fault was first asks.Off Off e key h = by_has d fault was first e (effect_of d e key) h
 any_has d fault was first asks.Off Begun e key h = answered_has d fault was first e key h
@@ -239,7 +239,7 @@ all_typed_has d text height width base typed = typing_has d text (at_start text 
 abbrev stepped : Editor → Edited → ℕ → Editor
 stepped e content place = record e { content = content; place = place; mark = None; soft = softness.Off; seek = Off; ask = asks.Off; changed = true }
 
-undone_is : (d : Data) (was : Before) (ask : Ask) (seek : Seek) (e : Editor) (text : List ℕ) (edit : Edit) (past future : List Edit) → e.ask ≡ ask
+undone_is : (d : Data) (was : Before) (ask : Prompt) (seek : SearchState) (e : Editor) (text : List ℕ) (edit : Edit) (past future : List Edit) → e.ask ≡ ask
     → after_any d None was ask seek (record e { content = version text (edit ∷ past) future }) Undo
     ≡ stepped e (version edit.before.text past (edit ∷ future)) edit.before.place
 undone_is d was asks.Off Off e text edit past future is = ap (λ a. record (stepped e (version edit.before.text past (edit ∷ future)) edit.before.place) { ask = a }) is
@@ -252,7 +252,7 @@ undone_is d was asks.Line seek e text edit past future is = refl
 undone_is d was asks.Name seek e text edit past future is = refl
 undone_is d was asks.Code seek e text edit past future is = refl
 
-redone_is : (d : Data) (was : Before) (ask : Ask) (seek : Seek) (e : Editor) (text : List ℕ) (edit : Edit) (past future : List Edit) → e.ask ≡ ask
+redone_is : (d : Data) (was : Before) (ask : Prompt) (seek : SearchState) (e : Editor) (text : List ℕ) (edit : Edit) (past future : List Edit) → e.ask ≡ ask
     → after_any d None was ask seek (record e { content = version text past (edit ∷ future) }) Redo
     ≡ stepped e (version edit.after.text (edit ∷ past) future) edit.after.place
 redone_is d was asks.Off Off e text edit past future is = ap (λ a. record (stepped e (version edit.after.text (edit ∷ past) future) edit.after.place) { ask = a }) is

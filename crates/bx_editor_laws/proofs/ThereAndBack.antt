@@ -8,7 +8,7 @@ use Rattle.bx_rows.specs.RowPicture.{columns_used}
 use Rattle.std.proofs.lemmas.List.{get_or-map, length-map}
 use Rattle.bx_ucd.specs.Data.{Data}
 use Rattle.bx_paragraph.proofs.Starts.{side-some}
-use Rattle.bx_paragraph.specs.declared.slot.Slot.{Slot}
+use Rattle.bx_paragraph.specs.declared.slots.Slot.{Slot}
 use Rattle.bx_paragraph.specs.Slots.{column_of, entry, slot_offsets}
 use Rattle.bx_view.specs.declared.moves.Vertical.TheVariants.{Up, Down}
 use Rattle.bx_view.specs.Cells.{HasOneSlot}
@@ -19,10 +19,10 @@ use Rattle.bx_view.proofs.KeptPlaces.{contains-counted, rows-leveled}
 use Rattle.bx_view.proofs.OneSlot.{one-slot}
 use Rattle.bx_view.proofs.RowFits.{fitting-from}
 use Rattle.bx_view.proofs.TextPlaces.{place-in-window}
-use Rattle.bx_index.specs.Paragraphs.{paragraphs}
-use Rattle.bx_editor.specs.declared.seek.Seek.TheVariants.{Off}
-use Rattle.bx_editor.specs.Editor.{Editor, rows, HasRows}
-use Rattle.bx_editor.specs.Keys.{after_keys}
+use Rattle.bx_text.specs.index.Paragraphs.{paragraphs}
+use Rattle.bx_editor.specs.declared.search_state.SearchState.TheVariants.{Off}
+use Rattle.bx_editor.specs.Editor.{Editor, rows}
+use Rattle.bx_editor.specs.Functions.{HasRows, after_keys}
 use Rattle.bx_editor_laws.specs.WorkLaws.{IsEntered, KeptMovesGoBack, LeadsBack, LineMovesGoBack, PageMovesGoBack, own_row}
 use Rattle.bx_editor_laws.proofs.EnteredAgain.{IsEnteredBy, IsFull, entered-again, entered-at-edge}
 use Rattle.bx_editor_laws.proofs.UnitColumns.{rows-have-columns}

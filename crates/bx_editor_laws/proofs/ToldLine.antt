@@ -4,18 +4,16 @@ use Rattle.std.proofs.Common.{length-append, refl, sym, ap, ap₂, subst, ◌∙
 use Rattle.std.specs.Prelude.{◌≢◌, ◌==◌, chars, codes, decimal, encode_utf8, IsUtf8, None}
 use Rattle.std.proofs.lemmas.Bool.Decides.{nat_tests}
 use Rattle.std.proofs.lemmas.Str.{encode_ascii}
-use Rattle.bx_terms.specs.Sizes.{largest_text}
-use Rattle.bx_terms.specs.declared.base.Base.TheVariants.{Auto}
-use Rattle.bx_asking.specs.declared.question.Ask.TheVariants.{Off, Line}
-use Rattle.bx_asking.specs.Answers.{lengthened}
-use Rattle.bx_asking.specs.Line.{asked, is_line_letter}
+use Rattle.bx_common.specs.Characters.{largest_text}
+use Rattle.bx_common.specs.declared.base.Base.TheVariants.{Auto}
+use Rattle.bx_editor.specs.declared.questions.answers.Prompt.TheVariants.{Off, Line}
+use Rattle.bx_editor.specs.questions.Answers.{lengthened, asked, is_line_letter}
 use Rattle.bx_keys.specs.declared.key.Key.{Key}
 use Rattle.bx_keys.specs.declared.key.Key.TheVariants as keys
-use Rattle.bx_runs.specs.declared.typing.Typing.TheVariants as typings
+use Rattle.bx_editor.specs.declared.undo_groups.typing.Typing.TheVariants as typings
 use Rattle.bx_text.specs.Edits.{Edited}
 use Rattle.bx_ucd.specs.Data.{Data}
-use Rattle.bx_view.specs.Going.{place_of}
-use Rattle.bx_view.specs.Numbers.{paragraph_number, unit_number}
+use Rattle.bx_view.specs.Numbers.{place_of, paragraph_number, unit_number}
 use Rattle.bx_view.specs.Places.{IsTextPlace}
 use Rattle.bx_view.specs.TextRows.{cell_of, text_rows}
 use Rattle.bx_view.specs.declared.position.Position.{Position}
@@ -23,10 +21,10 @@ use Rattle.bx_view.proofs.Numbered.{lead-back}
 use Rattle.bx_editor.specs.Asking.{after_answer_letter, after_going, gone_to, longest_line, with_answer, without_ask}
 use Rattle.bx_editor_laws.specs.AskingLaws.{HasTextPlace, IsUntouched, ToldNumbersLeadBack, is_enter, told_numbers}
 use Rattle.bx_editor.specs.Editor.{Editor, cleared, with_place, with_typing}
-use Rattle.bx_editor.specs.Keys.{after_key, after_keys, as_left}
-use Rattle.bx_editor.specs.Selecting.{aged, mark_left, soft_left}
-use Rattle.bx_editor.specs.Status.{message_part}
-use Rattle.bx_editor.specs.Telling.{told_at_place}
+use Rattle.bx_editor.specs.Keys.{after_key, as_left}
+use Rattle.bx_editor.specs.Functions.{after_keys}
+use Rattle.bx_editor.specs.Region.{aged, mark_left, soft_left}
+use Rattle.bx_editor.specs.Status.{message_part, told_at_place}
 use Rattle.bx_editor_laws.proofs.AskingKeys.{line-is}
 use Rattle.bx_editor_laws.proofs.FewNumbers.{few-numbers}
 use Rattle.bx_editor_laws.proofs.QuestionKeys.{Leaves, asked-key, leaves-trans, left-leaves, untouched}

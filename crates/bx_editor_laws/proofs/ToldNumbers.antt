@@ -8,9 +8,9 @@ use Rattle.std.proofs.lemmas.Bool.Decides.{nat_tests}
 use Rattle.std.proofs.lemmas.Fmt.{decimal_by_steps, length-decimal-le}
 use Rattle.std.proofs.lemmas.List.Sums.{fold_push}
 use Rattle.std.proofs.lemmas.Str.{chars-IsAscii}
-use Rattle.bx_asking.specs.declared.line.Target.{Target}
-use Rattle.bx_asking.specs.Line.{asked, digit_of, is_digit, is_divider, is_line_letter, number, with_digit}
-use Rattle.bx_asking.proofs.Numbers.{after-here, after-more, before-here, before-more}
+use Rattle.bx_editor.specs.declared.questions.line.Target.{Target}
+use Rattle.bx_editor.specs.questions.Answers.{asked, digit_of, is_digit, is_divider, is_line_letter, number, with_digit}
+use Rattle.bx_editor.proofs.questions_lemmas.Numbers.{after-here, after-more, before-here, before-more}
 
 -- ---- digits
 

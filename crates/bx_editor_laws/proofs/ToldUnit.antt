@@ -6,35 +6,34 @@ use Rattle.std.proofs.lemmas.Bool.Decides.{nat_tests}
 use Rattle.std.proofs.lemmas.List.Elements.{All-drop, All-head, All-tail, All-take}
 use Rattle.std.proofs.lemmas.Str.{chars-nil}
 use Rattle.unicode_segmentation.specs.Grapheme.{graphemes}
-use Rattle.bx_terms.specs.Characters.{are_ascii_printable}
-use Rattle.bx_terms.specs.declared.base.Base.{Base}
-use Rattle.bx_asking.specs.declared.question.Ask.{Ask}
-use Rattle.bx_asking.specs.declared.question.Ask.TheVariants as asks
-use Rattle.bx_asking.specs.Told.{told_text}
-use Rattle.bx_asking.proofs.Printable as text_proofs
+use Rattle.bx_common.specs.Characters.{are_ascii_printable}
+use Rattle.bx_common.specs.declared.base.Base.{Base}
+use Rattle.bx_editor.specs.declared.questions.answers.Prompt.{Prompt}
+use Rattle.bx_editor.specs.declared.questions.answers.Prompt.TheVariants as asks
+use Rattle.bx_editor.specs.questions.Told.{told_text}
+use Rattle.bx_editor.proofs.questions_lemmas.Printable as text_proofs
 use Rattle.bx_keys.specs.declared.key.Key.TheVariants.{Tell}
 use Rattle.bx_ucd.specs.Data.{Data}
-use Rattle.bx_resolve.specs.Levels.{levels_under, max_level}
-use Rattle.bx_resolve.proofs.KeptLevels.{levels_stay_low}
+use Rattle.bx_levels.specs.resolve.Levels.{levels_under}
+use Rattle.bx_levels.specs.resolve.Kept.{max_level}
+use Rattle.bx_levels.proofs.resolve_lemmas.KeptLevels.{levels_stay_low}
 use Rattle.bx_rows.specs.RowLevels.{first_level}
 use Rattle.bx_paragraph.proofs.Starts.{side-some}
-use Rattle.bx_index.specs.Paragraphs.{lengths}
-use Rattle.bx_index.specs.Positions.{paragraph_of}
+use Rattle.bx_text.specs.index.Paragraphs.{lengths, paragraph_of}
 use Rattle.bx_view.specs.Moves.{step_logical}
-use Rattle.bx_view.specs.Standing.{body_at, start_at}
+use Rattle.bx_view.specs.Numbers.{body_at, start_at}
 use Rattle.bx_view.specs.declared.moves.Logical.TheVariants.{Forward}
 use Rattle.bx_document.specs.PlaceLevel.{level_from, place_level}
 use Rattle.bx_document.proofs.PlaceLevels.{units_have}
 use Rattle.bx_editor.specs.declared.message.Message.TheVariants.{Told}
-use Rattle.bx_editor.specs.declared.seek.Seek.{Seek}
-use Rattle.bx_editor.specs.declared.seek.Seek.TheVariants.{Off, Begun, Typed, WithBegun, WithTyped, Replacing}
+use Rattle.bx_editor.specs.declared.search_state.SearchState.{SearchState}
+use Rattle.bx_editor.specs.declared.search_state.SearchState.TheVariants.{Off, Begun, Typed, WithBegun, WithTyped, Replacing}
 use Rattle.bx_editor_laws.specs.AskingLaws.{IsUntouched, TellShows, TellsWhatStands}
 use Rattle.bx_editor.specs.Editor.{Editor, cleared, rows}
 use Rattle.bx_editor.specs.Effects.{Before, before}
 use Rattle.bx_editor.specs.Keys.{after_any, as_left}
-use Rattle.bx_editor.specs.Selecting.{aged}
-use Rattle.bx_editor.specs.Status.{paragraph_number, status_line, status_text, unit_number}
-use Rattle.bx_editor.specs.Telling.{told_at_place}
+use Rattle.bx_editor.specs.Region.{aged}
+use Rattle.bx_editor.specs.Status.{paragraph_number, status_line, status_text, unit_number, told_at_place}
 use Rattle.bx_editor.proofs.InSearch.{any-key}
 use Rattle.bx_editor_laws.proofs.UnitBytes.{is-inside, unit-bytes, unit-step}
 
@@ -134,10 +133,10 @@ tells-what-stands d e has = record {
 }
 
 -- what Tell leaves
-abbrev told : Editor → Ask → Seek → Editor
+abbrev told : Editor → Prompt → SearchState → Editor
 told e ask seek = record (cleared e) { ask = ask; seek = seek; message = Some Told; goal = None; soft = aged e.soft }
 
-tell-any : (d : Data) (was : Before) (ask : Ask) (seek : Seek) (e : Editor) → let new = after_any d None was ask seek (cleared e) Tell in
+tell-any : (d : Data) (was : Before) (ask : Prompt) (seek : SearchState) (e : Editor) → let new = after_any d None was ask seek (cleared e) Tell in
     as_left Tell new ≡ told e new.ask new.seek
 tell-any d was asks.Off Off e = refl
 tell-any d was asks.Off Begun e = refl

@@ -8,12 +8,11 @@ use Rattle.std.proofs.lemmas.List.Elements.{Contains-append_cases}
 use Rattle.unicode_segmentation.specs.Grapheme.{graphemes, is_grapheme_break}
 use Rattle.unicode_segmentation.proofs.SegmentsLemmas.{concat-segments}
 use Rattle.bx_ucd.specs.Data.{Data}
-use Rattle.bx_terms.specs.declared.base.Base.{Base}
-use Rattle.bx_index.specs.Paragraphs.{Paragraph, lengths_of}
-use Rattle.bx_index.specs.Positions.{bytes_of}
+use Rattle.bx_common.specs.declared.base.Base.{Base}
+use Rattle.bx_text.specs.index.Paragraphs.{Paragraph, lengths_of, bytes_of}
 use Rattle.bx_view.specs.Moves.{step_logical}
-use Rattle.bx_view.specs.Places.{IsTextPlace, boundaries}
-use Rattle.bx_view.specs.Standing.{body_at, count, start_at}
+use Rattle.bx_view.specs.Places.{IsTextPlace}
+use Rattle.bx_view.specs.Numbers.{boundaries, body_at, count, start_at}
 use Rattle.bx_view.specs.TextRows.{text_rows}
 use Rattle.bx_view.specs.declared.moves.Logical.TheVariants.{Forward}
 use Rattle.bx_view.proofs.Numbered.{body-place, place-in-body}
@@ -74,26 +73,26 @@ ended-behind : (p : Paragraph) (ps : List Paragraph) (stop at : ℕ) → AreEnde
 ended-behind p [] stop at h low = tt
 ended-behind p (q ∷ qs) stop at h low = omega (arith, h.0, low)
 
-module _ (says : Data) (text : List ℕ) (utf8 : IsUtf8 text) (n : ℕ) (within : n < count says text) (front rest : List (List ℕ)) (unit : List ℕ)
-    (units : graphemes true (body_at says text n) ≡ front ++ unit ∷ rest) (some : 0 < length unit) where
+module _ (ucd : Data) (text : List ℕ) (utf8 : IsUtf8 text) (n : ℕ) (within : n < count ucd text) (front rest : List (List ℕ)) (unit : List ℕ)
+    (units : graphemes true (body_at ucd text n) ≡ front ++ unit ∷ rest) (some : 0 < length unit) where
   abbrev body : List ℕ
-  body = body_at says text n
+  body = body_at ucd text n
 
   abbrev start : ℕ
-  start = start_at says text n
+  start = start_at ucd text n
 
   abbrev place : ℕ
   place = start + length (concat front)
 
   body-parts : concat front ++ (unit ++ concat rest) ≡ body
-  body-parts = sym (concat-append front (unit ∷ rest)) ∙ ap concat (sym units) ∙ concat-segments (is_grapheme_break true) body (body-utf8 says text n within utf8)
+  body-parts = sym (concat-append front (unit ∷ rest)) ∙ ap concat (sym units) ∙ concat-segments (is_grapheme_break true) body (body-utf8 ucd text n within utf8)
 
   body-size : length (concat front) + (length unit + length (concat rest)) ≡ length body
   body-size = omega (arith, ap length body-parts, length-append (concat front) (unit ++ concat rest), length-append unit (concat rest))
 
   body-stop : start + length body ≤ length text
   body-stop =
-      let range = body-range says text n within utf8 in
+      let range = body-range ucd text n within utf8 in
       let bounds : IsCharBoundary text (start + length body) = range.stop_bounds in
       bounds.0
 
@@ -102,7 +101,7 @@ module _ (says : Data) (text : List ℕ) (utf8 : IsUtf8 text) (n : ℕ) (within 
   unit-bytes =
       let tail = drop (length body) (drop start text) in
       let size : start + length body - start ≡ length body = omega arith in
-      let own : take (length body) (drop start text) ≡ body = ap (λ k. take k (drop start text)) (sym size) ∙ body-is says text n within utf8 in
+      let own : take (length body) (drop start text) ≡ body = ap (λ k. take k (drop start text)) (sym size) ∙ body-is ucd text n within utf8 in
       let whole : drop start text ≡ concat front ++ ((unit ++ concat rest) ++ tail) =
       sym (take-append-drop (length body) (drop start text)) ∙ ap (λ xs. xs ++ tail) (own ∙ sym body-parts)
       ∙ append_assoc (concat front) (unit ++ concat rest) tail in
@@ -116,20 +115,20 @@ module _ (says : Data) (text : List ℕ) (utf8 : IsUtf8 text) (n : ℕ) (within 
   is-inside = omega (arith, body-size, body-stop, some)
 
   -- the next place is its end
-  pub unit-step : (base : Base) (w : ℕ) → 1 ≤ w → step_logical (text_rows says base w text) Forward place ≡ place + length unit
+  pub unit-step : (base : Base) (w : ℕ) → 1 ≤ w → step_logical (text_rows ucd base w text) Forward place ≡ place + length unit
   unit-step base w wide =
       let gs = graphemes true body in
-      let stop = step_logical (text_rows says base w text) Forward place in
-      let next = (places-go-on says base w wide text utf8).forward place is-inside in
-      let end : IsTextPlace says text (place + length unit) =
-      body-place says text utf8 n within (place + length unit) (subst (λ us. Contains (boundaries start us) (place + length unit)) (sym units) (end-bound start front unit rest)) in
+      let stop = step_logical (text_rows ucd base w text) Forward place in
+      let next = (places-go-on ucd base w wide text utf8).forward place is-inside in
+      let end : IsTextPlace ucd text (place + length unit) =
+      body-place ucd text utf8 n within (place + length unit) (subst (λ us. Contains (boundaries start us) (place + length unit)) (sym units) (end-bound start front unit rest)) in
       let upto : stop ≤ place + length unit = next.least (place + length unit) end (omega (arith, some)) in
-      let p = here says text n within in
-      let ps = behind says text n within in
-      let ended : AreEnded (p ∷ ps) = behind-ended (ahead says text n within) (p ∷ ps) (subst AreEnded (parts-at says text n within) (text-parts says text utf8).ended) in
+      let p = here ucd text n within in
+      let ps = behind ucd text n within in
+      let ended : AreEnded (p ∷ ps) = behind-ended (ahead ucd text n within) (p ∷ ps) (subst AreEnded (parts-at ucd text n within) (text-parts ucd text utf8).ended) in
       let size : start + length body + length p.separator ≡ start + bytes_of (lengths_of p) = omega arith in
       let in-body : Contains (boundaries start gs) stop =
-      place-in-body says text utf8 n within stop next.is_stop (omega (arith, next.behind))
+      place-in-body ucd text utf8 n within stop next.is_stop (omega (arith, next.behind))
       (subst (EndsBefore ps stop) size (ended-behind p ps (start + length body) stop ended (omega (arith, upto, body-size)))) in
       let low : place + length unit ≤ stop =
       next-bound start front unit rest stop (subst (λ us. Contains (boundaries start us) stop) units in-body) next.behind in

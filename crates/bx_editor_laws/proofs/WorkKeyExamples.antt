@@ -11,8 +11,8 @@ use Rattle.bx_keys.specs.declared.key.Key.TheVariants.{Insert, Down, Forward, Fi
 use Rattle.bx_keys.specs.declared.key.Key.TheVariants.{EraseWord, DeleteWord, ErasePoint, NewLine, FindNext, Cancel, LineUp, LineDown, PageBack, PageOn}
 use Rattle.bx_editor.specs.declared.message.Message.{Message}
 use Rattle.bx_editor.specs.declared.message.Message.TheVariants.{FromStart}
-use Rattle.bx_editor.specs.declared.seek.Seek.{Seek}
-use Rattle.bx_editor.specs.declared.seek.Seek.TheVariants.{Off, Begun}
+use Rattle.bx_editor.specs.declared.search_state.SearchState.{SearchState}
+use Rattle.bx_editor.specs.declared.search_state.SearchState.TheVariants.{Off, Begun}
 use Rattle.bx_editor.specs.Editor.{Editor}
 use Rattle.bx_editor.proofs.Computed.{start, after}
 
@@ -119,7 +119,7 @@ cr_lf_is_one_edit = refl
 -- ---- the next match, and Cancel
 
 -- place, whether a search is on, and the message
-abbrev found : List ℕ → List Key → ℕ × (Seek × Option Message)
+abbrev found : List ℕ → List Key → ℕ × (SearchState × Option Message)
 found text keys = let e = after (start text 2 40) keys in (e.place, (e.seek, e.message))
 
 -- a search for b that has ended

@@ -10,10 +10,11 @@ use Rattle.unicode_width.proofs.Computing.{unicode_width}
 use Rattle.bx_keys.specs.declared.key.Key.{Key}
 use Rattle.bx_keys.specs.declared.key.Key.TheVariants.{Insert, Down, Forward, Find, RowEnd, ErasePoint, FindNext, LineDown, LineUp}
 use Rattle.bx_keys.specs.declared.key.Key.TheVariants.{PageBack, PageOn}
-use Rattle.bx_paragraph.specs.declared.slot.Slot.{Slot}
+use Rattle.bx_paragraph.specs.declared.slots.Slot.{Slot}
 use Rattle.bx_paragraph.specs.Slots.{covers, row_slots}
 use Rattle.bx_editor.specs.declared.message.Message.TheVariants.{FromStart}
-use Rattle.bx_editor.specs.Editor.{Editor, HasRows}
+use Rattle.bx_editor.specs.Editor.{Editor}
+use Rattle.bx_editor.specs.Functions.{HasRows}
 use Rattle.bx_editor_laws.specs.WorkLaws.{ColumnIsKept, ErasePointLeavesBeginning, FindNextIsFindTwice, LineMovesGoBack, PageMovesGoBack}
 use Rattle.bx_editor_laws.specs.WorkLaws.{IsEntered, KeptMovesGoBack, keeps_column, own_row}
 use Rattle.bx_editor.proofs.Computed.{tables, start, after}

@@ -1,47 +1,44 @@
 -- Laws of questions and their answers, of what an answer puts in, and of what is told of a unit. `d`, `e` and `new` are as in
--- Laws.antt; `says`, too, is the data of Unicode's tables.
+-- Laws.antt; `ucd`, too, is the data of Unicode's tables.
 use Rattle.std.specs.Prelude.{◌≡◌, ◌≢◌, ◌⊎◌, ℕ, ◌+◌, ◌==◌, ◌||◌, ◌<◌, ◌≤◌, Bool, true, false, List, [], ◌∷◌, ◌++◌, length, map, take, drop, count_by}
 use Rattle.std.specs.Prelude.{chars, codes, decimal, encode_utf8, Option, Some, None, All, IsUtf8, if◌then◌else◌}
 use Rattle.std.specs.List.{concat}
-use Rattle.bx_terms.specs.Characters.{are_ascii_printable}
-use Rattle.bx_terms.specs.Glyphs.{is_one_glyph, run_width}
-use Rattle.bx_terms.specs.Sizes.{largest_text}
-use Rattle.bx_terms.specs.declared.base.Base.{Base}
+use Rattle.bx_common.specs.Characters.{are_ascii_printable, largest_text}
+use Rattle.bx_common.specs.Glyphs.{is_one_glyph, run_width}
+use Rattle.bx_common.specs.declared.base.Base.{Base}
 use Rattle.bx_ucd.specs.Data.{Data}
 use Rattle.bx_ucd.specs.Class.{is_initiator}
 use Rattle.bx_ucd.specs.declared.class.Class.{Class}
 use Rattle.bx_ucd.specs.declared.class.Class.TheVariants.{LRE, LRO, RLE, RLO, LRI, RLI, FSI, PDI}
-use Rattle.bx_explicit.specs.Matching.{before_pdi, match_of}
-use Rattle.bx_resolve.specs.Laws.{class_at, entry_at, level_at}
-use Rattle.bx_resolve.specs.Levels.{is_kept, levels_under, paragraph_level_under}
+use Rattle.bx_levels.specs.embedding.ParagraphLevel.{before_pdi, match_of}
+use Rattle.bx_levels.specs.resolve.Laws.{class_at, entry_at, level_at}
+use Rattle.bx_levels.specs.resolve.Levels.{levels_under, paragraph_level_under}
+use Rattle.bx_levels.specs.resolve.Kept.{is_kept}
 use Rattle.unicode_segmentation.specs.Grapheme.{graphemes}
-use Rattle.bx_asking.specs.declared.question.Ask.TheVariants.{Off}
-use Rattle.bx_asking.specs.Codes.{coded}
-use Rattle.bx_asking.specs.Names.{asks_code, closing, named}
-use Rattle.bx_asking.specs.Told.{character_text, others_text}
+use Rattle.bx_editor.specs.declared.questions.answers.Prompt.TheVariants.{Off}
+use Rattle.bx_editor.specs.questions.Names.{coded, asks_code, closing, named}
+use Rattle.bx_editor.specs.questions.Told.{character_text, others_text}
 use Rattle.bx_keys.specs.declared.key.Key.{Key}
 use Rattle.bx_keys.specs.declared.key.Key.TheVariants.{Insert, NewLine, Erase, ErasePoint, Delete, UndoRun, GoTo, Name, Tell}
 use Rattle.bx_store.specs.declared.store.StoreFault.{StoreFault}
-use Rattle.bx_text.specs.Edits.{IsRange}
+use Rattle.bx_text.specs.Changes.{IsRange}
 use Rattle.bx_rows.specs.RowPicture.{Glyph}
 use Rattle.bx_view.specs.Places.{IsTextPlace}
-use Rattle.bx_view.specs.Standing.{body_at, count, paragraph_at, start_at}
-use Rattle.bx_document.specs.Document.{wrapped_end}
-use Rattle.bx_document.specs.PlaceLevel.{IsFirstLevel}
+use Rattle.bx_view.specs.Numbers.{body_at, count, paragraph_at, start_at}
+use Rattle.bx_document.specs.Swapped.{wrapped_end}
+use Rattle.bx_document.specs.UnitLevels.{IsFirstLevel}
 use Rattle.bx_editor.specs.declared.message.Message.{Message}
 use Rattle.bx_editor.specs.declared.message.Message.TheVariants.{MoreThanOneLine, TextFull}
-use Rattle.bx_editor.specs.declared.soft.Soft.TheVariants as softness
+use Rattle.bx_editor.specs.declared.cursor.Soft.TheVariants as softness
 use Rattle.bx_editor.specs.Answers.{IsAnswer}
-use Rattle.bx_editor.specs.Asking.{after_going, longest_code, with_answer, without_ask}
-use Rattle.bx_editor.specs.Editor.{Editor, at_start, place_after, HasRows}
-use Rattle.bx_editor.specs.Keys.{after_key, after_keys}
+use Rattle.bx_editor.specs.Asking.{after_going, longest_code, with_answer, without_ask, cursor_end, spans_lines}
+use Rattle.bx_editor.specs.Editor.{Editor, at_start, place_after}
+use Rattle.bx_editor.specs.Functions.{HasRows, after_keys}
+use Rattle.bx_editor.specs.Keys.{after_key}
 use Rattle.bx_editor_laws.specs.Laws.{after_typing, IsPart}
-use Rattle.bx_editor.specs.Region.{bytes_in, is_empty, region}
+use Rattle.bx_editor.specs.Region.{bytes_in, is_empty, region, aged}
 use Rattle.bx_editor_laws.specs.RunLaws.{IsBackBefore}
-use Rattle.bx_editor.specs.Selecting.{aged}
-use Rattle.bx_editor.specs.Status.{message_part, paragraph_number, prompt_glyphs, status_line, status_text, unit_number}
-use Rattle.bx_editor.specs.Telling.{told_at_place}
-use Rattle.bx_editor.specs.Wrapping.{cursor_end, spans_lines}
+use Rattle.bx_editor.specs.Status.{message_part, paragraph_number, prompt_glyphs, status_line, status_text, unit_number, told_at_place}
 
 -- ---- a question changes nothing but itself
 
@@ -203,18 +200,18 @@ IsAbove low (Some level) = low < level
 
 -- the explicit level (X1 to X8) at which character `i`, from 0, of a paragraph's characters stands
 abbrev pub embedding_at : Data → Base → List ℕ → ℕ → ℕ
-embedding_at says base chars i = (entry_at (paragraph_level_under says base chars) (map says.class chars) i).level
+embedding_at ucd base chars i = (entry_at (paragraph_level_under ucd base chars) (map ucd.class chars) i).level
 
 -- In a paragraph, the characters between an initiator and its match (BD9) have levels above the one at which the initiator
 -- stands, if at most 61 characters before it begin a level: each adds 2 at most to a paragraph level of 1 at most, so the
 -- isolate's level is at most 125 (BD2's max_depth). X9 leaves some of the characters without a level.
 abbrev pub IsolatesRaise : Type 0
 IsolatesRaise =
-    (says : Data) (base : Base) (front inside back : List ℕ) (opener : ℕ) → let chars = front ++ opener ∷ (inside ++ back) in
-    match_of (map says.class chars) (length front) ≡ Some (length front + 1 + length inside)
-    → count_by begins_level (map says.class front) ≤ 61
-    → (i : ℕ) → i < length inside → is_kept (class_at says inside i) ≡ true
-    → IsAbove (embedding_at says base chars (length front)) (level_at says base chars (length front + 1 + i))
+    (ucd : Data) (base : Base) (front inside back : List ℕ) (opener : ℕ) → let chars = front ++ opener ∷ (inside ++ back) in
+    match_of (map ucd.class chars) (length front) ≡ Some (length front + 1 + length inside)
+    → count_by begins_level (map ucd.class front) ≤ 61
+    → (i : ℕ) → i < length inside → is_kept (class_at ucd inside i) ≡ true
+    → IsAbove (embedding_at ucd base chars (length front)) (level_at ucd base chars (length front + 1 + i))
 
 -- the characters of the region
 abbrev pub region_chars : Editor → List ℕ
@@ -222,7 +219,7 @@ region_chars e = chars (bytes_in e (region e))
 
 -- a PDI right after these characters is the match (BD9) of an initiator right before them
 abbrev pub IsWhole : Data → List ℕ → Type 0
-IsWhole says cs = before_pdi 1 (map says.class cs ++ PDI ∷ []) ≡ Some (length cs)
+IsWhole ucd cs = before_pdi 1 (map ucd.class cs ++ PDI ∷ []) ≡ Some (length cs)
 
 -- The region has both characters around it in its paragraph `number`, from 0, where `front` and `back` are the characters before
 -- and after it; no other paragraph has changed. So the characters of the region have levels above the one at which the opener

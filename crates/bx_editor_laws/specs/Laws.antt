@@ -1,29 +1,29 @@
 -- Laws of the editor: the top, undo and redo, the region, the text's ends, and a search. In all files of this folder `d` is the
 -- data of Unicode's tables, `e` the editor before some keys, and `new` the editor after them.
 use Rattle.std.specs.Prelude.{◌≡◌, ◌≢◌, ◌⊎◌, ℕ, ◌+◌, ◌<◌, ◌≤◌, ◌&&◌, Bool, true, false, List, [], ◌∷◌, ◌++◌, length, take, drop, replicate, Option, Some, None, IsUtf8}
-use Rattle.bx_terms.specs.Sizes.{largest_text}
-use Rattle.bx_terms.specs.declared.base.Base.{Base}
+use Rattle.bx_common.specs.Characters.{largest_text}
+use Rattle.bx_common.specs.declared.base.Base.{Base}
 use Rattle.bx_keys.specs.declared.key.Key.{Key}
 use Rattle.bx_keys.specs.declared.key.Key.TheVariants.{Quit, Undo, Redo, Mark, Copy, Cut, Put, Find, FindBack, FindNext, Replace, TextStart, TextEnd, Cancel}
 use Rattle.bx_store.specs.declared.store.StoreFault.{StoreFault}
 use Rattle.bx_text.specs.Edits.{Edit}
 use Rattle.bx_ucd.specs.Data.{Data}
-use Rattle.bx_asking.specs.declared.question.Ask.TheVariants as asks
+use Rattle.bx_editor.specs.declared.questions.answers.Prompt.TheVariants as asks
 use Rattle.bx_find.specs.Nearest.{IsFirst, IsLast, MatchesAt}
 use Rattle.bx_view.specs.Moves.{place_at}
 use Rattle.bx_editor.specs.declared.message.Message.{Message}
 use Rattle.bx_editor.specs.declared.message.Message.TheVariants.{FromStart, FromEnd, NotFound}
-use Rattle.bx_editor.specs.declared.seek.Seek.{Seek}
-use Rattle.bx_editor.specs.declared.seek.Seek.TheVariants.{Off, Replacing}
-use Rattle.bx_editor.specs.declared.soft.Soft.{Soft}
-use Rattle.bx_editor.specs.declared.soft.Soft.TheVariants as softness
-use Rattle.bx_runs.specs.declared.typing.Typing.TheVariants as typings
-use Rattle.bx_editor.specs.Editor.{Editor, at_start, place_after, rows, HasRows}
-use Rattle.bx_editor.specs.Keys.{after_key, after_keys}
-use Rattle.bx_editor.specs.Region.{bytes_in, region, taken}
-use Rattle.bx_editor.specs.Origin.{asks_other, is_queried}
+use Rattle.bx_editor.specs.declared.search_state.SearchState.{SearchState}
+use Rattle.bx_editor.specs.declared.search_state.SearchState.TheVariants.{Off, Replacing}
+use Rattle.bx_editor.specs.declared.cursor.Soft.{Soft}
+use Rattle.bx_editor.specs.declared.cursor.Soft.TheVariants as softness
+use Rattle.bx_editor.specs.declared.undo_groups.typing.Typing.TheVariants as typings
+use Rattle.bx_editor.specs.Editor.{Editor, at_start, place_after, rows}
+use Rattle.bx_editor.specs.Functions.{HasRows, after_keys}
+use Rattle.bx_editor.specs.Keys.{after_key}
+use Rattle.bx_editor.specs.Region.{bytes_in, region, taken, mark_left}
+use Rattle.bx_editor.specs.Origin.{asks_replacement, is_queried}
 use Rattle.bx_editor.specs.Search.{next_or_start, reading, sought}
-use Rattle.bx_editor.specs.Selecting.{mark_left}
 use Rattle.bx_editor.specs.Picture.{next_top}
 
 -- ---- the top
@@ -215,7 +215,7 @@ abbrev pub GivesUp : Key → Type 0
 GivesUp key = (key ≡ Quit) ⊎ ((key ≡ Copy) ⊎ (key ≡ Cancel))
 
 -- a search is on, and no match is shown to be replaced
-abbrev pub is_on : Seek → Bool
+abbrev pub is_on : SearchState → Bool
 is_on Off = false
 is_on Replacing = false
 is_on _ = true
@@ -227,9 +227,9 @@ finds FindBack = true
 finds FindNext = true
 finds _ = false
 
--- whether a key begins another search: one that finds, while the other text is asked for
-abbrev pub begins_anew : Seek → Key → Bool
-begins_anew seek key = asks_other seek && finds key
+-- whether a key begins another search: one that finds, while the replacement is asked for
+abbrev pub begins_anew : SearchState → Key → Bool
+begins_anew seek key = asks_replacement seek && finds key
 
 -- a search is on, and the same one stays on while these keys are typed
 abbrev pub StaysOn : Data → Editor → List (Key × Option StoreFault) → Type 0

@@ -1,9 +1,9 @@
 -- A law of NewLine. `d`, `e` and `new` are as in Laws.antt.
 use Rattle.std.specs.Prelude.{◌≡◌, ◌≢◌, ℕ, ◌+◌, ◌<◌, ◌≤◌, List, [], ◌∷◌, ◌++◌, length, take, drop, None}
-use Rattle.bx_terms.specs.Sizes.{largest_text}
+use Rattle.bx_common.specs.Characters.{largest_text}
 use Rattle.bx_keys.specs.declared.key.Key.TheVariants.{NewLine}
 use Rattle.bx_ucd.specs.Data.{Data}
-use Rattle.bx_view.specs.Standing.{paragraph_at}
+use Rattle.bx_view.specs.Numbers.{paragraph_at}
 use Rattle.bx_editor.specs.Editor.{Editor, place_after}
 use Rattle.bx_editor.specs.Keys.{after_key}
 use Rattle.bx_editor_laws.specs.SelectionLaws.{IsRefused}

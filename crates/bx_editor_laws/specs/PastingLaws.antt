@@ -1,20 +1,19 @@
 -- Laws of pastes: which keys end one, what one puts in, and when one is under way. `d`, `e` and `new` are as in Laws.antt.
-use Rattle.std.specs.Prelude.{◌≡◌, ◌≢◌, ℕ, ◌+◌, ◌<◌, ◌≤◌, true, false, List, [], ◌∷◌, length, map, encode_utf8, encode_utf8_all, All}
+use Rattle.std.specs.Prelude.{◌≡◌, ◌≢◌, ◌↔◌, ℕ, ◌+◌, ◌<◌, ◌≤◌, true, false, List, [], ◌∷◌, length, map, encode_utf8, encode_utf8_all, All}
 use Rattle.std.specs.Prelude.{Option, None, if◌then◌else◌}
-use Rattle.bx_terms.specs.declared.base.Base.{Base}
+use Rattle.bx_common.specs.declared.base.Base.{Base}
 use Rattle.bx_keys.specs.declared.key.Key.{Key}
 use Rattle.bx_keys.specs.declared.key.Key.TheVariants.{Insert, UndoRun}
 use Rattle.bx_store.specs.declared.store.StoreFault.{StoreFault}
 use Rattle.bx_ucd.specs.Data.{Data}
-use Rattle.bx_asking.specs.declared.question.Ask.TheVariants as asks
-use Rattle.bx_editor.specs.declared.seek.Seek.TheVariants.{Off}
+use Rattle.bx_editor.specs.declared.questions.answers.Prompt.TheVariants as asks
+use Rattle.bx_editor.specs.declared.search_state.SearchState.TheVariants.{Off}
 use Rattle.bx_editor.specs.Editor.{Editor, at_start}
-use Rattle.bx_editor.specs.Keys.{after_key, after_keys, ends_paste}
+use Rattle.bx_editor.specs.Keys.{after_key, ends_paste}
+use Rattle.bx_editor.specs.Functions.{after_keys}
 use Rattle.bx_editor.specs.PasteLaws.{after_paste, place_between, written}
-use Rattle.bx_editor.specs.Pasting.{paste_ended, pastes_crlf}
-use Rattle.bx_editor.specs.Putting.{has_room}
-use Rattle.bx_editor.specs.Region.{region}
-use Rattle.bx_editor.specs.Selecting.{is_selection}
+use Rattle.bx_editor.specs.Putting.{paste_ended, pastes_crlf, has_room}
+use Rattle.bx_editor.specs.Region.{region, is_selection}
 use Rattle.bx_editor_laws.specs.Laws.{after_typing}
 use Rattle.bx_editor_laws.specs.RunLaws.{IsBackBefore}
 
@@ -28,6 +27,12 @@ pub record EndsFirst (d : Data) (fault : Option StoreFault) (e : Editor) (key : 
 
 abbrev pub KeysEndPastes : Type 0
 KeysEndPastes = (d : Data) (fault : Option StoreFault) (e : Editor) (key : Key) → ends_paste key ≡ true → EndsFirst d fault e key
+
+-- a paste that is under way is over after a key exactly if the key ends it, as `ends_paste` says
+abbrev pub PastesEndByKeys : Type 0
+PastesEndByKeys =
+    (d : Data) (fault : Option StoreFault) (e : Editor) (key : Key) → e.pasted ≢ None
+    → (ends_paste key ≡ true) ↔ ((after_key d fault e key).pasted ≡ None)
 
 -- nothing is asked or sought
 pub record IsFree (e : Editor) : Type 0 where

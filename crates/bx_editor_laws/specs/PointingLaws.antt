@@ -7,8 +7,9 @@ use Rattle.bx_document.specs.Drawing.{IsAmong}
 use Rattle.bx_view.specs.Places.{IsTextPlace}
 use Rattle.bx_view.specs.TextRows.{row_at, row_of}
 use Rattle.bx_view_laws.specs.Pointed.{ShowsUnit, picture_row}
-use Rattle.bx_editor.specs.declared.soft.Soft.TheVariants as softness
-use Rattle.bx_editor.specs.Editor.{Editor, HasRows, rows, text_height, with_top}
+use Rattle.bx_editor.specs.declared.cursor.Soft.TheVariants as softness
+use Rattle.bx_editor.specs.Editor.{Editor, rows, text_height, with_top}
+use Rattle.bx_editor.specs.Functions.{HasRows}
 use Rattle.bx_editor.specs.Keys.{after_key}
 use Rattle.bx_editor.specs.Picture.{next_top, picture}
 use Rattle.bx_editor.specs.Prompts.{HasOnePrompt}

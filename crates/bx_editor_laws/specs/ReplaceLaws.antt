@@ -2,25 +2,26 @@
 -- are as in Laws.antt.
 use Rattle.std.specs.Prelude.{◌≡◌, ◌⊎◌, ℕ, ◌+◌, ◌<◌, ◌≤◌, true, false, List, [], ◌∷◌, ◌++◌, length, take, drop, slice_range, chars, All}
 use Rattle.std.specs.Prelude.{Contains, IsUtf8, Option, Some, None}
-use Rattle.bx_terms.specs.Sizes.{largest_text}
-use Rattle.bx_terms.specs.declared.base.Base.{Base}
+use Rattle.bx_common.specs.Characters.{largest_text}
+use Rattle.bx_common.specs.declared.base.Base.{Base}
 use Rattle.bx_ucd.specs.Data.{Data}
-use Rattle.bx_asking.specs.declared.question.Ask.TheVariants as asks
+use Rattle.bx_editor.specs.declared.questions.answers.Prompt.TheVariants as asks
 use Rattle.bx_find.specs.Nearest.{IsFirst, MatchesAt}
 use Rattle.bx_find.specs.Letters.{letters}
-use Rattle.bx_find.specs.Spans.{is_attached, match_end}
-use Rattle.bx_find.specs.declared.reading.Reading.TheVariants.{Close}
+use Rattle.bx_find.specs.Matches.{is_attached, match_end}
+use Rattle.bx_find.specs.declared.letters.Reading.TheVariants.{Close}
 use Rattle.bx_document.specs.Swapped.{behind_character, last_stop, swapped}
 use Rattle.bx_keys.specs.declared.key.Key.{Key}
 use Rattle.bx_keys.specs.declared.key.Key.TheVariants.{Find, Replace, UndoRun}
 use Rattle.bx_store.specs.declared.store.StoreFault.{StoreFault}
 use Rattle.bx_view.specs.Moves.{place_at}
-use Rattle.bx_editor.specs.declared.aim.Aim.TheVariants as aims
+use Rattle.bx_editor.specs.declared.search_state.SearchPurpose.TheVariants as aims
 use Rattle.bx_editor.specs.declared.message.Message.TheVariants.{Replaced, TextFull}
-use Rattle.bx_editor.specs.declared.seek.Seek.TheVariants.{Off, Replacing}
+use Rattle.bx_editor.specs.declared.search_state.SearchState.TheVariants.{Off, Replacing}
 use Rattle.bx_editor_laws.specs.AskingLaws.{is_enter}
-use Rattle.bx_editor.specs.Editor.{Editor, at_start, place_after, rows, HasRows}
-use Rattle.bx_editor.specs.Keys.{after_key, after_keys}
+use Rattle.bx_editor.specs.Editor.{Editor, at_start, place_after, rows}
+use Rattle.bx_editor.specs.Functions.{HasRows, after_keys}
+use Rattle.bx_editor.specs.Keys.{after_key}
 use Rattle.bx_editor_laws.specs.Laws.{after_typing}
 use Rattle.bx_editor.specs.Putting.{is_paste}
 use Rattle.bx_editor.specs.Replacing.{match_stop}
@@ -50,7 +51,7 @@ ShownStands =
 -- a match is shown, as in an editor of the code, and no paste is under way
 pub record IsShowing (d : Data) (e : Editor) : Type 0 where
   pub text : IsUtf8 e.content.text
-  pub other : IsUtf8 e.other
+  pub replacement : IsUtf8 e.replacement
   pub unasked : e.ask ≡ asks.Off
   pub settled : e.pasted ≡ None
   pub shown : e.seek ≡ Replacing
@@ -78,23 +79,23 @@ pub record IsFull (e new : Editor) : Type 0 where
 
 -- the text with the other one in place of the match
 abbrev pub with_one : Data → Editor → List ℕ
-with_one d e = take e.at e.content.text ++ e.other ++ drop (match_stop d e) e.content.text
+with_one d e = take e.at e.content.text ++ e.replacement ++ drop (match_stop d e) e.content.text
 
--- The match has the query's letters, and gives way to the other text; before and after it nothing has changed. Where
--- replacing has ended, the cursor is at the first place at or after the end of the other text.
+-- The match has the query's letters, and gives way to the replacement; before and after it nothing has changed. Where
+-- replacing has ended, the cursor is at the first place at or after the end of the replacement.
 pub record HasReplacedOne (d : Data) (e new : Editor) : Type 0 where
   pub letters_are : letters d Close (chars (slice_range e.content.text e.at (match_stop d e))) ≡ sought d e
   pub text_is : new.content.text ≡ with_one d e
   pub count_is : new.count ≡ e.count + 1
-  pub goes_on : GoesOn d new (e.at + length e.other)
-  pub ended : new.seek ≡ Off → new.place ≡ place_after d e (with_one d e) (e.at + length e.other)
+  pub goes_on : GoesOn d new (e.at + length e.replacement)
+  pub ended : new.seek ≡ Off → new.place ≡ place_after d e (with_one d e) (e.at + length e.replacement)
 
 -- the match is replaced if there is room
 pub record ReplacesMatch (d : Data) (e new : Editor) : Type 0 where
   pub fits : length (with_one d e) ≤ largest_text → HasReplacedOne d e new
   pub full : largest_text < length (with_one d e) → IsFull e new
 
--- the end of a line that is typed, not pasted, replaces the match, and shows the next one after the other text
+-- the end of a line that is typed, not pasted, replaces the match, and shows the next one after the replacement
 abbrev pub EnterReplaces : Type 0
 EnterReplaces =
     (d : Data) (e : Editor) (enter : Key) → IsShowing d e → is_paste e.typing ≡ false → is_enter enter ≡ true
@@ -142,12 +143,12 @@ pub record AreTheMatches (d : Data) (e : Editor) (spans : List (ℕ × ℕ)) : T
 
 -- the text with the other one in place of each of these matches
 abbrev pub with_all : Editor → List (ℕ × ℕ) → List ℕ
-with_all e spans = take e.at e.content.text ++ swapped e.at e.content.text e.other spans ++ drop (last_stop e.at spans) e.content.text
+with_all e spans = take e.at e.content.text ++ swapped e.at e.content.text e.replacement spans ++ drop (last_stop e.at spans) e.content.text
 
--- each match gives way to the other text once, and the text outside the matches has not changed
+-- each match gives way to the replacement once, and the text outside the matches has not changed
 pub record HasReplacedAll (d : Data) (e : Editor) (spans : List (ℕ × ℕ)) (new : Editor) : Type 0 where
   pub text_is : new.content.text ≡ with_all e spans
-  pub place_is : new.place ≡ place_after d e (with_all e spans) (e.at + length (swapped e.at e.content.text e.other spans))
+  pub place_is : new.place ≡ place_after d e (with_all e spans) (e.at + length (swapped e.at e.content.text e.replacement spans))
   pub count_is : new.count ≡ e.count + length spans
   pub seek_is : new.seek ≡ Off
   pub message_is : new.message ≡ Some (Replaced new.count)
@@ -176,8 +177,8 @@ ReplacedComesBack =
 
 -- ---- replacing by the same letters
 
--- if the other text has the letters of the query, the text has the same letters after a key that replaces
+-- if the replacement has the letters of the query, the text has the same letters after a key that replaces
 abbrev pub SameLettersStay : Type 0
 SameLettersStay =
-    (d : Data) (e : Editor) (key : Key) → IsShowing d e → DoesReplace key → letters d Close (chars e.other) ≡ sought d e
+    (d : Data) (e : Editor) (key : Key) → IsShowing d e → DoesReplace key → letters d Close (chars e.replacement) ≡ sought d e
     → letters d Close (chars (after_key d None e key).content.text) ≡ letters d Close (chars e.content.text)

@@ -1,7 +1,7 @@
 -- Laws of selections. `d`, `e` and `new` are as in Laws.antt.
 use Rattle.std.specs.Prelude.{◌≡◌, ◌≢◌, ℕ, ◌+◌, ◌≤◌, ◌<◌, Bool, true, false, List, [], ◌∷◌, ◌++◌, length, take, drop, encode_utf8}
 use Rattle.std.specs.Prelude.{unwrap_or, Some, None}
-use Rattle.bx_terms.specs.Sizes.{largest_text}
+use Rattle.bx_common.specs.Characters.{largest_text}
 use Rattle.bx_keys.specs.declared.key.Key.{Key}
 use Rattle.bx_keys.specs.declared.key.Key.TheVariants.{Insert, Erase, Delete, Back, Forward, Up, Down, Right, Left, RowHome, RowEnd}
 use Rattle.bx_keys.specs.declared.key.Key.TheVariants.{PageUp, PageDown, Put}
@@ -9,18 +9,18 @@ use Rattle.bx_keys.specs.declared.key.Key.TheVariants.{WordLeft, WordRight, Text
 use Rattle.bx_keys.specs.declared.key.Key.TheVariants.{EraseWord, DeleteWord, ErasePoint, NewLine}
 use Rattle.bx_keys.specs.declared.key.Key.TheVariants.{Cancel, LineUp, LineDown, PageBack, PageOn, Point, Select, UndoRun}
 use Rattle.bx_ucd.specs.Data.{Data}
-use Rattle.bx_asking.specs.declared.question.Ask.TheVariants as asks
+use Rattle.bx_editor.specs.declared.questions.answers.Prompt.TheVariants as asks
 use Rattle.bx_editor.specs.declared.message.Message.TheVariants.{TextFull}
-use Rattle.bx_editor.specs.declared.seek.Seek.TheVariants as searches
-use Rattle.bx_editor.specs.declared.soft.Soft.TheVariants.{Off, Old}
+use Rattle.bx_editor.specs.declared.search_state.SearchState.TheVariants as searches
+use Rattle.bx_editor.specs.declared.cursor.Soft.TheVariants.{Off, Old}
 use Rattle.bx_editor.specs.Editor.{Editor, place_after}
-use Rattle.bx_editor.specs.Keys.{after_key, after_keys}
+use Rattle.bx_editor.specs.Keys.{after_key}
+use Rattle.bx_editor.specs.Functions.{after_keys}
 use Rattle.bx_editor_laws.specs.Laws.{IsPart}
 use Rattle.bx_editor.specs.Putting.{line_end}
-use Rattle.bx_editor.specs.Region.{region}
+use Rattle.bx_editor.specs.Region.{region, aged}
 use Rattle.bx_editor_laws.specs.RunLaws.{IsBackBefore}
-use Rattle.bx_editor.specs.Selecting.{aged}
-use Rattle.bx_runs.specs.declared.typing.Typing.TheVariants as typings
+use Rattle.bx_editor.specs.declared.undo_groups.typing.Typing.TheVariants as typings
 
 -- ---- moves
 
@@ -73,7 +73,7 @@ SeekingTakesSelectionOff =
 -- ---- Cancel
 
 -- Outside a question Cancel removes the mark, a selection's too; in one it ends the question, and the mark stays. The message, an
--- earlier Quit and a kept column are gone, and the next edit begins a run; nothing else changes.
+-- earlier Quit and a kept column are gone, and the next edit begins an undo group; nothing else changes.
 pub record IsCancelled (e new : Editor) : Type 0 where
   pub unmarked : e.ask ≡ asks.Off
       → new ≡ record e { mark = None; soft = Off; typing = typings.Off; message = None; quit_before = false; goal = None }

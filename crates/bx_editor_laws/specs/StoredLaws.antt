@@ -1,7 +1,7 @@
 -- A law of the text that was stored or opened last: UndoRun and RedoRun that lead back to it find it unchanged. `d`, `e` and `new`
 -- are as in Laws.antt; `n` is the number of the edits that led to that text.
 use Rattle.std.specs.Prelude.{◌≡◌, ◌≢◌, ◌⊎◌, ℕ, ◌≤◌, ◌&&◌, Bool, true, false, List, [], ◌∷◌, length, Option, None, is_none}
-use Rattle.bx_terms.specs.declared.base.Base.{Base}
+use Rattle.bx_common.specs.declared.base.Base.{Base}
 use Rattle.bx_keys.specs.declared.key.Key.{Key}
 use Rattle.bx_keys.specs.declared.key.Key.TheVariants.{Insert, Erase, Delete, Cut, Put, Replace, EraseWord, DeleteWord, ErasePoint, NewLine}
 use Rattle.bx_keys.specs.declared.key.Key.TheVariants.{RedoRun, Save, UndoRun}

@@ -5,20 +5,21 @@ use Rattle.std.specs.Prelude.{Some, None, All, Contains}
 use Rattle.bx_keys.specs.declared.key.Key.{Key}
 use Rattle.bx_keys.specs.declared.key.Key.TheVariants.{ErasePoint, Find, FindNext, LineDown, LineUp, PageBack, PageOn}
 use Rattle.bx_ucd.specs.Data.{Data}
-use Rattle.bx_asking.specs.declared.question.Ask.TheVariants as asks
+use Rattle.bx_editor.specs.declared.questions.answers.Prompt.TheVariants as asks
 use Rattle.bx_rows.specs.RowPicture.{columns_used}
-use Rattle.bx_paragraph.specs.declared.slot.Slot.{Slot}
+use Rattle.bx_paragraph.specs.declared.slots.Slot.{Slot}
 use Rattle.bx_paragraph.specs.Slots.{covers, row_slots}
 use Rattle.bx_view.specs.declared.moves.Logical.TheVariants.{Back}
 use Rattle.bx_view.specs.Moves.{entry_in, step_logical}
 use Rattle.bx_view.specs.Places.{IsTextPlace}
 use Rattle.bx_view.specs.TextRows.{TextRow, cell_of, row_at, row_of}
-use Rattle.bx_editor.specs.declared.seek.Seek.TheVariants.{Off}
-use Rattle.bx_editor.specs.Editor.{Editor, rows, text_height, HasRows}
+use Rattle.bx_editor.specs.declared.search_state.SearchState.TheVariants.{Off}
+use Rattle.bx_editor.specs.Editor.{Editor, rows, text_height}
+use Rattle.bx_editor.specs.Functions.{HasRows, after_keys}
 use Rattle.bx_editor.specs.Erasing.{point_before}
-use Rattle.bx_editor.specs.Keys.{after_key, after_keys}
+use Rattle.bx_editor.specs.Keys.{after_key}
 use Rattle.bx_editor.specs.Search.{sought}
-use Rattle.bx_editor.specs.Selecting.{is_selection}
+use Rattle.bx_editor.specs.Region.{is_selection}
 
 -- ---- a point erased
 

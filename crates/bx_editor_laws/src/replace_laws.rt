@@ -34,7 +34,7 @@ pub fn replaced_comes_back()
     ensures { ReplacedComesBack }
 {}
 
-/// If the other text has the letters of the query, replacing leaves the letters of the text as they were.
+/// If the replacement has the letters of the query, replacing leaves the letters of the text as they were.
 pub fn same_letters_stay()
     ensures { SameLettersStay }
 {}

@@ -3,8 +3,9 @@ use Rattle.std.proofs.Common.{◌≡◌, ◌+◌, ℕ, Bool, true, false, List, 
 use Rattle.std.specs.Prelude.{find, nat_le, nat_lt, encode_utf8}
 use Rattle.std.proofs.lemmas.List.Elements.{All-nil, All-cons, All-head, All-tail}
 use Rattle.bx_ucd.specs.Data.{Data}
-use Rattle.bx_find.specs.Matches.{is_match, matches, first_from, first_before, last_below, last_before, last_above, last_from}
-use Rattle.bx_find.specs.declared.reading.Reading.{Reading}
+use Rattle.bx_find.specs.Matches.{is_match, matches, first_from, last_below, last_before}
+use Rattle.bx_find.specs.Parts.{first_before, last_above, last_from}
+use Rattle.bx_find.specs.declared.letters.Reading.{Reading}
 use Rattle.bx_find.proofs.Offsets.{widths, widths-more}
 use Rattle.bx_find.proofs.Nearest.{bound_at}
 
@@ -34,39 +35,39 @@ module _ (P : ℕ → Type 0) where
         | false ↦ of-above x o ats h (All-tail P at ats a)
       ]
 
-module _ (says : Data) (reading : Reading) (sought : List ℕ) where
+module _ (ucd : Data) (reading : Reading) (sought : List ℕ) where
   -- what holds of the offset of each character, holds of each match
   every : (P : ℕ → Type 0) (at : ℕ) (cs : List ℕ) → ((front rest : List ℕ) → cs ≡ front ++ rest → P (at + widths front))
-      → All P (matches says reading sought at cs)
+      → All P (matches ucd reading sought at cs)
   every P at [] h = All-nil P
   every P at (c ∷ cs) h =
       let here : at + widths [] ≡ at = omega arith in
       let next : (front : List ℕ) → at + widths (c ∷ front) ≡ at + length (encode_utf8 c) + widths front = λ front. omega (arith, widths-more c front) in
       let more = every P (at + length (encode_utf8 c)) cs (λ front rest e. subst P (next front) (h (c ∷ front) rest (ap (λ ds. c ∷ ds) e))) in
-      elim (is_match says reading sought (c ∷ cs)) as
+      elim (is_match ucd reading sought (c ∷ cs)) as
       (λ b. All P (elim b as (λ v. List ℕ) [
-        | true ↦ at ∷ matches says reading sought (at + length (encode_utf8 c)) cs
-        | false ↦ matches says reading sought (at + length (encode_utf8 c)) cs
+        | true ↦ at ∷ matches ucd reading sought (at + length (encode_utf8 c)) cs
+        | false ↦ matches ucd reading sought (at + length (encode_utf8 c)) cs
       ])) [
         | true ↦ All-cons P at _ (subst P here (h [] (c ∷ cs) refl)) more
         | false ↦ more
       ]
 
   module _ (text : List ℕ) (x : ℕ) (u : IsUtf8 text) where
-    all : All (IsCharBoundary text) (matches says reading sought 0 (chars text))
+    all : All (IsCharBoundary text) (matches ucd reading sought 0 (chars text))
     all =
         let at : (front : List ℕ) → widths front ≡ 0 + widths front = λ front. omega arith in
         every (IsCharBoundary text) 0 (chars text) (λ front rest e. bound_at text front rest (0 + widths front) u e (at front))
 
-    pub first_from_bound : (o : Option ℕ) → o ≡ first_from says reading sought text x → IfSome o (IsCharBoundary text)
+    pub first_from_bound : (o : Option ℕ) → o ≡ first_from ucd reading sought text x → IfSome o (IsCharBoundary text)
     first_from_bound o e = subst (λ p. IfSome p (IsCharBoundary text)) (sym e) (of-find (IsCharBoundary text) (nat_le x) _ all)
 
-    pub first_before_bound : (o : Option ℕ) → o ≡ first_before says reading sought text x → IfSome o (IsCharBoundary text)
+    pub first_before_bound : (o : Option ℕ) → o ≡ first_before ucd reading sought text x → IfSome o (IsCharBoundary text)
     first_before_bound o e =
         subst (λ p. IfSome p (IsCharBoundary text)) (sym e) (of-find (IsCharBoundary text) (λ at. nat_lt at x) _ all)
 
-    pub last_before_bound : (o : Option ℕ) → o ≡ last_before says reading sought text x → IfSome o (IsCharBoundary text)
+    pub last_before_bound : (o : Option ℕ) → o ≡ last_before ucd reading sought text x → IfSome o (IsCharBoundary text)
     last_before_bound o e = subst (λ p. IfSome p (IsCharBoundary text)) (sym e) (of-below (IsCharBoundary text) x None _ tt all)
 
-    pub last_from_bound : (o : Option ℕ) → o ≡ last_from says reading sought text x → IfSome o (IsCharBoundary text)
+    pub last_from_bound : (o : Option ℕ) → o ≡ last_from ucd reading sought text x → IfSome o (IsCharBoundary text)
     last_from_bound o e = subst (λ p. IfSome p (IsCharBoundary text)) (sym e) (of-above (IsCharBoundary text) x None _ tt all)

@@ -1,9 +1,9 @@
 pub mod Letters
 pub mod Short
 pub mod Matches
-pub mod Spans
 pub mod Borders
 pub mod Ring
 pub mod Prefix
 pub mod Haystack
 pub mod Nearest
+pub mod Parts

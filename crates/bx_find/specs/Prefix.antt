@@ -1,11 +1,11 @@
 -- The prefix of the sought letters that a search has read last, as the places of its letters, and the matches still to come.
 -- The place of a letter is the offset of the character that begins with it, in bytes; a character's later letters have None.
--- `says` is Unicode's data.
+-- `ucd` is Unicode's data.
 use Rattle.std.specs.Prelude.{ℕ, ◌+◌, true, false, List, [], ◌∷◌, ◌++◌, length, map, flat_map, Option, Some, None, option_to_list, encode_utf8}
 use Rattle.bx_ucd.specs.Data.{Data}
 use Rattle.bx_find.specs.Letters.{letters_of}
 use Rattle.bx_find.specs.Matches.{begins_some}
-use Rattle.bx_find.specs.declared.reading.Reading.{Reading}
+use Rattle.bx_find.specs.declared.letters.Reading.{Reading}
 
 -- a letter with its place
 abbrev pub Placed : Type 0
@@ -18,8 +18,8 @@ placed_first place (l ∷ ls) = (place, l) ∷ placed_first None ls
 
 -- the letters of characters, with their places; the first character is at the offset `at`
 abbrev pub placed : Data → Reading → ℕ → List ℕ → List Placed
-placed says reading at [] = []
-placed says reading at (c ∷ cs) = placed_first (Some at) (letters_of says reading c) ++ placed says reading (at + length (encode_utf8 c)) cs
+placed ucd reading at [] = []
+placed ucd reading at (c ∷ cs) = placed_first (Some at) (letters_of ucd reading c) ++ placed ucd reading (at + length (encode_utf8 c)) cs
 
 -- the places from which the letters begin with the sought ones
 abbrev pub found : List ℕ → List Placed → List (Option ℕ)
@@ -47,4 +47,4 @@ matches_after sought prefix ps = offsets_of (found_after sought prefix ps)
 
 -- the matches once characters follow a prefix, the first at the offset `at`
 abbrev pub to_come : Data → Reading → List ℕ → List (Option ℕ) → ℕ → List ℕ → List ℕ
-to_come says reading sought prefix at cs = matches_after sought prefix (placed says reading at cs)
+to_come ucd reading sought prefix at cs = matches_after sought prefix (placed ucd reading at cs)

@@ -1,10 +1,10 @@
 -- Characters whose letters need no table of decompositions or foldings.
 use Rattle.std.specs.Prelude.{ℕ, Bool, true, ◌||◌}
 use Rattle.std.specs.Char.{to_ascii_lowercase}
-use Rattle.bx_terms.specs.Characters.{is_within}
+use Rattle.bx_common.specs.Characters.{is_within}
 use Rattle.bx_find.specs.Letters.{main_letter}
-use Rattle.bx_find.specs.declared.reading.Reading.{Reading}
-use Rattle.bx_find.specs.declared.reading.Reading.TheVariants.{Wide, Close}
+use Rattle.bx_find.specs.declared.letters.Reading.{Reading}
+use Rattle.bx_find.specs.declared.letters.Reading.TheVariants.{Wide, Close}
 
 -- ASCII, and of the blocks Hebrew and Arabic, up to YEH BARREE, characters with no decomposition: those left out, U+0622 to
 -- U+0626, U+06C0 and U+06C2, have one, and U+06C1 is between them

@@ -7,7 +7,7 @@ use crate::prefix::{begins_nothing, read_letter};
 use crate::query::Query;
 use crate::ring::Ring;
 use crate::sought::Sought;
-use bx_terms::first_char;
+use bx_common::first_char;
 use bx_ucd::BidiData;
 
 /// The last match before an offset, of those found so far.

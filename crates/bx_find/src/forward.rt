@@ -6,7 +6,7 @@ use crate::prefix::{begins_nothing, read_letter};
 use crate::query::Query;
 use crate::ring::Ring;
 use crate::sought::Sought;
-use bx_terms::first_char;
+use bx_common::first_char;
 use bx_ucd::BidiData;
 
 /// Reads the letters of a character at an offset, up to the first match.

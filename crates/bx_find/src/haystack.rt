@@ -2,7 +2,7 @@
 ghost use Rattle.std.specs.Prelude.{◌≡◌, ℕ, ◌+◌, ◌-◌, ◌<◌, List, length, take, IsUtf8, IsCharBoundary};
 ghost use Rattle.bx_find.specs.Haystack.{IsPieceAt};
 
-use bx_terms::first_char;
+use bx_common::first_char;
 
 /// A text that is searched. It lends the piece at an offset.
 pub trait Haystack {

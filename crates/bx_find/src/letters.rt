@@ -1,16 +1,25 @@
-//! The letters that a search compares in place of characters.
+//! The letters that a search compares in place of characters, and the two ways to read them: `letters_of` of specs/Letters.antt
+//! says what each makes of a character.
 ghost use Rattle.std.specs.Prelude.{◌≡◌, ◌+◌, ◌≤◌, ◌++◌, ◌∷◌, [], length, true};
 ghost use Rattle.bx_find.specs.Letters.{is_stroke_or_mark, is_passed_over, main_letter, folded, letters_of_parts, letters_of};
 ghost use Rattle.bx_find.specs.Short.{is_short, is_simple, simple_letter};
 
-use crate::reading::Reading;
 use arrayvec::ArrayVec;
-use bx_terms::is_direction_mark;
+use bx_common::is_direction_mark;
 use bx_ucd::BidiData;
 use bx_ucd::class::is_unlettered;
 use ucd_case::full_folding;
 use ucd_normal::Form;
 use unicode_normalization::char::decomposition;
+
+/// How a search reads letters.
+#[derive(Clone, Copy)]
+pub enum Reading {
+    /// For finding: whatever their marks, their case and their form in a word.
+    Wide,
+    /// For replacing: whatever their marks, and the case of A to Z.
+    Close,
+}
 
 /// No character has more letters: those of a decomposition, each folded in full, are four at most in Unicode's data.
 pub const MOST_LETTERS: usize = 4;

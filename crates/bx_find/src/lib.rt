@@ -10,15 +10,13 @@ mod haystack;
 mod letters;
 mod prefix;
 mod query;
-mod reading;
 mod ring;
 mod search;
 mod sought;
 mod spans;
 
 pub use haystack::Haystack;
-pub use letters::is_passed_over;
+pub use letters::{Reading, is_passed_over};
 pub use query::Query;
-pub use reading::Reading;
 pub use search::{first_before, first_from, last_before, last_from};
 pub use spans::{first_span, match_end};

@@ -4,11 +4,10 @@ ghost use Rattle.bx_find.specs.Borders.{IsBorder, AreBorders};
 ghost use Rattle.bx_find.specs.Letters.{letters};
 
 use crate::borders::border;
-use crate::letters::letters_of;
-use crate::reading::Reading;
+use crate::letters::{Reading, letters_of};
 use crate::ring::Ring;
 use arrayvec::ArrayVec;
-use bx_terms::first_char;
+use bx_common::first_char;
 use bx_ucd::BidiData;
 use std::marker::Model;
 
@@ -107,7 +106,7 @@ impl Query {
         ensures empty { result ≡ [] }
         ensures shorter { length result < length self.now }
     {
-        // proof only: the query has letters
+        // `len` promises that a query has letters.
         let _some = self.len();
         Ring::new()
     }

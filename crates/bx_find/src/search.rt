@@ -1,12 +1,13 @@
 //! The search of a text for a query: the nearest matches of offsets.
 ghost use Rattle.std.specs.Prelude.{◌≡◌, None, length, IfSome, IsCharBoundary, IsUtf8};
-ghost use Rattle.bx_find.specs.Matches.{first_from, first_before, last_before, last_from};
+ghost use Rattle.bx_find.specs.Matches.{first_from, last_before};
+ghost use Rattle.bx_find.specs.Parts.{first_before, last_from};
 
 use crate::backward::{Latest, last_in};
 use crate::forward::first_in;
 use crate::haystack::{Haystack, upto};
+use crate::letters::Reading;
 use crate::query::Query;
-use crate::reading::Reading;
 use crate::sought::Sought;
 use bx_ucd::BidiData;
 

@@ -2,9 +2,8 @@
 ghost use Rattle.std.specs.Prelude.{◌≡◌};
 ghost use Rattle.bx_find.specs.Letters.{letters_of};
 
-use crate::letters::{MOST_LETTERS, letters_of};
+use crate::letters::{MOST_LETTERS, Reading, letters_of};
 use crate::query::Query;
-use crate::reading::Reading;
 use arrayvec::ArrayVec;
 use bx_ucd::BidiData;
 

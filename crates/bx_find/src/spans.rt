@@ -1,13 +1,13 @@
 //! Where a match ends, and the matches that follow one another with no part in common.
 ghost use Rattle.std.specs.Prelude.{◌≡◌, ℕ, ◌+◌, ◌≤◌, ◌<◌, ◌^◌, ◌++◌, ◌∷◌, [], List, length, chars, IfSome, MatchOption, IsCharBoundary};
-ghost use Rattle.bx_find.specs.Spans.{is_attached, behind_letters, match_end, spans_from};
+ghost use Rattle.bx_find.specs.Matches.{behind_letters, is_attached, match_end, spans_from};
 
 use crate::haystack::Haystack;
+use crate::letters::Reading;
 use crate::query::Query;
-use crate::reading::Reading;
 use crate::search::first_match;
 use crate::sought::Sought;
-use bx_terms::first_char;
+use bx_common::first_char;
 use bx_ucd::BidiData;
 use bx_ucd::class::Class;
 

@@ -5,9 +5,9 @@ use Rattle.std.specs.Str.{chars}
 use Rattle.std.specs.Char.{encode_utf8}
 use Rattle.bx_ucd.specs.SmallTables.{small}
 use Rattle.bx_find.specs.Letters.{is_passed_over, letters_of, letters}
-use Rattle.bx_find.specs.Matches.{first_from, last_before, first_before, last_from}
-use Rattle.bx_find.specs.Spans.{spans_from}
-use Rattle.bx_find.specs.declared.reading.Reading.TheVariants.{Wide, Close}
+use Rattle.bx_find.specs.Matches.{first_from, last_before, spans_from}
+use Rattle.bx_find.specs.Parts.{first_before, last_from}
+use Rattle.bx_find.specs.declared.letters.Reading.TheVariants.{Wide, Close}
 use Rattle.ucd_case.proofs.Computing.{ucd_case}
 use Rattle.unicode_normalization.proofs.Computing.{unicode_normalization}
 

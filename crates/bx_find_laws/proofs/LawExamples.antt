@@ -8,7 +8,7 @@ use Rattle.bx_ucd.specs.SmallTables.{small}
 use Rattle.bx_find.specs.Nearest.{IsFirst, IsLast, MatchesAt}
 use Rattle.bx_ucd.specs.Class.{is_unlettered}
 use Rattle.bx_find.specs.Letters.{is_passed_over}
-use Rattle.bx_find.specs.declared.reading.Reading.TheVariants.{Close}
+use Rattle.bx_find.specs.declared.letters.Reading.TheVariants.{Close}
 
 -- ---- whatever the tables say
 
@@ -16,17 +16,17 @@ or_true : (b : Bool) → b || true ≡ true
 or_true true = refl
 or_true false = refl
 
-tatweel_is_passed_over : (says : Data) → is_passed_over says 0x640 ≡ true
-tatweel_is_passed_over says = or_true (is_unlettered (says.class 0x640))
+tatweel_is_passed_over : (ucd : Data) → is_passed_over ucd 0x640 ≡ true
+tatweel_is_passed_over ucd = or_true (is_unlettered (ucd.class 0x640))
 
-arabic_mark_is_passed_over : (says : Data) → is_passed_over says 0x61c ≡ true
-arabic_mark_is_passed_over says = or_true (is_unlettered (says.class 0x61c))
+arabic_mark_is_passed_over : (ucd : Data) → is_passed_over ucd 0x61c ≡ true
+arabic_mark_is_passed_over ucd = or_true (is_unlettered (ucd.class 0x61c))
 
-left_mark_is_passed_over : (says : Data) → is_passed_over says 0x200e ≡ true
-left_mark_is_passed_over says = or_true (is_unlettered (says.class 0x200e))
+left_mark_is_passed_over : (ucd : Data) → is_passed_over ucd 0x200e ≡ true
+left_mark_is_passed_over ucd = or_true (is_unlettered (ucd.class 0x200e))
 
-right_mark_is_passed_over : (says : Data) → is_passed_over says 0x200f ≡ true
-right_mark_is_passed_over says = or_true (is_unlettered (says.class 0x200f))
+right_mark_is_passed_over : (ucd : Data) → is_passed_over ucd 0x200f ≡ true
+right_mark_is_passed_over ucd = or_true (is_unlettered (ucd.class 0x200f))
 
 -- ---- by the small tables' classes: accents, boundary neutrals, each directional formatting character, and no letter
 

@@ -1,45 +1,45 @@
--- A search answers with the nearest matches of the query. `says` is Unicode's data.
+-- A search answers with the nearest matches of the query. `ucd` is Unicode's data.
 use Rattle.std.specs.Prelude.{◌≡◌, ℕ, ◌≤◌, ◌<◌, List, [], ◌∷◌, MatchOption, IsUtf8}
 use Rattle.bx_ucd.specs.Data.{Data}
-use Rattle.bx_find.specs.Matches.{is_match, first_from, first_before, last_before}
-use Rattle.bx_find.specs.Spans.{match_end, spans_from}
-use Rattle.bx_find.specs.declared.reading.Reading.{Reading}
+use Rattle.bx_find.specs.Matches.{is_match, first_from, last_before, match_end, spans_from}
+use Rattle.bx_find.specs.Parts.{first_before}
+use Rattle.bx_find.specs.declared.letters.Reading.{Reading}
 use Rattle.bx_find.specs.Nearest.{IsFirst, IsLast, MatchesAt}
 
 -- `first_from` is the first match at or after x, None if there is none
 abbrev pub FirstFromIsFirst : Type 0
-FirstFromIsFirst = (says : Data) (reading : Reading) (sought text : List ℕ) (x : ℕ) → IsUtf8 text
-    → MatchOption (first_from says reading sought text x) ((i : ℕ) → x ≤ i → ¬ (MatchesAt says reading sought text i))
-    (IsFirst says reading sought text x)
+FirstFromIsFirst = (ucd : Data) (reading : Reading) (sought text : List ℕ) (x : ℕ) → IsUtf8 text
+    → MatchOption (first_from ucd reading sought text x) ((i : ℕ) → x ≤ i → ¬ (MatchesAt ucd reading sought text i))
+    (IsFirst ucd reading sought text x)
 
 -- the first match before x
-pub record IsFirstBefore (says : Data) (reading : Reading) (sought text : List ℕ) (x at : ℕ) : Type 0 where
-  pub is_match : MatchesAt says reading sought text at
+pub record IsFirstBefore (ucd : Data) (reading : Reading) (sought text : List ℕ) (x at : ℕ) : Type 0 where
+  pub is_match : MatchesAt ucd reading sought text at
   pub before : at < x
-  pub least : (i : ℕ) → MatchesAt says reading sought text i → at ≤ i
+  pub least : (i : ℕ) → MatchesAt ucd reading sought text i → at ≤ i
 
 -- `first_before` is the first match before x, None if there is none
 abbrev pub FirstBeforeIsFirst : Type 0
-FirstBeforeIsFirst = (says : Data) (reading : Reading) (sought text : List ℕ) (x : ℕ) → IsUtf8 text
-    → MatchOption (first_before says reading sought text x) ((i : ℕ) → i < x → ¬ (MatchesAt says reading sought text i))
-    (IsFirstBefore says reading sought text x)
+FirstBeforeIsFirst = (ucd : Data) (reading : Reading) (sought text : List ℕ) (x : ℕ) → IsUtf8 text
+    → MatchOption (first_before ucd reading sought text x) ((i : ℕ) → i < x → ¬ (MatchesAt ucd reading sought text i))
+    (IsFirstBefore ucd reading sought text x)
 
 -- `last_before` is the last match before x, None if there is none
 abbrev pub LastBeforeIsLast : Type 0
-LastBeforeIsLast = (says : Data) (reading : Reading) (sought text : List ℕ) (x : ℕ) → IsUtf8 text
-    → MatchOption (last_before says reading sought text x) ((i : ℕ) → i < x → ¬ (MatchesAt says reading sought text i))
-    (IsLast says reading sought text x)
+LastBeforeIsLast = (ucd : Data) (reading : Reading) (sought text : List ℕ) (x : ℕ) → IsUtf8 text
+    → MatchOption (last_before ucd reading sought text x) ((i : ℕ) → i < x → ¬ (MatchesAt ucd reading sought text i))
+    (IsLast ucd reading sought text x)
 
 -- ---- matches that follow one another
 
 -- each of the spans, a match's start and end, is the first match at or after the end of the one before, the first of them at or
 -- after x; there is none after the last
 abbrev pub AreSpans : Data → Reading → List ℕ → List ℕ → ℕ → List (ℕ × ℕ) → Type 0
-AreSpans says reading sought text x [] = (i : ℕ) → x ≤ i → ¬ (MatchesAt says reading sought text i)
-AreSpans says reading sought text x (s ∷ ss) =
-    IsFirst says reading sought text x s.0 × (s.1 ≡ match_end says reading sought text s.0) × AreSpans says reading sought text s.1 ss
+AreSpans ucd reading sought text x [] = (i : ℕ) → x ≤ i → ¬ (MatchesAt ucd reading sought text i)
+AreSpans ucd reading sought text x (s ∷ ss) =
+    IsFirst ucd reading sought text x s.0 × (s.1 ≡ match_end ucd reading sought text s.0) × AreSpans ucd reading sought text s.1 ss
 
 -- `spans_from` has these spans
 abbrev pub SpansFollow : Type 0
-SpansFollow = (says : Data) (reading : Reading) (sought text : List ℕ) (x : ℕ) → IsUtf8 text
-    → AreSpans says reading sought text x (spans_from says reading sought text x)
+SpansFollow = (ucd : Data) (reading : Reading) (sought text : List ℕ) (x : ℕ) → IsUtf8 text
+    → AreSpans ucd reading sought text x (spans_from ucd reading sought text x)

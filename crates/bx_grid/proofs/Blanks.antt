@@ -6,7 +6,7 @@ use Rattle.bx_grid.specs.Columns.{Col, blank, is_blank}
 use Rattle.bx_grid.specs.Seen.{seen, all_seen}
 use Rattle.bx_grid.specs.declared.column.Column.{Column}
 use Rattle.std.proofs.lemmas.List.{drop-map, length-drop, length-map, length-take-le, take-map}
-use Rattle.bx_grid.specs.Picture.{GridState, HasRoom, IsGrid, IsWithin}
+use Rattle.bx_grid.specs.Grid.{GridState, HasRoom, IsGrid, IsWithin}
 use Rattle.bx_grid.proofs.Grids.{span_inside}
 use Rattle.bx_grid.proofs.Plain.{blank_is}
 use Rattle.bx_grid.proofs.Reading.{and_left, and_right}

@@ -1,14 +1,16 @@
 -- A clip that is read changes nothing that is seen.
 use Rattle.std.proofs.Common.{◌≡◌, ℕ, true, List, [], ◌++◌, refl, ap, sym, ◌∙◌, codes}
 use Rattle.std.proofs.lemmas.List.{append-nil}
-use Rattle.bx_terms.specs.Characters.{is_ascii_printable, are_ascii_printable}
+use Rattle.bx_common.specs.Characters.{is_ascii_printable, are_ascii_printable}
 use Rattle.base64.specs.Engines.{standard}
 use Rattle.bx_grid.specs.declared.command.Command.TheVariants.{Clip}
-use Rattle.bx_grid.specs.Clip.{IsBytes, encode_of, clip_bytes}
+use Rattle.base64.specs.GeneralPurpose.{encode_of}
+use Rattle.base64.specs.GeneralPurpose.{IsBytes}
+use Rattle.bx_grid.specs.Tokens.{clip_bytes, string_command}
 use Rattle.bx_grid.specs.Effects.{Effect, pending_effects, effects, run_effects}
-use Rattle.bx_grid.specs.Picture.{AreWholeTokens, IsIdle}
+use Rattle.bx_grid.specs.Picture.{IsIdle}
+use Rattle.bx_grid.specs.Grid.{AreWholeTokens}
 use Rattle.bx_grid.specs.Terminal.{Terminal, reads, run_ended, run_put}
-use Rattle.bx_grid.specs.Tokens.{string_command}
 use Rattle.bx_grid.proofs.Doing.{run, run_is}
 use Rattle.bx_grid.proofs.Encodings.{encoded_printable, encoded_is_base64}
 use Rattle.bx_grid.proofs.Reading.{at, all-append, reads-append}

@@ -11,7 +11,8 @@ use Rattle.std.proofs.lemmas.List.{drop-map}
 use Rattle.std.proofs.lemmas.Bool.Decides.{nat_tests}
 use Rattle.std.proofs.lemmas.Nat.{le_or_l, le_or_r}
 use Rattle.std.proofs.lemmas.Grind.{get_or_default_zero}
-use Rattle.bx_grid.specs.Columns.{Col, Unknown, Glyph, col_eq, are_equal, paste}
+use Rattle.bx_grid.specs.Columns.{Col, Unknown, Glyph, col_eq, are_equal}
+use Rattle.bx_grid.specs.Grid.{paste}
 use Rattle.bx_grid.specs.Codes.{is_byte, is_short, packed, no_code, is_code, code_in, code_of, codes_of, columns_in, offset_in, are_same_code}
 use Rattle.bx_grid.specs.Glyphs.{BeginAlike}
 use Rattle.bx_grid.specs.Seen.{seen, all_seen}

@@ -16,8 +16,8 @@ use Rattle.base64.specs.Tables.{is_inverse}
 use Rattle.base64.proofs.Canonical.{IsScanned-scan}
 use Rattle.base64.proofs.EngineFacts.{decode_of-encode_of, decode_of_bytes, decode_of_strict}
 use Rattle.base64.proofs.Tables.{are_tables_alphabet, are_tables_inverse, encode-decode_table, is_alphabet_printable}
-use Rattle.bx_terms.specs.Characters.{is_ascii_printable, are_ascii_printable}
-use Rattle.bx_grid.specs.Clip.{is_base64, AreBase64}
+use Rattle.bx_common.specs.Characters.{is_ascii_printable, are_ascii_printable}
+use Rattle.bx_grid.specs.Tokens.{is_base64, AreBase64}
 use Rattle.bx_grid.proofs.Reading.{all-append}
 
 -- ---- base64 is printable ASCII

@@ -5,14 +5,15 @@ use Rattle.std.specs.Str.{IsUtf8}
 use Rattle.std.proofs.lemmas.List.{get_or-map, map-set, set_at, drop_more, length-take-le, length-replicate, take-append-drop, take-map, drop-map}
 use Rattle.std.proofs.lemmas.Bool.Decides.{nat_tests}
 use Rattle.std.proofs.Math.Nat.{mul-le-mul_right}
-use Rattle.bx_grid.specs.Columns.{Col, Glyph, blank, paste, run_columns, AreBlank, run_width}
-use Rattle.bx_grid.specs.Columns.{is_one_glyph}
+use Rattle.bx_grid.specs.Columns.{Col, Glyph, blank, run_columns}
+use Rattle.bx_common.specs.Glyphs.{run_width}
+use Rattle.bx_grid.specs.Grid.{paste, AreBlank, GridState, HasRoom, IsGrid, IsWithin}
+use Rattle.bx_common.specs.Glyphs.{is_one_glyph}
 use Rattle.bx_grid.specs.Glyphs.{WholeGlyph, IsGlyph, whole_columns}
 use Rattle.bx_grid.specs.Codes.{code_of, codes_of, blank_code}
 use Rattle.bx_grid.specs.Seen.{seen, all_seen}
 use Rattle.bx_grid.specs.declared.column.Column.{Column}
-use Rattle.bx_grid.specs.Picture.{GridState, HasRoom, IsGrid, IsWithin}
-use Rattle.bx_terms.specs.Sizes.{is_side, largest_side}
+use Rattle.bx_common.specs.Characters.{is_side, largest_side}
 use Rattle.bx_grid.proofs.Pasted.{length-paste, rows_paste}
 use Rattle.bx_grid.proofs.Puts.{run_length, narrow_columns}
 use Rattle.bx_grid.proofs.Whole.{rows-blank, columns_some, whole_glyph}

@@ -2,7 +2,9 @@
 use Rattle.std.proofs.Common.{◌≡◌, ℕ, ◌+◌, ◌-◌, ◌≤◌, Bool, true, List, [], ◌∷◌, ◌++◌, length, take, drop, replicate, refl, ap, ◌∙◌, arith}
 use Rattle.std.proofs.Math.Seq.{take-append-add, drop-append-add}
 use Rattle.std.proofs.lemmas.List.{append-nil, drop-replicate, take-replicate}
-use Rattle.bx_grid.specs.Columns.{Col, Glyph, blank, is_ascii_glyph, run_columns, paste, AreBlank, run_width}
+use Rattle.bx_grid.specs.Columns.{Col, Glyph, blank, is_ascii_glyph, run_columns}
+use Rattle.bx_common.specs.Glyphs.{run_width}
+use Rattle.bx_grid.specs.Grid.{paste, AreBlank}
 use Rattle.bx_grid.specs.Columns.{is_ascii_printable}
 
 -- ---- a character from SPACE to TILDE is a glyph of one column

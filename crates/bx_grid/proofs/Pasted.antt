@@ -3,7 +3,8 @@ use Rattle.std.proofs.Common.{◌≡◌, false, refl, ℕ, ◌+◌, ◌*◌, ◌
 use Rattle.std.proofs.Common.{subst, ap, sym, ◌∙◌, append_assoc, length-append, arith}
 use Rattle.std.proofs.Math.Seq.{take-append-add, drop-append-add}
 use Rattle.std.proofs.lemmas.List.{take-append-drop, take-append-le, drop-append-le, take_at, drop_at, drop-drop, length-drop, length-take-le, length-replicate}
-use Rattle.bx_grid.specs.Columns.{Col, blank, paste, AreBlank, AreSameAround}
+use Rattle.bx_grid.specs.Columns.{Col, blank}
+use Rattle.bx_grid.specs.Grid.{paste, AreBlank, AreSameAround}
 use Rattle.bx_grid.specs.Glyphs.{AreWhole, AreWholeRows}
 use Rattle.bx_grid.proofs.Whole.{space, space_is, whole_along, whole-append, whole_after, whole_split}
 

@@ -2,7 +2,9 @@
 use Rattle.std.proofs.Common.{◌≡◌, ℕ, ◌+◌, ◌<◌, ◌≤◌, Bool, true, false, zero, suc, refl, List, [], ◌∷◌, ◌++◌, length, take, drop, set, replicate, get_or, ap}
 use Rattle.std.proofs.Common.{sym, ◌∙◌, append_assoc, length-append, arith}
 use Rattle.std.proofs.lemmas.List.{set_at, drop_more, length-take-le, length_push, map-set, map_more, length-map, replicate_more, length-replicate}
-use Rattle.bx_grid.specs.Columns.{Col, Glyph, paste, plain_columns, run_columns, glyph_columns_from, are_ascii_printable, run_width}
+use Rattle.bx_grid.specs.Columns.{Col, Glyph, plain_columns, run_columns, glyph_columns_from, are_ascii_printable}
+use Rattle.bx_common.specs.Glyphs.{run_width}
+use Rattle.bx_grid.specs.Grid.{paste}
 use Rattle.std.specs.Str.{chars}
 use Rattle.unicode_width.specs.Width.{str_width}
 use Rattle.bx_grid.specs.Seen.{seen, all_seen}

@@ -9,7 +9,7 @@ use Rattle.std.proofs.lemmas.Bool.Decides.{nat_tests}
 use Rattle.std.proofs.lemmas.Str.Parse.{IsNumeralModel, numerals_by_value, tells_all_ascii_digits}
 use Rattle.std.proofs.lemmas.Fmt.{digits_decimal, digits_value-decimal, decimal_nonempty}
 use Rattle.bx_bytes.specs.declared.fate.Fate.TheVariants.{Ends}
-use Rattle.bx_bytes.specs.Fate.{fate_in}
+use Rattle.bx_bytes.specs.Pattern.{fate_in}
 use Rattle.bx_bytes.specs.Utf8.{characters, is_control, are_printable}
 use Rattle.bx_bytes.proofs.Codes.{chars_of_one}
 use Rattle.bx_grid.specs.declared.command.Command.TheVariants.{Move}

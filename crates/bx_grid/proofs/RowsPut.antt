@@ -3,9 +3,9 @@ use Rattle.std.proofs.Common.{◌≡◌, ℕ, ◌+◌, ◌-◌, ◌*◌, ◌<◌
 use Rattle.std.proofs.lemmas.List.{drop-append-le, drop-drop, drop-map, length-drop, length-map, length-take-le, map-append, nil_from_length, take-append-drop, take-append-le, take-map}
 use Rattle.std.proofs.Math.Nat.{mul-le-mul_right}
 use Rattle.bx_grid.specs.Codes.{code_of, codes_of}
-use Rattle.bx_grid.specs.Columns.{Col, paste}
+use Rattle.bx_grid.specs.Columns.{Col}
+use Rattle.bx_grid.specs.Grid.{paste, GridState, IsGrid}
 use Rattle.bx_grid.specs.Glyphs.{AreWhole, AreWholeRows}
-use Rattle.bx_grid.specs.Picture.{GridState, IsGrid}
 use Rattle.bx_grid.specs.Seen.{all_seen}
 use Rattle.bx_grid.specs.declared.column.Column.{Column}
 use Rattle.bx_grid.proofs.Coded.{noted}

@@ -3,7 +3,8 @@ use Rattle.std.proofs.Common.{◌≡◌, ℕ, ◌+◌, ◌<◌, Bool, true, fals
 use Rattle.std.specs.Str.{chars}
 use Rattle.std.proofs.lemmas.Bool.Decides.{nat_tests}
 use Rattle.unicode_width.specs.Width.{str_width}
-use Rattle.bx_grid.specs.Columns.{Col, glyph_columns, run_columns, are_ascii_printable, run_width}
+use Rattle.bx_grid.specs.Columns.{Col, glyph_columns, run_columns, are_ascii_printable}
+use Rattle.bx_common.specs.Glyphs.{run_width}
 use Rattle.bx_grid.specs.Terminal.{Terminal, within, glyphs_put, run_put}
 
 -- ---- runs that are one glyph

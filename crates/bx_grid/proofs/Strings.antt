@@ -1,7 +1,7 @@
 -- A string that is read: it is one token, whatever the length of its text, and a clip changes nothing.
 use Rattle.std.proofs.Common.{◌≡◌, ℕ, true, false, List, [], ◌∷◌, ◌++◌, refl, ap, sym, ◌∙◌, append_assoc}
 use Rattle.std.proofs.lemmas.List.{append-nil}
-use Rattle.bx_terms.specs.Characters.{is_ascii_printable, are_ascii_printable}
+use Rattle.bx_common.specs.Characters.{is_ascii_printable, are_ascii_printable}
 use Rattle.bx_grid.specs.Tokens.{string_text, after_text, string_command}
 use Rattle.bx_grid.specs.Effects.{Effect, pending_effects, command_effects}
 use Rattle.bx_grid.specs.Terminal.{Terminal, run_ended, after_command}

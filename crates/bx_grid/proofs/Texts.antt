@@ -8,8 +8,7 @@ use Rattle.std.proofs.lemmas.Bool.Decides.{nat_tests}
 use Rattle.std.proofs.lemmas.List.{append-nil}
 use Rattle.std.proofs.lemmas.Str.{chars-encodes}
 use Rattle.std.proofs.lemmas.Bool.{not-true}
-use Rattle.bx_bytes.specs.Fate.{fate_in}
-use Rattle.bx_bytes.specs.Pattern.{matches_any, begins_any}
+use Rattle.bx_bytes.specs.Pattern.{fate_in, matches_any, begins_any}
 use Rattle.bx_bytes.specs.Utf8.{characters, is_control, are_printable}
 use Rattle.bx_bytes.specs.declared.fate.Fate.TheVariants.{Waits, Ends, Breaks}
 use Rattle.bx_bytes.proofs.Codes.{after_low, chars_of_one}

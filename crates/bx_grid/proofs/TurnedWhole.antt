@@ -11,11 +11,12 @@ use Rattle.std.proofs.lemmas.List.Elements.{All-head, All-tail}
 use Rattle.std.specs.Prelude.{if◌then◌else◌, All}
 use Rattle.std.specs.Str.{chars}
 use Rattle.unicode_width.specs.Width.{str_width}
-use Rattle.bx_grid.specs.Columns.{Col, Unknown, Glyph, are_ascii_printable, blank, columns_before, glyph_columns, glyph_columns_from, paste, plain_columns}
+use Rattle.bx_grid.specs.Columns.{Col, Unknown, Glyph, are_ascii_printable, blank, columns_before, glyph_columns, glyph_columns_from}
+use Rattle.bx_grid.specs.Columns.{plain_columns, turned}
+use Rattle.bx_grid.specs.Grid.{paste, IsBorder, turned_in}
 use Rattle.bx_grid.specs.Glyphs.{WholeGlyph, IsGlyph, whole_columns, all_columns, AreWhole}
 use Rattle.bx_grid.specs.Seen.{seen, all_seen}
 use Rattle.bx_grid.specs.declared.column.Column.{Column}
-use Rattle.bx_grid.specs.Turned.{IsBorder, turned, turned_in}
 use Rattle.bx_grid.proofs.Pasted.{length-paste, paste_after, paste_before, three_parts}
 use Rattle.bx_grid.proofs.Puts.{length-glyph}
 use Rattle.bx_grid.proofs.Whole.{columns_form, whole-append, whole-nil, whole_along, whole_glyph}

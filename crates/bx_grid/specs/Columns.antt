@@ -1,10 +1,9 @@
 -- The content of columns, and a row after a run of columns was put in it.
 use Rattle.bx_grid.specs.Tokens.{is_only}
-pub use Rattle.bx_terms.specs.Characters.{is_ascii_printable, are_ascii_printable, is_ascii_glyph}
-pub use Rattle.bx_terms.specs.Glyphs.{run_width, is_one_glyph}
+pub use Rattle.bx_common.specs.Characters.{is_ascii_printable, are_ascii_printable, is_ascii_glyph}
 use Rattle.std.specs.Str.{bytes_eq}
 use Rattle.unicode_width.specs.Width.{str_width}
-use Rattle.std.specs.Prelude.{◌≡◌, replicate, ℕ, zero, suc, chars, ◌+◌, ◌-◌, ◌*◌, nat_lt, if◌then◌else◌, Bool, true, false, ◌&&◌, ◌==◌, not, List, [], ◌∷◌}
+use Rattle.std.specs.Prelude.{ℕ, zero, suc, chars, ◌+◌, ◌-◌, ◌*◌, nat_lt, if◌then◌else◌, Bool, true, false, ◌&&◌, ◌==◌, not, List, [], ◌∷◌}
 use Rattle.std.specs.Prelude.{◌++◌, length, map, take, drop}
 
 -- What a column shows: `Unknown`, only in the model of a terminal, or one column of a glyph, by the glyph's text, its number of
@@ -37,19 +36,6 @@ abbrev pub cut_after : ℕ → List Col → List Col
 cut_after d [] = []
 cut_after d (x ∷ xs) = (if nat_lt d (columns_before x) then Unknown else x) ∷ cut_after (d + 1) xs
 
--- the columns with `new` in place of those from index `k` on
-abbrev pub paste : List Col → ℕ → List Col → List Col
-paste columns k new = take k columns ++ new ++ drop (k + length new) columns
-
--- `count` columns from index `k` on are blanks
-abbrev pub AreBlank : ℕ → ℕ → List Col → Type 0
-AreBlank k count columns = take count (drop k columns) ≡ replicate count blank
-
--- the two lists agree except in `count` columns from index `k` on
-pub record AreSameAround (k count : ℕ) (old new : List Col) : Type 0 where
-  pub before : take k new ≡ take k old
-  pub after : drop (k + count) new ≡ drop (k + count) old
-
 -- a row with the columns `new` put from index `k` on
 abbrev pub put_in_row : List Col → ℕ → List Col → List Col
 put_in_row row k new = cut_before (take k row) ++ new ++ cut_after 0 (drop (k + length new) row)
@@ -73,16 +59,14 @@ bool_eq false b = not b
 -- both columns look the same
 abbrev pub col_eq : Col → Col → Bool
 col_eq Unknown Unknown = true
-col_eq Unknown (Glyph text columns offset negative) = false
-col_eq (Glyph text columns offset negative) Unknown = false
 col_eq (Glyph a n i x) (Glyph b m j y) = (bytes_eq a b && (n == m)) && ((i == j) && bool_eq x y)
+col_eq _ _ = false
 
 -- both lists look the same
 abbrev pub are_equal : List Col → List Col → Bool
 are_equal [] [] = true
-are_equal [] (d ∷ ds) = false
-are_equal (c ∷ cs) [] = false
 are_equal (c ∷ cs) (d ∷ ds) = col_eq c d && are_equal cs ds
+are_equal _ _ = false
 
 -- ---- glyphs
 
@@ -104,3 +88,8 @@ plain_columns negative run = map (λ b. Glyph (b ∷ []) 1 0 negative) run
 abbrev pub run_columns : Bool → List ℕ → List Col
 run_columns negative run =
     if are_ascii_printable run then plain_columns negative run else glyph_columns run (str_width false (chars run)) negative
+
+-- a column in the other rendition: negative if it was normal, normal if it was negative
+abbrev pub turned : Col → Col
+turned Unknown = Unknown
+turned (Glyph text columns offset negative) = Glyph text columns offset (not negative)

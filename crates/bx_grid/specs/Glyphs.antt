@@ -1,7 +1,8 @@
 -- Whole glyphs: lists of columns in which each glyph has all its columns.
 use Rattle.std.specs.Prelude.{◌≡◌, ◌≢◌, ◌+◌, ◌-◌, ◌<◌, ◌≤◌, length, slice_index_or, ℕ, zero, suc, Bool, true, List, [], ◌∷◌, ◌++◌, take, drop, All}
 use Rattle.std.specs.Str.{IsUtf8}
-use Rattle.bx_grid.specs.Columns.{Col, Unknown, Glyph, is_one_glyph, run_columns}
+use Rattle.bx_grid.specs.Columns.{Col, Unknown, Glyph, run_columns}
+use Rattle.bx_common.specs.Glyphs.{is_one_glyph}
 
 -- a glyph by its text and its rendition
 pub record WholeGlyph : Type 0 where

@@ -27,17 +27,21 @@ pub record Terminal : Type 0 where
   -- the bytes of a character, a sequence or a string that is half read
   pub half_read : List ℕ
 
--- nothing is known of the terminal, and nothing is half read
-abbrev pub all_unknown : Terminal → Terminal
-all_unknown t = record {
-  height = t.height;
-  width = t.width;
-  columns = replicate (t.height * t.width) Unknown;
+-- a terminal of this size, in rows and columns, with unknown content
+abbrev pub unknown_terminal : ℕ → ℕ → Terminal
+unknown_terminal height width = record {
+  height = height;
+  width = width;
+  columns = replicate (height * width) Unknown;
   position = None;
   negative = None;
   run = [];
   half_read = [];
 }
+
+-- nothing is known of the terminal, and nothing is half read
+abbrev pub all_unknown : Terminal → Terminal
+all_unknown t = unknown_terminal t.height t.width
 
 -- ---- sequences and strings: where the model does not say what a terminal does, all becomes unknown
 
@@ -51,15 +55,12 @@ after_move t line column =
 -- CSI 2 J, in a known normal rendition
 abbrev pub after_clear : Terminal → Option Bool → Terminal
 after_clear t (Some false) = record t { columns = replicate (t.height * t.width) blank; position = None }
-after_clear t (Some true) = all_unknown t
-after_clear t None = all_unknown t
+after_clear t _ = all_unknown t
 
 -- CSI K, at a known position in a known normal rendition: from the cursor to the row's end
 abbrev pub after_erase : Terminal → Option (ℕ × ℕ) → Option Bool → Terminal
 after_erase t (Some p) (Some false) = record t { columns = put t.width t.columns p.0 p.1 (replicate (t.width - p.1) blank); position = None }
-after_erase t (Some p) (Some true) = all_unknown t
-after_erase t (Some p) None = all_unknown t
-after_erase t None negative = all_unknown t
+after_erase t _ _ = all_unknown t
 
 -- CSI m: from now on in this rendition
 abbrev pub after_rendition : Terminal → Bool → Terminal
@@ -91,8 +92,7 @@ glyphs_put t p new =
 abbrev pub run_put : Terminal → Option (ℕ × ℕ) → Option Bool → List ℕ → Terminal
 run_put t position negative [] = t
 run_put t (Some p) (Some negative) (b ∷ bs) = glyphs_put t p (run_columns negative (b ∷ bs))
-run_put t (Some p) None (b ∷ bs) = all_unknown t
-run_put t None negative (b ∷ bs) = all_unknown t
+run_put t _ _ (b ∷ bs) = all_unknown t
 
 -- the run's glyphs are put, if it is not empty
 abbrev pub run_ended : Terminal → Terminal
@@ -142,12 +142,4 @@ reads t (b ∷ bs) = reads (byte_read t b) bs
 
 -- a window of another size, whose content is unknown; half-read bytes stay
 abbrev pub after_resize : Terminal → ℕ → ℕ → Terminal
-after_resize t height width = record {
-  height = height;
-  width = width;
-  columns = replicate (height * width) Unknown;
-  position = None;
-  negative = None;
-  run = t.run;
-  half_read = t.half_read;
-}
+after_resize t height width = record (unknown_terminal height width) { run = t.run; half_read = t.half_read }

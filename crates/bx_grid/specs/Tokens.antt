@@ -1,15 +1,17 @@
 -- The tokens of a terminal's input that a list of bytes may begin, and the commands of sequences and strings.
-use Rattle.std.specs.Prelude.{ℕ, Bool, true, false, ◌&&◌, nat_le, ◌==◌, List, [], ◌∷◌, Option, Some, None, if◌then◌else◌}
-use Rattle.std.specs.Str.{all_ascii_digits}
-use Rattle.bx_terms.specs.Characters.{is_ascii_printable}
-use Rattle.bx_grid.specs.Clip.{is_clip}
-use Rattle.bx_bytes.specs.Fate.{fate_in}
+use Rattle.std.specs.Prelude.{ℕ, Bool, true, false, ◌&&◌, nat_le, ◌==◌, List, [], ◌∷◌, Option, Some, None, if◌then◌else◌, ◌≡◌, ◌↔◌, ◌++◌}
+use Rattle.std.specs.Str.{all_ascii_digits, bytes_eq}
+use Rattle.bx_common.specs.Characters.{is_ascii_printable}
+use Rattle.bx_bytes.specs.Pattern.{fate_in}
 use Rattle.bx_bytes.specs.Utf8.{characters}
 use Rattle.bx_bytes.specs.declared.fate.Fate.{Fate}
 use Rattle.bx_bytes.specs.declared.fate.Fate.TheVariants.{Waits, Ends, Breaks}
 use Rattle.bx_grid.specs.declared.command.Command.{Command}
 use Rattle.bx_grid.specs.declared.command.Command.TheVariants.{Move, Clear, Erase, Render, Clip, Other}
 use Rattle.std.specs.Str.Parse.{digits_value}
+use Rattle.std.specs.Prelude.{take, drop, codes, is_ok}
+use Rattle.base64.specs.Engines.{standard}
+use Rattle.base64.specs.GeneralPurpose.{IsBytes, encode_of, decode_of}
 
 -- the bytes of a control sequence after CSI, ESC and `[` (ECMA-48, 5.4): parameter bytes, intermediate bytes, a final byte
 abbrev pub is_param : ℕ → Bool
@@ -88,14 +90,12 @@ after_semicolon (b ∷ bs) = if b == 0x3B then bs else after_semicolon bs
 -- a move to a line and a column, counted from 1, if both are numbers
 abbrev pub move_to : Option ℕ → Option ℕ → Command
 move_to (Some line) (Some column) = Move line column
-move_to (Some line) None = Other
-move_to None column = Other
+move_to _ _ = Other
 
 -- the bytes are this one byte
 abbrev pub is_only : ℕ → List ℕ → Bool
-is_only b [] = false
 is_only b (c ∷ []) = b == c
-is_only b (c ∷ d ∷ rest) = false
+is_only b _ = false
 
 -- there is no byte, or the digit 0 alone
 abbrev pub is_absent_or_zero : List ℕ → Bool
@@ -117,13 +117,29 @@ command_of ps final =
 
 -- the command of a sequence, by its parameter bytes and those after them: `Other` if it has intermediate bytes
 abbrev pub command_at : List ℕ → List ℕ → Command
-command_at ps [] = Other
 command_at ps (b ∷ []) = command_of ps b
-command_at ps (b ∷ c ∷ rest) = Other
+command_at ps _ = Other
 
 -- the command of the bytes after CSI
 abbrev pub command : List ℕ → Command
 command body = command_at (params body) (after_params body)
+
+-- the bytes are the base64 of some bytes or of none: the standard alphabet, with padding, the unused bits zero
+unfoldable pub is_base64 : List ℕ → Bool
+is_base64 bytes = is_ok (decode_of standard bytes)
+
+-- a string of this text is a clip, which hands a terminal bytes for the system's clipboard (`52;c;` in xterm), as base64 (RFC 4648,
+-- section 4)
+abbrev pub is_clip : List ℕ → Bool
+is_clip text = bytes_eq (take 5 text) (codes "52;c;") && is_base64 (drop 5 text)
+
+-- these are exactly the encodings of bytes
+abbrev pub AreBase64 : Type 0
+AreBase64 = (text : List ℕ) → IsBytes text → (is_base64 text ≡ true) ↔ ((bytes : List ℕ) × IsBytes bytes × (encode_of standard bytes ≡ text))
+
+-- the clip of these bytes: OSC, `52;c;` and their base64, BEL
+unfoldable pub clip_bytes : List ℕ → List ℕ
+clip_bytes held = 0x1B ∷ 0x5D ∷ ((codes "52;c;" ++ encode_of standard held) ++ 0x07 ∷ [])
 
 -- the command of a string's text
 abbrev pub string_command : List ℕ → Command

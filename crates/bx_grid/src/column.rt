@@ -2,9 +2,8 @@
 
 ghost use Rattle.std.specs.Prelude.{◌≡◌, ◌↔◌, ◌∷◌, [], IsTrue, ◌≤◌, length, map, IfOk, true, false};
 ghost use Rattle.bx_grid.specs.Columns as spec;
-ghost use Rattle.bx_grid.specs.Columns.{is_blank, blank, col_eq, are_equal};
+ghost use Rattle.bx_grid.specs.Columns.{are_equal, blank, col_eq, is_blank, turned};
 ghost use Rattle.bx_grid.specs.Seen.{seen};
-ghost use Rattle.bx_grid.specs.Turned.{turned};
 
 use crate::glyph_text::GlyphText;
 use std::alloc::{AllocError, Global};

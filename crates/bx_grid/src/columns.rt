@@ -5,14 +5,15 @@ ghost use Rattle.std.specs.Prelude.{◌≡◌, ◌+◌, ◌≤◌, length, repli
 ghost use Rattle.std.specs.Prelude.{true, ◌&&◌, false, IfOk, IsOk, OnOk, OnErr, IsTrue};
 ghost use Rattle.std.specs.Prelude.{◌↔◌};
 ghost use Rattle.std.specs.List.{list_all};
-ghost use Rattle.bx_grid.specs.Columns.{are_ascii_printable, blank, is_blank, put, paste, AreBlank, AreSameAround};
-ghost use Rattle.bx_grid.specs.Columns.{plain_columns, glyph_columns, run_columns};
+ghost use Rattle.bx_grid.specs.Columns.{are_ascii_printable, blank, is_blank, put};
+ghost use Rattle.bx_grid.specs.Grid.{AreBlank, AreSameAround, paste};
+ghost use Rattle.bx_grid.specs.Columns.{glyph_columns, plain_columns, run_columns};
 ghost use Rattle.bx_grid.specs.Seen.{seen, all_seen};
 
 use crate::column::Column;
 use crate::glyph_run::GlyphRun;
 use crate::glyph_text::{GlyphText, SHORT};
-use bx_terms::are_ascii_printable;
+use bx_common::are_ascii_printable;
 use std::alloc::{AllocError, Global};
 
 /// A blank.

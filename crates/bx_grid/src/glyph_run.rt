@@ -1,7 +1,7 @@
 //! A run of text in one rendition, measured, to be put into columns.
 
 ghost use Rattle.std.specs.Prelude.{◌≡◌};
-ghost use Rattle.bx_grid.specs.Columns.{run_width};
+ghost use Rattle.bx_common.specs.Glyphs.{run_width};
 
 /// A run of text in one rendition, and its width in columns.
 #[derive(Clone, Copy)]

@@ -6,7 +6,7 @@ ghost use Rattle.bx_grid.specs.Codes.{packed, is_short};
 ghost use Rattle.bx_grid.specs.Columns.{is_ascii_glyph};
 ghost use Rattle.bx_grid.specs.Tokens.{is_only};
 
-use bx_terms::is_ascii_printable;
+use bx_common::is_ascii_printable;
 use std::alloc::{AllocError, Global};
 use std::marker::Model;
 

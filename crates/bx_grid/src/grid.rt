@@ -2,22 +2,32 @@
 
 ghost use Rattle.std.specs.Prelude.{◌≡◌, ℕ, ◌*◌, ◌+◌, ◌-◌, ◌<◌, ◌≤◌, ◌↔◌, List, ◌++◌, length, replicate, take, drop, IfOk, OnOk, OnErr, IfErr, IsErrOf, IsOk};
 ghost use Rattle.std.specs.Prelude.{IsTrue, true, false};
-ghost use Rattle.bx_grid.specs.Columns.{blank, is_one_glyph, paste, run_columns, run_width};
+ghost use Rattle.bx_grid.specs.Columns.{blank, run_columns};
+ghost use Rattle.bx_common.specs.Glyphs.{is_one_glyph, run_width};
+ghost use Rattle.bx_grid.specs.Grid.{GridState, HasRoom, IsGrid, IsWithin, paste};
 ghost use Rattle.bx_grid.specs.Seen.{seen, all_seen};
-ghost use Rattle.bx_grid.specs.Picture.{GridState, HasRoom, IsGrid, IsWithin, is_size};
-ghost use Rattle.bx_terms.specs.Sizes.{largest_side};
+ghost use Rattle.bx_grid.specs.Picture.{is_size};
+ghost use Rattle.bx_common.specs.Characters.{largest_side};
 
 use crate::borrowed_row::BorrowedRow;
-use crate::cell::Cell;
 use crate::codes::{blank_codes, note_codes, set_column};
 use crate::column::Column;
 use crate::columns::{are_blank, blank_columns, put_over_blanks};
 use crate::error::GridError;
 use crate::glyph_run::GlyphRun;
 use crate::glyph_text::SHORT;
-use bx_terms::{OutOfMemory, is_side, run_width};
+use bx_common::{OutOfMemory, is_side, run_width};
 use std::alloc::{AllocError, Global};
 use std::marker::Model;
+
+/// A cell of a grid: its line and its column.
+#[derive(Clone, Copy, PartialEq, Eq)]
+pub struct Cell {
+    /// The row, from 1 at the top.
+    pub line: u16,
+    /// The column, from 1 at the left.
+    pub column: u16,
+}
 
 /// A grid of columns, row by row. Each row consists of whole glyphs.
 #[derive(Drop)]
@@ -34,7 +44,7 @@ pub struct Grid {
 
 impl Model for Grid {
     ghost use Rattle.std.specs.Prelude.{◌≡◌, ◌*◌, ◌≤◌, length};
-    ghost use Rattle.bx_grid.specs.Picture.{GridState, IsGrid};
+    ghost use Rattle.bx_grid.specs.Grid.{GridState, IsGrid};
     ghost use Rattle.bx_grid.specs.Codes.{codes_of};
     ghost use Rattle.bx_grid.specs.Seen.{all_seen};
 

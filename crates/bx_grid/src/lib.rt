@@ -4,14 +4,17 @@
 
 ghost use Rattle.std.specs.Prelude.{◌≡◌, ℕ, List, [], ◌++◌, Ok};
 ghost use Rattle.base64.specs.Engines.{standard};
-ghost use Rattle.bx_grid.specs.Clip.{AreBase64, IsBytes, clip_bytes, decode_of, encode_of};
+ghost use Rattle.base64.specs.GeneralPurpose.{decode_of};
+ghost use Rattle.base64.specs.GeneralPurpose.{encode_of};
+ghost use Rattle.base64.specs.GeneralPurpose.{IsBytes};
+ghost use Rattle.bx_grid.specs.Tokens.{AreBase64, clip_bytes};
 ghost use Rattle.bx_grid.specs.Effects.{effects};
 ghost use Rattle.bx_grid.specs.Glyphs.{ShareWholeGlyphs, DifferInWholeGlyphs};
-ghost use Rattle.bx_grid.specs.Picture.{AreWholeTokens, IsIdle, IsPicture, PictureState};
+ghost use Rattle.bx_grid.specs.Picture.{IsIdle, PictureState};
+ghost use Rattle.bx_grid.specs.Grid.{AreWholeTokens, IsPicture};
 ghost use Rattle.bx_grid.specs.Terminal.{Terminal, reads, run_ended};
 
 mod borrowed_row;
-mod cell;
 mod codes;
 mod column;
 mod columns;
@@ -25,14 +28,13 @@ mod rows;
 mod turning;
 
 pub use borrowed_row::BorrowedRow;
-pub use cell::Cell;
 pub use column::{Column, all_same};
 pub use columns::{fill_blank, put_glyphs};
 pub use command::Command;
 pub use error::GridError;
 pub use glyph_run::GlyphRun;
 pub use glyph_text::GlyphText;
-pub use grid::Grid;
+pub use grid::{Cell, Grid};
 pub use picture::Picture;
 
 /// Two pictures of one size differ in whole glyphs: a column that both have belongs to a glyph that both have as a whole,

@@ -1,10 +1,10 @@
 //! A picture: a grid and a cursor in it, which the painter shows.
 
 ghost use Rattle.std.specs.Prelude.{◌≡◌, ◌+◌, ◌-◌, ◌*◌, ◌≤◌, ◌<◌, length};
-ghost use Rattle.bx_grid.specs.Picture.{GridState, PictureState, IsPicture, IsWithin};
+ghost use Rattle.bx_grid.specs.Picture.{PictureState};
+ghost use Rattle.bx_grid.specs.Grid.{GridState, IsPicture, IsWithin};
 
-use crate::cell::Cell;
-use crate::grid::Grid;
+use crate::grid::{Cell, Grid};
 use std::marker::Model;
 
 /// A grid and the cell of the cursor.
@@ -18,7 +18,8 @@ pub struct Picture {
 
 impl Model for Picture {
     ghost use Rattle.std.specs.Prelude.{◌-◌, ◌≤◌};
-    ghost use Rattle.bx_grid.specs.Picture.{PictureState, IsWithin};
+    ghost use Rattle.bx_grid.specs.Picture.{PictureState};
+    ghost use Rattle.bx_grid.specs.Grid.{IsWithin};
 
     ghost Value = { PictureState };
 
@@ -47,7 +48,7 @@ impl Picture {
         ensures grid { result.now ≡ record { height = self.now.height; width = self.now.width; columns = self.now.columns } }
         ensures picture { IsPicture self.now }
     {
-        // its contract has the invariant of grids
+        // `columns` promises what always holds of a grid.
         let _columns = self.grid.columns();
         &self.grid
     }

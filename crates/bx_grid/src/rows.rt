@@ -2,7 +2,8 @@
 //! one.
 
 ghost use Rattle.std.specs.Prelude.{List, ◌≡◌, ◌+◌, ◌-◌, ◌*◌, ◌≤◌, ◌<◌, ◌++◌, length, take, drop, replicate, OnOk, OnErr};
-ghost use Rattle.bx_grid.specs.Columns.{Col, blank, paste, AreSameAround};
+ghost use Rattle.bx_grid.specs.Columns.{Col, blank};
+ghost use Rattle.bx_grid.specs.Grid.{AreSameAround, paste};
 ghost use Rattle.bx_grid.specs.Seen.{all_seen};
 
 use crate::borrowed_row::BorrowedRow;
@@ -10,7 +11,7 @@ use crate::codes::note_codes;
 use crate::column::Column;
 use crate::columns::fill_blank;
 use crate::grid::Grid;
-use bx_terms::OutOfMemory;
+use bx_common::OutOfMemory;
 use std::alloc::{AllocError, Global};
 
 impl Grid {
@@ -73,6 +74,7 @@ impl Grid {
 
 /// Copies the columns `others[at..]` over `columns`, where `others[0]` belongs at the index `from`, up to the first where
 /// the old or the new one has a text on the heap or is unknown. Returns that one's index in `others`.
+// Not inlined, so that this loop stays apart from the code that allocates.
 #[inline(never)]
 fn copy_short(columns: &mut [Column], from: usize, others: &[Column], at: usize) -> usize
     requires inside { from + length others.now ≤ length columns.old }

@@ -1,9 +1,9 @@
 //! Turns columns of a grid to the other rendition, for the region or a shown match.
 
 ghost use Rattle.std.specs.Prelude.{◌≡◌, ◌+◌, ◌-◌, ◌*◌, ◌≤◌, ◌<◌, length, map, take, drop};
-ghost use Rattle.bx_grid.specs.Columns.{paste};
+ghost use Rattle.bx_grid.specs.Columns.{turned};
+ghost use Rattle.bx_grid.specs.Grid.{IsBorder, paste, turned_in};
 ghost use Rattle.bx_grid.specs.Seen.{all_seen};
-ghost use Rattle.bx_grid.specs.Turned.{IsBorder, turned, turned_in};
 
 use crate::codes::note_codes;
 use crate::column::Column;

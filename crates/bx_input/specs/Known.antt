@@ -1,6 +1,6 @@
 -- What is known outside a paste: the sequences of the table, a paste's start, and mouse reports. `bs` are bytes.
 use Rattle.std.specs.Prelude.{ℕ, Bool, List, drop, Option, option_map, if◌then◌else◌}
-use Rattle.bx_bytes.specs.Fate.{fate_in}
+use Rattle.bx_bytes.specs.Pattern.{fate_in}
 use Rattle.bx_bytes.specs.declared.fate.Fate.{Fate}
 use Rattle.bx_input.specs.Mouse.{opens_report, report_of, report_fate, reported}
 use Rattle.bx_input.specs.Table.{Row, sequences, row_of}

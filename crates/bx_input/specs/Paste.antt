@@ -1,8 +1,7 @@
 -- The text of a paste: what of its bytes goes to the editor. `b` is a byte, `bs` are bytes; from `kept_character` on `c` is a
 -- character, `cs` are characters.
 use Rattle.std.specs.Prelude.{ℕ, Bool, false, ◌&&◌, ◌||◌, ◌==◌, List, [], ◌∷◌, ◌++◌, flat_map, if◌then◌else◌}
-use Rattle.bx_bytes.specs.Fate.{fate_in}
-use Rattle.bx_bytes.specs.Pattern.{Piece, One, is_within}
+use Rattle.bx_bytes.specs.Pattern.{fate_in, Piece, One, is_within}
 use Rattle.bx_bytes.specs.declared.fate.Fate.{Fate}
 use Rattle.bx_input.specs.Table.{exact, paste_end}
 

@@ -1,4 +1,5 @@
-//! The filter, byte by byte; `running.rt` runs it.
+//! The filter, which turns what a terminal sends for a key into what the editor reads for it, byte by byte. `translator.rt` feeds it the
+//! host's frames.
 
 ghost use Rattle.std.specs.Prelude.{◌≡◌};
 ghost use Rattle.bx_input.specs.Filter as spec;
@@ -43,7 +44,7 @@ impl Filter {
         }
     }
 
-    /// Reads the next byte and returns its output.
+    /// Reads the next byte and returns its output: nothing while what has come may be the beginning of a longer sequence.
     pub fn feed(&mut self, byte: u8) -> Output
         ensures state { self.new ≡ filtering self.old.erases_by_delete (spec.step self.old.erases_by_delete self.old.state byte).state }
         ensures output { bytes_of result ≡ (spec.step self.old.erases_by_delete self.old.state byte).output }

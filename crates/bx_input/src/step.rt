@@ -1,4 +1,5 @@
-//! The filter's next state and output for a byte.
+//! One step of the filter, which turns what a terminal sends for a key into what the editor reads for it: the next state and output for
+//! a byte.
 
 ghost use Rattle.std.specs.Prelude.{◌≡◌, ◌≢◌, ◌||◌, false, not, ◌∷◌, [], ◌++◌, option_to_list};
 ghost use Rattle.bx_input.specs.Filter as spec;
@@ -56,7 +57,7 @@ fn outside(
         After::Digit(digit) => (OUTSIDE, apart(is_open, digit)),
         After::Reports => (begin_report(is_open), nothing()),
         After::Pastes => (fresh_paste(false), keys(b"\x1b[90~")),
-        After::Breaks => broken_off(erases_by_delete, waiting, is_open, byte),
+        After::Breaks => pass_on(erases_by_delete, waiting, is_open, byte),
     }
 }
 
@@ -78,8 +79,9 @@ fn apart(is_open: bool, digit: u8) -> Output
     plain(if is_open { b"\x18" } else { b"" }, Some(digit))
 }
 
-/// Reads a byte that does not continue the waiting bytes' sequence.
-fn broken_off(
+/// Passes the waiting bytes on, whose sequence the byte does not continue, and reads the byte afresh. Ordinary text comes this way, with no
+/// byte waiting.
+fn pass_on(
     erases_by_delete: bool,
     waiting: Beginning,
     is_open: bool,

@@ -374,14 +374,14 @@ module _ (by_delete : Bool) where
       ap (λ xs. (decoding xs).keys) out ∙ sent_key r opened (filtered by_delete bs) is (closed_before bs waiting is_open at)
   adds_by (Some q) r bs waiting is_open is longer at becoming =
       let all : Step = run by_delete start bs in
-      let says = longer q refl in
+      let ucd = longer q refl in
       let out : filtered by_delete (bs ++ r.sequence) ≡ all.output ++ apart_from is_open q.becomes =
       ap (λ (x : Step). x.output ++ at_end x.state) becoming ∙ append-nil (all.output ++ apart_from is_open q.becomes) in
-      let before : filtered by_delete bs ≡ all.output ++ 0x1B ∷ [] = ap (λ s. all.output ++ at_end s) at ∙ ap (λ xs. all.output ++ xs) says.1 in
+      let before : filtered by_delete bs ≡ all.output ++ 0x1B ∷ [] = ap (λ s. all.output ++ at_end s) at ∙ ap (λ xs. all.output ++ xs) ucd.1 in
       let f : FollowsOutside waiting is_open (decoding all.output).rest =
       subst (λ s. Follows s (decoding all.output).rest) at (run_follows start bs [] refl refl (nothing_follows false)) in
       ap (λ xs. (decoding xs).keys) out
-      ∙ sent_key q is_open all.output says.0 f.closed
+      ∙ sent_key q is_open all.output ucd.0 f.closed
       ∙ ap (λ keys. keys ++ keys_of q) (sym (ap (λ xs. (decoding xs).keys) before ∙ escape_key all.output))
 
   -- what is true of all rows is so of one that is found

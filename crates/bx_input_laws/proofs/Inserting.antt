@@ -9,10 +9,11 @@ use Rattle.std.proofs.lemmas.List.{append-nil}
 use Rattle.std.proofs.lemmas.List.Folds.{list_all-append}
 use Rattle.std.proofs.lemmas.Str.{chars-encodes}
 use lib.Utf8.{scalar, scalars, encode, encodes}
-use Rattle.bx_bytes.specs.Utf8.{characters, is_character, begins_character}
+use Rattle.bx_bytes.specs.Utf8.{characters}
+use Rattle.bx_bytes.proofs.Encoded.{begins_character, are_encodings, ends, ends_by}
+use Rattle.bx_bytes.specs.Grammar.{is_character}
 use Rattle.bx_bytes.specs.declared.fate.Fate.TheVariants.{Waits}
 use Rattle.bx_bytes.proofs.Codes.{chars_of_one}
-use Rattle.bx_bytes.proofs.Encoded.{are_encodings, ends, ends_by}
 use Rattle.bx_bytes.proofs.Patterns.{begins_any_front, matches_any_begins}
 use Rattle.bx_keys.specs.Items.{is_item, begins_item}
 use Rattle.bx_keys.specs.Keys.{Decoding, decoding, key_of, single_key}

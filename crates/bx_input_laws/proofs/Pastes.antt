@@ -62,8 +62,8 @@ is_tail (a ∷ b ∷ c ∷ d ∷ x ∷ []) h =
     let l : x ≡ 0x31 = grind (arith, nat_tests) in
     rw (e, f, g, k, l) (tail.TwoHundredOne, refl)
 is_tail (a ∷ b ∷ c ∷ d ∷ x ∷ y ∷ rest) h =
-    let says = waits_says paste_sequences (a ∷ b ∷ c ∷ d ∷ x ∷ y ∷ rest) h in
-    absurd (omega (arith, any_fewer paste_sequences 6 (a ∷ b ∷ c ∷ d ∷ x ∷ y ∷ rest) refl says.begins says.not_whole))
+    let ucd = waits_says paste_sequences (a ∷ b ∷ c ∷ d ∷ x ∷ y ∷ rest) h in
+    absurd (omega (arith, any_fewer paste_sequences 6 (a ∷ b ∷ c ∷ d ∷ x ∷ y ∷ rest) refl ucd.begins ucd.not_whole))
 
 -- ---- the text of the waiting bytes and more
 
@@ -209,9 +209,9 @@ module _ (by_delete : Bool) where
       (is_end (w ++ b ∷ []) t))
   ends_by false w r b bs t is h none rest =
       let back : tail_bytes is.0 ≡ w = is.1 in
-      let says = c1_tail is.0 b (ap (λ x. paste_fate (x ++ b ∷ [])) back ∙ h) (ap (λ x. bytes_eq (x ++ b ∷ []) paste_end) back ∙ t) in
+      let ucd = c1_tail is.0 b (ap (λ x. paste_fate (x ++ b ∷ [])) back ∙ h) (ap (λ x. bytes_eq (x ++ b ∷ []) paste_end) back ∙ t) in
       let none_left : HasNone (exact paste_end ∷ []) bs = none_behind (exact paste_end ∷ []) (b ∷ []) bs (none_behind (exact paste_end ∷ []) w (b ∷ bs) none) in
-      subst (IsPasted (with_front [] (run (Within [] false) bs))) (c1_text w b bs r (sym back ∙ says.0, says.1))
+      subst (IsPasted (with_front [] (run (Within [] false) bs))) (c1_text w b bs r (sym back ∙ ucd.0, ucd.1))
       (in_front [] (run (Within [] false) bs) (pasted_after false bs) (rest [] false (refl, λ e. refl) none_left))
 
   way_by : (f : Fate) (w : List ℕ) (r : Bool) (b : ℕ) (bs : List ℕ) → paste_fate (w ++ b ∷ []) ≡ f → IsSound (Within w r)

@@ -73,8 +73,8 @@ module _ (by_delete : Bool) where
         (omega (arith, five), λ e. omega (arith, five)))
   ]
   fourteen (Within waiting after_return) h =
-      let says = waits_says paste_sequences waiting h.0 in
-      let five = any_fewer paste_sequences 6 waiting refl says.begins says.not_whole in
+      let ucd = waits_says paste_sequences waiting h.0 in
+      let five = any_fewer paste_sequences 6 waiting refl ucd.begins ucd.not_whole in
       (omega (arith, five), λ e. omega (arith, five))
 
   pub waits_for_fourteen : WaitsForFourteen by_delete

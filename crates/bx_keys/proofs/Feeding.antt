@@ -93,9 +93,9 @@ feeds_end rest b h =
 waits_cut : (n b : ℕ) (bs : List ℕ) → fate (b ∷ bs) ≡ Waits → decoding_within (suc n) (b ∷ bs) ≡ record { keys = []; rest = b ∷ bs }
 waits_cut n b bs h =
     let all : List ℕ = b ∷ bs in
-    let says = waits_says all h in
-    ap (cut n all) (beginning_whole b bs says.begins)
-    ∙ cond-false (is_item (take (length all) all)) _ _ (ap is_item (take_whole all) ∙ says.not_item)
+    let ucd = waits_says all h in
+    ap (cut n all) (beginning_whole b bs ucd.begins)
+    ∙ cond-false (is_item (take (length all) all)) _ _ (ap is_item (take_whole all) ∙ ucd.not_item)
     ∙ cond-true (nat_eq (length all) (length all)) _ _ (eq-eqb (length all) (length all) refl)
 
 pub waits_decoding : (bs : List ℕ) → fate bs ≡ Waits → decoding bs ≡ record { keys = []; rest = bs }
@@ -137,15 +137,15 @@ broken_cut : (n x : ℕ) (xs : List ℕ) (b : ℕ) → fate (x ∷ xs) ≡ Waits
     → decoding_within (suc (suc n)) (x ∷ (xs ++ b ∷ [])) ≡ decoding (b ∷ [])
 broken_cut n x xs b h g =
     let all : List ℕ = x ∷ (xs ++ b ∷ []) in
-    let says = waits_says (x ∷ xs) h in
+    let ucd = waits_says (x ∷ xs) h in
     let long : ℕ = length (x ∷ xs) in
     let front : take long all ≡ x ∷ xs = take_at (x ∷ xs) (b ∷ []) long refl in
     let back : drop long all ≡ b ∷ [] = drop_at (x ∷ xs) (b ∷ []) long refl in
     let longer : length all ≡ suc long = omega (arith, length-append xs (b ∷ [])) in
     let not_all : long ≡ length all → ⊥ = λ e. omega (arith, longer, e) in
     let most : max 1 long ≡ long = omega arith in
-    ap (cut (suc n) all) (beginning_broken x xs b says.begins (breaks_by (is_item all) (begins_item all) g).1)
-    ∙ cond-false (is_item (take long all)) _ _ (ap is_item front ∙ says.not_item)
+    ap (cut (suc n) all) (beginning_broken x xs b ucd.begins (breaks_by (is_item all) (begins_item all) g).1)
+    ∙ cond-false (is_item (take long all)) _ _ (ap is_item front ∙ ucd.not_item)
     ∙ cond-false (nat_eq long (length all)) _ _ (ne_eqb long (length all) not_all)
     ∙ ap (λ k. decoding_within (suc n) (drop k all)) most
     ∙ ap (decoding_within (suc n)) back

@@ -6,8 +6,7 @@ use Rattle.std.specs.Option.{option_map}
 use Rattle.std.proofs.lemmas.List.{take_all, length-take-le}
 use Rattle.std.proofs.lemmas.List.Splits.{join_with_byte-slice_split}
 use Rattle.std.proofs.lemmas.Bool.{cases_lt, cases_eq, cases_Bool, and_parts, leb-true, cond-true, cond-false}
-use Rattle.bx_bytes.specs.Pattern.{One, is_within, past}
-use Rattle.bx_bytes.specs.Fate.{fate_in}
+use Rattle.bx_bytes.specs.Pattern.{One, is_within, past, fate_in}
 use Rattle.bx_bytes.specs.declared.fate.Fate.TheVariants.{Waits, Breaks}
 use Rattle.bx_bytes.proofs.Codes.{too_long}
 use Rattle.bx_keys.specs.Keys.{is_number, is_side_in_digits, sides_key, final_byte, before_final, sequence_key, key_of}

@@ -1,8 +1,7 @@
 -- The state of an escape sequence after one byte more.
 use Rattle.std.proofs.Common.{◌≡◌, ℕ, ◌≤◌, Bool, true, false, cond, List, [], ◌∷◌, ◌++◌, length, get_or, refl, ap, sym, ◌∙◌, arith}
 use Rattle.std.proofs.lemmas.Bool.Decides.{nat_tests}
-use Rattle.bx_bytes.specs.Pattern.{One, is_within, past}
-use Rattle.bx_bytes.specs.Fate.{fate_in}
+use Rattle.bx_bytes.specs.Pattern.{One, is_within, past, fate_in}
 use Rattle.bx_bytes.specs.declared.fate.Fate.TheVariants.{Waits}
 use Rattle.bx_keys.specs.Waiting.{fate}
 

@@ -1,7 +1,7 @@
 -- The key of each item, and the keys of input: what a decoder gives. `b` is a byte, `bs` are bytes, `rest` bytes that wait; of a
 -- size, `h` are the rows, `w` the columns; of a cell, `h` is the row, `w` the column.
-use Rattle.bx_terms.specs.Sizes.{is_side, largest_side}
-use Rattle.std.specs.Prelude.{ℕ, zero, suc, ◌-◌, ◌≤◌, max, Bool, ◌&&◌, nat_le, ◌==◌, List, [], ◌∷◌, ◌++◌, length, slice_index, take, drop, Option, Some, None}
+use Rattle.bx_common.specs.Characters.{is_side}
+use Rattle.std.specs.Prelude.{ℕ, zero, suc, ◌-◌, max, Bool, ◌&&◌, nat_le, ◌==◌, List, [], ◌∷◌, ◌++◌, length, slice_index, take, drop, Option, Some, None}
 use Rattle.std.specs.Prelude.{find, option_map, option_to_list, codes, if◌then◌else◌}
 use Rattle.std.specs.List.{slice_split}
 use Rattle.std.specs.Str.{chars, bytes_eq, all_ascii_digits}
@@ -35,47 +35,19 @@ abbrev pub sequence_keys : List (List ℕ × Key)
 sequence_keys =
     (codes "A", Up) ∷ (codes "B", Down) ∷ (codes "C", Right) ∷ (codes "D", Left) ∷ (codes "H", RowHome) ∷ (codes "F", RowEnd)
     ∷ (codes "1~", RowHome) ∷ (codes "4~", RowEnd) ∷ (codes "3~", Delete) ∷ (codes "5~", PageUp) ∷ (codes "6~", PageDown)
-    ∷ (codes "9~", Direction)
-    ∷ (codes "70~", Find)
-    ∷ (codes "71~", FindBack)
-    ∷ (codes "72~", Mark)
-    ∷ (codes "73~", Copy)
-    ∷ (codes "74~", Cut)
-    ∷ (codes "75~", Put)
-    ∷ (codes "76~", WordLeft)
-    ∷ (codes "77~", WordRight)
-    ∷ (codes "78~", TextStart)
-    ∷ (codes "79~", TextEnd)
-    ∷ (codes "80~", Help)
-    ∷ (codes "81~", Select)
-    ∷ (codes "82~", UndoRun)
-    ∷ (codes "83~", RedoRun)
-    ∷ (codes "84~", GoTo)
-    ∷ (codes "85~", Replace)
-    ∷ (codes "86~", Name)
-    ∷ (codes "87~", Tell)
-    ∷ (codes "88~", EraseWord)
-    ∷ (codes "89~", DeleteWord)
-    ∷ (codes "90~", PasteStart)
-    ∷ (codes "91~", PasteEnd)
-    ∷ (codes "92~", FindNext)
-    ∷ (codes "93~", Cancel)
-    ∷ (codes "94~", ErasePoint)
-    ∷ (codes "95~", NewLine)
-    ∷ (codes "96~", LineUp)
-    ∷ (codes "97~", LineDown)
-    ∷ (codes "98~", PageBack)
-    ∷ (codes "99~", PageOn)
-    ∷ (codes ">1~", Notice notices.NoSpace)
-    ∷ (codes ">2~", Notice notices.FolderGone)
-    ∷ (codes ">3~", Notice notices.NotPermitted)
-    ∷ (codes ">4~", Notice notices.ReadOnly)
-    ∷ (codes ">5~", Notice notices.Unkept)
-    ∷ (codes ">6~", Notice notices.KeptAgain)
-    ∷ (codes ">7~", Notice notices.Recovered)
-    ∷ (codes ">8~", Notice notices.RecoveredAside)
-    ∷ (codes ">9~", Notice notices.InPlace)
-    ∷ []
+    ∷ (codes "9~", Direction) ∷ (codes "70~", Find) ∷ (codes "71~", FindBack)
+    ∷ (codes "72~", Mark) ∷ (codes "73~", Copy) ∷ (codes "74~", Cut) ∷ (codes "75~", Put)
+    ∷ (codes "76~", WordLeft) ∷ (codes "77~", WordRight) ∷ (codes "78~", TextStart) ∷ (codes "79~", TextEnd)
+    ∷ (codes "80~", Help) ∷ (codes "81~", Select) ∷ (codes "82~", UndoRun) ∷ (codes "83~", RedoRun)
+    ∷ (codes "84~", GoTo) ∷ (codes "85~", Replace) ∷ (codes "86~", Name) ∷ (codes "87~", Tell)
+    ∷ (codes "88~", EraseWord) ∷ (codes "89~", DeleteWord) ∷ (codes "90~", PasteStart) ∷ (codes "91~", PasteEnd)
+    ∷ (codes "92~", FindNext) ∷ (codes "93~", Cancel) ∷ (codes "94~", ErasePoint) ∷ (codes "95~", NewLine)
+    ∷ (codes "96~", LineUp) ∷ (codes "97~", LineDown) ∷ (codes "98~", PageBack) ∷ (codes "99~", PageOn)
+    ∷ (codes ">1~", Notice notices.NoSpace) ∷ (codes ">2~", Notice notices.FolderGone)
+    ∷ (codes ">3~", Notice notices.NotPermitted) ∷ (codes ">4~", Notice notices.ReadOnly)
+    ∷ (codes ">5~", Notice notices.Unkept) ∷ (codes ">6~", Notice notices.KeptAgain)
+    ∷ (codes ">7~", Notice notices.Recovered) ∷ (codes ">8~", Notice notices.RecoveredAside)
+    ∷ (codes ">9~", Notice notices.InPlace) ∷ []
 
 -- a number in one to three digits
 abbrev pub is_number : List ℕ → Bool
@@ -122,16 +94,6 @@ key_of (b ∷ []) = single_key b
 key_of (b ∷ c ∷ rest) =
     if b == 0x1B then (if c == 0x5B then sequence_key rest else None)
     else character_key (chars (b ∷ c ∷ rest))
-
--- a row or a column, or their number, is from 1 to 500
-abbrev pub IsSide : ℕ → Type 0
-IsSide n = (1 ≤ n) × (n ≤ largest_side)
-
--- a size that a window may have, and a cell that may be in it
-abbrev pub HasSides : Key → Type 0
-HasSides (Size h w) = IsSide h × IsSide w
-HasSides (Point h w) = IsSide h × IsSide w
-HasSides _ = Unit {0}
 
 -- ---- the keys of input
 
@@ -186,8 +148,3 @@ rest_after rest b = (decoding (rest ++ b ∷ [])).rest
 -- the waiting bytes that a decoder keeps: the first twelve, since a sequence with more of them gives no key
 abbrev pub head_of : List ℕ → List ℕ
 head_of rest = take 12 rest
-
--- the keys of bytes read one by one by a decoder that keeps only the first twelve waiting bytes
-abbrev pub keys_from : List ℕ → List ℕ → List Key
-keys_from rest [] = []
-keys_from rest (b ∷ bs) = option_to_list (key_after rest b) ++ keys_from (head_of (rest_after rest b)) bs

@@ -2,7 +2,8 @@
 
 ghost use Rattle.std.specs.Prelude.{◌≡◌, ◌≤◌, ◌↔◌, ℕ, List, [], ◌∷◌, ◌++◌, length, option_to_list, IfOk, IfSome, IsTrue, OnOk, OnErr};
 ghost use Rattle.bx_keys.specs.Keys as spec;
-ghost use Rattle.bx_keys.specs.Keys.{HasSides, decoding, key_after, rest_after};
+ghost use Rattle.bx_keys.specs.Keys.{decoding, key_after, rest_after};
+ghost use Rattle.bx_keys.specs.Decoder.{HasSides};
 ghost use Rattle.bx_keys.specs.Waiting.{fate, head_of, StandsFor};
 
 use crate::key::Key;
@@ -30,7 +31,7 @@ impl Model for Decoder {
 
     ghost Value = { List ℕ };
 
-    ghost use Rattle.bx_keys.specs.Decoder.{head_bytes, IsDecoder, decoder_of, decoder_of-head_bytes};
+    ghost use Rattle.bx_keys.specs.Decoder.{IsDecoder, decoder_of, decoder_of-head_bytes, head_bytes};
 
     ghost view = { head_bytes };
 

@@ -94,7 +94,7 @@ pub enum Key {
     RedoRun,
     /// Asks for a line.
     GoTo,
-    /// Begins a search for what is to be replaced; in one, asks for the other text, and then replaces one match after another.
+    /// Begins a search for what is to be replaced; in one, asks for the replacement, and then replaces one match after another.
     Replace,
     /// Asks for the name of a character.
     Name,

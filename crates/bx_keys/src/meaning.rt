@@ -3,7 +3,7 @@
 ghost use Rattle.std.specs.Prelude.{◌≡◌, ◌<◌, ◌==◌, ◌∷◌, [], ◌++◌, IfSome};
 ghost use Rattle.std.specs.List.{slice_split};
 ghost use Rattle.bx_keys.specs.Keys as spec;
-ghost use Rattle.bx_keys.specs.Keys.{HasSides, IsSide};
+ghost use Rattle.bx_keys.specs.Decoder.{HasSides, IsSide};
 ghost use Rattle.bx_keys.specs.Waiting.{fate};
 
 use crate::key::Key;
@@ -11,7 +11,7 @@ use crate::notice::Notice;
 use crate::numbers::{first_semicolon, side};
 use crate::sequence::ESC;
 use bx_bytes::{Fate, character};
-use bx_terms::is_ascii_printable;
+use bx_common::is_ascii_printable;
 
 /// The key of the item that `byte` completes, if it has one.
 pub fn key_of(waiting: &[u8], byte: u8) -> Option<Key>

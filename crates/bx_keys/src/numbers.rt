@@ -3,9 +3,10 @@
 ghost use Rattle.std.specs.Prelude.{◌≡◌, ℕ, ◌<◌, ◌-◌, ◌==◌, IfSome, SomeIff, position, true, if◌then◌else◌};
 ghost use Rattle.std.specs.Char.{is_ascii_digit};
 ghost use Rattle.std.specs.Str.Parse.{digits_value};
-ghost use Rattle.bx_keys.specs.Keys.{is_number, is_side_in_digits, IsSide};
+ghost use Rattle.bx_keys.specs.Keys.{is_number, is_side_in_digits};
+ghost use Rattle.bx_keys.specs.Decoder.{IsSide};
 
-use bx_terms::is_side;
+use bx_common::is_side;
 
 /// The index of the first semicolon; None without one.
 pub fn first_semicolon(bytes: &[u8]) -> Option<usize>

@@ -3,9 +3,12 @@ use Rattle.std.proofs.Common.{◌≡◌, ℕ, List, [], ◌∷◌, ◌++◌, ref
 use Rattle.std.specs.Prelude.{codes}
 use Rattle.std.proofs.lemmas.List.{append-nil}
 use Rattle.base64.specs.Engines.{standard}
-use Rattle.bx_grid.specs.Clip.{IsBytes, clip_bytes, encode_of}
+use Rattle.base64.specs.GeneralPurpose.{encode_of}
+use Rattle.base64.specs.GeneralPurpose.{IsBytes}
+use Rattle.bx_grid.specs.Tokens.{clip_bytes}
 use Rattle.bx_grid.specs.Effects.{byte_effects, effects}
-use Rattle.bx_grid.specs.Picture.{AreWholeTokens, IsIdle, PictureState, Shows}
+use Rattle.bx_grid.specs.Picture.{IsIdle, PictureState, Shows}
+use Rattle.bx_grid.specs.Grid.{AreWholeTokens}
 use Rattle.bx_grid.specs.Terminal.{Terminal, byte_read, reads}
 use Rattle.bx_grid.proofs.Clips.{clip_after, clip_has_no_effect}
 

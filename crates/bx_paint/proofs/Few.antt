@@ -8,7 +8,8 @@ use Rattle.std.proofs.Math.Bool.{and-false}
 use Rattle.std.proofs.lemmas.List.Elements.{All-head, All-tail}
 use Rattle.bx_grid.specs.Columns.{Col, Unknown, Glyph, blank, is_blank, col_eq, are_equal}
 use Rattle.bx_grid.specs.Glyphs.{WholeGlyph, IsGlyph, whole_columns, all_columns, AreWhole, AreWholeRows}
-use Rattle.bx_grid.specs.Picture.{PictureState, IsGrid}
+use Rattle.bx_grid.specs.Picture.{PictureState}
+use Rattle.bx_grid.specs.Grid.{IsGrid}
 use Rattle.bx_grid.proofs.Blanks.{blanks_pass}
 use Rattle.bx_grid.proofs.Equal.{col_is, are_equal_refl}
 use Rattle.bx_paint.specs.Painting.{Sent, Step, nothing_sent, then_sent, before_tail, is_sent, column_sent, columns_sent, tail_sent, row_sent, rows_sent}

@@ -7,7 +7,8 @@ use Rattle.bx_grid.specs.Columns.{Col, blank}
 use Rattle.bx_grid.specs.Glyphs.{AreWholeRows}
 use Rattle.bx_grid.specs.Effects.{Effect, Clears, run_effects, pending_effects, clear_effects, effects}
 use Rattle.bx_grid.specs.Terminal.{Terminal, reads, run_put, run_ended, after_rendition, after_clear}
-use Rattle.bx_grid.specs.Picture.{PictureState, IsGrid, IsIdle, IsPicture, Shows}
+use Rattle.bx_grid.specs.Picture.{PictureState, IsIdle, Shows}
+use Rattle.bx_grid.specs.Grid.{IsGrid, IsPicture}
 use Rattle.bx_grid.proofs.Doing.{run, run-append, run_is, sequence_does}
 use Rattle.bx_grid.proofs.Reading.{at, and_left, and_right}
 use Rattle.bx_paint.specs.Painting.{columns_changed, ended, is_none, is_at_cursor_of, changes_bytes, whole_bytes, move_bytes, render_bytes, render_change}

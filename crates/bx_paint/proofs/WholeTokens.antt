@@ -7,7 +7,8 @@ use Rattle.std.proofs.lemmas.List.Elements.{All-nil, All-cons, All-head, All-tai
 use Rattle.bx_grid.specs.Columns.{Col, Unknown, Glyph, blank, is_blank, is_ascii_glyph, glyph_columns_from}
 use Rattle.bx_grid.specs.Effects.{Effect}
 use Rattle.bx_grid.specs.Glyphs.{WholeGlyph, IsGlyph, whole_columns, all_columns, AreWhole}
-use Rattle.bx_grid.specs.Picture.{PictureState, AreWholeTokens, IsIdle, IsPicture}
+use Rattle.bx_grid.specs.Picture.{PictureState, IsIdle}
+use Rattle.bx_grid.specs.Grid.{AreWholeTokens, IsPicture}
 use Rattle.bx_grid.specs.Terminal.{Terminal, reads, run_ended, after_command}
 use Rattle.bx_grid.specs.Tokens.{is_param, command_of}
 use Rattle.bx_grid.proofs.Doing.{run_is, sequence_does}

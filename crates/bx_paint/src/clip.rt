@@ -2,15 +2,17 @@
 
 ghost use Rattle.std.specs.Prelude.{◌≡◌, ℕ, List, [], ◌++◌, OnErr, OnOk, Ok};
 ghost use Rattle.base64.specs.Engines.{standard};
-ghost use Rattle.bx_grid.specs.Clip.{clip_bytes, decode_of, encode_of};
+ghost use Rattle.base64.specs.GeneralPurpose.{decode_of};
+ghost use Rattle.base64.specs.GeneralPurpose.{encode_of};
+ghost use Rattle.bx_grid.specs.Tokens.{clip_bytes};
 ghost use Rattle.bx_grid.specs.Effects.{effects};
-ghost use Rattle.bx_grid.specs.Picture.{AreWholeTokens, IsIdle, PictureState, Shows};
+ghost use Rattle.bx_grid.specs.Picture.{IsIdle, PictureState, Shows};
+ghost use Rattle.bx_grid.specs.Grid.{AreWholeTokens};
 ghost use Rattle.bx_grid.specs.Terminal.{Terminal, reads};
 
-use crate::error::PaintError;
 use crate::output::Output;
 use base64::engine::general_purpose::STANDARD;
-use bx_terms::OutOfMemory;
+use bx_common::OutOfMemory;
 use std::alloc::{AllocError, Global};
 use std::mem;
 
@@ -33,7 +35,7 @@ fn write_clip(alloc: Global, out: &mut Output, held: &[u8]) -> Result<(), AllocE
 /// that shows a picture after a painting still shows it after the clip.
 ///
 /// Errors: `OutOfMemory`, and nothing is appended.
-pub fn clip_into(out: &mut Vec<u8>, held: &[u8]) -> Result<(), PaintError>
+pub fn clip_into(out: &mut Vec<u8>, held: &[u8]) -> Result<(), OutOfMemory>
     ensures bytes { OnOk result (out.new.items ≡ out.old.items ++ clip_bytes held.now) }
     ensures err { OnErr result (out.new.items ≡ out.old.items) }
     ensures same { (t : Terminal) → IsIdle t → reads t (clip_bytes held.now) ≡ t }

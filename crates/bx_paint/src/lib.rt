@@ -3,12 +3,10 @@
 #![tactic(auto)]
 
 mod clip;
-mod error;
 mod numbers;
 mod output;
 mod painting;
 mod writing;
 
 pub use clip::clip_into;
-pub use error::PaintError;
 pub use painting::{changes, changes_into, whole, whole_into};

@@ -2,17 +2,17 @@
 
 ghost use Rattle.std.specs.Prelude.{◌≡◌, ◌+◌, ◌-◌, ◌≤◌, ◌<◌, ◌++◌, [], length, false, IfOk, OnOk, OnErr};
 ghost use Rattle.bx_grid.specs.Effects.{effects};
-ghost use Rattle.bx_grid.specs.Picture.{AreWholeTokens, PictureState, IsGrid, IsIdle, IsPicture, Shows};
+ghost use Rattle.bx_grid.specs.Picture.{IsIdle, PictureState, Shows};
+ghost use Rattle.bx_grid.specs.Grid.{AreWholeTokens, IsGrid, IsPicture};
 ghost use Rattle.bx_grid.specs.Terminal.{Terminal, reads};
-ghost use Rattle.bx_terms.specs.Sizes.{largest_side};
+ghost use Rattle.bx_common.specs.Characters.{largest_side};
 ghost use Rattle.bx_paint.specs.Changed.{changed, differing};
 ghost use Rattle.bx_paint.specs.Painting.{whole_bytes, changes_bytes, columns_changed, ended, render_change, move_bytes};
 
-use crate::error::PaintError;
 use crate::output::Output;
 use crate::writing::{write_move, write_over_blanks, write_rendition, write_rows};
+use bx_common::OutOfMemory;
 use bx_grid::{Cell, Grid, Picture};
-use bx_terms::OutOfMemory;
 use std::alloc::{AllocError, Global};
 use std::mem;
 
@@ -69,7 +69,7 @@ fn write_changes(out: &mut Output, old: &Picture, new: &Picture) -> Result<(), A
 /// size with nothing half read then shows it, whatever else its state is.
 ///
 /// Errors: `OutOfMemory`, and nothing is appended.
-pub fn whole_into(out: &mut Vec<u8>, picture: &Picture) -> Result<(), PaintError>
+pub fn whole_into(out: &mut Vec<u8>, picture: &Picture) -> Result<(), OutOfMemory>
     ensures bytes { OnOk result (out.new.items ≡ out.old.items ++ whole_bytes picture.now) }
     ensures err { OnErr result (out.new.items ≡ out.old.items) }
     ensures shows { (t : Terminal) → IsIdle t → t.height ≡ picture.now.height → t.width ≡ picture.now.width
@@ -99,7 +99,7 @@ pub fn whole_into(out: &mut Vec<u8>, picture: &Picture) -> Result<(), PaintError
 /// cursors are equal.
 ///
 /// Errors: `OutOfMemory`, and nothing is appended.
-pub fn changes_into(out: &mut Vec<u8>, old: &Picture, new: &Picture) -> Result<(), PaintError>
+pub fn changes_into(out: &mut Vec<u8>, old: &Picture, new: &Picture) -> Result<(), OutOfMemory>
     requires height { old.now.height ≡ new.now.height }
     requires width { old.now.width ≡ new.now.width }
     ensures bytes { OnOk result (out.new.items ≡ out.old.items ++ changes_bytes old.now new.now) }
@@ -126,7 +126,7 @@ pub fn changes_into(out: &mut Vec<u8>, old: &Picture, new: &Picture) -> Result<(
 }
 
 /// The bytes that `whole_into` appends.
-pub fn whole(alloc: Global, picture: &Picture) -> Result<Vec<u8>, PaintError>
+pub fn whole(alloc: Global, picture: &Picture) -> Result<Vec<u8>, OutOfMemory>
     ensures bytes { IfOk result (λ out. out.items ≡ whole_bytes picture.now) }
     ensures shows { IfOk result (λ out. (t : Terminal) → IsIdle t → t.height ≡ picture.now.height → t.width ≡ picture.now.width
         → Shows (reads t out.items) picture.now) }
@@ -137,7 +137,7 @@ pub fn whole(alloc: Global, picture: &Picture) -> Result<Vec<u8>, PaintError>
 }
 
 /// The bytes that `changes_into` appends.
-pub fn changes(alloc: Global, old: &Picture, new: &Picture) -> Result<Vec<u8>, PaintError>
+pub fn changes(alloc: Global, old: &Picture, new: &Picture) -> Result<Vec<u8>, OutOfMemory>
     requires height { old.now.height ≡ new.now.height }
     requires width { old.now.width ≡ new.now.width }
     ensures bytes { IfOk result (λ out. out.items ≡ changes_bytes old.now new.now) }

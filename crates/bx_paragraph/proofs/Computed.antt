@@ -1,9 +1,9 @@
 -- The rows of a body, computed, by the small tables.
 use Rattle.std.proofs.Common.{ℕ, List, map}
 use Rattle.std.specs.Prelude.{flat_map, chars, encode_utf8_all}
-use Rattle.bx_resolve.specs.TestTables.{small}
-use Rattle.bx_terms.specs.declared.base.Base.{Base}
-use Rattle.bx_terms.specs.declared.base.Base.TheVariants.{Auto}
+use Rattle.bx_ucd.specs.SmallTables.{small}
+use Rattle.bx_common.specs.declared.base.Base.{Base}
+use Rattle.bx_common.specs.declared.base.Base.TheVariants.{Auto}
 use Rattle.bx_paragraph.specs.BodyRows.{BodyRow, body_rows, row_glyphs}
 use Rattle.bx_paragraph.specs.Slots.{row_slots}
 

@@ -34,39 +34,39 @@ get-taken zero (suc n) (x ∷ xs) h = refl
 get-taken (suc k) (suc n) (x ∷ xs) h = get-taken k n xs (omega (arith, h))
 
 -- the rows of a body up to a row are those that another one has
-pub record AreKept (says : Data) (w : ℕ) (body : List ℕ) (starts : List RowStart) (k : ℕ) : Type 0 where
+pub record AreKept (ucd : Data) (w : ℕ) (body : List ℕ) (starts : List RowStart) (k : ℕ) : Type 0 where
   pub inside : k < length starts
-  pub taken : take (k + 1) (row_starts says w body) ≡ take (k + 1) starts
+  pub taken : take (k + 1) (row_starts ucd w body) ≡ take (k + 1) starts
 
-kept-at : (says : Data) (w : ℕ) (body : List ℕ) (starts : List RowStart) (k i : ℕ) → AreKept says w body starts k → i ≤ k
-    → slice_get (row_starts says w body) i ≡ Some (get_or starts i origin)
-kept-at says w body starts k i h le =
+kept-at : (ucd : Data) (w : ℕ) (body : List ℕ) (starts : List RowStart) (k i : ℕ) → AreKept ucd w body starts k → i ≤ k
+    → slice_get (row_starts ucd w body) i ≡ Some (get_or starts i origin)
+kept-at ucd w body starts k i h le =
     let inside = h.inside in
-    sym (get-taken i (k + 1) (row_starts says w body) (omega (arith, le))) ∙ ap (λ xs. slice_get xs i) h.taken
+    sym (get-taken i (k + 1) (row_starts ucd w body) (omega (arith, le))) ∙ ap (λ xs. slice_get xs i) h.taken
     ∙ get-taken i (k + 1) starts (omega (arith, le)) ∙ slice_get-get_or starts i origin (omega (arith, le, inside))
 
-pub kept-rows : (says : Data) (w : ℕ) (old new : List ℕ) (offset k : ℕ) (starts : List RowStart) → 1 ≤ w → IsUtf8 old → IsUtf8 new
-    → IsCharBoundary old offset → IsCharBoundary new offset → take offset old ≡ take offset new → starts ≡ row_starts says w old
-    → IsWellBefore w offset starts k → AreKept says w new starts k
-kept-rows says w old new offset k starts some valid also at_old at_new shared e h =
-    let at : (i : ℕ) → i < length starts → slice_get (row_starts says w old) i ≡ Some (get_or starts i origin) =
+pub kept-rows : (ucd : Data) (w : ℕ) (old new : List ℕ) (offset k : ℕ) (starts : List RowStart) → 1 ≤ w → IsUtf8 old → IsUtf8 new
+    → IsCharBoundary old offset → IsCharBoundary new offset → take offset old ≡ take offset new → starts ≡ row_starts ucd w old
+    → IsWellBefore w offset starts k → AreKept ucd w new starts k
+kept-rows ucd w old new offset k starts some valid also at_old at_new shared e h =
+    let at : (i : ℕ) → i < length starts → slice_get (row_starts ucd w old) i ≡ Some (get_or starts i origin) =
     λ i less. ap (λ xs. slice_get xs i) (sym e) ∙ slice_get-get_or starts i origin less in
     record {
       inside = h.inside;
-      taken = rows-before-stay says w old new offset k h.row (get_or starts k origin) (get_or starts h.row origin) some valid also at_old at_new shared
+      taken = rows-before-stay ucd w old new offset k h.row (get_or starts k origin) (get_or starts h.row origin) some valid also at_old at_new shared
           (at k h.inside) (at h.row h.row_inside) h.begins h.ahead
           ∙ ap (take (k + 1)) (sym e);
     }
 
 -- the rows up to one, and those of the rest
-pub rows-joined : (says : Data) (w : ℕ) (body : List ℕ) (starts found : List RowStart) (k : ℕ) → IsUtf8 body → AreKept says w body starts k
-    → found ≡ row_starts says w (drop (get_or starts k origin).offset body)
-    → take k starts ++ map (behind (get_or starts k origin)) found ≡ row_starts says w body
-rows-joined says w body starts found k valid h e =
+pub rows-joined : (ucd : Data) (w : ℕ) (body : List ℕ) (starts found : List RowStart) (k : ℕ) → IsUtf8 body → AreKept ucd w body starts k
+    → found ≡ row_starts ucd w (drop (get_or starts k origin).offset body)
+    → take k starts ++ map (behind (get_or starts k origin)) found ≡ row_starts ucd w body
+rows-joined ucd w body starts found k valid h e =
     let s = get_or starts k origin in
-    ap₂ (λ xs ys. xs ++ ys) (sym (take-fewer k (k + 1) (row_starts says w body) starts (omega arith) h.taken))
-    (ap (map (behind s)) e ∙ sym (rows-are-of-rest says w body k s valid (kept-at says w body starts k k h (omega arith))))
-    ∙ take-append-drop k (row_starts says w body)
+    ap₂ (λ xs ys. xs ++ ys) (sym (take-fewer k (k + 1) (row_starts ucd w body) starts (omega arith) h.taken))
+    (ap (map (behind s)) e ∙ sym (rows-are-of-rest ucd w body k s valid (kept-at ucd w body starts k k h (omega arith))))
+    ∙ take-append-drop k (row_starts ucd w body)
 
 same-left : (body rest : List ℕ) (stop shift a b : ℕ) → stop ≤ a → shift ≤ b → b - shift ≡ a - stop → drop stop body ≡ drop shift rest
     → drop a body ≡ drop b rest
@@ -77,23 +77,23 @@ same-left body rest stop shift a b le less e same =
     ∙ drop-drop (b - shift) shift rest ∙ ap (λ k. drop k rest) m
 
 -- the rows of a text up to where those of its beginning meet others
-pub rows-met : (says : Data) (w : ℕ) (body rest near : List ℕ) (stop shift last i k : ℕ) (starts found : List RowStart) → 1 ≤ w → IsUtf8 body
-    → IsUtf8 rest → IsUtf8 near → IsCharBoundary rest (length near) → near ≡ take (length near) rest → starts ≡ row_starts says w body
-    → found ≡ row_starts says w near → drop stop body ≡ drop shift rest → IsWellBefore w (length near) found last
+pub rows-met : (ucd : Data) (w : ℕ) (body rest near : List ℕ) (stop shift last i k : ℕ) (starts found : List RowStart) → 1 ≤ w → IsUtf8 body
+    → IsUtf8 rest → IsUtf8 near → IsCharBoundary rest (length near) → near ≡ take (length near) rest → starts ≡ row_starts ucd w body
+    → found ≡ row_starts ucd w near → drop stop body ≡ drop shift rest → IsWellBefore w (length near) found last
     → DoMeet shift stop found starts last i k
-    → take i found ++ map (moved (get_or starts k origin) (get_or found i origin)) (drop k starts) ≡ row_starts says w rest
-rows-met says w body rest near stop shift last i k starts found some valid also utf8 at_rest near_is e f same h meet =
+    → take i found ++ map (moved (get_or starts k origin) (get_or found i origin)) (drop k starts) ≡ row_starts ucd w rest
+rows-met ucd w body rest near stop shift last i k starts found some valid also utf8 at_rest near_is e f same h meet =
     let whole : take (length near) near ≡ near = take_all (length near) near (omega arith) in
-    let kept = kept-rows says w near rest (length near) last found some utf8 also (IsCharBoundary-end near) at_rest (whole ∙ near_is) f h in
+    let kept = kept-rows ucd w near rest (length near) last found some utf8 also (IsCharBoundary-end near) at_rest (whole ∙ near_is) f h in
     let o = get_or starts k origin in
     let t = get_or found i origin in
-    let here = kept-at says w rest found last i kept meet.found_inside in
+    let here = kept-at ucd w rest found last i kept meet.found_inside in
     let there = ap (λ xs. slice_get xs k) (sym e) ∙ slice_get-get_or starts k origin meet.old_inside in
     let left = same-left body rest stop shift o.offset t.offset meet.place.behind_stop meet.place.behind_shift meet.place.same same in
     let le = meet.found_inside in
-    ap₂ (λ xs ys. xs ++ ys) (sym (take-fewer i (last + 1) (row_starts says w rest) found (omega (arith, le)) kept.taken))
-    (ap (λ xs. map (moved o t) (drop k xs)) e ∙ sym (rows-meet-again says w body rest k i o t valid also there here left))
-    ∙ take-append-drop i (row_starts says w rest)
+    ap₂ (λ xs ys. xs ++ ys) (sym (take-fewer i (last + 1) (row_starts ucd w rest) found (omega (arith, le)) kept.taken))
+    (ap (λ xs. map (moved o t) (drop k xs)) e ∙ sym (rows-meet-again ucd w body rest k i o t valid also there here left))
+    ∙ take-append-drop i (row_starts ucd w rest)
 
 -- ---- rows after the start of another
 
@@ -144,15 +144,15 @@ are-met f o t front back whole e some room =
       room_back = further;
     }
 
-pub met-near : (says : Data) (w : ℕ) (body rest near : List ℕ) (stop shift i k : ℕ) (first : RowStart) (starts found : List RowStart) → 1 ≤ w
-    → IsUtf8 body → IsUtf8 rest → IsUtf8 near → IsCharBoundary rest (length near) → near ≡ take (length near) rest → starts ≡ row_starts says w body
-    → found ≡ row_starts says w near → drop stop body ≡ drop shift rest → DoMeetNear w (length near) shift stop found starts i k
-    → All (λ s. HasRoom (behind first s)) (row_starts says w rest)
-    → AreMet first (get_or starts k origin) (get_or found i origin) (take i found) (drop k starts) (row_starts says w rest)
-met-near says w body rest near stop shift i k first starts found some valid also utf8 at_rest near_is e f same m room =
+pub met-near : (ucd : Data) (w : ℕ) (body rest near : List ℕ) (stop shift i k : ℕ) (first : RowStart) (starts found : List RowStart) → 1 ≤ w
+    → IsUtf8 body → IsUtf8 rest → IsUtf8 near → IsCharBoundary rest (length near) → near ≡ take (length near) rest → starts ≡ row_starts ucd w body
+    → found ≡ row_starts ucd w near → drop stop body ≡ drop shift rest → DoMeetNear w (length near) shift stop found starts i k
+    → All (λ s. HasRoom (behind first s)) (row_starts ucd w rest)
+    → AreMet first (get_or starts k origin) (get_or found i origin) (take i found) (drop k starts) (row_starts ucd w rest)
+met-near ucd w body rest near stop shift i k first starts found some valid also utf8 at_rest near_is e f same m room =
     let inside = m.meet.old_inside in
-    are-met first (get_or starts k origin) (get_or found i origin) (take i found) (drop k starts) (row_starts says w rest)
-    (rows-met says w body rest near stop shift m.last i k starts found some valid also utf8 at_rest near_is e f same m.well m.meet)
+    are-met first (get_or starts k origin) (get_or found i origin) (take i found) (drop k starts) (row_starts ucd w rest)
+    (rows-met ucd w body rest near stop shift m.last i k starts found some valid also utf8 at_rest near_is e f same m.well m.meet)
     (omega (arith, inside, length-drop k starts)) room
 
 -- ---- there is room for the rows of a body
@@ -163,20 +163,20 @@ room-in body starts short h i d less =
     let within = s.boundary.0 in
     (omega (arith, short, within), omega (arith, short, s.units_few), omega (arith, short, s.chars_few))
 
-pub room-left : (says : Data) (w : ℕ) (body : List ℕ) (starts : List RowStart) (k : ℕ) → IsUtf8 body → length body < 2 ^ 64
-    → AreKept says w body starts k
-    → All (λ s. HasRoom (behind (get_or starts k origin) s)) (row_starts says w (drop (get_or starts k origin).offset body))
-room-left says w body starts k valid short h =
+pub room-left : (ucd : Data) (w : ℕ) (body : List ℕ) (starts : List RowStart) (k : ℕ) → IsUtf8 body → length body < 2 ^ 64
+    → AreKept ucd w body starts k
+    → All (λ s. HasRoom (behind (get_or starts k origin) s)) (row_starts ucd w (drop (get_or starts k origin).offset body))
+room-left ucd w body starts k valid short h =
     let s = get_or starts k origin in
-    let rest = row_starts says w (drop s.offset body) in
-    let all = room-in body (row_starts says w body) short (starts-in-body says w body valid) in
+    let rest = row_starts ucd w (drop s.offset body) in
+    let all = room-in body (row_starts ucd w body) short (starts-in-body ucd w body valid) in
     all-of-map HasRoom (behind s) rest
-    (subst (All HasRoom) (rows-are-of-rest says w body k s valid (kept-at says w body starts k k h (omega arith))) (All-drop HasRoom k (row_starts says w body) all))
+    (subst (All HasRoom) (rows-are-of-rest ucd w body k s valid (kept-at ucd w body starts k k h (omega arith))) (All-drop HasRoom k (row_starts ucd w body) all))
 
-pub room-whole : (says : Data) (w : ℕ) (body : List ℕ) → IsUtf8 body → length body < 2 ^ 64
-    → All (λ s. HasRoom (behind origin s)) (row_starts says w body)
-room-whole says w body valid short i d less =
-    let s = room-in body (row_starts says w body) short (starts-in-body says w body valid) i d less in
+pub room-whole : (ucd : Data) (w : ℕ) (body : List ℕ) → IsUtf8 body → length body < 2 ^ 64
+    → All (λ s. HasRoom (behind origin s)) (row_starts ucd w body)
+room-whole ucd w body valid short i d less =
+    let s = room-in body (row_starts ucd w body) short (starts-in-body ucd w body valid) i d less in
     (omega (arith, s.0), omega (arith, s.1), omega (arith, s.2))
 
 none-more : (n : ℕ) → 0 + n ≡ n

@@ -38,15 +38,15 @@ module _ (e : BodyEdit) (is : IsEdit e) where
       IsUtf8-append (take e.start e.body.now) (e.inserted.now ++ drop e.stop e.body.now) (IsUtf8-take e.body.now e.start u is.start) (behind-utf8 u v)
 
   -- the rows of the body up to one well before the edit stay
-  pub changed-kept : (says : Data) (row : ℕ) → IsUtf8 e.body.now → IsUtf8 e.inserted.now → 1 ≤ e.w
-      → e.starts.now ≡ row_starts says e.w e.body.now → IsWellBefore e.w e.start e.starts.now row → AreKept says e.w (changed e) e.starts.now row
-  changed-kept says row u v some f well =
+  pub changed-kept : (ucd : Data) (row : ℕ) → IsUtf8 e.body.now → IsUtf8 e.inserted.now → 1 ≤ e.w
+      → e.starts.now ≡ row_starts ucd e.w e.body.now → IsWellBefore e.w e.start e.starts.now row → AreKept ucd e.w (changed e) e.starts.now row
+  changed-kept ucd row u v some f well =
       let front = take e.start e.body.now in
       let rest = e.inserted.now ++ drop e.stop e.body.now in
       let size : length front ≡ e.start = length-take-le e.start e.body.now is.start.0 in
       let at_start = subst (IsCharBoundary (changed e)) size (IsCharBoundary-at_seam (changed e) front rest refl (behind-utf8 u v)) in
       let shared : front ≡ take e.start (changed e) = sym (ap (λ k. take k (front ++ rest)) (sym size) ∙ take-append_seam front rest) in
-      kept-rows says e.w e.body.now (changed e) e.start row e.starts.now some u (changed-utf8 u v) is.start at_start shared f well
+      kept-rows ucd e.w e.body.now (changed e) e.start row e.starts.now some u (changed-utf8 u v) is.start at_start shared f well
 
   pub changed-short : length e.body.now + length e.inserted.now < 2 ^ 64 → length (changed e) < 2 ^ 64
   changed-short short =
@@ -114,14 +114,14 @@ module _ (e : BodyEdit) (is : IsEdit e) where
         let n : shift ≡ length before + length e.inserted.now = omega (arith, h, text-length) in
         sym (ap (λ k. drop k whole) n ∙ drop-append-add before (e.inserted.now ++ rest) (length e.inserted.now) ∙ drop-append_seam e.inserted.now rest ∙ rest_is)
 
-    pub met-edit : (says : Data) (shift i k : ℕ) (first : RowStart) (found : List RowStart) → 1 ≤ e.w → e.starts.now ≡ row_starts says e.w e.body.now
-        → found ≡ row_starts says e.w text → shift ≡ length text - length near
+    pub met-edit : (ucd : Data) (shift i k : ℕ) (first : RowStart) (found : List RowStart) → 1 ≤ e.w → e.starts.now ≡ row_starts ucd e.w e.body.now
+        → found ≡ row_starts ucd e.w text → shift ≡ length text - length near
         → DoMeetNear e.w (length text) shift e.stop found e.starts.now i k
-        → All (λ s. HasRoom (behind first s)) (row_starts says e.w (drop from (changed e)))
+        → All (λ s. HasRoom (behind first s)) (row_starts ucd e.w (drop from (changed e)))
         → AreMet first (get_or e.starts.now k origin) (get_or found i origin) (take i found) (drop k e.starts.now)
-        (row_starts says e.w (drop from (changed e)))
-    met-edit says shift i k first found some f g h meet room =
-        let here = subst (λ xs. All (λ s. HasRoom (behind first s)) (row_starts says e.w xs)) pieces room in
-        let met = met-near says e.w e.body.now whole text e.stop shift i k first e.starts.now found some u whole-utf8 text-utf8 at-cut taken f g (left shift h) meet here in
-        subst (λ xs. AreMet first (get_or e.starts.now k origin) (get_or found i origin) (take i found) (drop k e.starts.now) (row_starts says e.w xs))
+        (row_starts ucd e.w (drop from (changed e)))
+    met-edit ucd shift i k first found some f g h meet room =
+        let here = subst (λ xs. All (λ s. HasRoom (behind first s)) (row_starts ucd e.w xs)) pieces room in
+        let met = met-near ucd e.w e.body.now whole text e.stop shift i k first e.starts.now found some u whole-utf8 text-utf8 at-cut taken f g (left shift h) meet here in
+        subst (λ xs. AreMet first (get_or e.starts.now k origin) (get_or found i origin) (take i found) (drop k e.starts.now) (row_starts ucd e.w xs))
         (sym pieces) met

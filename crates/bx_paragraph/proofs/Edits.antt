@@ -8,21 +8,21 @@ use Rattle.std.proofs.lemmas.List.{get_or-map, length-map, take-append-drop}
 use Rattle.std.proofs.lemmas.Str.{chars-append, IsUtf8-between, IsUtf8-take}
 use Rattle.bx_ucd.specs.Data.{Data}
 use Rattle.unicode_segmentation.proofs.TextLemmas.{take_split}
-use Rattle.bx_terms.specs.declared.base.Base.{Base}
-use Rattle.bx_resolve.specs.declared.paragraph.Levels.{Levels}
-use Rattle.bx_resolve.specs.Edited.{AreLevelsOf, HasNoFormatting, new_text, old_text}
-use Rattle.bx_resolve.specs.Levels.{levels_under, paragraph_level_under, sequence_levels}
-use Rattle.bx_resolve.specs.Uniform.{is_unformatted}
-use Rattle.bx_explicit.specs.Sequences.{direction}
-use Rattle.bx_resolve.proofs.PlainKept.{Each}
-use Rattle.bx_resolve.proofs.PlainLengths.{levels_length}
-use Rattle.bx_resolve.proofs.PlainLevels.{each_pass, found, unformatted_levels}
-use Rattle.bx_resolve.proofs.CutParagraph.{less_back, less_front, pass_each}
-use Rattle.bx_rows.specs.declared.row.Row.{Row}
+use Rattle.bx_common.specs.declared.base.Base.{Base}
+use Rattle.bx_levels.specs.declared.resolve.paragraph.Levels.{Levels}
+use Rattle.bx_levels.specs.resolve.Edited.{AreLevelsOf, HasNoFormatting, new_text, old_text}
+use Rattle.bx_levels.specs.resolve.Levels.{levels_under, paragraph_level_under, sequence_levels}
+use Rattle.bx_levels.specs.resolve.Uniform.{is_unformatted}
+use Rattle.bx_levels.specs.embedding.Sequences.{direction}
+use Rattle.bx_levels.proofs.resolve_lemmas.PlainKept.{Each}
+use Rattle.bx_levels.proofs.resolve_lemmas.PlainLengths.{levels_length}
+use Rattle.bx_levels.proofs.resolve_lemmas.PlainLevels.{each_pass, found, unformatted_levels}
+use Rattle.bx_levels.proofs.resolve_lemmas.CutParagraph.{less_back, less_front, pass_each}
+use Rattle.bx_rows.specs.declared.wrapping.Row.{Row}
 use Rattle.bx_rows.specs.declared.start_search.RowStart.{RowStart}
 use Rattle.bx_rows.specs.RowStarts.{start_of}
 use Rattle.bx_rows.specs.Wrapping.{wrap}
-use Rattle.bx_cells.specs.Units.{units}
+use Rattle.bx_rows.specs.cells.Units.{units}
 use Rattle.bx_paragraph.specs.Cuts.{FollowsEdit, IsCounted, IsEditOf, edit_of, is_of_direction}
 use Rattle.bx_paragraph.specs.Layout.{IsLayoutBy, LayoutState}
 use Rattle.bx_paragraph.specs.declared.text_edit.TextEdit.{TextEdit}
@@ -70,18 +70,18 @@ module _ (old new : List ℕ) (t : TextEdit) (e : IsEditOf old new t) where
   new-chars : chars new ≡ new_text (edit_of t)
   new-chars = ap chars e.after ∙ joined-chars t.front.now t.near.now t.inserted.now t.behind.now e.front_is e.near_is e.inserted_is
 
-  module _ (says : Data) where
+  module _ (ucd : Data) where
     -- as many levels as characters
-    levels-count : (base : Base) → HasNoFormatting says (chars old) → length (levels_under says base (chars old)) ≡ length (chars old)
+    levels-count : (base : Base) → HasNoFormatting ucd (chars old) → length (levels_under ucd base (chars old)) ≡ length (chars old)
     levels-count base h =
-        let level = paragraph_level_under says base (chars old) in
+        let level = paragraph_level_under ucd base (chars old) in
         let side = direction level in
-        let cs = map says.class (chars old) in
-        ap length (unformatted_levels says level (chars old) h)
-        ∙ length-map (sequence_levels says level side side (chars old) cs) found
-        ∙ levels_length says level side side (chars old) cs ∙ length-map (chars old) says.class
+        let cs = map ucd.class (chars old) in
+        ap length (unformatted_levels ucd level (chars old) h)
+        ∙ length-map (sequence_levels ucd level side side (chars old) cs) found
+        ∙ levels_length ucd level side side (chars old) cs ∙ length-map (chars old) ucd.class
 
-    pub whole-count : (base : Base) (each : List (Option ℕ)) → HasNoFormatting says (chars old) → each ≡ levels_under says base (chars old)
+    pub whole-count : (base : Base) (each : List (Option ℕ)) → HasNoFormatting ucd (chars old) → each ≡ levels_under ucd base (chars old)
         → length each ≡ t.ahead + (length (chars t.near.now) + (length (chars t.removed.now) + length (chars t.behind.now)))
     whole-count base each h is =
         let near = chars t.near.now in
@@ -98,42 +98,42 @@ module _ (old new : List ℕ) (t : TextEdit) (e : IsEditOf old new t) where
         )
 
     -- the levels that follow
-    pub levels-follow : (base : Base) (was now : Levels) → HasNoFormatting says (chars old) → FollowsEdit says t was now
-        → AreLevelsOf says base (chars old) was → AreLevelsOf says base (chars new) now
+    pub levels-follow : (base : Base) (was now : Levels) → HasNoFormatting ucd (chars old) → FollowsEdit ucd t was now
+        → AreLevelsOf ucd base (chars old) was → AreLevelsOf ucd base (chars new) now
     levels-follow base was now h law levels =
-        subst (λ cs. AreLevelsOf says base cs now) (sym new-chars)
-        (law base (subst (HasNoFormatting says) old-chars h)
-        (subst (λ cs. AreLevelsOf says base cs was) old-chars levels))
+        subst (λ cs. AreLevelsOf ucd base cs now) (sym new-chars)
+        (law base (subst (HasNoFormatting ucd) old-chars h)
+        (subst (λ cs. AreLevelsOf ucd base cs was) old-chars levels))
 
     -- no formatting characters come
-    pub stays-plain : HasNoFormatting says (chars old) → HasNoFormatting says (chars t.inserted.now) → HasNoFormatting says (chars new)
+    pub stays-plain : HasNoFormatting ucd (chars old) → HasNoFormatting ucd (chars t.inserted.now) → HasNoFormatting ucd (chars new)
     stays-plain h k =
         let front = chars t.front.now ++ chars t.near.now in
         let behind = chars t.behind.now in
-        let all = each_pass is_unformatted (map says.class (old_text (edit_of t))) (subst (HasNoFormatting says) old-chars h) in
-        let before = less_front says 0 front (chars t.removed.now ++ behind) all in
-        let after = less_back says 0 (chars t.removed.now) behind (less_back says 0 front (chars t.removed.now ++ behind) all) in
-        subst (HasNoFormatting says) (sym new-chars)
-        (plain-append says front (chars t.inserted.now ++ behind) (pass_each is_unformatted (map says.class front) before)
-        (plain-append says (chars t.inserted.now) behind k (pass_each is_unformatted (map says.class behind) after)))
+        let all = each_pass is_unformatted (map ucd.class (old_text (edit_of t))) (subst (HasNoFormatting ucd) old-chars h) in
+        let before = less_front ucd 0 front (chars t.removed.now ++ behind) all in
+        let after = less_back ucd 0 (chars t.removed.now) behind (less_back ucd 0 front (chars t.removed.now ++ behind) all) in
+        subst (HasNoFormatting ucd) (sym new-chars)
+        (plain-append ucd front (chars t.inserted.now ++ behind) (pass_each is_unformatted (map ucd.class front) before)
+        (plain-append ucd (chars t.inserted.now) behind k (pass_each is_unformatted (map ucd.class behind) after)))
 
-plain-each : (says : Data) (cs : List ℕ) → list_all (λ c. is_of_direction Either (says.class c)) cs ≡ true → Each is_unformatted (map says.class cs)
-plain-each says [] h = tt
-plain-each says (c ∷ cs) h =
-    let p = and_parts (is_of_direction Either (says.class c)) (list_all (λ c. is_of_direction Either (says.class c)) cs) h in (p.0, plain-each says cs p.1)
+plain-each : (ucd : Data) (cs : List ℕ) → list_all (λ c. is_of_direction Either (ucd.class c)) cs ≡ true → Each is_unformatted (map ucd.class cs)
+plain-each ucd [] h = tt
+plain-each ucd (c ∷ cs) h =
+    let p = and_parts (is_of_direction Either (ucd.class c)) (list_all (λ c. is_of_direction Either (ucd.class c)) cs) h in (p.0, plain-each ucd cs p.1)
 
 -- a text that passes the test has none
-pub plain-if : (says : Data) (cs : List ℕ) → list_all (λ c. is_of_direction Either (says.class c)) cs ≡ true → HasNoFormatting says cs
-plain-if says cs h = pass_each is_unformatted (map says.class cs) (plain-each says cs h)
+pub plain-if : (ucd : Data) (cs : List ℕ) → list_all (λ c. is_of_direction Either (ucd.class c)) cs ≡ true → HasNoFormatting ucd cs
+plain-if ucd cs h = pass_each is_unformatted (map ucd.class cs) (plain-each ucd cs h)
 
 -- ---- rows
 
 -- the characters before each row of a layout are counted
-pub counted : (says : Data) (l : LayoutState) → IsLayoutBy says l → (body : List ℕ)
+pub counted : (ucd : Data) (l : LayoutState) → IsLayoutBy ucd l → (body : List ℕ)
     (starts : List RowStart) → body ≡ l.body → starts ≡ l.starts → All (IsCounted body) starts
-counted says l is body starts e f k d h =
-    let us = units says l.w l.body in
-    let rows = wrap says l.w l.body us in
+counted ucd l is body starts e f k d h =
+    let us = units ucd l.w l.body in
+    let rows = wrap ucd l.w l.body us in
     let none : Row = record { start = 0; stop = 0 } in
     let size : length starts ≡ length rows = ap length (f ∙ is.starts) ∙ length-map rows (start_of l.body us) in
     let at = ap (λ xs. get_or xs k d) (f ∙ is.starts) ∙ get_or-map (start_of l.body us) rows k none d (omega (arith, h, size)) in

@@ -5,13 +5,14 @@ use Rattle.std.specs.Str.{IsCharBoundary, IsUtf8}
 use Rattle.std.proofs.lemmas.Str.{IsCharBoundary-from_drop}
 use Rattle.unicode_segmentation.proofs.Computing.{unicode_segmentation}
 use Rattle.unicode_width.proofs.Computing.{unicode_width}
-use Rattle.bx_terms.specs.declared.base.Base.TheVariants.{Ltr, Rtl}
+use Rattle.bx_common.specs.declared.base.Base.TheVariants.{Ltr, Rtl}
 use Rattle.bx_paragraph.specs.declared.moves.Visual.TheVariants.{Right}
-use Rattle.bx_resolve.specs.TestTables.{small}
+use Rattle.bx_ucd.specs.SmallTables.{small}
 use Rattle.bx_rows.specs.RowStarts.{row_starts}
 use Rattle.bx_rows.specs.declared.start_search.RowStart.{RowStart}
 use Rattle.bx_paragraph.specs.Laws.{RowsBeforeStay}
-use Rattle.bx_paragraph.specs.BodyRows.{first_of, last_of, offsets_of, row_at, row_of}
+use Rattle.bx_paragraph.specs.BodyRows.{first_of, last_of, offsets_of, row_at}
+use Rattle.bx_paragraph.specs.Layout.{row_of}
 use Rattle.bx_paragraph.specs.Slots.{beside, column_of, covering, entry, reading_order}
 use Rattle.bx_paragraph.proofs.Computed.{pictures, rows, rows_under, slots}
 

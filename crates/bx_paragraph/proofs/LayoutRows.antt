@@ -5,13 +5,13 @@ use Rattle.std.proofs.Common.{ne_eqb}
 use Rattle.std.proofs.Math.Dec.{eqb-suc-suc}
 use Rattle.std.proofs.lemmas.List.{length-map}
 use Rattle.bx_ucd.specs.Data.{Data}
-use Rattle.bx_resolve.specs.Levels.{paragraph_level_under, levels_under}
-use Rattle.bx_cells.specs.declared.unit.Unit.{Unit}
-use Rattle.bx_cells.specs.Units.{units}
+use Rattle.bx_levels.specs.resolve.Levels.{paragraph_level_under, levels_under}
+use Rattle.bx_rows.specs.declared.cells.unit.Unit.{Unit}
+use Rattle.bx_rows.specs.cells.Units.{units}
 use Rattle.bx_rows.specs.RowLevels.{row_levels}
 use Rattle.bx_rows.specs.NumberedRows.{draw_numbered}
 use Rattle.bx_rows.specs.RowPicture.{Glyph}
-use Rattle.bx_rows.specs.declared.row.Row.{Row}
+use Rattle.bx_rows.specs.declared.wrapping.Row.{Row}
 use Rattle.bx_rows.specs.RowStarts.{start_of, units_in, units_of_row}
 use Rattle.bx_rows.specs.Wrapping.{row_units, wrap}
 use Rattle.bx_paragraph.specs.BodyRows.{BodyRow, no_row, offsets_of, row_glyphs, row_with, rows_units, with_last}
@@ -32,24 +32,24 @@ last-at row (us ∷ vs ∷ rest) (suc k) h =
     (sym (ap (λ n. n == suc (suc (length rest))) (one-more k) ∙ eqb-suc-suc (k + 1) (suc (length rest))))
 
 -- as many rows as row starts
-pub rows-count : (l : LayoutState) (says : Data) → IsLayoutBy says l
-    → length l.starts ≡ length (rows_units says l.w l.body)
-rows-count l says is =
-    let us = units says l.w l.body in
-    ap length is.starts ∙ length-map (wrap says l.w l.body us) (start_of l.body us) ∙ sym (length-map (wrap says l.w l.body us) (row_units us))
+pub rows-count : (l : LayoutState) (ucd : Data) → IsLayoutBy ucd l
+    → length l.starts ≡ length (rows_units ucd l.w l.body)
+rows-count l ucd is =
+    let us = units ucd l.w l.body in
+    ap length is.starts ∙ length-map (wrap ucd l.w l.body us) (start_of l.body us) ∙ sym (length-map (wrap ucd l.w l.body us) (row_units us))
 
 -- a row of a layout
-pub row-is : (l : LayoutState) (says : Data) (k : ℕ) (us : List Unit) (levels : List ℕ) (is_last : Bool)
-    → IsLayoutBy says l → k < length l.starts → us ≡ get_or (rows_units says l.w l.body) k []
-    → levels ≡ row_levels says l.body l.paragraph l.each us → is_last ≡ (k + 1 == length l.starts)
-    → record { body = l.body; paragraph = l.paragraph; each = l.each; units = us; levels = levels; is_last = is_last } ≡ row_by says l k
-row-is l says k us levels is_last is h units-are levels-are last =
-    let xs = rows_units says l.w l.body in
-    let count = rows-count l says is in
-    let paragraph = paragraph_level_under says l.base (chars l.body) in
-    let each = levels_under says l.base (chars l.body) in
-    let found = last-at (row_with says l.body paragraph each) xs k (omega (arith, h, count)) in
-    let make : ℕ → List (Option ℕ) → Bool → List Unit → BodyRow = λ p e b vs. row_with says l.body p e b vs in
+pub row-is : (l : LayoutState) (ucd : Data) (k : ℕ) (us : List Unit) (levels : List ℕ) (is_last : Bool)
+    → IsLayoutBy ucd l → k < length l.starts → us ≡ get_or (rows_units ucd l.w l.body) k []
+    → levels ≡ row_levels ucd l.body l.paragraph l.each us → is_last ≡ (k + 1 == length l.starts)
+    → record { body = l.body; paragraph = l.paragraph; each = l.each; units = us; levels = levels; is_last = is_last } ≡ row_by ucd l k
+row-is l ucd k us levels is_last is h units-are levels-are last =
+    let xs = rows_units ucd l.w l.body in
+    let count = rows-count l ucd is in
+    let paragraph = paragraph_level_under ucd l.base (chars l.body) in
+    let each = levels_under ucd l.base (chars l.body) in
+    let found = last-at (row_with ucd l.body paragraph each) xs k (omega (arith, h, count)) in
+    let make : ℕ → List (Option ℕ) → Bool → List Unit → BodyRow = λ p e b vs. row_with ucd l.body p e b vs in
     ap (λ ls. record { body = l.body; paragraph = l.paragraph; each = l.each; units = us; levels = ls; is_last = is_last }) levels-are
     ∙ ap (λ p. make p l.each is_last us) is.paragraph ∙ ap (λ e. make paragraph e is_last us) is.each
     ∙ ap (λ b. make paragraph each b us) (last ∙ ap (λ n. k + 1 == n) count) ∙ ap (make paragraph each (k + 1 == length xs)) units-are ∙ sym found
@@ -60,30 +60,30 @@ units-at us (r ∷ rs) zero = refl
 units-at us (r ∷ rs) (suc k) = units-at us rs k
 
 -- the units of a row, by its number
-pub units-of-row : (says : Data) (w : ℕ) (body : List ℕ) (k : ℕ) → units_of_row says w body k ≡ get_or (rows_units says w body) k []
-units-of-row says w body k = let us = units says w body in units-at us (wrap says w body us) k
+pub units-of-row : (ucd : Data) (w : ℕ) (body : List ℕ) (k : ℕ) → units_of_row ucd w body k ≡ get_or (rows_units ucd w body) k []
+units-of-row ucd w body k = let us = units ucd w body in units-at us (wrap ucd w body us) k
 
 -- the offsets of a row's places, by its units
-pub offsets-are : (l : LayoutState) (says : Data) (k : ℕ) (us : List Unit) (is_last : Bool) (offsets : List ℕ)
-    → IsLayoutBy says l → k < length l.starts → us ≡ get_or (rows_units says l.w l.body) k [] → is_last ≡ (k + 1 == length l.starts)
-    → offsets ≡ map (λ (u : Unit). u.start) us ++ elim is_last [ true ↦ length l.body ∷ [] | false ↦ [] ] → offsets ≡ offsets_of (row_by says l k)
-offsets-are l says k us is_last offsets is h units-are last e =
-    e ∙ ap offsets_of (row-is l says k us (row_levels says l.body l.paragraph l.each us) is_last is h units-are refl last)
+pub offsets-are : (l : LayoutState) (ucd : Data) (k : ℕ) (us : List Unit) (is_last : Bool) (offsets : List ℕ)
+    → IsLayoutBy ucd l → k < length l.starts → us ≡ get_or (rows_units ucd l.w l.body) k [] → is_last ≡ (k + 1 == length l.starts)
+    → offsets ≡ map (λ (u : Unit). u.start) us ++ elim is_last [ true ↦ length l.body ∷ [] | false ↦ [] ] → offsets ≡ offsets_of (row_by ucd l k)
+offsets-are l ucd k us is_last offsets is h units-are last e =
+    e ∙ ap offsets_of (row-is l ucd k us (row_levels ucd l.body l.paragraph l.each us) is_last is h units-are refl last)
 
 -- the glyphs of a row of a layout, by its number
-pub glyphs-are : (says : Data) (gs : List Glyph) (l : LayoutState) (k : ℕ)
-    → IsLayoutBy says l → k < length l.starts → gs ≡ draw_numbered says l.w l.body l.paragraph l.each k
-    → gs ≡ row_glyphs says l.w (row_by says l k)
-glyphs-are says gs l k is h drawn =
-    let us = units_of_row says l.w l.body k in
+pub glyphs-are : (ucd : Data) (gs : List Glyph) (l : LayoutState) (k : ℕ)
+    → IsLayoutBy ucd l → k < length l.starts → gs ≡ draw_numbered ucd l.w l.body l.paragraph l.each k
+    → gs ≡ row_glyphs ucd l.w (row_by ucd l k)
+glyphs-are ucd gs l k is h drawn =
+    let us = units_of_row ucd l.w l.body k in
     drawn
-    ∙ ap (row_glyphs says l.w)
-    (row-is l says k us (row_levels says l.body l.paragraph l.each us) (k + 1 == length l.starts) is h (units-of-row says l.w l.body k) refl refl)
+    ∙ ap (row_glyphs ucd l.w)
+    (row-is l ucd k us (row_levels ucd l.body l.paragraph l.each us) (k + 1 == length l.starts) is h (units-of-row ucd l.w l.body k) refl refl)
 
 -- each row has the level of the paragraph
-pub row_level : (l : LayoutState) (says : Data) (k : ℕ) → IsLayoutBy says l → k < length l.starts
-    → l.paragraph ≡ (row_by says l k).paragraph
-row_level l says k is h =
-    let xs = rows_units says l.w l.body in
+pub row_level : (l : LayoutState) (ucd : Data) (k : ℕ) → IsLayoutBy ucd l → k < length l.starts
+    → l.paragraph ≡ (row_by ucd l k).paragraph
+row_level l ucd k is h =
+    let xs = rows_units ucd l.w l.body in
     ap (λ r. r.paragraph)
-    (row-is l says k (get_or xs k []) (row_levels says l.body l.paragraph l.each (get_or xs k [])) (k + 1 == length l.starts) is h refl refl refl)
+    (row-is l ucd k (get_or xs k []) (row_levels ucd l.body l.paragraph l.each (get_or xs k [])) (k + 1 == length l.starts) is h refl refl refl)

@@ -1,9 +1,9 @@
 -- The rows of the lines that a layout lends are the layout's rows.
 use Rattle.std.proofs.Common.{◌≡◌, ◌+◌, ◌++◌, ◌∷◌, ◌∙◌, ◌<◌, ◌==◌, ℕ, Bool, true, false, List, [], length, refl, subst, sym}
 use Rattle.std.specs.Prelude.{map}
-use Rattle.bx_terms.specs.Sizes.{is_side}
+use Rattle.bx_common.specs.Characters.{is_side}
 use Rattle.bx_ucd.specs.declared.data.BidiData.{Ghosts}
-use Rattle.bx_cells.specs.declared.unit.Unit.{Unit}
+use Rattle.bx_rows.specs.declared.cells.unit.Unit.{Unit}
 use Rattle.bx_rows.specs.declared.laid_row.LaidRow.{LaidRow}
 use Rattle.bx_rows.specs.declared.lines.Lines.{Lines}
 use Rattle.bx_rows.specs.Lines.{glyphs_at, levels_of, units_at}

@@ -9,7 +9,7 @@ use Rattle.std.proofs.lemmas.Str.{IsUtf8-past_char, IsUtf8-take}
 use Rattle.std.proofs.Math.Seq.{take-append_seam}
 use Rattle.bx_ucd.specs.Data.{Data}
 use Rattle.bx_ucd.specs.Class.{is_strong}
-use Rattle.bx_resolve.specs.Body.{IsOffset}
+use Rattle.bx_levels.specs.resolve.Body.{IsOffset}
 use Rattle.bx_paragraph.specs.Cuts.{IsStrongIn}
 use Rattle.bx_paragraph.specs.declared.strong.Strong.{Strong}
 
@@ -46,10 +46,10 @@ char-at text i at c next p b e =
     record { inside = inside; char_is = cc; place = record { boundary = b; rest = cc } }
 
 -- a strong one
-pub strong-at : (says : Data) (text : List ℕ) (s : Strong) (c : ℕ) → IsOffset text s.index s.start → IsCharAt text s.index c s.stop
-    → s.class ≡ says.class c → is_strong s.class ≡ true → IsStrongIn says text s
-strong-at says text s c p h e strong =
-    record { inside = h.inside; class_is = e ∙ ap says.class h.char_is; strong = strong; start = p; stop = h.place }
+pub strong-at : (ucd : Data) (text : List ℕ) (s : Strong) (c : ℕ) → IsOffset text s.index s.start → IsCharAt text s.index c s.stop
+    → s.class ≡ ucd.class c → is_strong s.class ≡ true → IsStrongIn ucd text s
+strong-at ucd text s c p h e strong =
+    record { inside = h.inside; class_is = e ∙ ap ucd.class h.char_is; strong = strong; start = p; stop = h.place }
 
 -- the rest of a text from an offset at which a character begins
 pub next-char : (text rest : List ℕ) (at c : ℕ) → IsUtf8 text → IsCharBoundary text at → drop at text ≡ encode_utf8 c ++ rest
@@ -71,8 +71,8 @@ next-char text rest at c u b e =
     )
 
 -- the later of two strong characters
-pub later-strong : (says : Data) (text : List ℕ) (found : Option Strong) (s : Strong) (c : ℕ) (b : Bool) (r : Option Strong) → is_strong s.class ≡ b
-    → r ≡ elim b [ true ↦ Some s | false ↦ found ] → IfSome found (IsStrongIn says text) → IsOffset text s.index s.start → IsCharAt text s.index c s.stop
-    → s.class ≡ says.class c → IfSome r (IsStrongIn says text)
-later-strong says text found s c true r k e h p at f = subst (λ o. IfSome o (IsStrongIn says text)) (sym e) (strong-at says text s c p at f k)
-later-strong says text found s c false r k e h p at f = subst (λ o. IfSome o (IsStrongIn says text)) (sym e) h
+pub later-strong : (ucd : Data) (text : List ℕ) (found : Option Strong) (s : Strong) (c : ℕ) (b : Bool) (r : Option Strong) → is_strong s.class ≡ b
+    → r ≡ elim b [ true ↦ Some s | false ↦ found ] → IfSome found (IsStrongIn ucd text) → IsOffset text s.index s.start → IsCharAt text s.index c s.stop
+    → s.class ≡ ucd.class c → IfSome r (IsStrongIn ucd text)
+later-strong ucd text found s c true r k e h p at f = subst (λ o. IfSome o (IsStrongIn ucd text)) (sym e) (strong-at ucd text s c p at f k)
+later-strong ucd text found s c false r k e h p at f = subst (λ o. IfSome o (IsStrongIn ucd text)) (sym e) h

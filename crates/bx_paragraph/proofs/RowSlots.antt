@@ -6,13 +6,13 @@ use Rattle.std.proofs.lemmas.Bool.{and_parts}
 use Rattle.std.proofs.lemmas.List.{at_drop_more, get_or-map, length-map}
 use Rattle.std.proofs.lemmas.List.Sums.{sum_by-append, sum_by-cons}
 use Rattle.std.proofs.lemmas.Slice.Zip.{get_or-zip}
-use Rattle.bx_terms.specs.Sizes.{is_side, largest_side}
-use Rattle.bx_cells.specs.declared.unit.Unit.{Unit}
+use Rattle.bx_common.specs.Characters.{is_side, largest_side}
+use Rattle.bx_rows.specs.declared.cells.unit.Unit.{Unit}
 use Rattle.bx_rows.specs.RowPicture.{unit_columns, columns_used}
-use Rattle.bx_rows.specs.VisualOrder.{visual}
+use Rattle.bx_rows.specs.RowLevels.{visual}
 use Rattle.bx_rows.proofs.NumbersBelow.{sum-visual}
 use Rattle.bx_rows.proofs.PictureSums.{columns-length, sum_by-same}
-use Rattle.bx_paragraph.specs.declared.slot.Slot.{Slot}
+use Rattle.bx_paragraph.specs.declared.slots.Slot.{Slot}
 use Rattle.bx_paragraph.specs.BodyRows.{BodyRow}
 use Rattle.bx_paragraph.specs.OrderedColumns.{ordered_columns}
 use Rattle.bx_paragraph.specs.Slots.{extent_of, row_slots, side_by_side, slot}

@@ -9,15 +9,16 @@ use Rattle.std.proofs.lemmas.List.Elements.{All-tail}
 use Rattle.std.proofs.Math.Nat.{mod-lt}
 use Rattle.std.proofs.Math.Seq.{drop-cons}
 use Rattle.bx_ucd.specs.Data.{Data}
-use Rattle.bx_cells.specs.declared.unit.Face.{Face}
-use Rattle.bx_cells.specs.declared.unit.Face.TheVariants.{Tab, Mark, Own}
-use Rattle.bx_cells.specs.declared.unit.Unit.{Unit}
-use Rattle.bx_cells.specs.Units.{units}
-use Rattle.bx_cells.proofs.Rest.{unit-behind}
-use Rattle.bx_rows.specs.declared.row.Row.{Row}
+use Rattle.bx_rows.specs.declared.cells.unit.Face.{Face}
+use Rattle.bx_rows.specs.declared.cells.unit.Face.TheVariants.{Tab, Placeholder, Own}
+use Rattle.bx_rows.specs.declared.cells.unit.Unit.{Unit}
+use Rattle.bx_rows.specs.cells.Units.{units}
+use Rattle.bx_rows.proofs.cells_lemmas.Rest.{unit-behind}
+use Rattle.bx_rows.specs.declared.wrapping.Row.{Row}
 use Rattle.bx_rows.specs.declared.start_search.RowStart.{RowStart}
 use Rattle.bx_rows.specs.RowStarts.{first_offset, row_starts, start_of}
-use Rattle.bx_rows.specs.Wrapping.{FitsWindow, columns_at, fit_count, fit_count_from, is_break, row_len, rows_from, up_to_break, up_to_last}
+use Rattle.bx_rows.specs.Wrapping.{columns_at, fit_count, fit_count_from, is_break, row_len, rows_from, up_to_break, up_to_last}
+use Rattle.bx_rows.specs.UnitPlaces.{FitsWindow}
 use Rattle.bx_rows.proofs.EachRow.{found-row, units-fit}
 use Rattle.bx_rows.proofs.RowUnits.{starts-of-some}
 use Rattle.bx_rows.proofs.RowsFit.{row-within}
@@ -28,7 +29,7 @@ use Rattle.bx_paragraph.proofs.SharedUnits.{Agrees, units-shared}
 
 column-some : (w c : ℕ) (f : Face) → FitsWindow w f → c < w → 1 ≤ columns_at w c f
 column-some w c Tab fit h = let low : c % 8 < 8 = mod-lt c (omega arith) in omega (arith, low, h)
-column-some w c (Mark letter) fit h = omega arith
+column-some w c (Placeholder letter) fit h = omega arith
 column-some w c (Own n) fit h = fit.0
 
 few-by : (w c col n : ℕ) (b : Bool) → (nat_lt c w && nat_le (c + col) w) ≡ b → (c < w → c + col ≤ w → (1 ≤ col) × (n ≤ w - (c + col)))
@@ -153,19 +154,19 @@ start-same p q old new front back other n a h =
     ap (λ t. record { offset = first_offset (drop n (front ++ back)); units = n; chars = length (chars t) }) b.text
     ∙ ap (λ o. record { offset = o; units = n; chars = length (chars (take o new)) }) b.offset
 
-pub rows-before-stay : (says : Data) (w : ℕ) (old new : List ℕ) (offset k q : ℕ) (s e : RowStart) → 1 ≤ w → IsUtf8 old → IsUtf8 new
-    → IsCharBoundary old offset → IsCharBoundary new offset → take offset old ≡ take offset new → slice_get (row_starts says w old) k ≡ Some s
-    → slice_get (row_starts says w old) q ≡ Some e → e.offset < offset → s.units + w < e.units
-    → take (k + 1) (row_starts says w new) ≡ take (k + 1) (row_starts says w old)
-rows-before-stay says w old new offset k q s e some valid also at_old at_new shared has_s has_e behind less =
-    let us = units says w old in
-    let vs = units says w new in
-    let pu = is_break says old in
-    let pv = is_break says new in
+pub rows-before-stay : (ucd : Data) (w : ℕ) (old new : List ℕ) (offset k q : ℕ) (s e : RowStart) → 1 ≤ w → IsUtf8 old → IsUtf8 new
+    → IsCharBoundary old offset → IsCharBoundary new offset → take offset old ≡ take offset new → slice_get (row_starts ucd w old) k ≡ Some s
+    → slice_get (row_starts ucd w old) q ≡ Some e → e.offset < offset → s.units + w < e.units
+    → take (k + 1) (row_starts ucd w new) ≡ take (k + 1) (row_starts ucd w old)
+rows-before-stay ucd w old new offset k q s e some valid also at_old at_new shared has_s has_e behind less =
+    let us = units ucd w old in
+    let vs = units ucd w new in
+    let pu = is_break ucd old in
+    let pv = is_break ucd new in
     let within = at_old.0 in
     let inside = at_new.0 in
-    let of_old = starts-of-some says w old (map (start_of old us) (rows_from pu w 0 0 us)) valid (omega (arith, within, behind)) refl in
-    let of_new = starts-of-some says w new (map (start_of new vs) (rows_from pv w 0 0 vs)) also (omega (arith, inside, behind)) refl in
+    let of_old = starts-of-some ucd w old (map (start_of old us) (rows_from pu w 0 0 us)) valid (omega (arith, within, behind)) refl in
+    let of_new = starts-of-some ucd w new (map (start_of new vs) (rows_from pv w 0 0 vs)) also (omega (arith, inside, behind)) refl in
     let row_k = found-row (start_of old us) (rows_from pu w 0 0 us) k s (ap (λ x. slice_get x k) of_old ∙ has_s) in
     let row_q = found-row (start_of old us) (rows_from pu w 0 0 us) q e (ap (λ x. slice_get x q) of_old ∙ has_e) in
     let n = row_q.0.start in
@@ -175,9 +176,9 @@ rows-before-stay says w old new offset k q s e some valid also at_old at_new sha
     let u = get_or us n no_unit in
     let rest = drop (suc n) us in
     let d = drop-cons us n no_unit (omega (arith, less_us)) in
-    let at = unit-behind says w old n u rest valid d in
+    let at = unit-behind ucd w old n u rest valid d in
     let o_is : e.offset ≡ u.start = sym (ap (λ x. x.offset) row_q.2) ∙ ap first_offset d in
-    let both = units-shared says w old new offset n u rest valid also at_old at_new shared d at.boundary (omega (arith, o_is, behind)) in
+    let both = units-shared ucd w old new offset n u rest valid also at_old at_new shared d at.boundary (omega (arith, o_is, behind)) in
     let front = take n us in
     let back = drop n us in
     let other = drop n vs in
@@ -188,9 +189,9 @@ rows-before-stay says w old new offset k q s e some valid also at_old at_new sha
     let g : ℕ → RowStart = λ i. start_of new (front ++ other) (record { start = i; stop = 0 }) in
     let one : suc k ≡ k + 1 = omega arith in
     let main = same-starts pu pv old new w f g n (λ i h. start-same pu pv old new front back other i both.agree (omega (arith, h, size))) some 0 0 front back
-    other (subst (All (λ u. FitsWindow w u.face)) us_is (units-fit says w old valid)) both.agree (omega (arith, size)) (omega (arith, size, n_is, less)) k row_k.0
+    other (subst (All (λ u. FitsWindow w u.face)) us_is (units-fit ucd w old valid)) both.agree (omega (arith, size)) (omega (arith, size, n_is, less)) k row_k.0
     (subst (λ x. slice_get (rows_from pu w 0 0 x) k ≡ Some row_k.0) us_is row_k.1) (omega (arith, k_is, n_is, less)) in
-    sym (ap (λ x. take x (row_starts says w old)) (sym one) ∙ ap (take (suc k)) (sym of_old)
+    sym (ap (λ x. take x (row_starts ucd w old)) (sym one) ∙ ap (take (suc k)) (sym of_old)
     ∙ ap (λ x. take (suc k) (map (start_of old x) (rows_from pu w 0 0 x))) us_is ∙ main
     ∙ ap (λ x. take (suc k) (map (start_of new x) (rows_from pv w 0 0 x))) (sym vs_is)
-    ∙ ap (take (suc k)) of_new ∙ ap (λ x. take x (row_starts says w new)) one)
+    ∙ ap (take (suc k)) of_new ∙ ap (λ x. take x (row_starts ucd w new)) one)

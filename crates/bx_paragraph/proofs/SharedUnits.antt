@@ -12,11 +12,10 @@ use Rattle.std.proofs.Math.Seq.{drop-append_seam, take-append_seam}
 use Rattle.bx_ucd.specs.Data.{Data}
 use Rattle.unicode_segmentation.specs.Grapheme.{is_grapheme_break}
 use Rattle.unicode_segmentation.specs.Segments.{cut, prepend, segments, with_offsets}
-use Rattle.bx_cells.specs.declared.unit.Unit.{Unit}
-use Rattle.bx_cells.specs.Faces.{only_char}
-use Rattle.bx_cells.specs.Units.{unit_at, units}
-use Rattle.bx_cells.proofs.Locality.{concat-own}
-use Rattle.bx_cells.proofs.Rest.{chars_encoded}
+use Rattle.bx_rows.specs.declared.cells.unit.Unit.{Unit}
+use Rattle.bx_rows.specs.cells.Units.{only_char, unit_at, units}
+use Rattle.bx_rows.proofs.cells_lemmas.Locality.{concat-own}
+use Rattle.bx_rows.proofs.cells_lemmas.Rest.{chars_encoded}
 use Rattle.unicode_segmentation.proofs.TextLemmas.{take_split}
 use Rattle.bx_rows.specs.Wrapping.{is_break, is_one_blank}
 
@@ -88,17 +87,17 @@ offsets-taken (suc k) at [] = refl
 offsets-taken (suc k) at (p ∷ ps) = ap (λ xs. (at, p) ∷ xs) (offsets-taken k (at + length p) ps)
 
 -- a unit begins after the bytes of those before it
-offset-behind : (says : Data) (w k at : ℕ) (ps : List (List ℕ)) (u : Unit) (rest : List Unit) → drop k (map (unit_at says w) (with_offsets at ps)) ≡ u ∷ rest
+offset-behind : (ucd : Data) (w k at : ℕ) (ps : List (List ℕ)) (u : Unit) (rest : List Unit) → drop k (map (unit_at ucd w) (with_offsets at ps)) ≡ u ∷ rest
     → u.start ≡ at + length (concat (take k ps))
 unfolding with_offsets
-offset-behind says w zero at [] u rest e = absurd (cc)
-offset-behind says w (suc k) at [] u rest e = absurd (cc)
-offset-behind says w zero at (p ∷ ps) u rest e =
-    let same : unit_at says w (at, p) ≡ u = cc in
+offset-behind ucd w zero at [] u rest e = absurd (cc)
+offset-behind ucd w (suc k) at [] u rest e = absurd (cc)
+offset-behind ucd w zero at (p ∷ ps) u rest e =
+    let same : unit_at ucd w (at, p) ≡ u = cc in
     let start : at ≡ u.start = ap (λ x. x.start) same in
     omega (arith, start)
-offset-behind says w (suc k) at (p ∷ ps) u rest e =
-    let n = offset-behind says w k (at + length p) ps u rest e in
+offset-behind ucd w (suc k) at (p ∷ ps) u rest e =
+    let n = offset-behind ucd w k (at + length p) ps u rest e in
     omega (arith, n, length-append p (concat (take k ps)))
 
 concat-encoded : (gs : List (List ℕ)) → concat (map encode_utf8_all gs) ≡ encode_utf8_all (concat gs)
@@ -108,11 +107,11 @@ concat-encoded (g ∷ gs) = ap (λ xs. encode_utf8_all g ++ xs) (concat-encoded 
 abbrev pieces : List ℕ → List (List ℕ)
 pieces body = cut (is_grapheme_break true) [] (chars body) []
 
-units-taken : (says : Data) (w k : ℕ) (body : List ℕ) → take k (units says w body) ≡ map (unit_at says w) (with_offsets 0 (map encode_utf8_all (take k (pieces body))))
+units-taken : (ucd : Data) (w k : ℕ) (body : List ℕ) → take k (units ucd w body) ≡ map (unit_at ucd w) (with_offsets 0 (map encode_utf8_all (take k (pieces body))))
 unfolding segments
-units-taken says w k body =
-    take-map (unit_at says w) k (with_offsets 0 (map encode_utf8_all (pieces body)))
-    ∙ ap (map (unit_at says w)) (offsets-taken k 0 (map encode_utf8_all (pieces body)) ∙ ap (with_offsets 0) (take-map encode_utf8_all k (pieces body)))
+units-taken ucd w k body =
+    take-map (unit_at ucd w) k (with_offsets 0 (map encode_utf8_all (pieces body)))
+    ∙ ap (map (unit_at ucd w)) (offsets-taken k 0 (map encode_utf8_all (pieces body)) ∙ ap (with_offsets 0) (take-map encode_utf8_all k (pieces body)))
 
 zero-more : (n : ℕ) → 0 + n ≡ n
 zero-more n = omega arith
@@ -122,10 +121,10 @@ record EndsAt (body : List ℕ) (k o : ℕ) : Type 0 where
   text : chars (take o body) ≡ concat (take k (pieces body))
   bytes : take o body ≡ concat (map encode_utf8_all (take k (pieces body)))
 
-ends-at : (says : Data) (w k : ℕ) (body : List ℕ) (u : Unit) (rest : List Unit) → IsUtf8 body → IsCharBoundary body u.start
-    → drop k (units says w body) ≡ u ∷ rest → EndsAt body k u.start
+ends-at : (ucd : Data) (w k : ℕ) (body : List ℕ) (u : Unit) (rest : List Unit) → IsUtf8 body → IsCharBoundary body u.start
+    → drop k (units ucd w body) ≡ u ∷ rest → EndsAt body k u.start
 unfolding segments
-ends-at says w k body u rest valid b e =
+ends-at ucd w k body u rest valid b e =
     let front = concat (take k (pieces body)) in
     let back = concat (drop k (pieces body)) in
     let all : chars body ≡ front ++ back =
@@ -133,7 +132,7 @@ ends-at says w k body u rest valid b e =
     let encoded : body ≡ encode_utf8_all front ++ encode_utf8_all back =
     sym (encodes-chars body valid) ∙ ap encode_utf8_all all ∙ encodes-append front back in
     let n : u.start ≡ length (encode_utf8_all front) =
-    offset-behind says w k 0 (map encode_utf8_all (pieces body)) u rest e
+    offset-behind ucd w k 0 (map encode_utf8_all (pieces body)) u rest e
     ∙ ap (λ xs. 0 + length (concat xs)) (take-map encode_utf8_all k (pieces body)) ∙ ap (λ xs. 0 + length xs) (concat-encoded (take k (pieces body)))
     ∙ zero-more (length (encode_utf8_all front)) in
     let bytes : take u.start body ≡ encode_utf8_all front =
@@ -172,12 +171,12 @@ text-at done g tail at e =
 start-at : (done x : List ℕ) (at : ℕ) → at ≡ length done → take at (done ++ x) ≡ done
 start-at done x at e = ap (λ k. take k (done ++ x)) e ∙ take-append_seam done x
 
-agree-from : (says : Data) (w : ℕ) (old new done : List ℕ) (gs : List (List ℕ)) (x y : List ℕ) (at : ℕ) → at ≡ length done
+agree-from : (ucd : Data) (w : ℕ) (old new done : List ℕ) (gs : List (List ℕ)) (x y : List ℕ) (at : ℕ) → at ≡ length done
     → old ≡ done ++ (concat gs ++ x) → new ≡ done ++ (concat gs ++ y)
-    → Agrees (is_break says old) (is_break says new) old new (map (unit_at says w) (with_offsets at gs))
+    → Agrees (is_break ucd old) (is_break ucd new) old new (map (unit_at ucd w) (with_offsets at gs))
 unfolding with_offsets
-agree-from says w old new done [] x y at e a b = tt
-agree-from says w old new done (g ∷ gs) x y at e a b =
+agree-from ucd w old new done [] x y at e a b = tt
+agree-from ucd w old new done (g ∷ gs) x y at e a b =
     let a' : old ≡ done ++ (g ++ (concat gs ++ x)) = a ∙ ap (λ xs. done ++ xs) (append_assoc g (concat gs) x) in
     let b' : new ≡ done ++ (g ++ (concat gs ++ y)) = b ∙ ap (λ xs. done ++ xs) (append_assoc g (concat gs) y) in
     let texts : slice_range old at (at + length g) ≡ slice_range new at (at + length g) =
@@ -185,10 +184,10 @@ agree-from says w old new done (g ∷ gs) x y at e a b =
     ∙ sym (ap (λ xs. slice_range xs at (at + length g)) b' ∙ text-at done g (concat gs ++ y) at e) in
     let n : at + length g ≡ length (done ++ g) = omega (arith, e, length-append done g) in (
       record {
-        same = ap (λ text. is_one_blank says (only_char (chars text))) texts;
+        same = ap (λ text. is_one_blank ucd (only_char (chars text))) texts;
         before = ap (take at) a' ∙ start-at done (g ++ (concat gs ++ x)) at e ∙ sym (ap (take at) b' ∙ start-at done (g ++ (concat gs ++ y)) at e);
       },
-      agree-from says w old new (done ++ g) gs x y (at + length g) n (a' ∙ sym (append_assoc done g (concat gs ++ x)))
+      agree-from ucd w old new (done ++ g) gs x y (at + length g) n (a' ∙ sym (append_assoc done g (concat gs ++ x)))
           (b' ∙ sym (append_assoc done g (concat gs ++ y))),
     )
 
@@ -209,15 +208,15 @@ pub record AreShared (p q : Unit → Bool) (old new : List ℕ) (us vs : List Un
   pub same : take k us ≡ take k vs
   pub agree : Agrees p q old new (take k us)
 
-pub units-shared : (says : Data) (w : ℕ) (old new : List ℕ) (start k : ℕ) (u : Unit) (rest : List Unit) → IsUtf8 old → IsUtf8 new
-    → IsCharBoundary old start → IsCharBoundary new start → take start old ≡ take start new → drop k (units says w old) ≡ u ∷ rest
+pub units-shared : (ucd : Data) (w : ℕ) (old new : List ℕ) (start k : ℕ) (u : Unit) (rest : List Unit) → IsUtf8 old → IsUtf8 new
+    → IsCharBoundary old start → IsCharBoundary new start → take start old ≡ take start new → drop k (units ucd w old) ≡ u ∷ rest
     → IsCharBoundary old u.start → u.start < start
-    → AreShared (is_break says old) (is_break says new) old new (units says w old) (units says w new) k
-units-shared says w old new start k u rest valid also at_old at_new shared e b less =
+    → AreShared (is_break ucd old) (is_break ucd new) old new (units ucd w old) (units ucd w new) k
+units-shared ucd w old new start k u rest valid also at_old at_new shared e b less =
     let o = u.start in
     let m = slice_range old o start in
     let le : o ≤ start = omega (arith, less) in
-    let x = ends-at says w k old u rest valid b e in
+    let x = ends-at ucd w k old u rest valid b e in
     let xs = concat (take k (pieces old)) in
     let split : take start old ≡ take o old ++ m = take_split old o start le in
     let front : chars (take start old) ≡ xs ++ chars m =
@@ -236,9 +235,9 @@ units-shared says w old new start k u rest valid also at_old at_new shared e b l
     let same = same-cut old new k xs (chars m) (chars (drop start old)) (chars (drop start new)) some of_old of_new few in
     let gs = map encode_utf8_all (take k (pieces old)) in
     record {
-      same = units-taken says w k old ∙ ap (λ ps. map (unit_at says w) (with_offsets 0 (map encode_utf8_all ps))) same ∙ sym (units-taken says w k new);
-      agree = subst (Agrees (is_break says old) (is_break says new) old new) (sym (units-taken says w k old))
-          (agree-from says w old new [] gs (drop o old) (drop o new) 0 refl
+      same = units-taken ucd w k old ∙ ap (λ ps. map (unit_at ucd w) (with_offsets 0 (map encode_utf8_all ps))) same ∙ sym (units-taken ucd w k new);
+      agree = subst (Agrees (is_break ucd old) (is_break ucd new) old new) (sym (units-taken ucd w k old))
+          (agree-from ucd w old new [] gs (drop o old) (drop o new) 0 refl
           (sym (take-append-drop o old) ∙ ap (λ t. t ++ drop o old) x.bytes)
           (sym (take-append-drop o new) ∙ ap (λ t. t ++ drop o new) (sym (take-less o start old new le shared) ∙ x.bytes)));
     }

@@ -8,10 +8,10 @@ use Rattle.std.proofs.lemmas.List.Sums.{count_by_more_no, count_by_more_yes, sum
 use Rattle.std.proofs.lemmas.Option.{slice_get-get_or}
 use Rattle.std.proofs.lemmas.Str.{IsUtf8-take}
 use Rattle.bx_ucd.specs.Data.{Data}
-use Rattle.bx_resolve.proofs.Small.{few_chars}
-use Rattle.bx_cells.specs.Units.{units}
-use Rattle.bx_cells.proofs.Rest.{few-units}
-use Rattle.bx_rows.specs.declared.row.Row.{Row}
+use Rattle.bx_levels.proofs.resolve_lemmas.Small.{few_chars}
+use Rattle.bx_rows.specs.cells.Units.{units}
+use Rattle.bx_rows.proofs.cells_lemmas.Rest.{few-units}
+use Rattle.bx_rows.specs.declared.wrapping.Row.{Row}
 use Rattle.bx_rows.specs.declared.start_search.RowStart.{RowStart}
 use Rattle.bx_rows.specs.LaterRows.{behind}
 use Rattle.bx_rows.specs.RowStarts.{row_starts, start_of}
@@ -58,13 +58,13 @@ count-map p f (x ∷ xs) =
 -- ---- row starts
 
 -- each begins after the ones before
-pub starts-rise : (says : Data) (w : ℕ) (body : List ℕ) → IsUtf8 body → IsNonDecreasingBy (λ (s : RowStart). s.offset) (row_starts says w body)
-starts-rise says w body valid i j d le h =
-    let xs = row_starts says w body in
+pub starts-rise : (ucd : Data) (w : ℕ) (body : List ℕ) → IsUtf8 body → IsNonDecreasingBy (λ (s : RowStart). s.offset) (row_starts ucd w body)
+starts-rise ucd w body valid i j d le h =
+    let xs = row_starts ucd w body in
     let s = get_or xs i d in
-    let rest = row_starts says w (drop s.offset body) in
+    let rest = row_starts ucd w (drop s.offset body) in
     let inside : i < length xs = omega (arith, le, h) in
-    let tail : drop i xs ≡ map (behind s) rest = rows-are-of-rest says w body i s valid (slice_get-get_or xs i d inside) in
+    let tail : drop i xs ≡ map (behind s) rest = rows-are-of-rest ucd w body i s valid (slice_get-get_or xs i d inside) in
     let n : i + (j - i) ≡ j = omega (arith, le) in
     let size : length xs - i ≡ length rest = sym (length-drop i xs) ∙ ap length tail ∙ length-map rest (behind s) in
     let at : get_or xs j d ≡ behind s (get_or rest (j - i) d) =
@@ -78,20 +78,20 @@ pub record IsInBody (body : List ℕ) (s : RowStart) : Type 0 where
   pub units_few : s.units ≤ length body
   pub chars_few : s.chars ≤ length body
 
-pub starts-in-body : (says : Data) (w : ℕ) (body : List ℕ) → IsUtf8 body → All (IsInBody body) (row_starts says w body)
-starts-in-body says w body valid k d h =
-    let us = units says w body in
-    let rows = wrap says w body us in
+pub starts-in-body : (ucd : Data) (w : ℕ) (body : List ℕ) → IsUtf8 body → All (IsInBody body) (row_starts ucd w body)
+starts-in-body ucd w body valid k d h =
+    let us = units ucd w body in
+    let rows = wrap ucd w body us in
     let none : Row = record { start = 0; stop = 0 } in
-    let starts = row_starts says w body in
+    let starts = row_starts ucd w body in
     let s = get_or starts k d in
     let inside : k < length rows = omega (arith, h, length-map rows (start_of body us)) in
     let at : s ≡ start_of body us (get_or rows k none) = get_or-map (start_of body us) rows k none d inside in
-    let b = (row-part says w body k s valid (slice_get-get_or starts k d h)).boundary in
-    let fit = fit_if_wrapped says w body us rows refl k none inside in
+    let b = (row-part ucd w body k s valid (slice_get-get_or starts k d h)).boundary in
+    let fit = fit_if_wrapped ucd w body us rows refl k none inside in
     let counted : s.chars ≡ length (chars (take s.offset body)) = subst (λ x. x.chars ≡ length (chars (take x.offset body))) (sym at) refl in
     record {
       boundary = b;
-      units_few = omega (arith, ap (λ x. x.units) at, fit.0, fit.1, few-units says w body valid);
+      units_few = omega (arith, ap (λ x. x.units) at, fit.0, fit.1, few-units ucd w body valid);
       chars_few = omega (arith, counted, few_chars (take s.offset body) (IsUtf8-take body s.offset valid b), length-take-le s.offset body b.0, b.0);
     }

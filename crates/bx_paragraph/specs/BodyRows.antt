@@ -1,14 +1,14 @@
--- The rows of a paragraph's body in a window of `w` columns, numbered from 0. Offsets count bytes of the body. `says` is what the
+-- The rows of a paragraph's body in a window of `w` columns, numbered from 0. Offsets count bytes of the body. `ucd` is what the
 -- tables say.
 use Rattle.std.specs.Prelude.{ℕ, ◌-◌, nat_le, Bool, true, false, List, [], ◌∷◌, ◌++◌, map, length, count_by, slice_index_or, Option, chars}
 use Rattle.bx_ucd.specs.Data.{Data}
-use Rattle.bx_terms.specs.declared.base.Base.{Base}
-use Rattle.bx_resolve.specs.Levels.{paragraph_level_under, levels_under}
-use Rattle.bx_cells.specs.declared.unit.Unit.{Unit}
-use Rattle.bx_cells.specs.Units.{units}
+use Rattle.bx_common.specs.declared.base.Base.{Base}
+use Rattle.bx_levels.specs.resolve.Levels.{paragraph_level_under, levels_under}
+use Rattle.bx_rows.specs.declared.cells.unit.Unit.{Unit}
+use Rattle.bx_rows.specs.cells.Units.{units}
 use Rattle.bx_rows.specs.Wrapping.{wrap, row_units, first_offset}
 use Rattle.bx_rows.specs.RowLevels.{row_levels}
-use Rattle.bx_rows.specs.RowPicture.{Glyph, draw}
+use Rattle.bx_rows.specs.RowPicture.{Glyph, draw, own_glyphs}
 
 -- a row: its paragraph's body, the paragraph level, the levels of all characters of the body (`each`), the row's units, the level of each
 -- unit by L1 (`levels`), and whether it is the paragraph's last row
@@ -22,8 +22,8 @@ pub record BodyRow : Type 0 where
 
 -- the row of some units, in a paragraph of the level `paragraph` whose characters have the levels `each`
 abbrev pub row_with : Data → List ℕ → ℕ → List (Option ℕ) → Bool → List Unit → BodyRow
-row_with says body paragraph each is_last us =
-    record { body = body; paragraph = paragraph; each = each; units = us; levels = row_levels says body paragraph each us; is_last = is_last }
+row_with ucd body paragraph each is_last us =
+    record { body = body; paragraph = paragraph; each = each; units = us; levels = row_levels ucd body paragraph each us; is_last = is_last }
 
 -- the rows made of the units of each row, in order, the last one marked as last
 abbrev pub with_last : (Bool → List Unit → BodyRow) → List (List Unit) → List BodyRow
@@ -33,14 +33,14 @@ with_last row (us ∷ vs ∷ rest) = row false us ∷ with_last row (vs ∷ rest
 
 -- the units of each row of a body
 abbrev pub rows_units : Data → ℕ → List ℕ → List (List Unit)
-rows_units says w body = let us = units says w body in map (row_units us) (wrap says w body us)
+rows_units ucd w body = let us = units ucd w body in map (row_units us) (wrap ucd w body us)
 
 -- the rows of a body
 abbrev pub body_rows : Data → Base → ℕ → List ℕ → List BodyRow
-body_rows says base w body =
-    let paragraph = paragraph_level_under says base (chars body) in
-    let each = levels_under says base (chars body) in
-    with_last (row_with says body paragraph each) (rows_units says w body)
+body_rows ucd base w body =
+    let paragraph = paragraph_level_under ucd base (chars body) in
+    let each = levels_under ucd base (chars body) in
+    with_last (row_with ucd body paragraph each) (rows_units ucd w body)
 
 -- the offset at which a row begins
 abbrev pub first_of : BodyRow → ℕ
@@ -64,10 +64,6 @@ last_of r = last_offset (offsets_of r)
 abbrev pub falls_in : List ℕ → ℕ → ℕ
 falls_in beginnings offset = count_by (λ b. nat_le b offset) beginnings - 1
 
--- the number of the row that an offset falls in: the last one that begins at or before it
-abbrev pub row_of : List BodyRow → ℕ → ℕ
-row_of rows offset = falls_in (map first_of rows) offset
-
 -- an empty row, for numbers without a row
 abbrev pub no_row : BodyRow
 no_row = record { body = []; paragraph = 0; each = []; units = []; levels = []; is_last = true }
@@ -78,4 +74,8 @@ row_at rows k = slice_index_or rows k no_row
 
 -- the glyphs of a row from left to right, with the blanks that fill it to `w` columns
 abbrev pub row_glyphs : Data → ℕ → BodyRow → List Glyph
-row_glyphs says w r = draw says w r.body r.paragraph r.each r.units r.levels
+row_glyphs ucd w r = draw ucd w r.body r.paragraph r.each r.units r.levels
+
+-- the glyphs of a row's units from left to right
+abbrev pub row_own_glyphs : Data → ℕ → BodyRow → List Glyph
+row_own_glyphs ucd w r = own_glyphs ucd w r.body r.each r.units r.levels

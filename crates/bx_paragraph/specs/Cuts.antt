@@ -1,5 +1,5 @@
 -- Edits of a body cut off by two strong characters (L, R or AL), one before and one after: the levels of all characters outside the two
--- stay, so only the text between them is resolved again. A bracket is a character that the tables list as one. `says` is what the
+-- stay, so only the text between them is resolved again. A bracket is a character that the tables list as one. `ucd` is what the
 -- tables say, `t` an edit in parts (`TextEdit`).
 use Rattle.std.specs.Prelude.{◌≡◌, ◌⊎◌, ◌<◌, ◌+◌, ◌&&◌, ℕ, Bool, true, not, List, ◌++◌, chars, drop, length, slice_index_or, take}
 use Rattle.std.specs.List.{list_all}
@@ -8,11 +8,11 @@ use Rattle.bx_ucd.specs.Data.{Data}
 use Rattle.bx_ucd.specs.declared.class.Class.{Class}
 use Rattle.bx_ucd.specs.declared.class.Class.TheVariants.{L}
 use Rattle.bx_ucd.specs.Class.{is_strong}
-use Rattle.bx_terms.specs.declared.base.Base.{Base}
-use Rattle.bx_resolve.specs.declared.paragraph.Levels.{Levels}
-use Rattle.bx_resolve.specs.Body.{IsOffset}
-use Rattle.bx_resolve.specs.Edited.{AreLevelsOf, Edit, HasNoFormatting, is_listed, new_text, old_text}
-use Rattle.bx_resolve.specs.Uniform.{is_from_right, is_plain, is_unformatted}
+use Rattle.bx_common.specs.declared.base.Base.{Base}
+use Rattle.bx_levels.specs.declared.resolve.paragraph.Levels.{Levels}
+use Rattle.bx_levels.specs.resolve.Body.{IsOffset}
+use Rattle.bx_levels.specs.resolve.Edited.{AreLevelsOf, Edit, HasNoFormatting, is_listed, new_text, old_text}
+use Rattle.bx_levels.specs.resolve.Uniform.{is_from_right, is_plain, is_unformatted}
 use Rattle.bx_rows.specs.declared.start_search.RowStart.{RowStart}
 use Rattle.bx_paragraph.specs.declared.strong.Strong.{Strong}
 use Rattle.bx_paragraph.specs.declared.direction.Direction.{Direction}
@@ -20,9 +20,9 @@ use Rattle.bx_paragraph.specs.declared.direction.Direction.TheVariants.{Either, 
 use Rattle.bx_paragraph.specs.declared.text_edit.TextEdit.{TextEdit}
 
 -- `s` is a strong character of a text: its index counts characters, its start and its stop count bytes
-pub record IsStrongIn (says : Data) (text : List ℕ) (s : Strong) : Type 0 where
+pub record IsStrongIn (ucd : Data) (text : List ℕ) (s : Strong) : Type 0 where
   pub inside : s.index < length (chars text)
-  pub class_is : s.class ≡ says.class (slice_index_or (chars text) s.index 0)
+  pub class_is : s.class ≡ ucd.class (slice_index_or (chars text) s.index 0)
   pub strong : is_strong s.class ≡ true
   pub start : IsOffset text s.index s.start
   pub stop : IsOffset text (s.index + 1) s.stop
@@ -43,39 +43,39 @@ direction_between _ _ = RightToLeft
 
 -- a character that a text of a direction may have, and that is not a bracket
 abbrev pub is_bare : Data → Direction → ℕ → Bool
-is_bare says direction c = is_of_direction direction (says.class c) && not (is_listed says c)
+is_bare ucd direction c = is_of_direction direction (ucd.class c) && not (is_listed ucd c)
 
 -- all characters of a text are bare
 abbrev pub are_bare : Data → Direction → List ℕ → Bool
-are_bare says direction text = list_all (is_bare says direction) (chars text)
+are_bare ucd direction text = list_all (is_bare ucd direction) (chars text)
 
 -- no character of a text is a formatting character or of class BN
 abbrev pub are_unformatted : Data → List ℕ → Bool
-are_unformatted says text = list_all (λ c. is_of_direction Either (says.class c)) (chars text)
+are_unformatted ucd text = list_all (λ c. is_of_direction Either (ucd.class c)) (chars text)
 
 -- an edit between the texts `left` and `right`: each character of these, of the removed and of the inserted text is bare
-pub record IsBareEdit (says : Data) (direction : Direction) (t : TextEdit) (left right : List ℕ) : Type 0 where
-  pub left_is : are_bare says direction left ≡ true
-  pub removed_is : are_bare says direction t.removed.now ≡ true
-  pub inserted_is : are_bare says direction t.inserted.now ≡ true
-  pub right_is : are_bare says direction right ≡ true
+pub record IsBareEdit (ucd : Data) (direction : Direction) (t : TextEdit) (left right : List ℕ) : Type 0 where
+  pub left_is : are_bare ucd direction left ≡ true
+  pub removed_is : are_bare ucd direction t.removed.now ≡ true
+  pub inserted_is : are_bare ucd direction t.inserted.now ≡ true
+  pub right_is : are_bare ucd direction right ≡ true
 
 -- no character of a text is a bracket
 abbrev pub has_no_bracket : Data → List ℕ → Bool
-has_no_bracket says text = list_all (λ c. not (is_listed says c)) (chars text)
+has_no_bracket ucd text = list_all (λ c. not (is_listed ucd c)) (chars text)
 
 -- no bracket is before `x`, the strong character before the edit, or none is after `y`, the strong character after it, so that no pair
 -- encloses both
 abbrev pub IsOpenEdit : Data → TextEdit → Strong → Strong → Type 0
-IsOpenEdit says t x y = ((has_no_bracket says t.front.now ≡ true) × (has_no_bracket says (take x.start t.near.now) ≡ true))
-    ⊎ (has_no_bracket says (drop y.stop t.behind.now) ≡ true)
+IsOpenEdit ucd t x y = ((has_no_bracket ucd t.front.now ≡ true) × (has_no_bracket ucd (take x.start t.near.now) ≡ true))
+    ⊎ (has_no_bracket ucd (drop y.stop t.behind.now) ≡ true)
 
 -- all characters between the strong characters `x` and `y` are of their direction, or of either direction if no bracket pair encloses both
 abbrev pub IsCutOffEdit : Data → TextEdit → Strong → Strong → Type 0
-IsCutOffEdit says t x y = IsBareEdit says (direction_between x.class y.class) t (drop x.stop t.near.now) (take y.start t.behind.now)
-    ⊎ (IsBareEdit says Either t (drop x.stop t.near.now) (take y.start t.behind.now) × IsOpenEdit says t x y)
+IsCutOffEdit ucd t x y = IsBareEdit ucd (direction_between x.class y.class) t (drop x.stop t.near.now) (take y.start t.behind.now)
+    ⊎ (IsBareEdit ucd Either t (drop x.stop t.near.now) (take y.start t.behind.now) × IsOpenEdit ucd t x y)
 
--- the edit as `bx_resolve` takes it, in characters
+-- the edit as `bx_levels` takes it, in characters
 abbrev pub edit_of : TextEdit → Edit
 edit_of t = record {
   before = chars t.front.now ++ chars t.near.now;
@@ -105,5 +105,5 @@ pub record AreAsBefore (was now : Levels) : Type 0 where
 
 -- if `was` are the levels of the text before an edit, `now` are those of the text after it
 abbrev pub FollowsEdit : Data → TextEdit → Levels → Levels → Type 0
-FollowsEdit says t was now = (base : Base) → HasNoFormatting says (old_text (edit_of t)) → AreLevelsOf says base (old_text (edit_of t)) was
-    → AreLevelsOf says base (new_text (edit_of t)) now
+FollowsEdit ucd t was now = (base : Base) → HasNoFormatting ucd (old_text (edit_of t)) → AreLevelsOf ucd base (old_text (edit_of t)) was
+    → AreLevelsOf ucd base (new_text (edit_of t)) now

@@ -8,7 +8,7 @@ use Rattle.bx_rows.specs.RowStarts.{row_starts}
 -- If two bodies are equal up to an offset after the start `e` of row `q` of the old one, and its row `k`, which begins at `s`, begins more
 -- than `w` units before row `q`, the starts of the rows up to row `k` are equal.
 abbrev pub RowsBeforeStay : Type 0
-RowsBeforeStay = (says : Data) (w : ℕ) (old new : List ℕ) (offset k q : ℕ) (s e : RowStart) → 1 ≤ w → IsUtf8 old → IsUtf8 new
-    → IsCharBoundary old offset → IsCharBoundary new offset → take offset old ≡ take offset new → slice_get (row_starts says w old) k ≡ Some s
-    → slice_get (row_starts says w old) q ≡ Some e → e.offset < offset → s.units + w < e.units
-    → take (k + 1) (row_starts says w new) ≡ take (k + 1) (row_starts says w old)
+RowsBeforeStay = (ucd : Data) (w : ℕ) (old new : List ℕ) (offset k q : ℕ) (s e : RowStart) → 1 ≤ w → IsUtf8 old → IsUtf8 new
+    → IsCharBoundary old offset → IsCharBoundary new offset → take offset old ≡ take offset new → slice_get (row_starts ucd w old) k ≡ Some s
+    → slice_get (row_starts ucd w old) q ≡ Some e → e.offset < offset → s.units + w < e.units
+    → take (k + 1) (row_starts ucd w new) ≡ take (k + 1) (row_starts ucd w old)

@@ -3,12 +3,12 @@
 use Rattle.std.specs.Prelude.{ℕ, zero, suc, ◌+◌, ◌-◌, ◌%◌, ◌==◌, ◌&&◌, nat_le, nat_lt, min, max, true, false}
 use Rattle.std.specs.Prelude.{Bool, List, [], ◌∷◌, ◌++◌, map, length, reverse, find, slice_index_or, Option, Some, None, option_map, unwrap_or}
 use Rattle.std.specs.List.{zip}
-use Rattle.bx_cells.specs.declared.unit.Unit.{Unit}
-use Rattle.bx_rows.specs.VisualOrder.{visual}
+use Rattle.bx_rows.specs.declared.cells.unit.Unit.{Unit}
+use Rattle.bx_rows.specs.RowLevels.{visual}
 use Rattle.bx_rows.specs.RowPicture.{unit_columns, columns_used}
 use Rattle.bx_paragraph.specs.declared.moves.Visual.{Visual}
 use Rattle.bx_paragraph.specs.declared.moves.Visual.TheVariants.{Left, Right}
-use Rattle.bx_paragraph.specs.declared.slot.Slot.{Slot}
+use Rattle.bx_paragraph.specs.declared.slots.Slot.{Slot}
 use Rattle.bx_paragraph.specs.BodyRows.{BodyRow}
 
 -- a slot by its offset, its leftmost column and its number of columns

@@ -31,6 +31,7 @@ pub(crate) fn changed_from(
     ensures { IfOk result (λ s. string_bytes s ≡ drop from (changed edit.now)) }
 {
     let before = &edit.body[from..edit.start];
+    // The proof compares the text, so it has a name.
     let text = joined(alloc, before, edit.inserted, &edit.body[edit.stop..])?;
     Ok(text)
 }

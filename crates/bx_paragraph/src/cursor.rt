@@ -8,8 +8,8 @@ ghost use Rattle.bx_paragraph.specs.Slots.{reading_end, reading_start, slot_offs
 use crate::lent_row::LentRow;
 use crate::moves::{Visual, opposite, reading_side};
 use crate::reading::{covering_in, first_in, last_offset, next_in, offsets_toward};
-use bx_cells::Unit;
-use bx_terms::OutOfMemory;
+use bx_common::OutOfMemory;
+use bx_rows::Unit;
 use bx_ucd::BidiData;
 use std::alloc::{AllocError, Global};
 
@@ -47,8 +47,7 @@ impl<'a, 't, D: BidiData> LentRow<'a, 't, D> {
         let alloc = self.paragraph.allocator();
         let len = self.paragraph.body().len();
         let units = self.paragraph.lines(self.tables).units(alloc, self.number)?;
-        let offsets = place_offsets(alloc, &units, self.is_last(), len)?;
-        Ok(offsets)
+        Ok(place_offsets(alloc, &units, self.is_last(), len)?)
     }
 
     /// The offset of the row's last place: the body's end in the last row, else the start of the row's last unit.
@@ -64,8 +63,7 @@ impl<'a, 't, D: BidiData> LentRow<'a, 't, D> {
         ensures { IfOk result (λ v. v.items ≡ toward side (slot_offsets self.now.paragraph.now.w (row self.now))) }
     {
         let slots = self.slots()?;
-        let offsets = offsets_toward(*slots.allocator(), &slots, side)?;
-        Ok(offsets)
+        Ok(offsets_toward(*slots.allocator(), &slots, side)?)
     }
 
     /// The offset of the row's slot next to the slot at `offset` on a side, if there is one.

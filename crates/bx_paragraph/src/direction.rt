@@ -1,6 +1,6 @@
 //! The characters allowed between two strong characters that cut off an edit.
 ghost use Rattle.std.specs.Prelude.{◌≡◌, chars, not};
-ghost use Rattle.bx_resolve.specs.Edited.{is_listed};
+ghost use Rattle.bx_levels.specs.resolve.Edited.{is_listed};
 ghost use Rattle.bx_paragraph.specs.Cuts.{are_bare, are_unformatted, direction_between, has_no_bracket, is_bare, is_of_direction};
 ghost use Rattle.bx_paragraph.specs.declared.direction.Direction.TheVariants.{Either};
 

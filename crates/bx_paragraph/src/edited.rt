@@ -2,7 +2,7 @@
 ghost use Rattle.std.specs.Prelude.{◌≡◌, ◌≤◌, ◌<◌, All, IfOk, OnErr, OnOk, chars, length, true};
 ghost use Rattle.std.specs.List.{splice};
 ghost use Rattle.std.specs.Str.{IsCharBoundary};
-ghost use Rattle.bx_resolve.specs.Edited.{AreLevelsOf, HasNoFormatting};
+ghost use Rattle.bx_levels.specs.resolve.Edited.{AreLevelsOf, HasNoFormatting};
 ghost use Rattle.bx_paragraph.specs.BodyEdits.{IsEdit, changed};
 ghost use Rattle.bx_paragraph.specs.Cuts.{AreAsBefore, IsCounted, IsEditOf};
 ghost use Rattle.bx_paragraph.specs.Layout.{IsLayoutBy};
@@ -13,9 +13,9 @@ use crate::edited_rows::edited_starts;
 use crate::in_place::{make_room, replace};
 use crate::layout::{ParagraphLayout, starts_up_to};
 use crate::text_edit::{TextEdit, follow};
-use bx_resolve::Levels;
+use bx_common::{Base, OutOfMemory};
+use bx_levels::Levels;
 use bx_rows::RowStart;
-use bx_terms::{Base, OutOfMemory};
 use bx_ucd::BidiData;
 use std::mem;
 
@@ -98,7 +98,7 @@ fn edit_levels<D: BidiData>(
     let alloc = *levels.each.allocator();
     let changed = changed_from(alloc, edit, 0)?;
     let body = changed.as_str();
-    *levels = bx_resolve::levels(alloc, body, tables, base)?;
+    *levels = bx_levels::levels(alloc, body, tables, base)?;
     Ok(are_unformatted(body, tables))
 }
 

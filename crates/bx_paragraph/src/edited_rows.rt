@@ -1,7 +1,7 @@
 //! The row starts of an edited body, found from a row well before the edit until they meet the old ones.
 ghost use Rattle.std.specs.Prelude.{◌≡◌, ◌≤◌, ◌<◌, ◌+◌, ◌^◌, ◌++◌, All, IfSome, OnOk, drop, length, map, take, true};
 ghost use Rattle.std.specs.Str.{IsCharBoundary};
-ghost use Rattle.bx_terms.specs.Sizes.{is_side};
+ghost use Rattle.bx_common.specs.Characters.{is_side};
 ghost use Rattle.bx_rows.specs.LaterRows.{behind};
 ghost use Rattle.bx_rows.specs.RowStarts.{row_starts};
 ghost use Rattle.bx_paragraph.specs.BodyEdits.{IsEdit, changed};
@@ -10,8 +10,8 @@ ghost use Rattle.bx_paragraph.specs.RowEdits.{DoMeetNear, HasRoom};
 use crate::body_edit::{BodyEdit, changed_from};
 use crate::row_edit::{behind, meeting, push_behind, push_moved, well_before};
 use crate::text_edit::joined;
+use bx_common::OutOfMemory;
 use bx_rows::{RowStart, row_starts};
-use bx_terms::OutOfMemory;
 use bx_ucd::BidiData;
 
 /// The bytes after an edit that a first search covers, per column of the window: four rows of characters of 4 bytes and one

@@ -1,14 +1,14 @@
 //! The layout of one paragraph: what the view caches, to draw its rows and to move in them.
 ghost use Rattle.std.specs.Prelude.{◌≡◌, ◌≤◌, ◌<◌, ◌^◌, true, IfOk, OnErr, OnOk, count_by, length, nat_le, map, slice_index_or, string_bytes};
 ghost use Rattle.std.specs.List.Sorted.{IsNonDecreasingBy};
-ghost use Rattle.bx_terms.specs.Sizes.{is_side};
-ghost use Rattle.bx_paragraph.specs.BodyRows.{first_of, row_at, row_of};
-ghost use Rattle.bx_paragraph.specs.Layout.{IsLayoutBy, IsSound, OfRows};
+ghost use Rattle.bx_common.specs.Characters.{is_side};
+ghost use Rattle.bx_paragraph.specs.BodyRows.{first_of, row_at};
+ghost use Rattle.bx_paragraph.specs.Layout.{IsLayoutBy, IsSound, OfRows, row_of};
 ghost use Rattle.bx_paragraph.specs.Lent.{IsLent};
 
-use bx_resolve::{Levels, levels};
+use bx_common::{Base, OutOfMemory};
+use bx_levels::{Levels, levels};
 use bx_rows::{Lines, RowStart, row_starts};
-use bx_terms::{Base, OutOfMemory};
 use bx_ucd::BidiData;
 use std::alloc::Global;
 use std::marker::Model;
@@ -34,7 +34,7 @@ pub struct ParagraphLayout {
 
 impl Model for ParagraphLayout {
     ghost use Rattle.std.specs.Prelude.{◌≡◌, ◌<◌, true, length, string_bytes};
-    ghost use Rattle.bx_terms.specs.Sizes.{is_side};
+    ghost use Rattle.bx_common.specs.Characters.{is_side};
     ghost use Rattle.bx_paragraph.specs.Layout.{LayoutState};
 
     ghost Value = { LayoutState };

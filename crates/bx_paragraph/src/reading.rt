@@ -4,7 +4,7 @@ ghost use Rattle.bx_paragraph.specs.BodyRows.{last_offset};
 ghost use Rattle.bx_paragraph.specs.Slots.{column_in, covering_in, covers, first_in, next_in, toward};
 
 use crate::moves::Visual;
-use crate::slot::Slot;
+use crate::slots::Slot;
 use std::alloc::{AllocError, Global};
 
 /// The offsets of slots.

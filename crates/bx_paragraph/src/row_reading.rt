@@ -1,20 +1,18 @@
 //! What is read of a lent row: the row laid out, its slots and its glyphs.
 ghost use Rattle.std.specs.Prelude.{◌≡◌, ◌+◌, ◌==◌, All, IfOk, IsPermutation, length, map, sum_by, true};
 ghost use Rattle.std.specs.Cow.{cow_str_bytes};
-ghost use Rattle.bx_terms.specs.Glyphs.{is_one_glyph, run_width};
-ghost use Rattle.bx_terms.specs.Sizes.{is_side};
+ghost use Rattle.bx_common.specs.Glyphs.{is_one_glyph, run_width};
+ghost use Rattle.bx_common.specs.Characters.{is_side};
 ghost use Rattle.bx_rows.specs.Shown.{glyph_of};
-ghost use Rattle.bx_paragraph.specs.BodyRows.{offsets_of, row_glyphs};
+ghost use Rattle.bx_paragraph.specs.BodyRows.{offsets_of, row_glyphs, row_own_glyphs};
 ghost use Rattle.bx_paragraph.specs.LaidRows.{body_row};
 ghost use Rattle.bx_paragraph.specs.LentRow.{row};
-ghost use Rattle.bx_paragraph.specs.OwnGlyphs.{row_own_glyphs};
 ghost use Rattle.bx_paragraph.specs.Slots.{row_slots};
 
 use crate::lent_row::LentRow;
-use crate::slot::Slot;
-use crate::slots::row_slots;
+use crate::slots::{Slot, row_slots};
+use bx_common::OutOfMemory;
 use bx_rows::{LaidRow, RowPicture};
-use bx_terms::OutOfMemory;
 use bx_ucd::BidiData;
 
 impl<'a, 't, D: BidiData> LentRow<'a, 't, D> {
@@ -33,6 +31,7 @@ impl<'a, 't, D: BidiData> LentRow<'a, 't, D> {
         ensures side { IfOk result (λ r. is_side r.lines.w ≡ true) }
     {
         let lines = self.paragraph.lines(self.tables);
+        // The proof compares the row, so it has a name.
         let row = lines.row(self.paragraph.allocator(), self.number)?;
         Ok(row)
     }
@@ -66,6 +65,7 @@ impl<'a, 't, D: BidiData> LentRow<'a, 't, D> {
         ensures columns { IfOk result (λ p. sum_by (λ g. g.columns) p.glyphs.items ≡ self.now.paragraph.now.w) }
     {
         let alloc = self.paragraph.allocator();
+        // The proof compares the picture, so it has a name.
         let picture = self
             .paragraph
             .lines(self.tables)
@@ -81,6 +81,7 @@ impl<'a, 't, D: BidiData> LentRow<'a, 't, D> {
         ensures widths { IfOk result (λ p. All (λ g. run_width (cow_str_bytes g.text) ≡ g.columns) p.glyphs.items) }
     {
         let alloc = self.paragraph.allocator();
+        // The proof compares the picture, so it has a name.
         let picture = self
             .paragraph
             .lines(self.tables)

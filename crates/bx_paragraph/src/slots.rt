@@ -1,16 +1,25 @@
-//! The slots of a row, from its units.
+//! The slots of a row, which are the positions of the cursor in it, from its units.
 ghost use Rattle.std.specs.Prelude.{◌≡◌, ◌≤◌, ◌<◌, ◌+◌, ◌++◌, ◌∷◌, [], true, false, All, IfOk, OnOk, length, map};
-ghost use Rattle.bx_terms.specs.Sizes.{is_side, largest_side};
+ghost use Rattle.bx_common.specs.Characters.{is_side, largest_side};
 ghost use Rattle.bx_paragraph.specs.LaidRows.{body_row};
 ghost use Rattle.bx_paragraph.specs.OrderedColumns.{ordered_columns};
 ghost use Rattle.bx_paragraph.specs.Slots.{extent_of, row_slots, side_by_side};
 
-use crate::slot::Slot;
-use bx_cells::Unit;
-use bx_rows::{LaidRow, unit_columns, visual};
-use bx_terms::OutOfMemory;
+use bx_common::OutOfMemory;
+use bx_rows::{LaidRow, Unit, unit_columns, visual};
 use bx_ucd::BidiData;
 use std::alloc::{AllocError, Global};
+
+/// A slot of a row: a position for the cursor.
+#[derive(Clone, Copy)]
+pub struct Slot {
+    /// The offset, in bytes of the paragraph's body, of its unit's start or of the body's end.
+    pub offset: usize,
+    /// The leftmost column that it covers, from 1.
+    pub column: u16,
+    /// The number of columns that it covers: those of its unit, or 0 for the body's end.
+    pub columns: u16,
+}
 
 /// Appends the slots of units side by side, from column `at` on: `order` has the indexes of the units from left to right, and
 /// `columns` the number of columns of each unit.

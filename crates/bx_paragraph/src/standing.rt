@@ -5,8 +5,8 @@ ghost use Rattle.bx_paragraph.specs.Slots.{column_of};
 
 use crate::lent_row::LentRow;
 use crate::reading::column_in;
-use bx_cells::Unit;
-use bx_terms::OutOfMemory;
+use bx_common::OutOfMemory;
+use bx_rows::Unit;
 use bx_ucd::BidiData;
 
 /// The position of a place in its row.

@@ -4,7 +4,7 @@ ghost use Rattle.std.specs.Str.{IsCharBoundary};
 ghost use Rattle.bx_ucd.specs.Class.{is_strong};
 ghost use Rattle.bx_paragraph.specs.Cuts.{IsStrongIn};
 
-use bx_terms::first_char;
+use bx_common::first_char;
 use bx_ucd::class::is_strong;
 use bx_ucd::{BidiData, Class};
 

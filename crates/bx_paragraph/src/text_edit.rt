@@ -1,14 +1,14 @@
 //! Edits of a body in parts, and the update of its levels by strong characters that cut an edit off.
 ghost use Rattle.std.specs.Prelude.{◌≡◌, ◌≤◌, ◌+◌, ◌++◌, IfOk, OnErr, chars, length, string_bytes, false, true};
-ghost use Rattle.bx_resolve.specs.Edited.{HasNoFormatting};
+ghost use Rattle.bx_levels.specs.resolve.Edited.{HasNoFormatting};
 ghost use Rattle.bx_paragraph.specs.Cuts.{AreAsBefore, FollowsEdit, IsStrongIn};
 
 use crate::cut_off::{is_bare_edit, is_cut_off};
 use crate::direction::Direction;
 use crate::strong::{Strong, first_strong, last_strong};
-use bx_resolve::{Levels, Span, follow_between, follow_to_end};
+use bx_common::OutOfMemory;
+use bx_levels::{Levels, Span, follow_between, follow_to_end};
 use bx_rows::char_count;
-use bx_terms::OutOfMemory;
 use bx_ucd::BidiData;
 use std::alloc::{AllocError, Global};
 

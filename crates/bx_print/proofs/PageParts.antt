@@ -5,12 +5,11 @@ use Rattle.std.specs.List.{join_by}
 use Rattle.std.proofs.lemmas.List.Concat.{flat_map-append}
 use Rattle.std.proofs.lemmas.List.Folds.{flat_map-map}
 use Rattle.bx_ucd.specs.Data.{Data}
-use Rattle.bx_terms.specs.declared.base.Base.{Base}
-use Rattle.bx_index.specs.Paragraphs.{Paragraph, lengths_of, paragraphs}
-use Rattle.bx_index.specs.Positions.{bytes_of}
+use Rattle.bx_common.specs.declared.base.Base.{Base}
+use Rattle.bx_text.specs.index.Paragraphs.{Paragraph, lengths_of, paragraphs, bytes_of}
 use Rattle.bx_paragraph.specs.BodyRows.{body_rows}
 use Rattle.bx_view.specs.TextRows.{TextRow, rows_from, text_row, text_row_glyphs}
-use Rattle.bx_print.specs.declared.marks.Marks.{Marks}
+use Rattle.bx_print.specs.declared.style.Marks.{Marks}
 use Rattle.bx_print.specs.BodyLines.{body_lines}
 use Rattle.bx_print.specs.Page.{line, page}
 
@@ -19,23 +18,23 @@ joined-is : {X : Type 0} (f : X → List ℕ) (xs : List X) → join_by f (10 �
 joined-is f [] = refl
 joined-is f (x ∷ xs) = refl
 
-module _ (says : Data) (marks : Marks) (base : Base) (w : ℕ) where
+module _ (ucd : Data) (marks : Marks) (base : Base) (w : ℕ) where
   abbrev pub lines_of : Paragraph → List ℕ
-  lines_of p = body_lines says marks base w p.body
+  lines_of p = body_lines ucd marks base w p.body
 
   abbrev text_line : TextRow → List ℕ
-  text_line r = 10 ∷ line marks (text_row_glyphs says w r)
+  text_line r = 10 ∷ line marks (text_row_glyphs ucd w r)
 
-  rows-lines : (start : ℕ) (ps : List Paragraph) → flat_map text_line (rows_from says base w start ps) ≡ flat_map lines_of ps
+  rows-lines : (start : ℕ) (ps : List Paragraph) → flat_map text_line (rows_from ucd base w start ps) ≡ flat_map lines_of ps
   rows-lines start [] = refl
   rows-lines start (p ∷ ps) =
-      let own = map (text_row start) (body_rows says base w p.body) in
+      let own = map (text_row start) (body_rows ucd base w p.body) in
       let later = start + bytes_of (lengths_of p) in
-      flat_map-append text_line own (rows_from says base w later ps)
-      ∙ ap₂ (λ x y. x ++ y) (flat_map-map text_line (text_row start) (body_rows says base w p.body)) (rows-lines later ps)
+      flat_map-append text_line own (rows_from ucd base w later ps)
+      ∙ ap₂ (λ x y. x ++ y) (flat_map-map text_line (text_row start) (body_rows ucd base w p.body)) (rows-lines later ps)
 
   -- the page of a text
-  pub page-is : (text : List ℕ) → page says marks base w text ≡ drop 1 (flat_map lines_of (paragraphs says text))
+  pub page-is : (text : List ℕ) → page ucd marks base w text ≡ drop 1 (flat_map lines_of (paragraphs ucd text))
   page-is text =
-      joined-is (λ r. line marks (text_row_glyphs says w r)) (rows_from says base w 0 (paragraphs says text))
-      ∙ ap (drop 1) (rows-lines 0 (paragraphs says text))
+      joined-is (λ r. line marks (text_row_glyphs ucd w r)) (rows_from ucd base w 0 (paragraphs ucd text))
+      ∙ ap (drop 1) (rows-lines 0 (paragraphs ucd text))

@@ -1,12 +1,12 @@
--- A printed text: its rows of `w` columns, each as a line of plain bytes. `says` is Unicode's data, `g` a glyph, `r` a row.
+-- A printed text: its rows of `w` columns, each as a line of plain bytes. `ucd` is Unicode's data, `g` a glyph, `r` a row.
 use Rattle.std.specs.Prelude.{ℕ, ◌==◌, true, false, List, [], ◌∷◌, ◌++◌, if◌then◌else◌, flat_map}
 use Rattle.std.specs.List.{join_by}
 use Rattle.bx_ucd.specs.Data.{Data}
-use Rattle.bx_terms.specs.declared.base.Base.{Base}
+use Rattle.bx_common.specs.declared.base.Base.{Base}
 use Rattle.bx_rows.specs.RowPicture.{Glyph}
 use Rattle.bx_view.specs.TextRows.{text_row_glyphs, text_rows}
-use Rattle.bx_print.specs.declared.marks.Marks.{Marks}
-use Rattle.bx_print.specs.declared.marks.Marks.TheVariants.{Bracketed, LeftOut}
+use Rattle.bx_print.specs.declared.style.Marks.{Marks}
+use Rattle.bx_print.specs.declared.style.Marks.TheVariants.{Bracketed, LeftOut}
 
 -- the printed bytes of a mark with this letter; 91 and 93 are `[` and `]`
 abbrev pub mark_bytes : Marks → List ℕ → List ℕ
@@ -33,5 +33,5 @@ line marks glyphs = trimmed (flat_map (glyph_bytes marks) glyphs)
 
 -- the lines of a text's rows in `w` columns, separated by line feeds (10)
 abbrev pub page : Data → Marks → Base → ℕ → List ℕ → List ℕ
-page says marks base w text =
-    join_by (λ r. line marks (text_row_glyphs says w r)) (10 ∷ []) (text_rows says base w text)
+page ucd marks base w text =
+    join_by (λ r. line marks (text_row_glyphs ucd w r)) (10 ∷ []) (text_rows ucd base w text)

@@ -1,6 +1,6 @@
 //! Errors of printing.
 use bx_bytes::WriteFault;
-use bx_terms::OutOfMemory;
+use bx_common::OutOfMemory;
 use bx_text::TextError;
 use std::alloc::AllocError;
 use thiserror::Error;

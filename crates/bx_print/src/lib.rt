@@ -5,13 +5,11 @@
 
 mod error;
 mod line;
-mod marks;
 mod output;
 mod paragraph;
 mod printing;
 mod style;
 
 pub use error::PrintError;
-pub use marks::Marks;
 pub use printing::print;
-pub use style::Style;
+pub use style::{Marks, Style};

@@ -3,7 +3,7 @@ ghost use Rattle.std.specs.Prelude.{◌≡◌, ◌≤◌, ◌++◌, OnOk, flat_m
 ghost use Rattle.bx_rows.specs.Shown.{glyph_of};
 ghost use Rattle.bx_print.specs.Page.{glyph_bytes, line, trimmed};
 
-use crate::marks::Marks;
+use crate::style::Marks;
 use bx_rows::{Drawn, RowPicture};
 use std::alloc::AllocError;
 

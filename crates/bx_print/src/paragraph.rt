@@ -1,16 +1,15 @@
 //! The printed lines of a paragraph, which is laid out for this alone, and not kept.
 ghost use Rattle.std.specs.Prelude.{◌≡◌, ◌<◌, ◌++◌, OnErr, OnOk, length};
 ghost use Rattle.bx_paragraph.specs.Layout.{IsLayoutBy};
-ghost use Rattle.bx_view.specs.Source.{body_at, count};
+ghost use Rattle.bx_view.specs.TextRef.{body_at, count};
 ghost use Rattle.bx_print.specs.BodyLines.{body_lines};
 
 use crate::error::PrintError;
 use crate::line::push_line;
-use crate::marks::Marks;
-use crate::style::Style;
+use crate::style::{Marks, Style};
 use bx_paragraph::{LentRow, ParagraphLayout};
 use bx_ucd::BidiData;
-use bx_view::Source;
+use bx_view::TextRef;
 
 /// Appends the lines of a laid out paragraph, each after a line feed.
 fn push_rows<D: BidiData>(
@@ -42,7 +41,7 @@ fn push_rows<D: BidiData>(
 /// Appends the lines of paragraph `number`, from 0, each after a line feed.
 pub(crate) fn push_paragraph<D: BidiData>(
     page: &mut Vec<u8>,
-    source: &Source<'_, D>,
+    source: &TextRef<'_, D>,
     number: usize,
     style: Style,
 ) -> Result<(), PrintError>

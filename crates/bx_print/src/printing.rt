@@ -2,7 +2,7 @@
 ghost use Rattle.std.specs.Prelude.{◌≡◌, ◌↔◌, ◌<◌, [], IsErrOf, OnOk, length, string_bytes};
 ghost use Rattle.std.specs.Io.KnownBytes.{Appends};
 ghost use Rattle.bx_text.specs.Edits.{largest_text};
-ghost use Rattle.bx_view.specs.Source.{bytes};
+ghost use Rattle.bx_view.specs.TextRef.{bytes};
 ghost use Rattle.bx_print.specs.Page.{page};
 ghost use Rattle.bx_bytes.specs.Writing.{WritesFront};
 
@@ -10,17 +10,16 @@ use crate::error::PrintError;
 use crate::output::{finish, send_full};
 use crate::paragraph::push_paragraph;
 use crate::style::Style;
-use bx_index::Index;
-use bx_text::{Text, TextError};
+use bx_text::{Index, Text, TextError};
 use bx_ucd::BidiData;
-use bx_view::Source;
+use bx_view::TextRef;
 use std::alloc::Global;
 use std::io::Write;
 
 /// Prints the paragraphs of a text. Lines wait in `pending`, which is empty at first, until `send_full` writes them.
 fn print_paragraphs<D: BidiData, W: Write>(
     pending: &mut Vec<u8>,
-    source: &Source<'_, D>,
+    source: &TextRef<'_, D>,
     style: Style,
     writer: &mut W,
 ) -> Result<(), PrintError>
@@ -69,6 +68,6 @@ pub fn print<D: BidiData, W: Write>(
     };
     let index = Index::build(alloc, &text, tables)?;
     let mut pending = Vec::new(alloc);
-    let source = Source::of(&text, &index, tables);
+    let source = TextRef::of(&text, &index, tables);
     print_paragraphs(&mut pending, &source, style, writer)
 }

@@ -1,9 +1,17 @@
-//! Options of printing.
+//! Options of printing, such as how marks are printed.
 ghost use Rattle.std.specs.Prelude.{◌≡◌, true};
-ghost use Rattle.bx_terms.specs.Sizes.{is_side};
+ghost use Rattle.bx_common.specs.Characters.{is_side};
 
-use crate::marks::Marks;
-use bx_terms::Base;
+use bx_common::Base;
+
+/// How a mark is printed: the letter, in negative image on a screen, for a character with no visible form of its own.
+#[derive(Clone, Copy)]
+pub enum Marks {
+    /// Omitted.
+    LeftOut,
+    /// As its letter in brackets.
+    Bracketed,
+}
 
 /// Options of printing.
 #[derive(Clone, Copy)]

@@ -1,6 +1,6 @@
 -- The causes of a refused opening and of a refused recovery, from the contracts of the calls within.
 use Rattle.std.proofs.Common.{◌≡◌, ◌≤◌, ℕ, List, None, Result, Ok, Err, IfErr, IsErrAnd, IsUtf8, length, subst, sym, ◌∙◌}
-use Rattle.bx_terms.specs.Sizes.{largest_text}
+use Rattle.bx_common.specs.Characters.{largest_text}
 use Rattle.bx_store.specs.declared.faults.Faults.{Faults}
 use Rattle.bx_recovery.specs.declared.beginning.Beginning.{Beginning}
 use Rattle.bx_recovery.specs.declared.fault.RecoveryFault.{RecoveryFault}

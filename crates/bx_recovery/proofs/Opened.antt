@@ -2,13 +2,13 @@
 use Rattle.std.proofs.Common.{◌≡◌, ℕ, Bool, true, false, List, [], Option, None, Some, Result, Ok, Err, refl, sym, ap, subst, ◌∙◌, length}
 use Rattle.std.specs.Prelude.{IfOk, vec_items, unwrap_or}
 use Rattle.std.specs.Global.{Vec}
-use Rattle.bx_keys.specs.Keys.{keys_from}
+use Rattle.bx_keys.specs.Waiting.{keys_from}
 use Rattle.bx_ucd.specs.Data.{Data}
-use Rattle.bx_cli.specs.declared.unicode.UnicodeFiles.{UnicodeFiles}
-use Rattle.bx_session.specs.Session.{Session, SessionState, at_opening}
-use Rattle.bx_session.specs.Saving.{StoreState}
+use Rattle.bx_command.specs.declared.shared.unicode.UnicodeFiles.{UnicodeFiles}
+use Rattle.bx_session.specs.Session.{Session, at_opening, clipboard_if, StoreState}
+use Rattle.bx_session.specs.Feeding.{SessionState}
 use Rattle.bx_session.specs.Painting.{QueuesPicture}
-use Rattle.bx_session.specs.Beginning.{Beginning, after_going_to, at_offset, changed_if, clipboard_if}
+use Rattle.bx_session.specs.Beginning.{Beginning, after_going_to, at_offset, changed_if}
 use Rattle.bx_recovery.specs.declared.replaying.Replayed.{Replayed}
 use Rattle.bx_recovery.specs.Beginnings.{AreOfFiles, IsOpened, bytes_of}
 use Rattle.bx_recovery.specs.Recovery.{RecoversFrom, Recovers}
@@ -17,23 +17,23 @@ pub bytes_or_none : (text : Option (Vec ℕ)) (none result : Vec ℕ) → vec_it
 bytes_or_none None none result empty is = ap (λ (v : Vec ℕ). vec_items v) is ∙ empty
 bytes_or_none (Some bytes) none result empty is = ap (λ (v : Vec ℕ). vec_items v) is
 
-pub opened_is : {D : Type 0} (says : D → Data) (tables : D) (first new : SessionState D) (text : List ℕ) (b : Beginning) (offset : Option ℕ)
-    → first ≡ record { tables = tables; session = at_opening (says tables) text b.height b.width b.base }
-    → QueuesPicture (says tables) [] None first.session → text ≡ b.text → offset ≡ b.offset
-    → new ≡ record first { session = changed_if b.unsaved (after_going_to (says first.tables) (clipboard_if b.clipboard first.session) offset) }
-    → IsOpened (says new.tables) b new.session
-opened_is {D} says tables first new text b offset is queued same sent gone =
+pub opened_is : {D : Type 0} (ucd : D → Data) (tables : D) (first new : SessionState D) (text : List ℕ) (b : Beginning) (offset : Option ℕ)
+    → first ≡ record { tables = tables; session = at_opening (ucd tables) text b.height b.width b.base }
+    → QueuesPicture (ucd tables) [] None first.session → text ≡ b.text → offset ≡ b.offset
+    → new ≡ record first { session = changed_if b.unsaved (after_going_to (ucd first.tables) (clipboard_if b.clipboard first.session) offset) }
+    → IsOpened (ucd new.tables) b new.session
+opened_is {D} ucd tables first new text b offset is queued same sent gone =
     let stays : first.tables ≡ tables = ap (λ (x : SessionState D). x.tables) is in
     let kept : new.tables ≡ tables = ap (λ (x : SessionState D). x.tables) gone ∙ stays in
-    let begins : first.session ≡ at_opening (says tables) b.text b.height b.width b.base =
-    ap (λ (x : SessionState D). x.session) is ∙ ap (λ (t : List ℕ). at_opening (says tables) t b.height b.width b.base) same in
-    let opened : IsOpened (says tables) b new.session = record {
+    let begins : first.session ≡ at_opening (ucd tables) b.text b.height b.width b.base =
+    ap (λ (x : SessionState D). x.session) is ∙ ap (λ (t : List ℕ). at_opening (ucd tables) t b.height b.width b.base) same in
+    let opened : IsOpened (ucd tables) b new.session = record {
       session = ap (λ (x : SessionState D). x.session) gone
-          ∙ ap (λ (o : Option ℕ). changed_if b.unsaved (after_going_to (says first.tables) (clipboard_if b.clipboard first.session) o)) sent
-          ∙ ap (λ (t : D). changed_if b.unsaved (after_going_to (says t) (clipboard_if b.clipboard first.session) b.offset)) stays
-          ∙ ap (λ (s : Session). changed_if b.unsaved (after_going_to (says tables) (clipboard_if b.clipboard s) b.offset)) begins;
-      paints = subst (QueuesPicture (says tables) [] None) begins queued;
-    } in subst (λ (t : D). IsOpened (says t) b new.session) (sym kept) opened
+          ∙ ap (λ (o : Option ℕ). changed_if b.unsaved (after_going_to (ucd first.tables) (clipboard_if b.clipboard first.session) o)) sent
+          ∙ ap (λ (t : D). changed_if b.unsaved (after_going_to (ucd t) (clipboard_if b.clipboard first.session) b.offset)) stays
+          ∙ ap (λ (s : Session). changed_if b.unsaved (after_going_to (ucd tables) (clipboard_if b.clipboard s) b.offset)) begins;
+      paints = subst (QueuesPicture (ucd tables) [] None) begins queued;
+    } in subst (λ (t : D). IsOpened (ucd t) b new.session) (sym kept) opened
 
 -- ---- no byte is read yet
 

@@ -5,7 +5,7 @@ use Rattle.std.specs.Prelude.{◌&&◌, codes}
 use Rattle.std.specs.Str.{chars, is_utf8}
 use Rattle.std.proofs.lemmas.List.{take_all}
 use Rattle.std.proofs.lemmas.Str.{is_utf8-from_IsUtf8}
-use Rattle.bx_terms.specs.Sizes.{is_side, largest_text}
+use Rattle.bx_common.specs.Characters.{is_side, largest_text}
 use Rattle.bx_grid.specs.Picture.{is_size}
 use Rattle.bx_ucd.specs.ClassFile.{class_lines}
 use Rattle.bx_ucd.specs.Lines.{first_refusal, no_memory_in}
@@ -14,11 +14,11 @@ use Rattle.bx_ucd.specs.declared.error.Cause.TheVariants.{BadLine}
 use Rattle.bx_ucd.specs.declared.error.UcdError.{UcdError}
 use Rattle.bx_ucd.specs.declared.error.UcdFile.{UcdFile}
 use Rattle.bx_ucd.specs.declared.error.UcdFile.TheVariants.{Classes, Brackets, Mirroring, Joining, Characters}
-use Rattle.bx_cli.specs.declared.unicode.UnicodeFiles.{UnicodeFiles}
+use Rattle.bx_command.specs.declared.shared.unicode.UnicodeFiles.{UnicodeFiles}
 use Rattle.bx_store.specs.declared.faults.Faults.{Faults}
-use Rattle.bx_editor.specs.Opening.{Causes}
-use Rattle.bx_editor.specs.declared.error.OpenError.{OpenError}
-use Rattle.bx_editor.specs.declared.error.OpenError.TheVariants as text
+use Rattle.bx_editor.specs.Editor.{Causes}
+use Rattle.bx_editor.specs.declared.opening.OpenError.{OpenError}
+use Rattle.bx_editor.specs.declared.opening.OpenError.TheVariants as text
 use Rattle.bx_recovery.specs.declared.beginning.Beginning.{Beginning}
 use Rattle.bx_recovery.specs.declared.fault.RecoveryFault.{RecoveryFault}
 use Rattle.bx_recovery.specs.declared.fault.RecoveryFault.TheVariants.{Tables, Open, Unwritten, OutOfMemory}

@@ -3,11 +3,12 @@ use Rattle.std.proofs.Common.{◌≡◌, ◌≢◌, ◌≤◌, ◌+◌, ℕ, Boo
 use Rattle.std.proofs.Common.{Contains, ◌⊎◌, ⊎_elim, inl, inr, ◌↔◌, IsTrue, IsFalse, refl, sym, ap, subst, ◌∙◌, zero-add, add_assoc, length-append, if◌then◌else◌, arith}
 use Rattle.std.specs.Prelude.{option_to_list}
 use Rattle.bx_keys.specs.declared.key.Key.{Key}
-use Rattle.bx_keys.specs.Keys.{key_after, keys_from, rest_after}
-use Rattle.bx_keys.specs.Waiting.{head_of}
+use Rattle.bx_keys.specs.Keys.{key_after, rest_after}
+use Rattle.bx_keys.specs.Waiting.{keys_from, head_of}
 use Rattle.bx_ucd.specs.Data.{Data}
-use Rattle.bx_session.specs.Session.{Session, SessionState, after_journal, after_replay, after_replaying, at_replay_end, key_of_byte}
-use Rattle.bx_session.specs.Saving.{is_save_byte, is_save_key}
+use Rattle.bx_session.specs.Session.{Session, key_of_byte, is_save_byte, is_save_key}
+use Rattle.bx_session.specs.Feeding.{SessionState}
+use Rattle.bx_session.specs.Replaying.{after_journal, after_replay, after_replaying, at_replay_end}
 use Rattle.bx_session.proofs.Replayed.{applies, replayed_more}
 use Rattle.bx_recovery.specs.declared.replaying.FileText.{FileText}
 use Rattle.bx_recovery.specs.declared.replaying.FileText.TheVariants.{Same, Known, Foreign}
@@ -24,24 +25,24 @@ one_more d old now new keys i b was more is =
     ∙ ap (after_replaying d old) (sym more)
 
 -- the tables stay the same
-pub replayed_one : {D : Type 0} (says : D → Data) (tables : D) (mid new : SessionState D) (old : Session) (keys : List ℕ) (i b : ℕ)
-    → (mid.session ≡ after_replaying (says tables) old (take i keys)) × (mid.tables ≡ tables) → take (i + 1) keys ≡ take i keys ++ b ∷ []
-    → new ≡ record mid { session = after_replay (says mid.tables) mid.session b }
-    → (new.session ≡ after_replaying (says tables) old (take (i + 1) keys)) × (new.tables ≡ tables)
-replayed_one {D} says tables mid new old keys i b was more is = (
-  one_more (says tables) old mid.session new.session keys i b was.0 more
-      (ap (λ (x : SessionState D). x.session) is ∙ ap (λ (t : D). after_replay (says t) mid.session b) was.1),
+pub replayed_one : {D : Type 0} (ucd : D → Data) (tables : D) (mid new : SessionState D) (old : Session) (keys : List ℕ) (i b : ℕ)
+    → (mid.session ≡ after_replaying (ucd tables) old (take i keys)) × (mid.tables ≡ tables) → take (i + 1) keys ≡ take i keys ++ b ∷ []
+    → new ≡ record mid { session = after_replay (ucd mid.tables) mid.session b }
+    → (new.session ≡ after_replaying (ucd tables) old (take (i + 1) keys)) × (new.tables ≡ tables)
+replayed_one {D} ucd tables mid new old keys i b was more is = (
+  one_more (ucd tables) old mid.session new.session keys i b was.0 more
+      (ap (λ (x : SessionState D). x.session) is ∙ ap (λ (t : D). after_replay (ucd t) mid.session b) was.1),
   ap (λ (x : SessionState D). x.tables) is ∙ was.1,
 )
 
 -- all bytes, and the end
-pub journal_is : {D : Type 0} (says : D → Data) (tables : D) (mid new : SessionState D) (old : Session) (keys bytes : List ℕ)
-    → (mid.session ≡ after_replaying (says tables) old bytes) × (mid.tables ≡ tables) → bytes ≡ keys
-    → new ≡ record mid { session = at_replay_end (says mid.tables) mid.session } → new.session ≡ after_journal (says tables) old keys
-journal_is {D} says tables mid new old keys bytes was all is =
+pub journal_is : {D : Type 0} (ucd : D → Data) (tables : D) (mid new : SessionState D) (old : Session) (keys bytes : List ℕ)
+    → (mid.session ≡ after_replaying (ucd tables) old bytes) × (mid.tables ≡ tables) → bytes ≡ keys
+    → new ≡ record mid { session = at_replay_end (ucd mid.tables) mid.session } → new.session ≡ after_journal (ucd tables) old keys
+journal_is {D} ucd tables mid new old keys bytes was all is =
     ap (λ (x : SessionState D). x.session) is
-    ∙ ap (λ (t : D). at_replay_end (says t) mid.session) was.1
-    ∙ ap (at_replay_end (says tables)) (was.0 ∙ ap (after_replaying (says tables) old) all)
+    ∙ ap (λ (t : D). at_replay_end (ucd t) mid.session) was.1
+    ∙ ap (at_replay_end (ucd tables)) (was.0 ∙ ap (after_replaying (ucd tables) old) all)
 
 -- ---- what a replay meets
 

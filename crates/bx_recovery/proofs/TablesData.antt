@@ -6,8 +6,8 @@ use Rattle.bx_ucd.specs.Forms.{form_in_map}
 use Rattle.bx_ucd.specs.JoinedLetters.{type_in}
 use Rattle.bx_ucd.specs.declared.tables.Tables.{Tables}
 
-abbrev pub says : Tables → Data
-says t = record {
+abbrev pub ucd : Tables → Data
+ucd t = record {
   class = class_in_table t.classes;
   bracket = value_in t.brackets;
   mirror = value_in t.mirrors;

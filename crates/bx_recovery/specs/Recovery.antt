@@ -3,10 +3,10 @@
 -- `texts_at_saves` a byte), `s` the session before the journal.
 use Rattle.std.specs.Prelude.{◌≡◌, ◌≢◌, ℕ, Bool, true, false, List, [], ◌∷◌, Contains, length}
 use Rattle.bx_ucd.specs.Data.{Data}
-use Rattle.bx_keys.specs.Keys.{keys_from}
-use Rattle.bx_cli.specs.declared.unicode.UnicodeFiles.{UnicodeFiles}
-use Rattle.bx_session.specs.Session.{Session, after_journal, after_replay}
-use Rattle.bx_session.specs.Saving.{StoreState, is_save_byte, with_text}
+use Rattle.bx_keys.specs.Waiting.{keys_from}
+use Rattle.bx_command.specs.declared.shared.unicode.UnicodeFiles.{UnicodeFiles}
+use Rattle.bx_session.specs.Session.{Session, StoreState, is_save_byte, with_text}
+use Rattle.bx_session.specs.Replaying.{after_journal, after_replay}
 use Rattle.bx_session.specs.Beginning.{Beginning, at_offset, unpainted_at}
 use Rattle.bx_recovery.specs.declared.replaying.FileText.{FileText}
 use Rattle.bx_recovery.specs.declared.replaying.FileText.TheVariants.{Same, Known, Foreign}

@@ -2,14 +2,14 @@
 -- text's length, its bytes, and the window. Memory can run out at each step, which tells that all before it was accepted. `b` is
 -- what a session starts from.
 use Rattle.std.specs.Prelude.{◌≡◌, ◌≤◌, ◌⊎◌, ℕ, List, Option, None, Some, IsUtf8, length}
-use Rattle.bx_terms.specs.Sizes.{largest_text}
+use Rattle.bx_common.specs.Characters.{largest_text}
 use Rattle.bx_ucd.specs.Reading.{NoMemoryAfter, refusal, texts_of}
 use Rattle.bx_ucd.specs.declared.error.UcdError.{UcdError}
-use Rattle.bx_cli.specs.declared.unicode.UnicodeFiles.{UnicodeFiles}
-use Rattle.bx_store.specs.Stores.{with_fault}
+use Rattle.bx_command.specs.declared.shared.unicode.UnicodeFiles.{UnicodeFiles}
+use Rattle.bx_store.specs.Faults.{with_fault}
 use Rattle.bx_store.specs.declared.faults.Faults.{Faults}
 use Rattle.bx_store.specs.declared.store.StoreFault.{StoreFault}
-use Rattle.bx_editor.specs.Opening.{Causes}
+use Rattle.bx_editor.specs.Editor.{Causes}
 use Rattle.bx_recovery.specs.Beginnings.{bytes_of}
 use Rattle.bx_recovery.specs.declared.beginning.Beginning.{Beginning}
 use Rattle.bx_recovery.specs.declared.fault.RecoveryFault.{RecoveryFault}

@@ -1,10 +1,10 @@
 //! Everything that a session starts from, read from its files and from the command line.
 
 ghost use Rattle.std.specs.Prelude.{◌≡◌, true};
-ghost use Rattle.bx_terms.specs.Sizes.{is_side};
+ghost use Rattle.bx_common.specs.Characters.{is_side};
 
-use bx_cli::UnicodeFiles;
-use bx_terms::Base;
+use bx_command::UnicodeFiles;
+use bx_common::Base;
 use std::alloc::Global;
 
 /// Everything that a session starts from.

@@ -1,7 +1,8 @@
 //! The opening of a session from its files, without its journal's keys.
 
 ghost use Rattle.std.specs.Prelude.{◌≡◌, IfErr, IfOk, OnErr, OnOk};
-ghost use Rattle.bx_session.specs.Beginning.{after_going_to, changed_if, clipboard_if};
+ghost use Rattle.bx_session.specs.Beginning.{after_going_to, changed_if};
+ghost use Rattle.bx_session.specs.Session.{clipboard_if};
 ghost use Rattle.bx_recovery.specs.Beginnings.{AreOfFiles, IsOpened, beginning_of, offset_of};
 ghost use Rattle.bx_recovery.specs.Refusals.{CanOpen, IsFirstCause};
 

@@ -1,7 +1,7 @@
 //! Recovery of a text from a journal, without a terminal: the replayed text is stored.
 
 ghost use Rattle.std.specs.Prelude.{◌≡◌, IfErr, IfOk, OnErr, OnOk};
-ghost use Rattle.bx_session.specs.Saving.{store_state};
+ghost use Rattle.bx_session.specs.Session.{store_state};
 ghost use Rattle.bx_recovery.specs.Beginnings.{beginning_of};
 ghost use Rattle.bx_recovery.specs.Recovery.{RecoversFrom, Recovers};
 ghost use Rattle.bx_recovery.specs.Refusals.{CanOpen, IsLaterCause, IsRecoveryCause};

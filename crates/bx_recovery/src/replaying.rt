@@ -2,10 +2,10 @@
 
 ghost use Rattle.std.specs.Prelude.{◌≡◌, ◌<◌, ◌+◌, ◌-◌, ◌⊎◌, ◌↔◌, ◌^◌, IfOk, OnErr, OnOk, IsTrue, IsFalse, true, false, length};
 ghost use Rattle.std.specs.Prelude.{option_to_list};
-ghost use Rattle.bx_keys.specs.Keys.{keys_from};
+ghost use Rattle.bx_keys.specs.Waiting.{keys_from};
 ghost use Rattle.bx_editor.specs.Keys as keys;
 ghost use Rattle.bx_session.specs.Laws.{after_journal};
-ghost use Rattle.bx_session.specs.Saving.{is_save_key};
+ghost use Rattle.bx_session.specs.Session.{is_save_key};
 ghost use Rattle.bx_recovery.specs.Recovery.{HoldsBeside};
 
 use crate::fault::RecoveryFault;

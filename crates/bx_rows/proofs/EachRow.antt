@@ -9,59 +9,60 @@ use Rattle.std.proofs.lemmas.Option.{get_or_from_slice_get, slice_get-get_or, sl
 use Rattle.std.proofs.lemmas.Str.{IsCharBoundary-start}
 use Rattle.std.proofs.Math.Seq.{drop-cons, take-length}
 use Rattle.bx_ucd.specs.Data.{Data}
-use Rattle.bx_terms.specs.Characters.{is_control}
-use Rattle.bx_cells.specs.declared.unit.Face.{Face}
-use Rattle.bx_cells.specs.declared.unit.Face.TheVariants.{Tab, Mark, Own}
-use Rattle.bx_cells.specs.declared.unit.Unit.{Unit}
-use Rattle.bx_cells.specs.Faces.{face_of, format_letter, is_tab, only_char, sized_face, columns_of}
-use Rattle.bx_cells.specs.Units.{units, units_from, unit_text, HasFace}
-use Rattle.bx_cells.proofs.Rest.{IsUnitAt, unit-behind, few-units}
-use Rattle.bx_cells.proofs.Standing.{faces-units}
-use Rattle.bx_rows.specs.declared.row.Row.{Row}
+use Rattle.bx_common.specs.Characters.{is_control}
+use Rattle.bx_rows.specs.declared.cells.unit.Face.{Face}
+use Rattle.bx_rows.specs.declared.cells.unit.Face.TheVariants.{Tab, Placeholder, Own}
+use Rattle.bx_rows.specs.declared.cells.unit.Unit.{Unit}
+use Rattle.bx_rows.specs.cells.Units.{face_of, format_letter, is_tab, only_char, sized_face, columns_of, units, unit_text}
+use Rattle.bx_rows.specs.cells.UnitFacts.{units_from, HasFace}
+use Rattle.bx_rows.proofs.cells_lemmas.Rest.{IsUnitAt, unit-behind, few-units}
+use Rattle.bx_rows.proofs.cells_lemmas.Standing.{faces-units}
+use Rattle.bx_rows.specs.declared.wrapping.Row.{Row}
 use Rattle.bx_rows.specs.declared.start_search.RowStart.{RowStart}
 use Rattle.bx_rows.specs.RowLevels.{chars_before}
 use Rattle.bx_rows.specs.RowStarts.{first_offset, start_of, row_starts, units_in, units_of_row, most_units}
 use Rattle.bx_rows.specs.RowPicture.{columns_used}
 use Rattle.bx_rows.specs.Shown.{IsRowOf}
-use Rattle.bx_rows.specs.Wrapping.{FitsWindow, columns_at, fit_count, is_break, row_len, row_units, rows_from, rows_of, up_to_last, wrap}
+use Rattle.bx_rows.specs.Wrapping.{columns_at, fit_count, is_break, row_len, row_units, rows_from, rows_of, up_to_last, wrap}
+use Rattle.bx_rows.specs.UnitPlaces.{FitsWindow}
 use Rattle.bx_rows.proofs.RowsFit.{fit-length, fit_if_wrapped, row-within}
 use Rattle.bx_rows.proofs.Wraps.{fit_cons, fits_full, no_unit, rows_turn}
 
 -- ---- faces fit in the window
 
 sized-fits : (w n : ℕ) (a b : Bool) → (n == 0) ≡ a → nat_lt w n ≡ b
-    → FitsWindow w (elim a [ true ↦ Mark 126 | false ↦ elim b [ true ↦ Mark 35 | false ↦ Own n ] ])
+    → FitsWindow w (elim a [ true ↦ Placeholder 126 | false ↦ elim b [ true ↦ Placeholder 35 | false ↦ Own n ] ])
 sized-fits w n true b e f = tt
 sized-fits w n false true e f = tt
 sized-fits w n false false e f = (grind (arith, nat_tests), grind (arith, nat_tests))
 
 face-fits : (w : ℕ) (f : Face) (tab control : Bool) (letter : Option ℕ) → FitsWindow w f
-    → FitsWindow w (elim tab [ true ↦ Tab | false ↦ elim control [ true ↦ Mark 63 | false ↦ elim letter [ Some l ↦ Mark l | None ↦ f ] ] ])
+    → FitsWindow w (elim tab [ true ↦ Tab | false ↦ elim control [ true ↦ Placeholder 63 | false ↦ elim letter [ Some l ↦ Placeholder l | None ↦ f ] ] ])
 face-fits w f true control letter h = tt
 face-fits w f false true letter h = tt
 face-fits w f false false (Some l) h = tt
 face-fits w f false false None h = h
 
-any-face-fits : (says : Data) (w : ℕ) (cs : List ℕ) → FitsWindow w (face_of says w cs)
-any-face-fits says w cs =
+any-face-fits : (ucd : Data) (w : ℕ) (cs : List ℕ) → FitsWindow w (face_of ucd w cs)
+any-face-fits ucd w cs =
     let n = columns_of cs in
-    face-fits w (sized_face w n) (is_tab (only_char cs)) (Rattle.std.specs.List.list_any is_control cs) (format_letter says (only_char cs))
+    face-fits w (sized_face w n) (is_tab (only_char cs)) (Rattle.std.specs.List.list_any is_control cs) (format_letter ucd (only_char cs))
     (sized-fits w n (n == 0) (nat_lt w n) refl refl)
 
 -- units that show the faces of their texts
-pub faces-fit : (says : Data) (w : ℕ) (body : List ℕ) (us : List Unit) → All (HasFace says w body) us → All (λ u. FitsWindow w u.face) us
-faces-fit says w body us h =
-    All-weaker (HasFace says w body) (λ u. FitsWindow w u.face)
-    (λ u e. subst (FitsWindow w) (sym e) (any-face-fits says w (chars (unit_text body u)))) us h
+pub faces-fit : (ucd : Data) (w : ℕ) (body : List ℕ) (us : List Unit) → All (HasFace ucd w body) us → All (λ u. FitsWindow w u.face) us
+faces-fit ucd w body us h =
+    All-weaker (HasFace ucd w body) (λ u. FitsWindow w u.face)
+    (λ u e. subst (FitsWindow w) (sym e) (any-face-fits ucd w (chars (unit_text body u)))) us h
 
-pub units-fit : (says : Data) (w : ℕ) (body : List ℕ) → IsUtf8 body → All (λ u. FitsWindow w u.face) (units says w body)
-units-fit says w body valid = faces-fit says w body (units says w body) (faces-units says w body valid)
+pub units-fit : (ucd : Data) (w : ℕ) (body : List ℕ) → IsUtf8 body → All (λ u. FitsWindow w u.face) (units ucd w body)
+units-fit ucd w body valid = faces-fit ucd w body (units ucd w body) (faces-units ucd w body valid)
 
 -- ---- a row has a unit
 
 first-fits : (w : ℕ) (f : Face) → 0 < w → FitsWindow w f → 0 + columns_at w 0 f ≤ w
 first-fits w Tab h k = omega (arith, h)
-first-fits w (Mark letter) h k = omega (arith, h)
+first-fits w (Placeholder letter) h k = omega (arith, h)
 first-fits w (Own n) h k = let most = k.1 in omega (arith, most)
 
 some-len : (b : Bool) (n m : ℕ) → 0 < n → 0 < elim b [ true ↦ n | false ↦ elim m [ zero ↦ n | suc k ↦ suc k ] ]
@@ -146,13 +147,13 @@ take_none zero = refl
 take_none (suc n) = refl
 
 -- a row's units, from its start and the next one's
-pub record IsRowPart (says : Data) (w : ℕ) (body : List ℕ) (us here : List Unit) (start : RowStart) (next : Option RowStart) : Type 0 where
+pub record IsRowPart (ucd : Data) (w : ℕ) (body : List ℕ) (us here : List Unit) (start : RowStart) (next : Option RowStart) : Type 0 where
   pub boundary : IsCharBoundary body start.offset
   pub order : IfSome next (λ n. start.units ≤ n.units)
-  pub units : take (most_units w body start next) (units_from says w body start.offset) ≡ here
+  pub units : take (most_units w body start next) (units_from ucd w body start.offset) ≡ here
   pub chars : 0 < length here → start.chars ≡ chars_before body here
 
-module _ (says : Data) (body : List ℕ) (us : List Unit) where
+module _ (ucd : Data) (body : List ℕ) (us : List Unit) where
   order-next : (w : ℕ) (r : Row) (o : Option Row) → IsFollowed w (length us) r o
       → IfSome (option_map (start_of body us) o) (λ n. (start_of body us r).units ≤ n.units)
   order-next w r None f = tt
@@ -182,11 +183,11 @@ module _ (says : Data) (body : List ℕ) (us : List Unit) where
   chars-first u rest (suc n) h = refl
 
   part-of : (w : ℕ) (r : Row) (o : Option Row) (u : Unit) (rest : List Unit) → length us ≤ length body → IsFollowed w (length us) r o
-      → drop r.start us ≡ u ∷ rest → IsUnitAt says w body u rest
-      → IsRowPart says w body us (row_units us r) (start_of body us r) (option_map (start_of body us) o)
+      → drop r.start us ≡ u ∷ rest → IsUnitAt ucd w body u rest
+      → IsRowPart ucd w body us (row_units us r) (start_of body us r) (option_map (start_of body us) o)
   part-of w r o u rest few f d at =
       let offset : (start_of body us r).offset ≡ u.start = ap first_offset d in
-      let from = ap (units_from says w body) offset ∙ at.units ∙ sym d in
+      let from = ap (units_from ucd w body) offset ∙ at.units ∙ sym d in
       let here : row_units us r ≡ take (r.stop - r.start) (u ∷ rest) = ap (take (r.stop - r.start)) d in
       record {
         boundary = subst (IsCharBoundary body) (sym offset) at.boundary;
@@ -196,30 +197,30 @@ module _ (says : Data) (body : List ℕ) (us : List Unit) where
             ∙ ap (chars_before body) (sym here);
       }
 
-  part-none : (w k : ℕ) (s : RowStart) → us ≡ [] → units_from says w body 0 ≡ [] → IsCharBoundary body 0
+  part-none : (w k : ℕ) (s : RowStart) → us ≡ [] → units_from ucd w body 0 ≡ [] → IsCharBoundary body 0
       → slice_get (start_of body us (record { start = 0; stop = 0 }) ∷ []) k ≡ Some s
-      → IsRowPart says w body us (units_in us (slice_get (record { start = 0; stop = 0 } ∷ []) k)) s
+      → IsRowPart ucd w body us (units_in us (slice_get (record { start = 0; stop = 0 } ∷ []) k)) s
       (slice_get (start_of body us (record { start = 0; stop = 0 }) ∷ []) (suc k))
   part-none w zero s e none first h =
       let row : Row = record { start = 0; stop = 0 } in
       let same : start_of body us row ≡ s = cc in
       let offset : (start_of body us row).offset ≡ 0 = ap first_offset e in
       let m = most_units w body (start_of body us row) None in
-      subst (λ x. IsRowPart says w body us [] x None) same
+      subst (λ x. IsRowPart ucd w body us [] x None) same
       (record {
         boundary = subst (IsCharBoundary body) (sym offset) first;
         order = tt;
-        units = ap (take m) (ap (units_from says w body) offset ∙ none) ∙ take_none m;
+        units = ap (take m) (ap (units_from ucd w body) offset ∙ none) ∙ take_none m;
         chars = λ some. absurd (omega (arith, some));
       })
   part-none w (suc k) s e none first h = cc
 
   -- a list of units; each begins the units from its offset on
   part-by : (p : Unit → Bool) (w k : ℕ) (s : RowStart) → (vs : List Unit) → vs ≡ us → length us ≤ length body → All (λ u. FitsWindow w u.face) us
-      → ((j : ℕ) (u : Unit) (rest : List Unit) → drop j us ≡ u ∷ rest → IsUnitAt says w body u rest)
-      → (us ≡ [] → units_from says w body 0 ≡ []) → IsCharBoundary body 0
+      → ((j : ℕ) (u : Unit) (rest : List Unit) → drop j us ≡ u ∷ rest → IsUnitAt ucd w body u rest)
+      → (us ≡ [] → units_from ucd w body 0 ≡ []) → IsCharBoundary body 0
       → slice_get (map (start_of body us) (rows_of p w vs)) k ≡ Some s
-      → IsRowPart says w body us (units_in us (slice_get (rows_of p w vs) k)) s (slice_get (map (start_of body us) (rows_of p w vs)) (suc k))
+      → IsRowPart ucd w body us (units_in us (slice_get (rows_of p w vs) k)) s (slice_get (map (start_of body us) (rows_of p w vs)) (suc k))
   part-by p w k s [] e few fit at none first h = part-none w k s (sym e) (none (sym e)) first h
   part-by p w k s (v ∷ vs) e few fit at none first h =
       let f = start_of body us in
@@ -232,38 +233,38 @@ module _ (says : Data) (body : List ℕ) (us : List Unit) where
       let d = drop-cons us r.start no_unit next.begins in
       let u = get_or us r.start no_unit in
       let rest = drop (suc r.start) us in
-      subst (λ o. IsRowPart says w body us (units_in us o) s (slice_get (map f rows) (suc k))) (sym found.1)
-      (subst (λ o. IsRowPart says w body us (row_units us r) s o) (sym (slice_get-map f rows (suc k)))
-      (subst (λ x. IsRowPart says w body us (row_units us r) x (option_map f (slice_get rows (suc k)))) found.2
+      subst (λ o. IsRowPart ucd w body us (units_in us o) s (slice_get (map f rows) (suc k))) (sym found.1)
+      (subst (λ o. IsRowPart ucd w body us (row_units us r) s o) (sym (slice_get-map f rows (suc k)))
+      (subst (λ x. IsRowPart ucd w body us (row_units us r) x (option_map f (slice_get rows (suc k)))) found.2
       (part-of w r (slice_get rows (suc k)) u rest few next d (at r.start u rest d))))
 
 -- of the units of a body
-pub row-part : (says : Data) (w : ℕ) (body : List ℕ) (k : ℕ) (s : RowStart) → IsUtf8 body → slice_get (row_starts says w body) k ≡ Some s
-    → IsRowPart says w body (units says w body) (units_of_row says w body k) s (slice_get (row_starts says w body) (suc k))
-row-part says w body k s valid h =
-    part-by says body (units says w body) (is_break says body) w k s (units says w body) refl (few-units says w body valid)
-    (units-fit says w body valid) (λ j u rest d. unit-behind says w body j u rest valid d) (λ e. e) (IsCharBoundary-start body valid) h
+pub row-part : (ucd : Data) (w : ℕ) (body : List ℕ) (k : ℕ) (s : RowStart) → IsUtf8 body → slice_get (row_starts ucd w body) k ≡ Some s
+    → IsRowPart ucd w body (units ucd w body) (units_of_row ucd w body k) s (slice_get (row_starts ucd w body) (suc k))
+row-part ucd w body k s valid h =
+    part-by ucd body (units ucd w body) (is_break ucd body) w k s (units ucd w body) refl (few-units ucd w body valid)
+    (units-fit ucd w body valid) (λ j u rest d. unit-behind ucd w body j u rest valid d) (λ e. e) (IsCharBoundary-start body valid) h
 
 -- of the starts that a caller has
-pub part-at : (says : Data) (w : ℕ) (body : List ℕ) (starts : List RowStart) (k : ℕ) (d : RowStart) (after : Option RowStart) → IsUtf8 body
-    → starts ≡ row_starts says w body → k < length starts → after ≡ slice_get starts (k + 1)
-    → IsRowPart says w body (units says w body) (units_of_row says w body k) (get_or starts k d) after
-part-at says w body starts k d after valid e within n =
+pub part-at : (ucd : Data) (w : ℕ) (body : List ℕ) (starts : List RowStart) (k : ℕ) (d : RowStart) (after : Option RowStart) → IsUtf8 body
+    → starts ≡ row_starts ucd w body → k < length starts → after ≡ slice_get starts (k + 1)
+    → IsRowPart ucd w body (units ucd w body) (units_of_row ucd w body k) (get_or starts k d) after
+part-at ucd w body starts k d after valid e within n =
     let one : suc k ≡ k + 1 = omega arith in
     let start = ap (λ x. slice_get x k) (sym e) ∙ slice_get-get_or starts k d within in
-    subst (IsRowPart says w body (units says w body) (units_of_row says w body k) (get_or starts k d))
-    (ap (slice_get (row_starts says w body)) one ∙ ap (λ x. slice_get x (k + 1)) (sym e) ∙ sym n) (row-part says w body k (get_or starts k d) valid start)
+    subst (IsRowPart ucd w body (units ucd w body) (units_of_row ucd w body k) (get_or starts k d))
+    (ap (slice_get (row_starts ucd w body)) one ∙ ap (λ x. slice_get x (k + 1)) (sym e) ∙ sym n) (row-part ucd w body k (get_or starts k d) valid start)
 
 -- the units that are read from there on, and the characters before them
-pub units-are : (says : Data) (w : ℕ) (body : List ℕ) (us here vs : List Unit) (start : RowStart) (after : Option RowStart) (count : ℕ)
-    → IsRowPart says w body us here start after → count ≡ most_units w body start after → vs ≡ take count (units_from says w body start.offset)
+pub units-are : (ucd : Data) (w : ℕ) (body : List ℕ) (us here vs : List Unit) (start : RowStart) (after : Option RowStart) (count : ℕ)
+    → IsRowPart ucd w body us here start after → count ≡ most_units w body start after → vs ≡ take count (units_from ucd w body start.offset)
     → vs ≡ here
-units-are says w body us here vs start after count part n e = e ∙ ap (λ m. take m (units_from says w body start.offset)) n ∙ part.units
+units-are ucd w body us here vs start after count part n e = e ∙ ap (λ m. take m (units_from ucd w body start.offset)) n ∙ part.units
 
-pub chars-are : (says : Data) (w : ℕ) (body : List ℕ) (us here vs : List Unit) (starts : List RowStart) (k : ℕ) (d s : RowStart)
-    (after : Option RowStart) → IsRowPart says w body us here (get_or starts k d) after → vs ≡ here → slice_get starts k ≡ Some s → 0 < length vs
+pub chars-are : (ucd : Data) (w : ℕ) (body : List ℕ) (us here vs : List Unit) (starts : List RowStart) (k : ℕ) (d s : RowStart)
+    (after : Option RowStart) → IsRowPart ucd w body us here (get_or starts k d) after → vs ≡ here → slice_get starts k ≡ Some s → 0 < length vs
     → s.chars ≡ chars_before body vs
-chars-are says w body us here vs starts k d s after part e start some =
+chars-are ucd w body us here vs starts k d s after part e start some =
     sym (ap (λ x. x.chars) (get_or_from_slice_get starts k s d start)) ∙ part.chars (subst (λ x. 0 < length x) e some) ∙ ap (chars_before body) (sym e)
 
 -- ---- the columns of a row's units, taken by themselves
@@ -278,10 +279,10 @@ columns-in w us rows k (Some r) fit e =
     let r' = get_or_from_slice_get rows k r r e in
     (subst (IsRowOf w us) r' (fit k r (slice_get_within rows k r e))).2
 
-pub row-alone : (says : Data) (w : ℕ) (body : List ℕ) (k : ℕ) (vs : List Unit) → vs ≡ units_of_row says w body k
+pub row-alone : (ucd : Data) (w : ℕ) (body : List ℕ) (k : ℕ) (vs : List Unit) → vs ≡ units_of_row ucd w body k
     → IsRowOf w vs (record { start = 0; stop = length vs })
-row-alone says w body k vs e =
-    let us = units says w body in
-    let rows = wrap says w body us in
-    let fits = columns-in w us rows k (slice_get rows k) (fit_if_wrapped says w body us rows refl) refl in
+row-alone ucd w body k vs e =
+    let us = units ucd w body in
+    let rows = wrap ucd w body us in
+    let fits = columns-in w us rows k (slice_get rows k) (fit_if_wrapped ucd w body us rows refl) refl in
     (omega arith, omega arith, subst (λ x. columns_used w x ≤ w) (sym (whole vs ∙ e)) fits)

@@ -12,26 +12,30 @@ use Rattle.std.proofs.lemmas.Str.{chars-IsAscii}
 use Rattle.bx_ucd.specs.Data.{Data}
 use Rattle.unicode_width.specs.Width.{str_width}
 use Rattle.unicode_width.proofs.Rules.{str_width-printable}
-use Rattle.bx_terms.specs.Characters.{are_ascii_printable, are_printable, is_ascii_glyph, is_ascii_printable, is_control}
-use Rattle.bx_terms.specs.Glyphs.{is_one_glyph, run_width}
+use Rattle.bx_common.specs.Characters.{are_ascii_printable, are_printable, is_ascii_glyph, is_ascii_printable, is_control}
+use Rattle.bx_common.specs.Glyphs.{is_one_glyph, run_width}
 use Rattle.bx_ucd.specs.declared.class.Class.{Class}
 use Rattle.bx_ucd.specs.declared.joining.Form.{Form}
 use Rattle.bx_ucd.specs.declared.class.Class.TheVariants.{L, R, AL, EN, ES, ET, AN, CS, NSM, BN, B, S, WS, ON, LRE, RLE, LRO, RLO, PDF, LRI, RLI, FSI, PDI}
-use Rattle.bx_cells.specs.declared.unit.Face.{Face}
-use Rattle.bx_cells.specs.declared.unit.Face.TheVariants.{Tab, Mark, Own}
-use Rattle.bx_cells.specs.Faces.{face, face_of, only_char, is_tab, letter_of, format_letter, sized_face, columns_of}
-use Rattle.bx_cells.proofs.Printable.{ascii_bytes}
-use Rattle.bx_joining.specs.JoinedText.{in_forms}
+use Rattle.bx_rows.specs.declared.cells.unit.Face.{Face}
+use Rattle.bx_rows.specs.declared.cells.unit.Face.TheVariants.{Tab, Placeholder, Own}
+use Rattle.bx_rows.specs.cells.Units.{face, face_of, only_char, is_tab, letter_of, format_letter, sized_face, columns_of}
+use Rattle.bx_rows.proofs.cells_lemmas.Printable.{ascii_bytes}
+use Rattle.bx_rows.specs.joining.Joining.{in_forms}
 use Rattle.bx_rows.specs.RowPicture.{Glyph, glyph, blank, mirror_image, is_own, joined_image_within, mirror_image_within, mirrored_chars, shown_text, face_glyphs, letter_glyphs}
 use Rattle.bx_rows.specs.Wrapping.{columns_at}
-use Rattle.bx_rows.specs.Shown.{HasLetter}
+
+-- a mark's letter is a character from SPACE to TILDE
+abbrev pub HasLetter : Face → Type 0
+HasLetter (Placeholder letter) = is_ascii_printable letter ≡ true
+HasLetter _ = ⊤
 
 -- ---- a text from its face
 
 -- own text has no control and as many columns, one or more; a mark has a letter
 abbrev pub Tells : List ℕ → Face → Type 0
 Tells cs Tab = ⊤
-Tells cs (Mark letter) = is_ascii_printable letter ≡ true
+Tells cs (Placeholder letter) = is_ascii_printable letter ≡ true
 Tells cs (Own n) = (list_any is_control cs ≡ false) × (columns_of cs ≡ n) × (1 ≤ n)
 
 abbrev IsLetter : Option ℕ → Type 0
@@ -63,62 +67,62 @@ letter-of_class RLI = refl
 letter-of_class FSI = refl
 letter-of_class PDI = refl
 
-letter-of_only : (says : Data) (only : Option ℕ) → IsLetter (format_letter says only)
-letter-of_only says None = tt
-letter-of_only says (Some c) = letter-of_class (says.class c)
+letter-of_only : (ucd : Data) (only : Option ℕ) → IsLetter (format_letter ucd only)
+letter-of_only ucd None = tt
+letter-of_only ucd (Some c) = letter-of_class (ucd.class c)
 
 some-columns : (n : ℕ) → (n == 0) ≡ false → 1 ≤ n
 some-columns n d = grind (arith, nat_tests)
 
 tells-sized : (cs : List ℕ) (z o : Bool) → (columns_of cs == 0) ≡ z → list_any is_control cs ≡ false
-    → Tells cs (elim z [ true ↦ Mark 126 | false ↦ elim o [ true ↦ Mark 35 | false ↦ Own (columns_of cs) ] ])
+    → Tells cs (elim z [ true ↦ Placeholder 126 | false ↦ elim o [ true ↦ Placeholder 35 | false ↦ Own (columns_of cs) ] ])
 tells-sized cs true o d h = refl
 tells-sized cs false true d h = refl
 tells-sized cs false false d h = (h, refl, some-columns (columns_of cs) d)
 
 tells-by : (w : ℕ) (cs : List ℕ) (t k : Bool) (l : Option ℕ) → list_any is_control cs ≡ k → IsLetter l
-    → Tells cs (elim t [ true ↦ Tab | false ↦ elim k [ true ↦ Mark 63 | false ↦ elim l [ Some letter ↦ Mark letter | None ↦ sized_face w (columns_of cs) ] ] ])
+    → Tells cs (elim t [ true ↦ Tab | false ↦ elim k [ true ↦ Placeholder 63 | false ↦ elim l [ Some letter ↦ Placeholder letter | None ↦ sized_face w (columns_of cs) ] ] ])
 tells-by w cs true k l d m = tt
 tells-by w cs false true l d m = refl
 tells-by w cs false false (Some x) d m = m
 tells-by w cs false false None d m = tells-sized cs (columns_of cs == 0) (nat_lt w (columns_of cs)) refl d
 
-pub tells : (says : Data) (w : ℕ) (cs : List ℕ) → Tells cs (face_of says w cs)
-tells says w cs = tells-by w cs (is_tab (only_char cs)) (list_any is_control cs) (format_letter says (only_char cs)) refl
-    (letter-of_only says (only_char cs))
+pub tells : (ucd : Data) (w : ℕ) (cs : List ℕ) → Tells cs (face_of ucd w cs)
+tells ucd w cs = tells-by w cs (is_tab (only_char cs)) (list_any is_control cs) (format_letter ucd (only_char cs)) refl
+    (letter-of_only ucd (only_char cs))
 
 letter-from_tells : (cs : List ℕ) (f : Face) → Tells cs f → HasLetter f
 letter-from_tells cs Tab h = tt
-letter-from_tells cs (Mark letter) h = h
+letter-from_tells cs (Placeholder letter) h = h
 letter-from_tells cs (Own n) h = tt
 
-pub tells-face : (says : Data) (w : ℕ) (text : List ℕ) (f : Face) → f ≡ face says w text → Tells (chars text) f
-tells-face says w text f e = subst (Tells (chars text)) (sym e) (tells says w (chars text))
+pub tells-face : (ucd : Data) (w : ℕ) (text : List ℕ) (f : Face) → f ≡ face ucd w text → Tells (chars text) f
+tells-face ucd w text f e = subst (Tells (chars text)) (sym e) (tells ucd w (chars text))
 
-pub letter-face : (says : Data) (w : ℕ) (text : List ℕ) (f : Face) → f ≡ face says w text → HasLetter f
-letter-face says w text f e = letter-from_tells (chars text) f (tells-face says w text f e)
+pub letter-face : (ucd : Data) (w : ℕ) (text : List ℕ) (f : Face) → f ≡ face ucd w text → HasLetter f
+letter-face ucd w text f e = letter-from_tells (chars text) f (tells-face ucd w text f e)
 
 -- ---- the text that is shown at a level
 
 own-from : (cs : List ℕ) (n : ℕ) (f : Face) → Tells cs f → is_own n f ≡ true → Tells cs (Own n)
 own-from cs n Tab h e = absurd (cc)
-own-from cs n (Mark letter) h e = absurd (cc)
+own-from cs n (Placeholder letter) h e = absurd (cc)
 own-from cs n (Own m) h e = let same : m ≡ n = grind (arith, nat_tests) in subst (λ k. Tells cs (Own k)) same h
 
-tells-either : (says : Data) (w n : ℕ) (text other : List ℕ) (b : Bool) → is_own n (face says w other) ≡ b → Tells (chars text) (Own n)
+tells-either : (ucd : Data) (w n : ℕ) (text other : List ℕ) (b : Bool) → is_own n (face ucd w other) ≡ b → Tells (chars text) (Own n)
     → Tells (chars (elim b [ true ↦ other | false ↦ text ])) (Own n)
-tells-either says w n text other true e h = own-from (chars other) n (face says w other) (tells says w (chars other)) e
-tells-either says w n text other false e h = h
+tells-either ucd w n text other true e h = own-from (chars other) n (face ucd w other) (tells ucd w (chars other)) e
+tells-either ucd w n text other false e h = h
 
-pub tells-shown : (says : Data) (w n odd : ℕ) (forms : List Form) (text : List ℕ) → Tells (chars text) (Own n)
-    → Tells (chars (elim odd [ zero ↦ text | suc _ ↦ joined_image_within says w n forms text ])) (Own n)
-tells-shown says w n zero forms text h = h
-tells-shown says w n (suc k) forms text h =
-    let mirrored = mirror_image_within says w n text in
+pub tells-shown : (ucd : Data) (w n odd : ℕ) (forms : List Form) (text : List ℕ) → Tells (chars text) (Own n)
+    → Tells (chars (elim odd [ zero ↦ text | suc _ ↦ joined_image_within ucd w n forms text ])) (Own n)
+tells-shown ucd w n zero forms text h = h
+tells-shown ucd w n (suc k) forms text h =
+    let mirrored = mirror_image_within ucd w n text in
     let letters = chars text in
-    let joined = encode_utf8_all (in_forms says forms letters (mirrored_chars says w n letters)) in
-    tells-either says w n mirrored joined (is_own n (face says w joined)) refl
-    (tells-either says w n text (mirror_image says text) (is_own n (face says w (mirror_image says text))) refl h)
+    let joined = encode_utf8_all (in_forms ucd forms letters (mirrored_chars ucd w n letters)) in
+    tells-either ucd w n mirrored joined (is_own n (face ucd w joined)) refl
+    (tells-either ucd w n text (mirror_image ucd text) (is_own n (face ucd w (mirror_image ucd text))) refl h)
 
 -- ---- the glyphs of own text
 
@@ -172,19 +176,19 @@ text-sum text n false e h = sum_by-cons (λ g. g.columns) (glyph text n false) [
 
 -- ---- the glyphs of a face
 
-pub face-one : (says : Data) (w columns level : ℕ) (forms : List Form) (text : List ℕ) (f : Face) → Tells (chars text) f
-    → All IsOneGlyph (face_glyphs says w text f columns level forms)
-face-one says w columns level forms text Tab h = All-replicate IsOneGlyph columns blank (refl, refl)
-face-one says w columns level forms text (Mark letter) h =
+pub face-one : (ucd : Data) (w columns level : ℕ) (forms : List Form) (text : List ℕ) (f : Face) → Tells (chars text) f
+    → All IsOneGlyph (face_glyphs ucd w text f columns level forms)
+face-one ucd w columns level forms text Tab h = All-replicate IsOneGlyph columns blank (refl, refl)
+face-one ucd w columns level forms text (Placeholder letter) h =
     All-cons IsOneGlyph (glyph (letter ∷ []) 1 true) [] (letter-one letter true h) (All-nil IsOneGlyph)
-face-one says w columns level forms text (Own n) h =
-    let own = shown_text says w n level forms text in
-    text-one own n (are_ascii_printable own) refl (tells-shown says w n (level % 2) forms text h)
+face-one ucd w columns level forms text (Own n) h =
+    let own = shown_text ucd w n level forms text in
+    text-one own n (are_ascii_printable own) refl (tells-shown ucd w n (level % 2) forms text h)
 
-pub face-sum : (says : Data) (w c level : ℕ) (forms : List Form) (text : List ℕ) (f : Face) → Tells (chars text) f
-    → sum_by (λ g. g.columns) (face_glyphs says w text f (columns_at w c f) level forms) ≡ columns_at w c f
-face-sum says w c level forms text Tab h = sum_by-replicate (λ g. g.columns) (columns_at w c Tab) blank ∙ omega arith
-face-sum says w c level forms text (Mark letter) h = sum_by-cons (λ g. g.columns) (glyph (letter ∷ []) 1 true) [] ∙ omega arith
-face-sum says w c level forms text (Own n) h =
-    let own = shown_text says w n level forms text in
-    text-sum own n (are_ascii_printable own) refl (tells-shown says w n (level % 2) forms text h)
+pub face-sum : (ucd : Data) (w c level : ℕ) (forms : List Form) (text : List ℕ) (f : Face) → Tells (chars text) f
+    → sum_by (λ g. g.columns) (face_glyphs ucd w text f (columns_at w c f) level forms) ≡ columns_at w c f
+face-sum ucd w c level forms text Tab h = sum_by-replicate (λ g. g.columns) (columns_at w c Tab) blank ∙ omega arith
+face-sum ucd w c level forms text (Placeholder letter) h = sum_by-cons (λ g. g.columns) (glyph (letter ∷ []) 1 true) [] ∙ omega arith
+face-sum ucd w c level forms text (Own n) h =
+    let own = shown_text ucd w n level forms text in
+    text-sum own n (are_ascii_printable own) refl (tells-shown ucd w n (level % 2) forms text h)

@@ -9,7 +9,7 @@ use Rattle.std.proofs.lemmas.List.FromFn.{length-range_with_len, get_or-range_wi
 use Rattle.std.proofs.lemmas.Str.{IsCharBoundary-before_ascii, IsCharBoundary-after_ascii}
 use Rattle.std.proofs.lemmas.Bool.{and_parts}
 use Rattle.bx_ucd.specs.Data.{Data}
-use Rattle.bx_terms.specs.Characters.{is_ascii_printable}
+use Rattle.bx_common.specs.Characters.{is_ascii_printable}
 
 pub all-append : (xs ys : List ℕ) → encode_utf8_all (xs ++ ys) ≡ encode_utf8_all xs ++ encode_utf8_all ys
 all-append [] ys = refl
@@ -17,14 +17,14 @@ all-append (x ∷ xs) ys = ap (λ zs. encode_utf8 x ++ zs) (all-append xs ys) �
 
 -- a character's mirror, or itself
 abbrev pub mirror_or : Data → ℕ → ℕ
-mirror_or says c = unwrap_or (says.mirror c) c
+mirror_or ucd c = unwrap_or (ucd.mirror c) c
 
 -- one more character is mirrored
-pub mirror_image-more : (says : Data) (cs : List ℕ) (k n c : ℕ) (m : Option ℕ) (x : ℕ) (old new : List ℕ) → (k < length cs) × (c ≡ get_or cs k c)
-    → n ≡ k + 1 → m ≡ says.mirror c → x ≡ unwrap_or m c → old ≡ encode_utf8_all (map (mirror_or says) (take k cs)) → new ≡ old ++ encode_utf8 x
-    → new ≡ encode_utf8_all (map (mirror_or says) (take n cs))
-mirror_image-more says cs k n c m x old new at one e f i pushed =
-    let f' = mirror_or says in
+pub mirror_image-more : (ucd : Data) (cs : List ℕ) (k n c : ℕ) (m : Option ℕ) (x : ℕ) (old new : List ℕ) → (k < length cs) × (c ≡ get_or cs k c)
+    → n ≡ k + 1 → m ≡ ucd.mirror c → x ≡ unwrap_or m c → old ≡ encode_utf8_all (map (mirror_or ucd) (take k cs)) → new ≡ old ++ encode_utf8 x
+    → new ≡ encode_utf8_all (map (mirror_or ucd) (take n cs))
+mirror_image-more ucd cs k n c m x old new at one e f i pushed =
+    let f' = mirror_or ucd in
     let own : x ≡ f' (get_or cs k c) = f ∙ ap (λ o. unwrap_or o c) e ∙ ap f' at.1 in
     let last : encode_utf8 x ≡ encode_utf8_all (f' (get_or cs k c) ∷ []) = ap encode_utf8 own ∙ sym (append-nil (encode_utf8 (f' (get_or cs k c)))) in
     pushed ∙ ap₂ (λ a b. a ++ b) i last
@@ -33,10 +33,10 @@ mirror_image-more says cs k n c m x old new at one e f i pushed =
     ∙ ap (λ ys. encode_utf8_all (map f' ys)) (sym (take_more cs k c at.0))
     ∙ ap (λ j. encode_utf8_all (map f' (take j cs))) (sym one)
 
-pub mirror_image-all : (says : Data) (cs : List ℕ) (k : ℕ) (text : List ℕ) → text ≡ encode_utf8_all (map (mirror_or says) (take k cs))
+pub mirror_image-all : (ucd : Data) (cs : List ℕ) (k : ℕ) (text : List ℕ) → text ≡ encode_utf8_all (map (mirror_or ucd) (take k cs))
     → length cs ≤ k
-    → text ≡ encode_utf8_all (map (mirror_or says) cs)
-mirror_image-all says cs k text i all = i ∙ ap (λ ys. encode_utf8_all (map (mirror_or says) ys)) (take_all k cs all)
+    → text ≡ encode_utf8_all (map (mirror_or ucd) cs)
+mirror_image-all ucd cs k text i all = i ∙ ap (λ ys. encode_utf8_all (map (mirror_or ucd) ys)) (take_all k cs all)
 
 -- ---- the characters from SPACE to TILDE, one after another
 

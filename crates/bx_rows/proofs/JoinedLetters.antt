@@ -7,19 +7,19 @@ use Rattle.std.proofs.lemmas.List.Elements.{All-cons, All-nil}
 use Rattle.std.proofs.lemmas.Str.{IsCharBoundary-start, IsUtf8-past_char}
 use Rattle.bx_rows.proofs.RowPlaces.{char-at}
 use Rattle.std.proofs.lemmas.List.{drop-drop, get_or-drop}
-use Rattle.bx_cells.proofs.Rest.{chars_past_all}
+use Rattle.bx_rows.proofs.cells_lemmas.Rest.{chars_past_all}
 use Rattle.bx_ucd.specs.Data.{Data}
 use Rattle.bx_ucd.specs.declared.joining.Form.{Form}
 use Rattle.bx_ucd.specs.declared.joining.Form.TheVariants.{Isolated}
-use Rattle.bx_joining.specs.Joining.{body_forms, first_forms}
-use Rattle.bx_joining.proofs.TextForms.{length-first_forms}
+use Rattle.bx_rows.specs.joining.Joining.{body_forms, first_forms}
+use Rattle.bx_rows.proofs.joining_lemmas.TextForms.{length-first_forms}
 use Rattle.bx_rows.specs.PlainRows.{char_forms, joined_glyph, leveled_glyphs, mirrored_glyphs}
 use Rattle.bx_rows.specs.RowPicture.{Glyph}
 use Rattle.bx_rows.proofs.Leveled.{changed, joined-leveled}
 
 -- the levels, letters and forms of a row's glyphs, of which there are as many as levels
 abbrev pub given : Data → List ℕ → List (Option ℕ) → ℕ → List ℕ → List ℕ → List (ℕ × (ℕ × Form))
-given says body each number letters levels = zip levels (zip letters (first_forms (length levels) (drop number (body_forms says body each))))
+given ucd body each number letters levels = zip levels (zip letters (first_forms (length levels) (drop number (body_forms ucd body each))))
 
 zip-within : {A B : Type 0} (xs : List A) (ys : List B) → length (zip xs ys) ≤ length xs
 zip-within [] ys = omega arith
@@ -52,15 +52,15 @@ zipped-at (l ∷ ls) (x ∷ xs) (f ∷ fs) (suc i) c more h k d =
     let inside = rest.within in
     record { within = omega (arith, inside); is = rest.is }
 
-pub given-at : (says : Data) (body : List ℕ) (each : List (Option ℕ)) (number i c : ℕ) (letters levels more : List ℕ) → i < length levels → drop i letters ≡ c ∷ more
-    → IsGiven (given says body each number letters levels) i (get_or levels i 0, (c, get_or (body_forms says body each) (number + i) Isolated))
-given-at says body each number i c letters levels more h d =
-    let all = body_forms says body each in
+pub given-at : (ucd : Data) (body : List ℕ) (each : List (Option ℕ)) (number i c : ℕ) (letters levels more : List ℕ) → i < length levels → drop i letters ≡ c ∷ more
+    → IsGiven (given ucd body each number letters levels) i (get_or levels i 0, (c, get_or (body_forms ucd body each) (number + i) Isolated))
+given-at ucd body each number i c letters levels more h d =
+    let all = body_forms ucd body each in
     let n = length levels in
     let own : get_or (first_forms n (drop number all)) i Isolated ≡ get_or all (number + i) Isolated =
     first_forms-at n i (drop number all) h ∙ get_or-drop number all i Isolated in
     let many = length-first_forms n (drop number all) in
-    subst (λ f. IsGiven (given says body each number letters levels) i (get_or levels i 0, (c, f))) own
+    subst (λ f. IsGiven (given ucd body each number letters levels) i (get_or levels i 0, (c, f))) own
     (zipped-at levels letters (first_forms n (drop number all)) i c more h (omega (arith, h, many)) d)
 
 -- ---- the end
@@ -69,18 +69,18 @@ pub none-left : (cs more letters behind : List ℕ) (i : ℕ) → letters ≡ cs
 none-left cs more letters behind i e h d z =
     omega (arith, h, z, ap length d, length-drop i letters, ap length e, length-append cs more)
 
-pub all-joined : (says : Data) (w : ℕ) (body : List ℕ) (each : List (Option ℕ)) (number i : ℕ) (cs more letters levels : List ℕ) (gs new : List Glyph)
-    → All (λ c. chars (encode_utf8 c) ≡ c ∷ []) cs → letters ≡ cs ++ more → length cs ≡ length levels → length levels ≤ i → gs ≡ mirrored_glyphs says w cs levels
-    → new ≡ changed (joined_glyph says w) gs (take i (given says body each number letters levels))
-    → new ≡ leveled_glyphs says w cs levels (char_forms says body each number cs)
-all-joined says w body each number i cs more letters levels gs new alone e many end mirrored same =
-    let forms = char_forms says body each number cs in
-    let xs = given says body each number letters levels in
-    let inner = zip-within levels (zip letters (first_forms (length levels) (drop number (body_forms says body each)))) in
+pub all-joined : (ucd : Data) (w : ℕ) (body : List ℕ) (each : List (Option ℕ)) (number i : ℕ) (cs more letters levels : List ℕ) (gs new : List Glyph)
+    → All (λ c. chars (encode_utf8 c) ≡ c ∷ []) cs → letters ≡ cs ++ more → length cs ≡ length levels → length levels ≤ i → gs ≡ mirrored_glyphs ucd w cs levels
+    → new ≡ changed (joined_glyph ucd w) gs (take i (given ucd body each number letters levels))
+    → new ≡ leveled_glyphs ucd w cs levels (char_forms ucd body each number cs)
+all-joined ucd w body each number i cs more letters levels gs new alone e many end mirrored same =
+    let forms = char_forms ucd body each number cs in
+    let xs = given ucd body each number letters levels in
+    let inner = zip-within levels (zip letters (first_forms (length levels) (drop number (body_forms ucd body each)))) in
     let are : xs ≡ zip levels (zip (cs ++ more) forms) =
-    ap₂ (λ n ls. zip levels (zip ls (first_forms n (drop number (body_forms says body each))))) (sym many) e in
-    same ∙ ap₂ (λ hs ys. changed (joined_glyph says w) hs ys) mirrored (take_all i xs (omega (arith, end, inner)) ∙ are)
-    ∙ joined-leveled says w cs more levels forms alone many (length-first_forms (length cs) (drop number (body_forms says body each)))
+    ap₂ (λ n ls. zip levels (zip ls (first_forms n (drop number (body_forms ucd body each))))) (sym many) e in
+    same ∙ ap₂ (λ hs ys. changed (joined_glyph ucd w) hs ys) mirrored (take_all i xs (omega (arith, end, inner)) ∙ are)
+    ∙ joined-leveled ucd w cs more levels forms alone many (length-first_forms (length cs) (drop number (body_forms ucd body each)))
 
 -- the letters of a row, from its start on
 pub letters-are : (body cs rest : List ℕ) (at : ℕ) → IsUtf8 (drop at body) → drop at body ≡ encode_utf8_all cs ++ rest → chars (drop at body) ≡ cs ++ chars rest

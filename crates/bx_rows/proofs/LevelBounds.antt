@@ -2,7 +2,7 @@
 use Rattle.std.proofs.Common.{◌≡◌, ℕ, zero, suc, ◌+◌, ◌-◌, ◌%◌, ◌<◌, ◌≤◌, max, min, List, [], ◌∷◌, length, get_or, drop, Option, Some, None, refl, sym, ap, ap₂, subst, ◌∙◌, arith}
 use Rattle.std.specs.Prelude.{unwrap_or}
 use Rattle.std.proofs.lemmas.List.{at_drop_more}
-use Rattle.bx_rows.specs.VisualOrder.{highest, lower, lowest_odd, lower_odd}
+use Rattle.bx_rows.specs.RowLevels.{highest, lower, lowest_odd, lower_odd}
 
 abbrev choice : ℕ → Option ℕ → ℕ → Option ℕ
 choice l o p = elim p as (λ n. Option ℕ) [ zero ↦ o | suc n ↦ Some (lower l o) ]

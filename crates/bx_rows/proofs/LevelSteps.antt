@@ -190,45 +190,45 @@ zip-none [] = refl
 zip-none (x ∷ xs) = refl
 
 -- one character of a unit is read
-pub char-read : (says : Data) (p : ℕ) (k : Bool) (c : ℕ) (cs : List ℕ) (levels left : List (Option ℕ)) (level : Option ℕ) (old new : List ℕ)
-    (waiting next n : ℕ) (counts : List ℕ) → level ≡ get_or levels 0 None → left ≡ drop 1 levels → ReadsChar p (says.class c) k level old waiting new next
-    → unit_from k p old waiting (suc n) counts (zip (map says.class (c ∷ cs)) levels)
-    ≡ unit_from (k || is_some level) p new next n counts (zip (map says.class cs) left)
-char-read says p k c cs [] left level old new waiting next n counts e f read =
-    no_levels k p old waiting n counts ∙ sym (behind_none k p (says.class c) old waiting n counts)
-    ∙ ap (λ x. unit_from k p old waiting (suc n) counts ((says.class c, x) ∷ [])) (sym e) ∙ read n counts []
-    ∙ ap (unit_from (k || is_some level) p new next n counts) (sym (ap (zip (map says.class cs)) f ∙ zip-none (map says.class cs)))
-char-read says p k c cs (l ∷ ls) left level old new waiting next n counts e f read =
-    ap (λ x. unit_from k p old waiting (suc n) counts ((says.class c, x) ∷ zip (map says.class cs) ls)) (sym e) ∙ read n counts (zip (map says.class cs) ls)
-    ∙ ap (λ x. unit_from (k || is_some level) p new next n counts (zip (map says.class cs) x)) (sym f)
+pub char-read : (ucd : Data) (p : ℕ) (k : Bool) (c : ℕ) (cs : List ℕ) (levels left : List (Option ℕ)) (level : Option ℕ) (old new : List ℕ)
+    (waiting next n : ℕ) (counts : List ℕ) → level ≡ get_or levels 0 None → left ≡ drop 1 levels → ReadsChar p (ucd.class c) k level old waiting new next
+    → unit_from k p old waiting (suc n) counts (zip (map ucd.class (c ∷ cs)) levels)
+    ≡ unit_from (k || is_some level) p new next n counts (zip (map ucd.class cs) left)
+char-read ucd p k c cs [] left level old new waiting next n counts e f read =
+    no_levels k p old waiting n counts ∙ sym (behind_none k p (ucd.class c) old waiting n counts)
+    ∙ ap (λ x. unit_from k p old waiting (suc n) counts ((ucd.class c, x) ∷ [])) (sym e) ∙ read n counts []
+    ∙ ap (unit_from (k || is_some level) p new next n counts) (sym (ap (zip (map ucd.class cs)) f ∙ zip-none (map ucd.class cs)))
+char-read ucd p k c cs (l ∷ ls) left level old new waiting next n counts e f read =
+    ap (λ x. unit_from k p old waiting (suc n) counts ((ucd.class c, x) ∷ zip (map ucd.class cs) ls)) (sym e) ∙ read n counts (zip (map ucd.class cs) ls)
+    ∙ ap (λ x. unit_from (k || is_some level) p new next n counts (zip (map ucd.class cs) x)) (sym f)
 
 chars_none : (rest : List ℕ) → length rest ≡ 0 → chars rest ≡ []
 chars_none [] h = chars-nil
 chars_none (x ∷ xs) h = absurd (omega (arith, h))
 
-module _ (says : Data) (p : ℕ) (all : List ℕ → List ℕ → List ℕ) (rest : List ℕ) (k : Bool) (found : List ℕ) (waiting : ℕ) (left : List (Option ℕ))
+module _ (ucd : Data) (p : ℕ) (all : List ℕ → List ℕ → List ℕ) (rest : List ℕ) (k : Bool) (found : List ℕ) (waiting : ℕ) (left : List (Option ℕ))
     (inv : (more counts : List ℕ) → all more counts
-    ≡ unit_from k p found waiting (length (chars rest)) counts (zip (map says.class (chars rest ++ more)) left)) where
+    ≡ unit_from k p found waiting (length (chars rest)) counts (zip (map ucd.class (chars rest ++ more)) left)) where
   pub unit-more : (c : ℕ) (behind new : List ℕ) (level : Option ℕ) (after : List (Option ℕ)) (next : ℕ) (known : Bool) → chars rest ≡ c ∷ chars behind
-      → level ≡ get_or left 0 None → after ≡ drop 1 left → ReadsChar p (says.class c) k level found waiting new next → known ≡ (k || is_some level)
+      → level ≡ get_or left 0 None → after ≡ drop 1 left → ReadsChar p (ucd.class c) k level found waiting new next → known ≡ (k || is_some level)
       → (more counts : List ℕ) → all more counts
-      ≡ unit_from known p new next (length (chars behind)) counts (zip (map says.class (chars behind ++ more)) after)
+      ≡ unit_from known p new next (length (chars behind)) counts (zip (map ucd.class (chars behind ++ more)) after)
   unit-more c behind new level after next known e f g read h more counts =
       inv more counts
-      ∙ ap (λ cs. unit_from k p found waiting (length cs) counts (zip (map says.class (cs ++ more)) left)) e
-      ∙ char-read says p k c (chars behind ++ more) left after level found new waiting next (length (chars behind)) counts f g read
-      ∙ ap (λ x. unit_from x p new next (length (chars behind)) counts (zip (map says.class (chars behind ++ more)) after)) (sym h)
+      ∙ ap (λ cs. unit_from k p found waiting (length cs) counts (zip (map ucd.class (cs ++ more)) left)) e
+      ∙ char-read ucd p k c (chars behind ++ more) left after level found new waiting next (length (chars behind)) counts f g read
+      ∙ ap (λ x. unit_from x p new next (length (chars behind)) counts (zip (map ucd.class (chars behind ++ more)) after)) (sym h)
 
-  unit-end : length rest ≡ 0 → (more counts : List ℕ) → all more counts ≡ unit_from k p found waiting 0 counts (zip (map says.class more) left)
+  unit-end : length rest ≡ 0 → (more counts : List ℕ) → all more counts ≡ unit_from k p found waiting 0 counts (zip (map ucd.class more) left)
   unit-end e more counts =
-      inv more counts ∙ ap (λ cs. unit_from k p found waiting (length cs) counts (zip (map says.class (cs ++ more)) left)) (chars_none rest e)
+      inv more counts ∙ ap (λ cs. unit_from k p found waiting (length cs) counts (zip (map ucd.class (cs ++ more)) left)) (chars_none rest e)
 
-  pub known-end : length rest ≡ 0 → k ≡ true → (more counts : List ℕ) → all more counts ≡ levels_from p found waiting 0 counts (zip (map says.class more) left)
-  known-end e h more counts = unit-end e more counts ∙ ap (λ x. unit_from x p found waiting 0 counts (zip (map says.class more) left)) h
+  pub known-end : length rest ≡ 0 → k ≡ true → (more counts : List ℕ) → all more counts ≡ levels_from p found waiting 0 counts (zip (map ucd.class more) left)
+  known-end e h more counts = unit-end e more counts ∙ ap (λ x. unit_from x p found waiting 0 counts (zip (map ucd.class more) left)) h
 
   pub unknown-end : (next : ℕ) (new : List ℕ) → length rest ≡ 0 → k ≡ false
       → ((b : Bool) → settled_if b p next new ≡ settled_if b p waiting found ++ level_before p (settled_if b p waiting found) ∷ [])
-      → (more counts : List ℕ) → all more counts ≡ levels_from p new next 0 counts (zip (map says.class more) left)
+      → (more counts : List ℕ) → all more counts ≡ levels_from p new next 0 counts (zip (map ucd.class more) left)
   unknown-end next new e h read more counts =
-      unit-end e more counts ∙ ap (λ x. unit_from x p found waiting 0 counts (zip (map says.class more) left)) h
-      ∙ no_kept p waiting next found new counts (zip (map says.class more) left) read
+      unit-end e more counts ∙ ap (λ x. unit_from x p found waiting 0 counts (zip (map ucd.class more) left)) h
+      ∙ no_kept p waiting next found new counts (zip (map ucd.class more) left) read

@@ -9,13 +9,14 @@ use Rattle.std.proofs.lemmas.List.Elements.{All-rest}
 use Rattle.std.proofs.lemmas.Str.{encodes-chars}
 use Rattle.bx_ucd.specs.Data.{Data}
 use Rattle.bx_ucd.specs.declared.joining.Form.{Form}
-use Rattle.bx_cells.specs.Faces.{face}
-use Rattle.bx_cells.proofs.Rest.{chars_encoded}
-use Rattle.bx_joining.specs.JoinedText.{AreFormless, in_forms}
-use Rattle.bx_joining.proofs.TextForms.{as_it_is}
+use Rattle.bx_rows.specs.cells.Units.{face}
+use Rattle.bx_rows.proofs.cells_lemmas.Rest.{chars_encoded}
+use Rattle.bx_rows.specs.joining.JoinedText.{AreFormless}
+use Rattle.bx_rows.specs.joining.Joining.{in_forms}
+use Rattle.bx_rows.proofs.joining_lemmas.TextForms.{as_it_is}
 use Rattle.bx_rows.specs.declared.drawn.Drawn.{Drawn}
-use Rattle.bx_rows.specs.PlainRows.{IsFormless, formed_glyph, joined_glyph, leveled_glyphs, mirrored_glyphs, single_glyph}
-use Rattle.bx_rows.specs.RowPicture.{Glyph, glyph, blank, is_own, joined_image_within, mirror_image, mirror_image_within, mirrored_chars, mirrored_text, shown_text}
+use Rattle.bx_rows.specs.PlainRows.{IsFormless, formed_glyph, joined_glyph, leveled_glyphs, mirrored_glyphs, single_glyph, mirrored_text}
+use Rattle.bx_rows.specs.RowPicture.{Glyph, glyph, blank, is_own, joined_image_within, mirror_image, mirror_image_within, mirrored_chars, shown_text}
 use Rattle.bx_rows.specs.Shown.{glyph_of}
 
 -- ---- the first glyphs changed, each by what is given with it
@@ -63,52 +64,52 @@ module _ {X : Type 0} (f : Glyph → X → Glyph) where
 
 -- a glyph of one column at a level
 abbrev pub at_level : Data → ℕ → Glyph → ℕ → Glyph
-at_level says w g level = glyph (mirrored_text says w 1 level g.text) g.columns g.negative
+at_level ucd w g level = glyph (mirrored_text ucd w 1 level g.text) g.columns g.negative
 
 -- the glyphs of characters at their levels
-leveled-single : (says : Data) (w : ℕ) (cs levels : List ℕ) → length cs ≡ length levels
-    → changed (at_level says w) (map single_glyph cs) levels ≡ mirrored_glyphs says w cs levels
-leveled-single says w [] levels e = refl
-leveled-single says w (c ∷ cs) [] e = absurd (omega arith)
-leveled-single says w (c ∷ cs) (l ∷ ls) e =
-    ap (λ xs. at_level says w (single_glyph c) l ∷ xs) (leveled-single says w cs ls (omega arith))
+leveled-single : (ucd : Data) (w : ℕ) (cs levels : List ℕ) → length cs ≡ length levels
+    → changed (at_level ucd w) (map single_glyph cs) levels ≡ mirrored_glyphs ucd w cs levels
+leveled-single ucd w [] levels e = refl
+leveled-single ucd w (c ∷ cs) [] e = absurd (omega arith)
+leveled-single ucd w (c ∷ cs) (l ∷ ls) e =
+    ap (λ xs. at_level ucd w (single_glyph c) l ∷ xs) (leveled-single ucd w cs ls (omega arith))
 
 pub single-count : (old : List Drawn) (cs levels : List ℕ) → length old ≡ length levels → map glyph_of old ≡ map single_glyph cs
     → length cs ≡ length levels
 single-count old cs levels count single = sym (length-map cs single_glyph) ∙ ap length (sym single) ∙ length-map old glyph_of ∙ count
 
 -- after the last turn
-pub turned : (says : Data) (w : ℕ) (old : List Drawn) (cs levels : List ℕ) (i : ℕ) (new : List Glyph)
+pub turned : (ucd : Data) (w : ℕ) (old : List Drawn) (cs levels : List ℕ) (i : ℕ) (new : List Glyph)
     → length old ≡ length levels → length levels ≤ i → map glyph_of old ≡ map single_glyph cs
-    → new ≡ changed (at_level says w) (map glyph_of old) (take i levels) → new ≡ mirrored_glyphs says w cs levels
-turned says w old cs levels i new count end single same =
-    same ∙ ap₂ (λ gs ls. changed (at_level says w) gs ls) single (take_all i levels end)
-    ∙ leveled-single says w cs levels (single-count old cs levels count single)
+    → new ≡ changed (at_level ucd w) (map glyph_of old) (take i levels) → new ≡ mirrored_glyphs ucd w cs levels
+turned ucd w old cs levels i new count end single same =
+    same ∙ ap₂ (λ gs ls. changed (at_level ucd w) gs ls) single (take_all i levels end)
+    ∙ leveled-single ucd w cs levels (single-count old cs levels count single)
 
 -- ---- without forms
 
 -- the first `i` glyphs have no forms
 abbrev pub FormlessUpTo : Data → ℕ → List Glyph → List ℕ → ℕ → Type 0
-FormlessUpTo says w gs levels i = (k : ℕ) → k < i → IsFormless says w (get_or levels k 0) (get_or gs k blank).text
+FormlessUpTo ucd w gs levels i = (k : ℕ) → k < i → IsFormless ucd w (get_or levels k 0) (get_or gs k blank).text
 
-pub more-formless : (says : Data) (w : ℕ) (gs : List Glyph) (levels : List ℕ) (i level : ℕ) (text : List ℕ) → FormlessUpTo says w gs levels i
-    → text ≡ (get_or gs i blank).text → level ≡ get_or levels i 0 → IsFormless says w level text → FormlessUpTo says w gs levels (i + 1)
-more-formless says w gs levels i level text before e f own k h =
-    let last : i ≤ k → IsFormless says w (get_or levels k 0) (get_or gs k blank).text = λ past.
+pub more-formless : (ucd : Data) (w : ℕ) (gs : List Glyph) (levels : List ℕ) (i level : ℕ) (text : List ℕ) → FormlessUpTo ucd w gs levels i
+    → text ≡ (get_or gs i blank).text → level ≡ get_or levels i 0 → IsFormless ucd w level text → FormlessUpTo ucd w gs levels (i + 1)
+more-formless ucd w gs levels i level text before e f own k h =
+    let last : i ≤ k → IsFormless ucd w (get_or levels k 0) (get_or gs k blank).text = λ past.
     let same : i ≡ k = omega (arith, past, h) in
-    subst (λ j. IsFormless says w (get_or levels j 0) (get_or gs j blank).text) same
-    (subst (λ t. IsFormless says w (get_or levels i 0) t) e (subst (λ l. IsFormless says w l text) f own)) in
+    subst (λ j. IsFormless ucd w (get_or levels j 0) (get_or gs j blank).text) same
+    (subst (λ t. IsFormless ucd w (get_or levels i 0) t) e (subst (λ l. IsFormless ucd w l text) f own)) in
     ⊎_elim (λ below. before k below) last (cases_lt k i)
 
 -- such glyphs are as they are mirrored
-formless-same : (says : Data) (w : ℕ) (cs levels : List ℕ) (forms : List Form) → length cs ≡ length levels → length forms ≡ length cs
-    → FormlessUpTo says w (map single_glyph cs) levels (length cs) → mirrored_glyphs says w cs levels ≡ leveled_glyphs says w cs levels forms
-formless-same says w [] levels forms e f all = refl
-formless-same says w (c ∷ cs) [] forms e f all = absurd (omega arith)
-formless-same says w (c ∷ cs) (l ∷ ls) [] e f all = absurd (omega arith)
-formless-same says w (c ∷ cs) (l ∷ ls) (x ∷ xs) e f all =
+formless-same : (ucd : Data) (w : ℕ) (cs levels : List ℕ) (forms : List Form) → length cs ≡ length levels → length forms ≡ length cs
+    → FormlessUpTo ucd w (map single_glyph cs) levels (length cs) → mirrored_glyphs ucd w cs levels ≡ leveled_glyphs ucd w cs levels forms
+formless-same ucd w [] levels forms e f all = refl
+formless-same ucd w (c ∷ cs) [] forms e f all = absurd (omega arith)
+formless-same ucd w (c ∷ cs) (l ∷ ls) [] e f all = absurd (omega arith)
+formless-same ucd w (c ∷ cs) (l ∷ ls) (x ∷ xs) e f all =
     ap₂ (λ t gs. glyph t 1 false ∷ gs) (sym (all 0 (omega arith) x))
-    (formless-same says w cs ls xs (omega arith) (omega arith) (λ k h. all (suc k) (omega arith)))
+    (formless-same ucd w cs ls xs (omega arith) (omega arith) (λ k h. all (suc k) (omega arith)))
 
 -- neither of two
 pub neither : (a b : Bool) → (a || b) ≡ false → (a ≡ false) × (b ≡ false)
@@ -116,13 +117,13 @@ neither true b e = absurd (cc e)
 neither false true e = absurd (cc e)
 neither false false e = (refl, refl)
 
-pub formless-turned : (says : Data) (w : ℕ) (old : List Drawn) (cs levels : List ℕ) (forms : List Form) (i : ℕ) (new : List Glyph)
+pub formless-turned : (ucd : Data) (w : ℕ) (old : List Drawn) (cs levels : List ℕ) (forms : List Form) (i : ℕ) (new : List Glyph)
     → length old ≡ length levels → length levels ≤ i → map glyph_of old ≡ map single_glyph cs → length forms ≡ length cs
-    → new ≡ mirrored_glyphs says w cs levels → FormlessUpTo says w (map glyph_of old) levels i → new ≡ leveled_glyphs says w cs levels forms
-formless-turned says w old cs levels forms i new count end single many same all =
+    → new ≡ mirrored_glyphs ucd w cs levels → FormlessUpTo ucd w (map glyph_of old) levels i → new ≡ leveled_glyphs ucd w cs levels forms
+formless-turned ucd w old cs levels forms i new count end single many same all =
     let n = single-count old cs levels count single in
-    same ∙ formless-same says w cs levels forms n many
-    (λ k h. subst (λ gs. IsFormless says w (get_or levels k 0) (get_or gs k blank).text) single (all k (omega (arith, n))))
+    same ∙ formless-same ucd w cs levels forms n many
+    (λ k h. subst (λ gs. IsFormless ucd w (get_or levels k 0) (get_or gs k blank).text) single (all k (omega (arith, n))))
 
 -- ---- in their forms
 
@@ -150,96 +151,96 @@ whole-mirrored true others cs text e = refl
 whole-mirrored false others cs text e = e
 
 -- the mirrored text of one letter is the mirrored character's
-one-mirrored : (says : Data) (w c : ℕ) (b : Bool) → chars (encode_utf8 c) ≡ c ∷ []
-    → encode_utf8_all (elim b as (λ _. List ℕ) [ true ↦ unwrap_or (says.mirror c) c ∷ [] | false ↦ c ∷ [] ])
-    ≡ elim b as (λ _. List ℕ) [ true ↦ mirror_image says (encode_utf8 c) | false ↦ encode_utf8 c ]
-one-mirrored says w c true e = sym (ap (λ cs. encode_utf8_all (map (λ d. unwrap_or (says.mirror d) d) cs)) e)
-one-mirrored says w c false e = append-nil (encode_utf8 c)
+one-mirrored : (ucd : Data) (w c : ℕ) (b : Bool) → chars (encode_utf8 c) ≡ c ∷ []
+    → encode_utf8_all (elim b as (λ _. List ℕ) [ true ↦ unwrap_or (ucd.mirror c) c ∷ [] | false ↦ c ∷ [] ])
+    ≡ elim b as (λ _. List ℕ) [ true ↦ mirror_image ucd (encode_utf8 c) | false ↦ encode_utf8 c ]
+one-mirrored ucd w c true e = sym (ap (λ cs. encode_utf8_all (map (λ d. unwrap_or (ucd.mirror d) d) cs)) e)
+one-mirrored ucd w c false e = append-nil (encode_utf8 c)
 
 -- the character in place of one letter
 abbrev instead : Data → ℕ → ℕ → ℕ
-instead says w c =
-    let d = unwrap_or (says.mirror c) c in elim (is_own 1 (face says w (encode_utf8_all (d ∷ [])))) as (λ _. ℕ) [ true ↦ d | false ↦ c ]
+instead ucd w c =
+    let d = unwrap_or (ucd.mirror c) c in elim (is_own 1 (face ucd w (encode_utf8_all (d ∷ [])))) as (λ _. ℕ) [ true ↦ d | false ↦ c ]
 
-mirrored-one : (says : Data) (w c : ℕ) (b : Bool)
-    → elim b as (λ _. List ℕ) [ true ↦ unwrap_or (says.mirror c) c ∷ [] | false ↦ c ∷ [] ]
-    ≡ elim b as (λ _. ℕ) [ true ↦ unwrap_or (says.mirror c) c | false ↦ c ] ∷ []
-mirrored-one says w c true = refl
-mirrored-one says w c false = refl
+mirrored-one : (ucd : Data) (w c : ℕ) (b : Bool)
+    → elim b as (λ _. List ℕ) [ true ↦ unwrap_or (ucd.mirror c) c ∷ [] | false ↦ c ∷ [] ]
+    ≡ elim b as (λ _. ℕ) [ true ↦ unwrap_or (ucd.mirror c) c | false ↦ c ] ∷ []
+mirrored-one ucd w c true = refl
+mirrored-one ucd w c false = refl
 
-same-image : (says : Data) (w c : ℕ) → chars (encode_utf8 c) ≡ c ∷ [] → mirror_image_within says w 1 (encode_utf8 c) ≡ encode_utf8_all (instead says w c ∷ [])
-same-image says w c e =
-    let d = unwrap_or (says.mirror c) c in
-    let image : mirror_image says (encode_utf8 c) ≡ encode_utf8_all (d ∷ []) = ap (λ cs. encode_utf8_all (map (λ x. unwrap_or (says.mirror x) x) cs)) e in
-    let b = is_own 1 (face says w (encode_utf8_all (d ∷ []))) in
-    ap (λ t. elim (is_own 1 (face says w t)) as (λ _. List ℕ) [ true ↦ mirror_image says (encode_utf8 c) | false ↦ encode_utf8 c ]) image
-    ∙ sym (one-mirrored says w c b e) ∙ ap encode_utf8_all (mirrored-one says w c b)
+same-image : (ucd : Data) (w c : ℕ) → chars (encode_utf8 c) ≡ c ∷ [] → mirror_image_within ucd w 1 (encode_utf8 c) ≡ encode_utf8_all (instead ucd w c ∷ [])
+same-image ucd w c e =
+    let d = unwrap_or (ucd.mirror c) c in
+    let image : mirror_image ucd (encode_utf8 c) ≡ encode_utf8_all (d ∷ []) = ap (λ cs. encode_utf8_all (map (λ x. unwrap_or (ucd.mirror x) x) cs)) e in
+    let b = is_own 1 (face ucd w (encode_utf8_all (d ∷ []))) in
+    ap (λ t. elim (is_own 1 (face ucd w t)) as (λ _. List ℕ) [ true ↦ mirror_image ucd (encode_utf8 c) | false ↦ encode_utf8 c ]) image
+    ∙ sym (one-mirrored ucd w c b e) ∙ ap encode_utf8_all (mirrored-one ucd w c b)
 
 -- a letter's form, or what is in its place
-formed : (says : Data) (w d : ℕ) (o : Option ℕ) → formed_glyph says w (glyph (encode_utf8_all (d ∷ [])) 1 false) o
-    ≡ glyph (elim (is_own 1 (face says w (encode_utf8_all (unwrap_or o d ∷ [])))) as (λ _. List ℕ) [
+formed : (ucd : Data) (w d : ℕ) (o : Option ℕ) → formed_glyph ucd w (glyph (encode_utf8_all (d ∷ [])) 1 false) o
+    ≡ glyph (elim (is_own 1 (face ucd w (encode_utf8_all (unwrap_or o d ∷ [])))) as (λ _. List ℕ) [
       | true ↦ encode_utf8_all (unwrap_or o d ∷ [])
       | false ↦ encode_utf8_all (d ∷ [])
     ]) 1 false
-formed says w d None = same-both (is_own 1 (face says w (encode_utf8_all (d ∷ [])))) (encode_utf8_all (d ∷ []))
-formed says w d (Some x) =
+formed ucd w d None = same-both (is_own 1 (face ucd w (encode_utf8_all (d ∷ [])))) (encode_utf8_all (d ∷ []))
+formed ucd w d (Some x) =
     let one : encode_utf8_all (x ∷ []) ≡ encode_utf8 x = append-nil (encode_utf8 x) in
-    choose (is_own 1 (face says w (encode_utf8 x))) (encode_utf8 x) (encode_utf8_all (d ∷ []))
-    ∙ ap (λ t. glyph (elim (is_own 1 (face says w t)) as (λ _. List ℕ) [ true ↦ t | false ↦ encode_utf8_all (d ∷ []) ]) 1 false) (sym one)
+    choose (is_own 1 (face ucd w (encode_utf8 x))) (encode_utf8 x) (encode_utf8_all (d ∷ []))
+    ∙ ap (λ t. glyph (elim (is_own 1 (face ucd w t)) as (λ _. List ℕ) [ true ↦ t | false ↦ encode_utf8_all (d ∷ []) ]) 1 false) (sym one)
 
-one-joined : (says : Data) (w c : ℕ) (form : Form) → chars (encode_utf8 c) ≡ c ∷ []
-    → formed_glyph says w (glyph (mirror_image_within says w 1 (encode_utf8 c)) 1 false) (says.form c form)
-    ≡ glyph (joined_image_within says w 1 (form ∷ []) (encode_utf8 c)) 1 false
-one-joined says w c form e =
-    let d = instead says w c in
-    let o = says.form c form in
-    let image = same-image says w c e in
-    let b = is_own 1 (face says w (encode_utf8_all (unwrap_or (says.mirror c) c ∷ []))) in
-    let letters : in_forms says (form ∷ []) (chars (encode_utf8 c)) (mirrored_chars says w 1 (chars (encode_utf8 c))) ≡ unwrap_or o d ∷ [] =
-    ap (λ cs. in_forms says (form ∷ []) cs (mirrored_chars says w 1 cs)) e ∙ ap (in_forms says (form ∷ []) (c ∷ [])) (mirrored-one says w c b) in
-    ap (λ t. formed_glyph says w (glyph t 1 false) o) image ∙ formed says w d o
-    ∙ ap₂ (λ t m. glyph (elim (is_own 1 (face says w t)) as (λ _. List ℕ) [ true ↦ t | false ↦ m ]) 1 false) (ap encode_utf8_all (sym letters)) (sym image)
+one-joined : (ucd : Data) (w c : ℕ) (form : Form) → chars (encode_utf8 c) ≡ c ∷ []
+    → formed_glyph ucd w (glyph (mirror_image_within ucd w 1 (encode_utf8 c)) 1 false) (ucd.form c form)
+    ≡ glyph (joined_image_within ucd w 1 (form ∷ []) (encode_utf8 c)) 1 false
+one-joined ucd w c form e =
+    let d = instead ucd w c in
+    let o = ucd.form c form in
+    let image = same-image ucd w c e in
+    let b = is_own 1 (face ucd w (encode_utf8_all (unwrap_or (ucd.mirror c) c ∷ []))) in
+    let letters : in_forms ucd (form ∷ []) (chars (encode_utf8 c)) (mirrored_chars ucd w 1 (chars (encode_utf8 c))) ≡ unwrap_or o d ∷ [] =
+    ap (λ cs. in_forms ucd (form ∷ []) cs (mirrored_chars ucd w 1 cs)) e ∙ ap (in_forms ucd (form ∷ []) (c ∷ [])) (mirrored-one ucd w c b) in
+    ap (λ t. formed_glyph ucd w (glyph t 1 false) o) image ∙ formed ucd w d o
+    ∙ ap₂ (λ t m. glyph (elim (is_own 1 (face ucd w t)) as (λ _. List ℕ) [ true ↦ t | false ↦ m ]) 1 false) (ap encode_utf8_all (sym letters)) (sym image)
 
-one-shown : (says : Data) (w c odd : ℕ) (form : Form) → chars (encode_utf8 c) ≡ c ∷ []
+one-shown : (ucd : Data) (w c odd : ℕ) (form : Form) → chars (encode_utf8 c) ≡ c ∷ []
     → elim odd as (λ _. Glyph) [
-      | zero ↦ glyph (elim odd as (λ _. List ℕ) [ zero ↦ encode_utf8 c | suc _ ↦ mirror_image_within says w 1 (encode_utf8 c) ]) 1 false
-      | suc _ ↦ formed_glyph says w (glyph (elim odd as (λ _. List ℕ) [ zero ↦ encode_utf8 c | suc _ ↦ mirror_image_within says w 1 (encode_utf8 c) ]) 1 false)
-          (says.form c form)
+      | zero ↦ glyph (elim odd as (λ _. List ℕ) [ zero ↦ encode_utf8 c | suc _ ↦ mirror_image_within ucd w 1 (encode_utf8 c) ]) 1 false
+      | suc _ ↦ formed_glyph ucd w (glyph (elim odd as (λ _. List ℕ) [ zero ↦ encode_utf8 c | suc _ ↦ mirror_image_within ucd w 1 (encode_utf8 c) ]) 1 false)
+          (ucd.form c form)
     ]
-    ≡ glyph (elim odd as (λ _. List ℕ) [ zero ↦ encode_utf8 c | suc _ ↦ joined_image_within says w 1 (form ∷ []) (encode_utf8 c) ]) 1 false
-one-shown says w c zero form e = refl
-one-shown says w c (suc k) form e = one-joined says w c form e
+    ≡ glyph (elim odd as (λ _. List ℕ) [ zero ↦ encode_utf8 c | suc _ ↦ joined_image_within ucd w 1 (form ∷ []) (encode_utf8 c) ]) 1 false
+one-shown ucd w c zero form e = refl
+one-shown ucd w c (suc k) form e = one-joined ucd w c form e
 
 -- the mirrored glyphs of letters in their forms; there may be more letters
-pub joined-leveled : (says : Data) (w : ℕ) (cs more levels : List ℕ) (forms : List Form) → All (λ c. chars (encode_utf8 c) ≡ c ∷ []) cs
+pub joined-leveled : (ucd : Data) (w : ℕ) (cs more levels : List ℕ) (forms : List Form) → All (λ c. chars (encode_utf8 c) ≡ c ∷ []) cs
     → length cs ≡ length levels → length forms ≡ length cs
-    → changed (joined_glyph says w) (mirrored_glyphs says w cs levels) (zip levels (zip (cs ++ more) forms)) ≡ leveled_glyphs says w cs levels forms
-joined-leveled says w [] more levels forms a e f = refl
-joined-leveled says w (c ∷ cs) more [] forms a e f = absurd (omega arith)
-joined-leveled says w (c ∷ cs) more (l ∷ ls) [] a e f = absurd (omega arith)
-joined-leveled says w (c ∷ cs) more (l ∷ ls) (x ∷ xs) a e f =
-    ap₂ (λ g gs. g ∷ gs) (one-shown says w c (l % 2) x (a 0 c (omega arith)))
-    (joined-leveled says w cs more ls xs (All-rest (λ d. chars (encode_utf8 d) ≡ d ∷ []) c cs (c ∷ cs) refl a) (omega arith) (omega arith))
+    → changed (joined_glyph ucd w) (mirrored_glyphs ucd w cs levels) (zip levels (zip (cs ++ more) forms)) ≡ leveled_glyphs ucd w cs levels forms
+joined-leveled ucd w [] more levels forms a e f = refl
+joined-leveled ucd w (c ∷ cs) more [] forms a e f = absurd (omega arith)
+joined-leveled ucd w (c ∷ cs) more (l ∷ ls) [] a e f = absurd (omega arith)
+joined-leveled ucd w (c ∷ cs) more (l ∷ ls) (x ∷ xs) a e f =
+    ap₂ (λ g gs. g ∷ gs) (one-shown ucd w c (l % 2) x (a 0 c (omega arith)))
+    (joined-leveled ucd w cs more ls xs (All-rest (λ d. chars (encode_utf8 d) ≡ d ∷ []) c cs (c ∷ cs) refl a) (omega arith) (omega arith))
 
 -- ---- letters without forms
 
 -- of a whole text
-pub formless-text : (says : Data) (w n : ℕ) (forms : List Form) (text : List ℕ) → IsUtf8 text → AreFormless says (chars text)
-    → joined_image_within says w n forms text ≡ mirror_image_within says w n text
-formless-text says w n forms text u none =
+pub formless-text : (ucd : Data) (w n : ℕ) (forms : List Form) (text : List ℕ) → IsUtf8 text → AreFormless ucd (chars text)
+    → joined_image_within ucd w n forms text ≡ mirror_image_within ucd w n text
+formless-text ucd w n forms text u none =
     let cs = chars text in
-    let others = map (λ c. unwrap_or (says.mirror c) c) cs in
-    let same = as_it_is says forms cs (mirrored_chars says w n cs) none in
-    let image : encode_utf8_all (mirrored_chars says w n cs) ≡ mirror_image_within says w n text =
-    whole-mirrored (is_own n (face says w (encode_utf8_all others))) others cs text (encodes-chars text u) in
-    same-either (is_own n (face says w (encode_utf8_all (in_forms says forms cs (mirrored_chars says w n cs))))) _ (mirror_image_within says w n text)
+    let others = map (λ c. unwrap_or (ucd.mirror c) c) cs in
+    let same = as_it_is ucd forms cs (mirrored_chars ucd w n cs) none in
+    let image : encode_utf8_all (mirrored_chars ucd w n cs) ≡ mirror_image_within ucd w n text =
+    whole-mirrored (is_own n (face ucd w (encode_utf8_all others))) others cs text (encodes-chars text u) in
+    same-either (is_own n (face ucd w (encode_utf8_all (in_forms ucd forms cs (mirrored_chars ucd w n cs))))) _ (mirror_image_within ucd w n text)
     (ap encode_utf8_all same ∙ image)
 
 -- of a text shown at a level
-pub formless-shown : (says : Data) (w n level : ℕ) (forms : List Form) (text : List ℕ) → IsUtf8 text → AreFormless says (chars text)
-    → shown_text says w n level forms text ≡ mirrored_text says w n level text
-formless-shown says w n level forms text u none =
-    either-level (level % 2) text (joined_image_within says w n forms text) (mirror_image_within says w n text) (formless-text says w n forms text u none)
+pub formless-shown : (ucd : Data) (w n level : ℕ) (forms : List Form) (text : List ℕ) → IsUtf8 text → AreFormless ucd (chars text)
+    → shown_text ucd w n level forms text ≡ mirrored_text ucd w n level text
+formless-shown ucd w n level forms text u none =
+    either-level (level % 2) text (joined_image_within ucd w n forms text) (mirror_image_within ucd w n text) (formless-text ucd w n forms text u none)
 
 -- at an odd level
 pub shown_if_odd : (odd : ℕ) (new text shown : List ℕ) → (odd ≡ 0 → ⊥) → new ≡ shown → new ≡ elim odd as (λ _. List ℕ) [ zero ↦ text | suc _ ↦ shown ]
@@ -247,14 +248,14 @@ shown_if_odd zero new text shown h e = absurd (h refl)
 shown_if_odd (suc k) new text shown h e = e
 
 -- the characters of the mirrored text
-pub mirrored-are : (says : Data) (w n : ℕ) (text shown : List ℕ) → IsUtf8 text → IsUtf8 shown → shown ≡ mirror_image_within says w n text
-    → chars shown ≡ mirrored_chars says w n (chars text)
-mirrored-are says w n text shown u v e =
+pub mirrored-are : (ucd : Data) (w n : ℕ) (text shown : List ℕ) → IsUtf8 text → IsUtf8 shown → shown ≡ mirror_image_within ucd w n text
+    → chars shown ≡ mirrored_chars ucd w n (chars text)
+mirrored-are ucd w n text shown u v e =
     let cs = chars text in
-    let others = map (λ c. unwrap_or (says.mirror c) c) cs in
-    let all : shown ≡ encode_utf8_all (mirrored_chars says w n cs) =
-    e ∙ sym (whole-mirrored (is_own n (face says w (encode_utf8_all others))) others cs text (encodes-chars text u)) in
-    ap chars all ∙ chars_encoded (mirrored_chars says w n cs) (subst IsUtf8 all v)
+    let others = map (λ c. unwrap_or (ucd.mirror c) c) cs in
+    let all : shown ≡ encode_utf8_all (mirrored_chars ucd w n cs) =
+    e ∙ sym (whole-mirrored (is_own n (face ucd w (encode_utf8_all others))) others cs text (encodes-chars text u)) in
+    ap chars all ∙ chars_encoded (mirrored_chars ucd w n cs) (subst IsUtf8 all v)
 
 -- ---- one glyph in its letter's form
 
@@ -262,23 +263,23 @@ odd-glyph : (odd : ℕ) (new old shown : Glyph) → (odd ≡ 0 → ⊥) → new 
 odd-glyph zero new old shown h e = absurd (h refl)
 odd-glyph (suc k) new old shown h e = e
 
-pub joined_if_none : (says : Data) (w : ℕ) (g : Glyph) (level letter : ℕ) (form : Form) (o : Option ℕ) → (level % 2 ≡ 0 → ⊥) → o ≡ says.form letter form
-    → o ≡ None → g ≡ joined_glyph says w g (level, (letter, form))
-joined_if_none says w g level letter form o odd e none =
-    odd-glyph (level % 2) g g (formed_glyph says w g (says.form letter form)) odd (ap (formed_glyph says w g) (sym none ∙ e))
+pub joined_if_none : (ucd : Data) (w : ℕ) (g : Glyph) (level letter : ℕ) (form : Form) (o : Option ℕ) → (level % 2 ≡ 0 → ⊥) → o ≡ ucd.form letter form
+    → o ≡ None → g ≡ joined_glyph ucd w g (level, (letter, form))
+joined_if_none ucd w g level letter form o odd e none =
+    odd-glyph (level % 2) g g (formed_glyph ucd w g (ucd.form letter form)) odd (ap (formed_glyph ucd w g) (sym none ∙ e))
 
-module _ (says : Data) (w : ℕ) (g : Glyph) (level letter : ℕ) (form : Form) (o : Option ℕ) (x : ℕ) (text : List ℕ)
-    (odd : level % 2 ≡ 0 → ⊥) (e : o ≡ says.form letter form) (some : o ≡ Some x) (is : text ≡ encode_utf8 x) where
-  choice : (b : Bool) → is_own 1 (face says w text) ≡ b
-      → elim b as (λ _. Glyph) [ true ↦ glyph text g.columns g.negative | false ↦ g ] ≡ formed_glyph says w g (says.form letter form)
+module _ (ucd : Data) (w : ℕ) (g : Glyph) (level letter : ℕ) (form : Form) (o : Option ℕ) (x : ℕ) (text : List ℕ)
+    (odd : level % 2 ≡ 0 → ⊥) (e : o ≡ ucd.form letter form) (some : o ≡ Some x) (is : text ≡ encode_utf8 x) where
+  choice : (b : Bool) → is_own 1 (face ucd w text) ≡ b
+      → elim b as (λ _. Glyph) [ true ↦ glyph text g.columns g.negative | false ↦ g ] ≡ formed_glyph ucd w g (ucd.form letter form)
   choice b own =
       ap (λ c. elim c as (λ _. Glyph) [ true ↦ glyph text g.columns g.negative | false ↦ g ]) (sym own)
-      ∙ ap (λ t. elim (is_own 1 (face says w t)) as (λ _. Glyph) [ true ↦ glyph t g.columns g.negative | false ↦ g ]) is
-      ∙ ap (formed_glyph says w g) (sym some ∙ e)
+      ∙ ap (λ t. elim (is_own 1 (face ucd w t)) as (λ _. Glyph) [ true ↦ glyph t g.columns g.negative | false ↦ g ]) is
+      ∙ ap (formed_glyph ucd w g) (sym some ∙ e)
 
-  pub joined_if_own : is_own 1 (face says w text) ≡ true → glyph text g.columns g.negative ≡ joined_glyph says w g (level, (letter, form))
+  pub joined_if_own : is_own 1 (face ucd w text) ≡ true → glyph text g.columns g.negative ≡ joined_glyph ucd w g (level, (letter, form))
   joined_if_own own =
-      odd-glyph (level % 2) (glyph text g.columns g.negative) g (formed_glyph says w g (says.form letter form)) odd (choice true own)
+      odd-glyph (level % 2) (glyph text g.columns g.negative) g (formed_glyph ucd w g (ucd.form letter form)) odd (choice true own)
 
-  pub joined_if_other : is_own 1 (face says w text) ≡ false → g ≡ joined_glyph says w g (level, (letter, form))
-  joined_if_other other = odd-glyph (level % 2) g g (formed_glyph says w g (says.form letter form)) odd (choice false other)
+  pub joined_if_other : is_own 1 (face ucd w text) ≡ false → g ≡ joined_glyph ucd w g (level, (letter, form))
+  joined_if_other other = odd-glyph (level % 2) g g (formed_glyph ucd w g (ucd.form letter form)) odd (choice false other)

@@ -28,3 +28,5 @@ pub mod PlainRows
 pub mod PlainDrawn
 pub mod Permutes
 pub mod RowsLeft
+pub mod cells_lemmas
+pub mod joining_lemmas

@@ -7,7 +7,7 @@ use Rattle.std.proofs.lemmas.List.Elements.{All-append, All-cons, All-nil, All-r
 use Rattle.std.proofs.lemmas.List.Folds.{map_fixed}
 use Rattle.std.proofs.lemmas.List.FromFn.{get_or-range_with_len}
 use Rattle.std.proofs.lemmas.List.Sums.{sum_by-append, sum_by-cons}
-use Rattle.bx_rows.specs.VisualOrder.{reverse_runs, reverse_down, reversals_from, lowest_odd, highest, visual}
+use Rattle.bx_rows.specs.RowLevels.{reverse_runs, reverse_down, reversals_from, lowest_odd, highest, visual}
 
 -- ---- a fact of each unit stays
 

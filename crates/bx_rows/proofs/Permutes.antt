@@ -8,7 +8,7 @@ use Rattle.std.proofs.lemmas.List.Folds.{flat_map-map}
 use Rattle.std.proofs.lemmas.List.Sorted.{IsPermutation-refl, IsPermutation-trans, IsPermutation-append_comm, IsPermutation-append_left, IsPermutation-append_right}
 use Rattle.std.proofs.lemmas.List.{append-nil, append_assoc, map-id}
 use Rattle.std.proofs.lemmas.Grind.{flat_map-append}
-use Rattle.bx_rows.specs.VisualOrder.{reverse_runs, reverse_down, reversals_from, lowest_odd, highest, visual}
+use Rattle.bx_rows.specs.RowLevels.{reverse_runs, reverse_down, reversals_from, lowest_odd, highest, visual}
 
 permutes-either : {X : Type 0} (f : ℕ × ℕ → List X) (b : Bool) (all : List X) (xs ys : List (ℕ × ℕ)) → IsPermutation all (flat_map f xs)
     → IsPermutation all (flat_map f ys) → IsPermutation all (flat_map f (elim b [ true ↦ xs | false ↦ ys ]))

@@ -8,7 +8,7 @@ use Rattle.std.proofs.lemmas.Bool.Decides.{leb_tells}
 use Rattle.std.proofs.lemmas.List.{append-nil, at_drop_more, length-map, map-append, reverse-append}
 use Rattle.std.proofs.lemmas.List.Edits.{between_more}
 use Rattle.bx_rows.specs.ReversedRuns.{AgreeUpTo}
-use Rattle.bx_rows.specs.VisualOrder.{reverse_runs}
+use Rattle.bx_rows.specs.RowLevels.{reverse_runs}
 
 abbrev choice : ℕ → List (ℕ × ℕ) → ℕ × ℕ → List (ℕ × ℕ) → Bool → List (ℕ × ℕ)
 choice n run u us b = elim b [ true ↦ reverse_runs n (u ∷ run) us | false ↦ run ++ u ∷ reverse_runs n [] us ]

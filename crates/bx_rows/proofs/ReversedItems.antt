@@ -8,7 +8,7 @@ use Rattle.std.proofs.lemmas.List.{append-nil, at_drop_more, drop-drop, drop-map
 use Rattle.std.proofs.lemmas.List.Edits.{between_none, length-between}
 use Rattle.std.proofs.lemmas.Simd.{map-map}
 use Rattle.bx_rows.specs.ReversedRuns.{AgreeUpTo, turned}
-use Rattle.bx_rows.specs.VisualOrder.{highest, lowest_odd, reverse_down, reverse_runs, reversals_from, visual}
+use Rattle.bx_rows.specs.RowLevels.{highest, lowest_odd, reverse_down, reverse_runs, reversals_from, visual}
 use Rattle.bx_rows.proofs.LevelBounds.{highest_even}
 use Rattle.bx_rows.proofs.Reversals.{agree-lower, agree-reversed, count_of, level_at, run_below, run_more, run_to}
 

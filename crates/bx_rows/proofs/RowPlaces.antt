@@ -8,13 +8,14 @@ use Rattle.std.proofs.lemmas.List.{drop-drop, length-drop, length-take-le}
 use Rattle.std.proofs.lemmas.Option.{slice_get-get_or}
 use Rattle.std.proofs.lemmas.Str.{IsCharBoundary-past_char, IsUtf8-between, IsUtf8-drop, length-encode}
 use Rattle.bx_ucd.specs.Data.{Data}
-use Rattle.bx_cells.specs.declared.unit.Face.{Face}
-use Rattle.bx_cells.specs.declared.unit.Unit.{Unit}
-use Rattle.bx_cells.specs.Units.{StandsIn, unit_text, units}
-use Rattle.bx_joining.specs.Joining.{text_forms}
-use Rattle.bx_joining.specs.Places.{StandsAt}
-use Rattle.bx_joining.specs.declared.forms.TextAt.{TextAt}
-use Rattle.bx_rows.specs.declared.row.Row.{Row}
+use Rattle.bx_rows.specs.declared.cells.unit.Face.{Face}
+use Rattle.bx_rows.specs.declared.cells.unit.Unit.{Unit}
+use Rattle.bx_rows.specs.cells.Units.{unit_text, units}
+use Rattle.bx_rows.specs.cells.UnitFacts.{StandsIn}
+use Rattle.bx_rows.specs.joining.Joining.{text_forms}
+use Rattle.bx_rows.specs.joining.Places.{StandsAt}
+use Rattle.bx_rows.specs.declared.joining.forms.TextAt.{TextAt}
+use Rattle.bx_rows.specs.declared.wrapping.Row.{Row}
 use Rattle.bx_rows.specs.declared.start_search.RowStart.{RowStart}
 use Rattle.bx_rows.specs.RowStarts.{row_starts, start_of}
 use Rattle.bx_rows.specs.RowStarts.{StartsRow}
@@ -33,19 +34,19 @@ start-counts : (body : List ℕ) (us : List Unit) (s : RowStart) (r : Row) → s
 start-counts body us s r e = subst (λ x. x.chars ≡ length (chars (take x.offset body))) e refl
 
 -- a row's start, as it was found
-pub starts-row : (says : Data) (w : ℕ) (body : List ℕ) (starts : List RowStart) (k : ℕ) (d : RowStart) → starts ≡ row_starts says w body
+pub starts-row : (ucd : Data) (w : ℕ) (body : List ℕ) (starts : List RowStart) (k : ℕ) (d : RowStart) → starts ≡ row_starts ucd w body
     → k < length starts → IsCharBoundary body (get_or starts k d).offset → StartsRow body (get_or starts k d)
-starts-row says w body starts k d e within boundary =
-    let us = units says w body in
+starts-row ucd w body starts k d e within boundary =
+    let us = units ucd w body in
     let at = ap (λ x. slice_get x k) (sym e) ∙ slice_get-get_or starts k d within in
-    let found = found-row (start_of body us) (wrap says w body us) k (get_or starts k d) at in
+    let found = found-row (start_of body us) (wrap ucd w body us) k (get_or starts k d) at in
     record { boundary = boundary; chars = start-counts body us (get_or starts k d) found.0 found.2 }
 
 -- a row of a body by its number
-pub starts-at : (says : Data) (w : ℕ) (body : List ℕ) (starts : List RowStart) (k : ℕ) (d : RowStart) → IsUtf8 body → starts ≡ row_starts says w body
+pub starts-at : (ucd : Data) (w : ℕ) (body : List ℕ) (starts : List RowStart) (k : ℕ) (d : RowStart) → IsUtf8 body → starts ≡ row_starts ucd w body
     → k < length starts → StartsRow body (get_or starts k d)
-starts-at says w body starts k d u e within =
-    starts-row says w body starts k d e within (part-at says w body starts k d (slice_get starts (k + 1)) u e within refl).boundary
+starts-at ucd w body starts k d u e within =
+    starts-row ucd w body starts k d e within (part-at ucd w body starts k d (slice_get starts (k + 1)) u e within refl).boundary
 
 -- ---- characters
 
@@ -88,11 +89,11 @@ stands-in body text u stand text_is =
     record { boundary = stand.1; here = here; before = refl }
 
 -- the place of a row's start
-pub near-start : (says : Data) (w : ℕ) (body : List ℕ) (each : List (Option ℕ)) (starts : List RowStart) (k : ℕ) (d : RowStart) (p : TextAt)
-    → IsUtf8 body → starts ≡ row_starts says w body → k < length starts → p.body.text.now ≡ body → p.body.each.now ≡ each
+pub near-start : (ucd : Data) (w : ℕ) (body : List ℕ) (each : List (Option ℕ)) (starts : List RowStart) (k : ℕ) (d : RowStart) (p : TextAt)
+    → IsUtf8 body → starts ≡ row_starts ucd w body → k < length starts → p.body.text.now ≡ body → p.body.each.now ≡ each
     → p.offset ≡ (get_or starts k d).offset → p.number ≡ (get_or starts k d).chars → IsNear body each p
-near-start says w body each starts k d p u e within text levels at counted =
-    let starts_row = starts-at says w body starts k d u e within in
+near-start ucd w body each starts k d p u e within text levels at counted =
+    let starts_row = starts-at ucd w body starts k d u e within in
     record {
       text = text;
       levels = levels;
@@ -118,14 +119,14 @@ near-moved body each p q offset near boundary at counted text levels = record {
 }
 
 -- the glyphs of a unit, by its text and a place that was counted
-drawn-in : (says : Data) (w : ℕ) (body : List ℕ) (each : List (Option ℕ)) (u : Unit) (text : List ℕ) (columns level : ℕ) (p : TextAt)
+drawn-in : (ucd : Data) (w : ℕ) (body : List ℕ) (each : List (Option ℕ)) (u : Unit) (text : List ℕ) (columns level : ℕ) (p : TextAt)
     → IsNear body each p → p.offset ≡ u.start → text ≡ unit_text body u
-    → face_glyphs says w (unit_text body u) u.face columns level (unit_forms says body each u)
-    ≡ face_glyphs says w text u.face columns level (text_forms says p.body.text.now p.body.each.now p.number text)
-drawn-in says w body each u text columns level p near at f =
-    ap (λ t. face_glyphs says w t u.face columns level (text_forms says body each (length (chars (take u.start body))) t)) (sym f)
-    ∙ ap (λ n. face_glyphs says w text u.face columns level (text_forms says body each n text)) (sym (near.number ∙ ap (λ o. length (chars (take o body))) at))
-    ∙ ap₂ (λ b ls. face_glyphs says w text u.face columns level (text_forms says b ls p.number text)) (sym near.text) (sym near.levels)
+    → face_glyphs ucd w (unit_text body u) u.face columns level (unit_forms ucd body each u)
+    ≡ face_glyphs ucd w text u.face columns level (text_forms ucd p.body.text.now p.body.each.now p.number text)
+drawn-in ucd w body each u text columns level p near at f =
+    ap (λ t. face_glyphs ucd w t u.face columns level (text_forms ucd body each (length (chars (take u.start body))) t)) (sym f)
+    ∙ ap (λ n. face_glyphs ucd w text u.face columns level (text_forms ucd body each n text)) (sym (near.number ∙ ap (λ o. length (chars (take o body))) at))
+    ∙ ap₂ (λ b ls. face_glyphs ucd w text u.face columns level (text_forms ucd b ls p.number text)) (sym near.text) (sym near.levels)
 
 -- a unit that is in the list is the same whatever is read where there is none
 pub unit-within : (us : List Unit) (k : ℕ) (d e : Unit) → k < length us → get_or us k d ≡ get_or us k e
@@ -134,18 +135,18 @@ unit-within (u ∷ us) zero d e h = refl
 unit-within (u ∷ us) (suc k) d e h = unit-within us k d e (omega arith)
 
 -- the glyphs of unit `k` of a row; its units and levels were read from the row as `vs` and `ls`
-pub piece-near : (says : Data) (w : ℕ) (body : List ℕ) (each : List (Option ℕ)) (us vs : List Unit) (columns levels ls : List ℕ) (k : ℕ) (f : Face)
+pub piece-near : (ucd : Data) (w : ℕ) (body : List ℕ) (each : List (Option ℕ)) (us vs : List Unit) (columns levels ls : List ℕ) (k : ℕ) (f : Face)
     (text : List ℕ) (p : TextAt) → vs ≡ us → ls ≡ levels → k < length us → length columns ≡ length us → length levels ≡ length us → IsNear body each p
     → ((d : Unit) → p.offset ≡ (get_or us k d).start) → text ≡ unit_text body (get_or vs k no_unit) → (get_or vs k no_unit).face ≡ f
-    → get_or (unit_glyphs says w body each us columns levels) k []
-    ≡ face_glyphs says w text f (get_or columns k 0) (get_or ls k 0) (text_forms says p.body.text.now p.body.each.now p.number text)
-piece-near says w body each us vs columns levels ls k f text p same same_levels h e l near at own is =
-    let forms = text_forms says p.body.text.now p.body.each.now p.number text in
-    piece-at says w body each us columns levels k 0 0 no_unit h e l
-    ∙ drawn-in says w body each (get_or us k no_unit) text (get_or columns k 0) (get_or levels k 0) p near (at no_unit)
+    → get_or (unit_glyphs ucd w body each us columns levels) k []
+    ≡ face_glyphs ucd w text f (get_or columns k 0) (get_or ls k 0) (text_forms ucd p.body.text.now p.body.each.now p.number text)
+piece-near ucd w body each us vs columns levels ls k f text p same same_levels h e l near at own is =
+    let forms = text_forms ucd p.body.text.now p.body.each.now p.number text in
+    piece-at ucd w body each us columns levels k 0 0 no_unit h e l
+    ∙ drawn-in ucd w body each (get_or us k no_unit) text (get_or columns k 0) (get_or levels k 0) p near (at no_unit)
     (own ∙ ap (λ xs. unit_text body (get_or xs k no_unit)) same)
-    ∙ ap (λ x. face_glyphs says w text x (get_or columns k 0) (get_or levels k 0) forms) (sym (ap (λ xs. (get_or xs k no_unit).face) same) ∙ is)
-    ∙ ap (λ xs. face_glyphs says w text f (get_or columns k 0) (get_or xs k 0) forms) (sym same_levels)
+    ∙ ap (λ x. face_glyphs ucd w text x (get_or columns k 0) (get_or levels k 0) forms) (sym (ap (λ xs. (get_or xs k no_unit).face) same) ∙ is)
+    ∙ ap (λ xs. face_glyphs ucd w text f (get_or columns k 0) (get_or xs k 0) forms) (sym same_levels)
 
 pub stands-near : (body text : List ℕ) (each : List (Option ℕ)) (u : Unit) (p : TextAt) → IsNear body each p → p.offset ≡ u.start → StandsIn body u
     → text ≡ unit_text body u → StandsAt p.body.text.now text p.offset p.number

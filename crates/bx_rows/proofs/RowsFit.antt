@@ -6,8 +6,8 @@ use Rattle.std.proofs.lemmas.List.{drop-drop}
 use Rattle.std.proofs.lemmas.List.Sums.{sum_by-cons}
 use Rattle.std.proofs.lemmas.List.Elements.{All-cons, All-nil, All-same}
 use Rattle.bx_ucd.specs.Data.{Data}
-use Rattle.bx_cells.specs.declared.unit.Unit.{Unit}
-use Rattle.bx_rows.specs.declared.row.Row.{Row}
+use Rattle.bx_rows.specs.declared.cells.unit.Unit.{Unit}
+use Rattle.bx_rows.specs.declared.wrapping.Row.{Row}
 use Rattle.bx_rows.specs.Wrapping.{columns_at, fit_count_from, fit_count, up_to_last, up_to_break, row_len, rows_from, rows_of, is_break, wrap, row_units}
 use Rattle.bx_rows.specs.RowPicture.{unit_columns, columns_used}
 use Rattle.bx_rows.specs.Shown.{IsRowOf}
@@ -108,5 +108,5 @@ wrapped-fit p w [] = let none : columns_used w [] ≡ 0 = refl in All-cons (IsRo
     (omega arith, omega arith, omega (arith, none)) (All-nil (IsRowOf w []))
 wrapped-fit p w (u ∷ us) = rows-fit p w 0 0 (u ∷ us) (u ∷ us) refl
 
-pub fit_if_wrapped : (says : Data) (w : ℕ) (body : List ℕ) (us : List Unit) (rs : List Row) → rs ≡ wrap says w body us → All (IsRowOf w us) rs
-fit_if_wrapped says w body us rs e = All-same (IsRowOf w us) rs (wrap says w body us) e (wrapped-fit (is_break says body) w us)
+pub fit_if_wrapped : (ucd : Data) (w : ℕ) (body : List ℕ) (us : List Unit) (rs : List Row) → rs ≡ wrap ucd w body us → All (IsRowOf w us) rs
+fit_if_wrapped ucd w body us rs e = All-same (IsRowOf w us) rs (wrap ucd w body us) e (wrapped-fit (is_break ucd body) w us)

@@ -11,11 +11,11 @@ use Rattle.std.proofs.lemmas.Option.{same_Some}
 use Rattle.bx_ucd.specs.Data.{Data}
 use Rattle.unicode_segmentation.specs.Grapheme.{graphemes}
 use Rattle.unicode_segmentation.specs.Segments.{with_offsets}
-use Rattle.bx_cells.specs.declared.unit.Unit.{Unit}
-use Rattle.bx_cells.specs.Faces.{face, only_char}
-use Rattle.bx_cells.specs.Units.{unit_at, unit_text, units, units_from}
-use Rattle.bx_cells.proofs.Rest.{IsUnitAt, none-behind, unit-behind}
-use Rattle.bx_rows.specs.declared.row.Row.{Row}
+use Rattle.bx_rows.specs.declared.cells.unit.Unit.{Unit}
+use Rattle.bx_rows.specs.cells.Units.{face, only_char, unit_at, unit_text, units}
+use Rattle.bx_rows.specs.cells.UnitFacts.{units_from}
+use Rattle.bx_rows.proofs.cells_lemmas.Rest.{IsUnitAt, none-behind, unit-behind}
+use Rattle.bx_rows.specs.declared.wrapping.Row.{Row}
 use Rattle.bx_rows.specs.declared.start_search.RowStart.{RowStart}
 use Rattle.bx_rows.specs.LaterRows.{behind, moved}
 use Rattle.bx_rows.specs.RowStarts.{first_offset, row_starts, start_of}
@@ -30,29 +30,29 @@ use Rattle.bx_rows.proofs.Wraps.{no_unit, rows_turn}
 abbrev pub shifted : ℕ → Unit → Unit
 shifted d u = record { start = d + u.start; stop = d + u.stop; face = u.face }
 
-units-shifted : (says : Data) (w d at : ℕ) (gs : List (List ℕ))
-    → map (unit_at says w) (with_offsets (d + at) gs) ≡ map (shifted d) (map (unit_at says w) (with_offsets at gs))
+units-shifted : (ucd : Data) (w d at : ℕ) (gs : List (List ℕ))
+    → map (unit_at ucd w) (with_offsets (d + at) gs) ≡ map (shifted d) (map (unit_at ucd w) (with_offsets at gs))
 unfolding with_offsets
-units-shifted says w d at [] = refl
-units-shifted says w d at (g ∷ gs) =
+units-shifted ucd w d at [] = refl
+units-shifted ucd w d at (g ∷ gs) =
     let next : d + at + length g ≡ d + (at + length g) = omega arith in
-    ap₂ (λ x xs. x ∷ xs) (ap (λ n. record { start = d + at; stop = n; face = face says w g }) next)
-    (ap (λ n. map (unit_at says w) (with_offsets n gs)) next ∙ units-shifted says w d (at + length g) gs)
+    ap₂ (λ x xs. x ∷ xs) (ap (λ n. record { start = d + at; stop = n; face = face ucd w g }) next)
+    (ap (λ n. map (unit_at ucd w) (with_offsets n gs)) next ∙ units-shifted ucd w d (at + length g) gs)
 
 -- the units of the rest
-left-units : (says : Data) (w d : ℕ) (body : List ℕ) → units_from says w body d ≡ map (shifted d) (units says w (drop d body))
-left-units says w d body =
+left-units : (ucd : Data) (w d : ℕ) (body : List ℕ) → units_from ucd w body d ≡ map (shifted d) (units ucd w (drop d body))
+left-units ucd w d body =
     let gs = graphemes true (drop d body) in
     let front : d ≡ d + 0 = omega arith in
-    ap (λ n. map (unit_at says w) (with_offsets n gs)) front ∙ units-shifted says w d 0 gs
+    ap (λ n. map (unit_at ucd w) (with_offsets n gs)) front ∙ units-shifted ucd w d 0 gs
 
 text-shifted : (body : List ℕ) (d : ℕ) (u : Unit) → unit_text body (shifted d u) ≡ unit_text (drop d body) u
 text-shifted body d u =
     let count : d + u.stop - (d + u.start) ≡ u.stop - u.start = omega arith in
     ap (λ n. take n (drop (d + u.start) body)) count ∙ ap (take (u.stop - u.start)) (sym (drop-drop u.start d body))
 
-break-shifted : (says : Data) (body : List ℕ) (d : ℕ) (u : Unit) → is_break says body (shifted d u) ≡ is_break says (drop d body) u
-break-shifted says body d u = ap (λ text. is_one_blank says (only_char (chars text))) (text-shifted body d u)
+break-shifted : (ucd : Data) (body : List ℕ) (d : ℕ) (u : Unit) → is_break ucd body (shifted d u) ≡ is_break ucd (drop d body) u
+break-shifted ucd body d u = ap (λ text. is_one_blank ucd (only_char (chars text))) (text-shifted body d u)
 
 -- ---- their rows
 
@@ -150,27 +150,27 @@ rows-later p w (suc k) i (u ∷ us) all e r h =
     (ap (drop (suc k)) turn ∙ later.0, later.1)
 
 -- a body of some bytes, at a row of it
-of-some : (says : Data) (w : ℕ) (body : List ℕ) (k : ℕ) (r : Row) → IsUtf8 body → 0 < length body
-    → slice_get (rows_from (is_break says body) w 0 0 (units says w body)) k ≡ Some r
-    → let s = start_of body (units says w body) r in drop k (row_starts says w body) ≡ map (behind s) (row_starts says w (drop s.offset body))
-of-some says w body k r valid some h =
-    let us = units says w body in
-    let p = is_break says body in
-    let starts = starts-of-some says w body (map (start_of body us) (rows_from p w 0 0 us)) valid some refl in
+of-some : (ucd : Data) (w : ℕ) (body : List ℕ) (k : ℕ) (r : Row) → IsUtf8 body → 0 < length body
+    → slice_get (rows_from (is_break ucd body) w 0 0 (units ucd w body)) k ≡ Some r
+    → let s = start_of body (units ucd w body) r in drop k (row_starts ucd w body) ≡ map (behind s) (row_starts ucd w (drop s.offset body))
+of-some ucd w body k r valid some h =
+    let us = units ucd w body in
+    let p = is_break ucd body in
+    let starts = starts-of-some ucd w body (map (start_of body us) (rows_from p w 0 0 us)) valid some refl in
     let later = rows-later p w k 0 us us refl r h in
     let u = get_or us r.start no_unit in
     let rest = drop (suc r.start) us in
     let d : drop r.start us ≡ u ∷ rest = drop-cons us r.start no_unit later.1 in
-    let at : IsUnitAt says w body u rest = unit-behind says w body r.start u rest valid d in
+    let at : IsUnitAt ucd w body u rest = unit-behind ucd w body r.start u rest valid d in
     let offset : first_offset (drop r.start us) ≡ u.start = ap first_offset d in
     let left = drop u.start body in
-    let own = units says w left in
-    let here : drop r.start us ≡ map (shifted u.start) own = d ∙ sym at.units ∙ left-units says w u.start body in
+    let own = units ucd w left in
+    let here : drop r.start us ≡ map (shifted u.start) own = d ∙ sym at.units ∙ left-units ucd w u.start body in
     let more : 0 < length left = elim (cases_lt u.start (length body)) [
       | inl inside ↦ omega (arith, inside, length-drop u.start body)
-      | inr past ↦ absurd (let none = none-behind says w body u.start past in let no : [] ≡ u ∷ rest = sym none ∙ at.units in cc no)
+      | inr past ↦ absurd (let none = none-behind ucd w body u.start past in let no : [] ≡ u ∷ rest = sym none ∙ at.units in cc no)
     ] in
-    let lefts = starts-of-some says w left (map (start_of left own) (rows_from (is_break says left) w 0 0 own))
+    let lefts = starts-of-some ucd w left (map (start_of left own) (rows_from (is_break ucd left) w 0 0 own))
     (IsUtf8-drop body u.start valid at.boundary) more refl in
     let l : AreLeft body us own u.start r.start = record { valid = valid; boundary = at.boundary; units = here } in
     let front : r.start ≡ r.start + 0 = omega arith in
@@ -179,37 +179,37 @@ of-some says w body k r valid some h =
     ap (drop k) (sym starts) ∙ drop-map (start_of body us) k (rows_from p w 0 0 us) ∙ ap (map (start_of body us)) later.0
     ∙ ap (λ vs. map (start_of body us) (rows_from p w r.start 0 vs)) here
     ∙ ap (λ n. map (start_of body us) (rows_from p w n 0 (map (shifted u.start) own))) front
-    ∙ starts-behind p (is_break says left) w body us own u.start r.start (break-shifted says body u.start) l 0 0 own refl
+    ∙ starts-behind p (is_break ucd left) w body us own u.start r.start (break-shifted ucd body u.start) l 0 0 own refl
     ∙ ap (map (behind (start_at body u.start r.start))) lefts
-    ∙ ap₂ (λ x o. map (behind x) (row_starts says w (drop o body))) is (sym offset)
+    ∙ ap₂ (λ x o. map (behind x) (row_starts ucd w (drop o body))) is (sym offset)
 
 abbrev origin : RowStart
 origin = record { offset = 0; units = 0; chars = 0 }
 
 -- a body of no bytes
-of-none : (says : Data) (w : ℕ) (body : List ℕ) (k : ℕ) (s : RowStart) → length body ≡ 0 → slice_get (origin ∷ []) k ≡ Some s
-    → drop k (row_starts says w body) ≡ map (behind s) (row_starts says w (drop s.offset body))
-of-none says w body zero s none h =
-    let starts = starts-of-none says w body none in
+of-none : (ucd : Data) (w : ℕ) (body : List ℕ) (k : ℕ) (s : RowStart) → length body ≡ 0 → slice_get (origin ∷ []) k ≡ Some s
+    → drop k (row_starts ucd w body) ≡ map (behind s) (row_starts ucd w (drop s.offset body))
+of-none ucd w body zero s none h =
+    let starts = starts-of-none ucd w body none in
     let is : origin ≡ s = cc in
-    subst (λ x. row_starts says w body ≡ map (behind x) (row_starts says w (drop x.offset body))) is
+    subst (λ x. row_starts ucd w body ≡ map (behind x) (row_starts ucd w (drop x.offset body))) is
     (starts ∙ ap (map (behind origin)) (sym starts))
-of-none says w body (suc k) s none h = cc
+of-none ucd w body (suc k) s none h = cc
 
-pub rows-are-of-rest : (says : Data) (w : ℕ) (body : List ℕ) (k : ℕ) (s : RowStart) → IsUtf8 body → slice_get (row_starts says w body) k ≡ Some s
-    → drop k (row_starts says w body) ≡ map (behind s) (row_starts says w (drop s.offset body))
-rows-are-of-rest says w body k s valid h =
-    let us = units says w body in
-    let rows = rows_from (is_break says body) w 0 0 us in
+pub rows-are-of-rest : (ucd : Data) (w : ℕ) (body : List ℕ) (k : ℕ) (s : RowStart) → IsUtf8 body → slice_get (row_starts ucd w body) k ≡ Some s
+    → drop k (row_starts ucd w body) ≡ map (behind s) (row_starts ucd w (drop s.offset body))
+rows-are-of-rest ucd w body k s valid h =
+    let us = units ucd w body in
+    let rows = rows_from (is_break ucd body) w 0 0 us in
     elim (cases_lt 0 (length body)) [
       | inl some ↦ (
-          let starts = starts-of-some says w body (map (start_of body us) rows) valid some refl in
+          let starts = starts-of-some ucd w body (map (start_of body us) rows) valid some refl in
           let found = found-row (start_of body us) rows k s (ap (λ x. slice_get x k) starts ∙ h) in
-          subst (λ x. drop k (row_starts says w body) ≡ map (behind x) (row_starts says w (drop x.offset body))) found.2
-          (of-some says w body k found.0 valid some found.1))
+          subst (λ x. drop k (row_starts ucd w body) ≡ map (behind x) (row_starts ucd w (drop x.offset body))) found.2
+          (of-some ucd w body k found.0 valid some found.1))
       | inr few ↦ (
           let none : length body ≡ 0 = omega (arith, few) in
-          of-none says w body k s none (ap (λ x. slice_get x k) (sym (starts-of-none says w body none)) ∙ h))
+          of-none ucd w body k s none (ap (λ x. slice_get x k) (sym (starts-of-none ucd w body none)) ∙ h))
     ]
 
 -- ---- two bodies
@@ -231,10 +231,10 @@ all-moved : (s r : RowStart) (xs : List RowStart) → map (behind r) xs ≡ map 
 all-moved s r [] = refl
 all-moved s r (x ∷ xs) = ap₂ (λ y ys. y ∷ ys) (moved-behind s r x) (all-moved s r xs)
 
-pub rows-meet-again : (says : Data) (w : ℕ) (body other : List ℕ) (k j : ℕ) (s r : RowStart) → IsUtf8 body → IsUtf8 other
-    → slice_get (row_starts says w body) k ≡ Some s → slice_get (row_starts says w other) j ≡ Some r → drop s.offset body ≡ drop r.offset other
-    → drop j (row_starts says w other) ≡ map (moved s r) (drop k (row_starts says w body))
-rows-meet-again says w body other k j s r valid also h g e =
-    rows-are-of-rest says w other j r also g ∙ ap (λ rest. map (behind r) (row_starts says w rest)) (sym e)
-    ∙ all-moved s r (row_starts says w (drop s.offset body))
-    ∙ ap (map (moved s r)) (sym (rows-are-of-rest says w body k s valid h))
+pub rows-meet-again : (ucd : Data) (w : ℕ) (body other : List ℕ) (k j : ℕ) (s r : RowStart) → IsUtf8 body → IsUtf8 other
+    → slice_get (row_starts ucd w body) k ≡ Some s → slice_get (row_starts ucd w other) j ≡ Some r → drop s.offset body ≡ drop r.offset other
+    → drop j (row_starts ucd w other) ≡ map (moved s r) (drop k (row_starts ucd w body))
+rows-meet-again ucd w body other k j s r valid also h g e =
+    rows-are-of-rest ucd w other j r also g ∙ ap (λ rest. map (behind r) (row_starts ucd w rest)) (sym e)
+    ∙ all-moved s r (row_starts ucd w (drop s.offset body))
+    ∙ ap (map (moved s r)) (sym (rows-are-of-rest ucd w body k s valid h))

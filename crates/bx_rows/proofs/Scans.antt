@@ -4,17 +4,21 @@ use Rattle.std.proofs.Common.{arith, append_assoc, length-append, eq-eqb, ⊎_el
 use Rattle.std.proofs.lemmas.List.{take_at, drop_at, drop_all}
 use Rattle.std.proofs.lemmas.Bool.{cases_lt}
 use Rattle.std.proofs.lemmas.Bool.Decides.{nat_tests}
-use Rattle.bx_cells.specs.declared.unit.Face.{Face}
-use Rattle.bx_cells.specs.declared.unit.Face.TheVariants.{Tab, Mark, Own}
-use Rattle.bx_cells.specs.declared.unit.Unit.{Unit}
+use Rattle.bx_rows.specs.declared.cells.unit.Face.{Face}
+use Rattle.bx_rows.specs.declared.cells.unit.Face.TheVariants.{Tab, Placeholder, Own}
+use Rattle.bx_rows.specs.declared.cells.unit.Unit.{Unit}
 use Rattle.bx_rows.specs.Wrapping.{columns_at, fit_count_from, up_to_last, up_to_break, row_len, rows_from}
-use Rattle.bx_rows.specs.RowScan.{Fits, IsScan}
+use Rattle.bx_rows.specs.RowScan.{IsScan}
 use Rattle.bx_rows.proofs.Wraps.{fit_cons, fits_no_more, fits_full, rows_turn}
+
+-- a unit that begins at column `c` begins in the window and ends in it
+abbrev pub Fits : ℕ → ℕ → Unit → Type 0
+Fits w c u = (c < w) × (c + columns_at w c u.face ≤ w)
 
 -- units that begin sooner end no later
 pub sooner : (w c d : ℕ) (f : Face) → c ≤ d → d ≤ w → c + columns_at w c f ≤ d + columns_at w d f
 sooner w c d Tab h k = omega (arith, h, k)
-sooner w c d (Mark letter) h k = omega (arith, h)
+sooner w c d (Placeholder letter) h k = omega (arith, h)
 sooner w c d (Own n) h k = omega (arith, h)
 
 past_fits : (w c : ℕ) (u : Unit) (us : List Unit) → w < c + columns_at w c u.face → fit_count_from w c (u ∷ us) ≡ 0

@@ -1,8 +1,8 @@
 -- The units, levels and glyphs of a body's rows, by the rows' numbers from 0.
 use Rattle.std.specs.Prelude.{ℕ, List}
 use Rattle.bx_ucd.specs.declared.data.BidiData.{Ghosts}
-use Rattle.bx_cells.specs.declared.unit.Unit.{Unit}
-use Rattle.bx_cells.specs.Units.{HasFace}
+use Rattle.bx_rows.specs.declared.cells.unit.Unit.{Unit}
+use Rattle.bx_rows.specs.cells.UnitFacts.{HasFace}
 use Rattle.bx_rows.specs.declared.lines.Lines.{Lines}
 use Rattle.bx_rows.specs.NumberedRows.{draw_numbered}
 use Rattle.bx_rows.specs.RowLevels.{row_levels}

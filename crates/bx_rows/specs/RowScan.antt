@@ -1,19 +1,16 @@
--- The current row of a scan over a body's units, and its invariants. `says` is what the tables say, `w` the window's columns;
+-- The current row of a scan over a body's units, and its invariants. `ucd` is what the tables say, `w` the window's columns;
 -- offsets count bytes of the body, columns from 0.
-use Rattle.std.specs.Prelude.{◌≡◌, ℕ, zero, suc, ◌+◌, ◌-◌, ◌<◌, ◌≤◌, Bool, List, ◌∷◌, ◌++◌, map, length, take, drop, chars}
+use Rattle.std.specs.Prelude.{◌≡◌, ℕ, zero, suc, ◌+◌, ◌-◌, ◌≤◌, Bool, List, ◌∷◌, ◌++◌, map, length, take, drop, chars}
 use Rattle.std.specs.Str.{IsCharBoundary}
 use Rattle.bx_ucd.specs.Data.{Data}
-use Rattle.bx_cells.specs.declared.unit.Unit.{Unit}
-use Rattle.bx_cells.specs.Units.{units, units_from}
+use Rattle.bx_rows.specs.declared.cells.unit.Unit.{Unit}
+use Rattle.bx_rows.specs.cells.Units.{units}
+use Rattle.bx_rows.specs.cells.UnitFacts.{units_from}
 use Rattle.bx_rows.specs.declared.row_scan.Extent.{Extent}
 use Rattle.bx_rows.specs.declared.row_scan.Scan.{Scan}
 use Rattle.bx_rows.specs.declared.start_search.RowStart.{RowStart}
 use Rattle.bx_rows.specs.RowStarts.{start_of}
 use Rattle.bx_rows.specs.Wrapping.{columns_at, fit_count_from, is_break, rows_from, up_to_last}
-
--- a unit that begins at column `c` begins in the window and ends in it
-abbrev pub Fits : ℕ → ℕ → Unit → Type 0
-Fits w c u = (c < w) × (c + columns_at w c u.face ≤ w)
 
 -- A row read up to the units `rest`; `p` tells after which units there is a break, where a row may end. `here` are the units
 -- from the row's start on: `last` units up to its last break (0: it has none), then `count` units, with which `behind` begins.
@@ -49,12 +46,12 @@ pub record IsInOrder (w : ℕ) (body : List ℕ) (s : Scan) (at : ℕ) : Type 0 
   pub chars : s.start.chars ≡ length (chars (take s.start.offset body))
 
 -- the units before `rest` are read: `starts`, and the starts from the current row on, are the starts of all rows
-pub record IsRead (says : Data) (w : ℕ) (body : List ℕ) (starts : List RowStart) (s : Scan) (rest : List Unit) : Type 0 where
-  pub scan : IsScan (is_break says body) w (units_from says w body s.start.offset) (units_from says w body s.next) rest s.columns s.last s.count s.since
-  pub number : drop s.start.units (units says w body) ≡ units_from says w body s.start.offset
+pub record IsRead (ucd : Data) (w : ℕ) (body : List ℕ) (starts : List RowStart) (s : Scan) (rest : List Unit) : Type 0 where
+  pub scan : IsScan (is_break ucd body) w (units_from ucd w body s.start.offset) (units_from ucd w body s.next) rest s.columns s.last s.count s.since
+  pub number : drop s.start.units (units ucd w body) ≡ units_from ucd w body s.start.offset
   pub chars : s.start.chars ≡ length (chars (take s.start.offset body))
-  pub done : starts ++ map (start_of body (units says w body)) (rows_from (is_break says body) w s.start.units 0 (units_from says w body s.start.offset))
-      ≡ map (start_of body (units says w body)) (rows_from (is_break says body) w 0 0 (units says w body))
+  pub done : starts ++ map (start_of body (units ucd w body)) (rows_from (is_break ucd body) w s.start.units 0 (units_from ucd w body s.start.offset))
+      ≡ map (start_of body (units ucd w body)) (rows_from (is_break ucd body) w 0 0 (units ucd w body))
 
 -- a row with no unit yet
 abbrev pub new_scan : RowStart → Scan
@@ -69,19 +66,19 @@ with_run s n (suc m) next =
 
 -- The unit `u` has the columns of the extent `e`, and allows a break if `e` does. It is the body's unit at the offset `e.start`,
 -- and `rest` are the units after it.
-pub record HasExtent (says : Data) (w : ℕ) (body : List ℕ) (e : Extent) (u : Unit) (rest : List Unit) : Type 0 where
+pub record HasExtent (ucd : Data) (w : ℕ) (body : List ℕ) (e : Extent) (u : Unit) (rest : List Unit) : Type 0 where
   pub columns : (c : ℕ) → columns_at w c u.face ≡ columns_at w c e.face
-  pub breaks : is_break says body u ≡ e.is_break
-  pub here : units_from says w body e.start ≡ u ∷ rest
-  pub behind : units_from says w body e.stop ≡ rest
+  pub breaks : is_break ucd body u ≡ e.is_break
+  pub here : units_from ucd w body e.start ≡ u ∷ rest
+  pub behind : units_from ucd w body e.stop ≡ rest
 
 -- reading a unit of this extent makes of `starts` and the current row `s` the starts `new` and the current row `t`
 abbrev pub Takes : ℕ → List ℕ → Extent → List RowStart → Scan → List RowStart → Scan → Type 0
 Takes w body e starts s new t =
-    (says : Data) (u : Unit) (rest : List Unit) → HasExtent says w body e u rest → IsRead says w body starts s (u ∷ rest)
-    → IsRead says w body new t rest
+    (ucd : Data) (u : Unit) (rest : List Unit) → HasExtent ucd w body e u rest → IsRead ucd w body starts s (u ∷ rest)
+    → IsRead ucd w body new t rest
 
 -- a body has a unit of the extent
-pub record HasUnit (says : Data) (w : ℕ) (body : List ℕ) (e : Extent) : Type 0 where
+pub record HasUnit (ucd : Data) (w : ℕ) (body : List ℕ) (e : Extent) : Type 0 where
   pub unit : Unit
-  pub extent : HasExtent says w body e unit (units_from says w body e.stop)
+  pub extent : HasExtent ucd w body e unit (units_from ucd w body e.stop)

@@ -1,11 +1,11 @@
 -- The starts of a body's rows, by which a row is read without those before it. `us` are the body's units, `w` is the window's
--- columns, `says` what the tables say.
+-- columns, `ucd` what the tables say.
 use Rattle.std.specs.Prelude.{◌≡◌, ℕ, zero, suc, ◌-◌, List, [], map, length, take, drop, chars, slice_get, Option, Some, None}
 use Rattle.std.specs.Str.{IsCharBoundary}
 use Rattle.bx_ucd.specs.Data.{Data}
-use Rattle.bx_cells.specs.declared.unit.Unit.{Unit}
-use Rattle.bx_cells.specs.Units.{units}
-use Rattle.bx_rows.specs.declared.row.Row.{Row}
+use Rattle.bx_rows.specs.declared.cells.unit.Unit.{Unit}
+use Rattle.bx_rows.specs.cells.Units.{units}
+use Rattle.bx_rows.specs.declared.wrapping.Row.{Row}
 use Rattle.bx_rows.specs.declared.start_search.RowStart.{RowStart}
 use Rattle.bx_rows.specs.Wrapping.{row_units, wrap}
 pub use Rattle.bx_rows.specs.Wrapping.{first_offset}
@@ -18,7 +18,7 @@ start_of body us r =
 
 -- the starts of the rows of a body
 abbrev pub row_starts : Data → ℕ → List ℕ → List RowStart
-row_starts says w body = let us = units says w body in map (start_of body us) (wrap says w body us)
+row_starts ucd w body = let us = units ucd w body in map (start_of body us) (wrap ucd w body us)
 
 -- the units of a row; none if there is no row
 abbrev pub units_in : List Unit → Option Row → List Unit
@@ -27,7 +27,7 @@ units_in us (Some r) = row_units us r
 
 -- the units of row number `k` of a body, from 0; none if it has no such row
 abbrev pub units_of_row : Data → ℕ → List ℕ → ℕ → List Unit
-units_of_row says w body k = let us = units says w body in units_in us (slice_get (wrap says w body us) k)
+units_of_row ucd w body k = let us = units ucd w body in units_in us (slice_get (wrap ucd w body us) k)
 
 -- An upper bound of the unit count of the row from `start` to `next`. The last row has no next one, and no more units than
 -- the body has bytes. In a window of no columns each row is empty.

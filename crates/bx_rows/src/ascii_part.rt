@@ -4,9 +4,9 @@ ghost use Rattle.std.specs.Str.{IsCharBoundary};
 ghost use Rattle.bx_rows.specs.NarrowRuns.{IsNarrowRun, IsRunIn};
 ghost use Rattle.bx_rows.specs.Wrapping.{is_blank};
 
+use crate::cells::printable_stop;
 use crate::narrow_run::NarrowRun;
 use crate::wrapping::is_blank;
-use bx_cells::printable_stop;
 use bx_ucd::BidiData;
 
 /// The offset after the last byte of `at..stop` that allows a break; `at` if there is none.
@@ -20,7 +20,7 @@ fn break_behind<D: BidiData>(bytes: &[u8], at: usize, stop: usize, tables: &D) -
     ensures none { (i : ℕ) → result ≤ i → i < stop → is_blank ((D.data tables.now).class (get_or bytes.now i 0)) ≡ false }
 {
     let mut next = stop;
-    'bytes: while next > at {
+    while next > at {
         if is_blank(tables.class(char::from(bytes[next - 1]))) {
             return next;
         }

@@ -2,23 +2,23 @@
 ghost use Rattle.std.specs.Prelude.{◌≡◌, ◌<◌, ◌++◌, ◌∷◌, [], All, IfOk, OnOk, length, map, replicate, slice_index_or, false, true};
 ghost use Rattle.std.specs.List.{range_with_len};
 ghost use Rattle.std.specs.Cow.{cow_str_bytes};
-ghost use Rattle.bx_terms.specs.Characters.{are_ascii_printable, is_ascii_printable};
-ghost use Rattle.bx_terms.specs.Glyphs.{is_one_glyph, run_width};
-ghost use Rattle.bx_cells.specs.declared.unit.Unit.{Unit};
-ghost use Rattle.bx_joining.specs.Joining.{text_forms};
-ghost use Rattle.bx_joining.specs.Places.{StandsAt};
+ghost use Rattle.bx_common.specs.Characters.{are_ascii_printable, is_ascii_printable};
+ghost use Rattle.bx_common.specs.Glyphs.{is_one_glyph, run_width};
+ghost use Rattle.bx_rows.specs.declared.cells.unit.Unit.{Unit};
+ghost use Rattle.bx_rows.specs.joining.Joining.{text_forms};
+ghost use Rattle.bx_rows.specs.joining.Places.{StandsAt};
 ghost use Rattle.bx_rows.specs.RowPicture.{blank, glyph, is_own, letter_glyphs, mirror_image_within, shown_text, text_glyphs, unit_glyphs, with_blanks};
 ghost use Rattle.bx_rows.specs.UnitPlaces.{IsNear};
 ghost use Rattle.bx_rows.specs.Shown.{glyph_of};
 
+use crate::cells::Face;
 use crate::drawn::{Drawn, RowPicture};
 use crate::joined_text::joined;
+use crate::joining::{TextAt, has_forms};
 use crate::laid_row::LaidRow;
 use crate::lines::Lines;
 use crate::mirrors::{has_mirror, mirrored};
-use bx_cells::Face;
-use bx_joining::{TextAt, has_forms};
-use bx_terms::are_ascii_printable;
+use bx_common::are_ascii_printable;
 use bx_ucd::BidiData;
 use std::alloc::{AllocError, Global};
 use std::borrow::CowStr;
@@ -220,7 +220,7 @@ pub(crate) fn push_unit<'a, D: BidiData>(
     let unit = units[number];
     match unit.face {
         Face::Tab => push_blanks(glyphs, columns[number]),
-        Face::Mark(byte) => push_letter(glyphs, byte, true),
+        Face::Placeholder(byte) => push_letter(glyphs, byte, true),
         Face::Own(own) => {
             let text = &row.lines.body[unit.start..unit.stop];
             let shown = shown_text(alloc, text, at, levels[number], own, &row.lines)?;

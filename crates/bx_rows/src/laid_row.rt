@@ -1,12 +1,12 @@
 //! A row laid out, from which its picture and its slots are read.
 ghost use Rattle.std.specs.Prelude.{◌≡◌, ◌≤◌, ◌<◌, All, length};
-ghost use Rattle.bx_cells.specs.Units.{StandsIn};
+ghost use Rattle.bx_rows.specs.cells.UnitFacts.{StandsIn};
 ghost use Rattle.bx_rows.specs.Lines.{ShowsFace, levels_of, units_at};
 ghost use Rattle.bx_rows.specs.RowPicture.{columns_used};
 ghost use Rattle.std.proofs.Props.{props};
 
+use crate::cells::Unit;
 use crate::lines::Lines;
-use bx_cells::Unit;
 use bx_ucd::BidiData;
 
 /// A row laid out in a lent body: its units, and the level of each by L1.

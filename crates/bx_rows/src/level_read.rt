@@ -9,8 +9,8 @@ ghost use Rattle.std.specs.List.{zip};
 ghost use Rattle.bx_rows.specs.RowLevels.{is_segment_separator, is_trailing};
 ghost use Rattle.bx_rows.specs.LevelReads.{Reads, ReadsChar, level_before, levels_from, settled, settled_if};
 
-use bx_resolve::Level;
-use bx_terms::first_char;
+use bx_common::first_char;
+use bx_levels::Level;
 use bx_ucd::{BidiData, Class};
 use std::alloc::AllocError;
 
@@ -38,7 +38,7 @@ pub(crate) fn settle(found: &mut Vec<u8>, waiting: usize, paragraph: u8)
     ensures count { length found.new.items ≡ length found.old.items }
 {
     let mut i = waiting;
-    'units: while i < found.len() {
+    while i < found.len() {
         found[i] = paragraph;
         i += 1;
     }
@@ -146,6 +146,7 @@ fn level_before(found: &[u8], paragraph: u8) -> u8
 
 /// Appends a unit without a kept character. It waits if the unit before it does. Returns the new index of the first waiting
 /// unit.
+// Not inlined: few units have no kept character, and the loop over all stays short.
 #[inline(never)]
 #[tactic(auto, using(crate::proofs::LevelSteps::before_waits, crate::proofs::LevelSteps::before_settled))]
 fn push_before(found: &mut Vec<u8>, waiting: usize, paragraph: u8) -> Result<usize, AllocError>
@@ -197,7 +198,7 @@ pub(crate) fn read_unit<'a, D: BidiData>(
     let mut is_known = false;
     let mut rest = text;
     let mut left = levels;
-    'chars: while let Some((c, behind)) = first_char(rest) {
+    while let Some((c, behind)) = first_char(rest) {
         let (level, after) = first_level(left);
         let next = LeveledChar { c, level };
         first = read_char(found, first, is_known, next, paragraph, tables)?;

@@ -1,14 +1,14 @@
 //! A body's rows, read by their numbers: units, levels and pictures of a row are calls of `Lines`.
 ghost use Rattle.std.specs.Prelude.{◌≡◌, ◌<◌, ⊤, IsUtf8, chars, length, slice_index_or};
-ghost use Rattle.bx_resolve.specs.Levels.{levels_under, paragraph_level_under};
+ghost use Rattle.bx_levels.specs.resolve.Levels.{levels_under, paragraph_level_under};
 ghost use Rattle.bx_rows.specs.declared.start_search.RowStart.{RowStart};
 ghost use Rattle.bx_rows.specs.RowStarts.{row_starts};
 ghost use Rattle.std.proofs.Props.{props};
 
+use crate::joining::{LeveledBody, TextAt};
 use crate::start_search::RowStart;
-use bx_joining::{LeveledBody, TextAt};
-use bx_resolve::Levels;
-use bx_terms::Base;
+use bx_common::Base;
+use bx_levels::Levels;
 use bx_ucd::BidiData;
 use std::alloc::AllocError;
 

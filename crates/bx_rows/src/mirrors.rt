@@ -2,19 +2,19 @@
 ghost use Rattle.std.specs.Prelude.{◌≡◌, ◌∷◌, [], ℕ, IfOk, IfSome, List, MatchOption, OnOk, chars, encode_utf8, false, length, map, string_bytes};
 ghost use Rattle.std.specs.Cow.{cow_str_bytes};
 ghost use Rattle.bx_ucd.specs.declared.joining.Form.{Form};
-ghost use Rattle.bx_cells.specs.declared.unit.Face.TheVariants.{Own};
-ghost use Rattle.bx_cells.specs.Faces.{face};
-ghost use Rattle.bx_rows.specs.PlainRows.{IsFormless, leveled_glyphs, mirrored_glyphs, single_glyph};
-ghost use Rattle.bx_rows.specs.RowPicture.{glyph, mirror_image, mirror_image_within, mirrored_text};
+ghost use Rattle.bx_rows.specs.declared.cells.unit.Face.TheVariants.{Own};
+ghost use Rattle.bx_rows.specs.cells.Units.{face};
+ghost use Rattle.bx_rows.specs.PlainRows.{IsFormless, leveled_glyphs, mirrored_glyphs, mirrored_text, single_glyph};
+ghost use Rattle.bx_rows.specs.RowPicture.{glyph, mirror_image, mirror_image_within};
 ghost use Rattle.bx_rows.specs.Shown.{glyph_of};
 
+use crate::cells::face;
 use crate::drawn::Drawn;
 use crate::form_texts::form_text;
 use crate::glyphs::{is_own, letter};
+use crate::joining::has_forms;
 use crate::plain_row::is_narrow;
-use bx_cells::face;
-use bx_joining::has_forms;
-use bx_terms::first_char;
+use bx_common::first_char;
 use bx_ucd::BidiData;
 use std::alloc::{AllocError, Global};
 use std::borrow::CowStr;
@@ -120,6 +120,7 @@ pub(crate) fn mirrored<'a, D: BidiData>(
 }
 
 /// Replaces a glyph's text by its mirror image, if that is shown as itself in one column.
+// Not inlined: few glyphs are mirrored, and the loop over all stays short.
 #[inline(never)]
 fn mirror_text<D: BidiData>(
     drawn: &mut Drawn<'_>,
@@ -166,7 +167,7 @@ fn mirror_at<D: BidiData>(
 
 /// Mirrors odd-level glyphs, each a single character of one column, if the mirror takes one column too; returns whether one of
 /// them may join.
-pub(crate) fn mirror_odd<D: BidiData>(
+pub(crate) fn mirror_and_may_join<D: BidiData>(
     glyphs: &mut [Drawn<'_>],
     alloc: Global,
     levels: &[u8],

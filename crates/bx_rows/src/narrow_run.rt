@@ -5,9 +5,9 @@ ghost use Rattle.bx_rows.specs.NarrowRuns.{IsNarrowRun, IsRunIn, grown};
 ghost use Rattle.bx_rows.specs.Wrapping.{is_one_blank};
 
 use crate::ascii_part::ascii_run;
+use crate::cells::simple::{Simple, common_kind, simple_kind};
 use crate::wrapping::is_blank;
-use bx_cells::simple::{Simple, common_kind, simple_kind};
-use bx_terms::first_char;
+use bx_common::first_char;
 use bx_ucd::BidiData;
 
 /// A run of units of one column each.
@@ -60,6 +60,7 @@ fn grown(run: NarrowRun, stop: usize, is_break: bool) -> NarrowRun
 /// The run of one-column units at an offset, at most `most`. It ends before the first unit that has more columns or needs
 /// the full cluster rules, and is empty if the first character is not common (`common_kind`: printable ASCII, Hebrew and most
 /// Arabic letters).
+// Not inlined: it has a loop of its own, and runs once a run.
 #[inline(never)]
 pub(crate) fn narrow_run<D: BidiData>(body: &str, at: usize, most: u16, tables: &D) -> NarrowRun
     requires { IsCharBoundary body.now at }
@@ -83,7 +84,7 @@ pub(crate) fn narrow_run<D: BidiData>(body: &str, at: usize, most: u16, tables: 
     // The unit that begins here joins the run once the next one begins: `is_break` changes if a mark follows.
     let mut is_break = is_blank(tables.class(c));
     let mut rest = behind;
-    'chars: while let Some((c, behind)) = first_char(rest) {
+    while let Some((c, behind)) = first_char(rest) {
         match simple_kind(c) {
             Simple::Begins(columns) => {
                 let stop = body.len() - rest.len();

@@ -1,17 +1,17 @@
 //! The levels and the picture of one row, by its number in the body.
 ghost use Rattle.std.specs.Prelude.{◌≡◌, ◌<◌, All, IfOk, length, map, sum_by, true};
 ghost use Rattle.std.specs.Cow.{cow_str_bytes};
-ghost use Rattle.bx_terms.specs.Glyphs.{is_one_glyph, run_width};
-ghost use Rattle.bx_cells.specs.Units.{StandsIn};
+ghost use Rattle.bx_common.specs.Glyphs.{is_one_glyph, run_width};
+ghost use Rattle.bx_rows.specs.cells.UnitFacts.{StandsIn};
 ghost use Rattle.bx_rows.specs.Lines.{glyphs_at, levels_of, own_glyphs_at, units_at};
 ghost use Rattle.bx_rows.specs.Shown.{glyph_of};
 
+use crate::cells::Unit;
 use crate::drawn::RowPicture;
 use crate::laid_row::LaidRow;
 use crate::lines::Lines;
 use crate::unit_levels::each_level;
-use bx_cells::Unit;
-use bx_terms::OutOfMemory;
+use bx_common::OutOfMemory;
 use bx_ucd::BidiData;
 use std::alloc::Global;
 
@@ -31,8 +31,7 @@ impl<'a, 't, D: BidiData> Lines<'a, 't, D> {
         ensures one_each { IfOk result (λ v. length v.items ≡ length units.now) }
     {
         let chars = self.starts[number].chars;
-        let found = each_level(alloc, self.body, units, chars, self.levels, self.tables)?;
-        Ok(found)
+        Ok(each_level(alloc, self.body, units, chars, self.levels, self.tables)?)
     }
 
     /// Row `number`, from 0, laid out. Reads no other row.

@@ -1,19 +1,19 @@
 //! The picture of a row laid out: the way of any row that `plain_picture` does not serve.
 ghost use Rattle.std.specs.Prelude.{◌≡◌, ◌≤◌, ◌<◌, ◌++◌, [], All, IfOk, OnOk, length, map, flat_map, slice_index_or, sum_by, true};
 ghost use Rattle.std.specs.Cow.{cow_str_bytes};
-ghost use Rattle.bx_terms.specs.Glyphs.{is_one_glyph, run_width};
+ghost use Rattle.bx_common.specs.Glyphs.{is_one_glyph, run_width};
 ghost use Rattle.bx_rows.specs.Lines.{glyphs_at, own_glyphs_at};
 ghost use Rattle.bx_rows.specs.RowPicture.{columns_used, draw, own_glyphs, unit_columns, unit_glyphs};
 ghost use Rattle.bx_rows.specs.Shown.{glyph_of};
 
+use crate::cells::Unit;
 use crate::drawn::{Drawn, RowPicture};
 use crate::glyphs::{push_unit, with_blanks};
 use crate::laid_row::LaidRow;
 use crate::place::moved;
 use crate::visual_order::visual;
 use crate::wrapping::columns_at;
-use bx_cells::Unit;
-use bx_terms::OutOfMemory;
+use bx_common::OutOfMemory;
 use bx_ucd::BidiData;
 use std::alloc::{AllocError, Global};
 
@@ -87,8 +87,7 @@ fn row_glyphs<'a, D: BidiData>(
 {
     let (glyphs, used) = unit_row(alloc, row)?;
     let blanks = row.lines.w - used;
-    let all = with_blanks(alloc, glyphs, blanks, row.lines.levels.paragraph)?;
-    Ok(all)
+    Ok(with_blanks(alloc, glyphs, blanks, row.lines.levels.paragraph)?)
 }
 
 impl<'a, 't, D: BidiData> LaidRow<'a, 't, D> {

@@ -2,8 +2,8 @@
 ghost use Rattle.std.specs.Prelude.{◌≡◌, chars, length, take};
 ghost use Rattle.std.specs.Str.{IsCharBoundary};
 
+use crate::joining::{LeveledBody, TextAt};
 use crate::unit_levels::char_count;
-use bx_joining::{LeveledBody, TextAt};
 
 /// The number of characters before `offset` in a text, counted from the offset `near`, which has `number` characters before it.
 fn number_at(text: &str, near: usize, number: usize, offset: usize) -> usize

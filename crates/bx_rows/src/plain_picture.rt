@@ -1,23 +1,23 @@
 //! The picture of a plain row, in which each unit is one character of one column: the fast way of most rows.
 ghost use Rattle.std.specs.Prelude.{◌≡◌, ◌≤◌, ◌<◌, ◌-◌, ◌++◌, All, IfOk, IfSome, List, OnOk, ℕ, drop, encode_utf8_all, length, map, slice_index_or, sum_by, true};
 ghost use Rattle.std.specs.Cow.{cow_str_bytes};
-ghost use Rattle.bx_terms.specs.Glyphs.{is_one_glyph, run_width};
+ghost use Rattle.bx_common.specs.Glyphs.{is_one_glyph, run_width};
 ghost use Rattle.bx_rows.specs.Lines.{glyphs_at};
 ghost use Rattle.bx_rows.specs.PlainRows.{char_forms, leveled_glyphs, single_glyph};
 ghost use Rattle.bx_rows.specs.RowPicture.{blank};
 ghost use Rattle.bx_rows.specs.RowStarts.{StartsRow};
 ghost use Rattle.bx_rows.specs.Shown.{glyph_of};
-ghost use Rattle.bx_rows.specs.VisualOrder.{visual};
+ghost use Rattle.bx_rows.specs.RowLevels.{visual};
 
 use crate::drawn::{Drawn, RowPicture};
 use crate::glyphs::with_blanks;
 use crate::joined_text::join_odd;
 use crate::lines::Lines;
-use crate::mirrors::mirror_odd;
+use crate::mirrors::mirror_and_may_join;
 use crate::row_part::{most_units, start_of};
 use crate::start_search::RowStart;
 use crate::visual_order::reorder;
-use bx_terms::OutOfMemory;
+use bx_common::OutOfMemory;
 use bx_ucd::BidiData;
 use std::alloc::{AllocError, Global};
 
@@ -37,7 +37,7 @@ fn show_levels<D: BidiData>(
         ≡ leveled_glyphs (D.data lines.now.tables.now) lines.now.w cs levels.now
         (char_forms (D.data lines.now.tables.now) lines.now.body.now lines.now.levels.now.each.items start.chars cs)) }
 {
-    if !mirror_odd(glyphs, alloc, levels, lines.tables, lines.w)? {
+    if !mirror_and_may_join(glyphs, alloc, levels, lines.tables, lines.w)? {
         return Ok(());
     }
     join_odd(glyphs, alloc, levels, start, lines)

@@ -2,25 +2,25 @@
 //! `waiting` are as in `level_read.rt`.
 ghost use Rattle.std.specs.Prelude.{◌≡◌, ◌≤◌, ◌<◌, ◌++◌, ◌∷◌, [], IfOk, IfSome, List, MatchOption, encode_utf8, length, take, true, false};
 ghost use Rattle.std.specs.Str.{IsCharBoundary};
-ghost use Rattle.bx_cells.specs.declared.unit.Face.TheVariants.{Own};
-ghost use Rattle.bx_cells.specs.declared.unit.Unit.{Unit};
-ghost use Rattle.bx_cells.specs.Simple.{begins};
-ghost use Rattle.bx_cells.specs.SimpleFace.{simple_face};
-ghost use Rattle.bx_cells.specs.SimpleRanges.{Tells};
-ghost use Rattle.bx_cells.specs.Units.{units_from};
+ghost use Rattle.bx_rows.specs.declared.cells.unit.Face.TheVariants.{Own};
+ghost use Rattle.bx_rows.specs.declared.cells.unit.Unit.{Unit};
+ghost use Rattle.bx_rows.specs.cells.Simple.{begins};
+ghost use Rattle.bx_rows.specs.cells.SimpleFace.{simple_face};
+ghost use Rattle.bx_rows.specs.cells.SimpleRanges.{Tells};
+ghost use Rattle.bx_rows.specs.cells.UnitFacts.{units_from};
 ghost use Rattle.bx_rows.specs.LevelReads.{Reads};
 ghost use Rattle.bx_rows.specs.PlainRows.{AreSingle, IsClusterEnd};
 ghost use Rattle.bx_rows.specs.Lines.{levels_of};
 ghost use Rattle.bx_rows.specs.RowLevels.{chars_before};
 
+use crate::cells::simple::{Simple, common_kind, simple_kind};
+use crate::cells::simple_face;
 use crate::drawn::Drawn;
 use crate::glyphs::is_own;
 use crate::level_read::{first_level, read_class, settle};
 use crate::lines::Lines;
 use crate::start_search::RowStart;
-use bx_cells::simple::{Simple, common_kind, simple_kind};
-use bx_cells::simple_face;
-use bx_terms::first_char;
+use bx_common::first_char;
 use bx_ucd::{BidiData, Class};
 use std::alloc::{AllocError, Global};
 use std::borrow::CowStr;
@@ -135,7 +135,7 @@ impl<'a, 't, D: BidiData> Lines<'a, 't, D> {
         let mut rest = &self.body[start.offset..];
         let mut left = &each[start.chars.min(each.len())..];
         let mut waiting = 0;
-        'chars: while glyphs.len() < count && !rest.is_empty() {
+        while glyphs.len() < count && !rest.is_empty() {
             let Some((c, text, behind)) = first_part(rest) else {
                 return Ok(None);
             };

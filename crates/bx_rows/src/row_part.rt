@@ -1,14 +1,14 @@
 //! The units of one row, read from its start, with no other row read.
 ghost use Rattle.std.specs.Prelude.{◌≡◌, ◌≤◌, ◌<◌, All, IfOk, IfSome, length, slice_get};
-ghost use Rattle.bx_cells.specs.Units.{StandsIn};
+ghost use Rattle.bx_rows.specs.cells.UnitFacts.{StandsIn};
 ghost use Rattle.bx_rows.specs.Lines.{ShowsFace, units_at};
 ghost use Rattle.bx_rows.specs.RowStarts.{most_units};
 ghost use Rattle.bx_rows.specs.Shown.{IsRowOf};
 
+use crate::cells::{Unit, UnitRange, units_from};
 use crate::lines::Lines;
 use crate::start_search::RowStart;
-use bx_cells::{Unit, UnitRange, units_from};
-use bx_terms::OutOfMemory;
+use bx_common::OutOfMemory;
 use bx_ucd::BidiData;
 use std::alloc::Global;
 
@@ -48,6 +48,7 @@ impl<'a, 't, D: BidiData> Lines<'a, 't, D> {
             start: start.offset,
             count,
         };
+        // The proof compares the units, so they have a name.
         let units = units_from(alloc, self.body, range, self.tables, self.w)?;
         Ok(units)
     }

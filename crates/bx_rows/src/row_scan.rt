@@ -6,11 +6,11 @@ ghost use Rattle.bx_rows.specs.RowScan.{IsInOrder, Takes, new_scan, with_run};
 ghost use Rattle.bx_rows.specs.NarrowRuns.{IsRunIn};
 ghost use Rattle.bx_rows.specs.Wrapping.{columns_at};
 
+use crate::cells::Face;
 use crate::narrow_run::NarrowRun;
 use crate::start_search::RowStart;
 use crate::unit_levels::char_count;
 use crate::wrapping::columns_at;
-use bx_cells::Face;
 use std::alloc::AllocError;
 
 /// The parts of a unit that wrapping needs.

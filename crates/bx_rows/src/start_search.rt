@@ -1,20 +1,20 @@
 //! The row starts of a body, found without a list of its units.
 ghost use Rattle.std.specs.Prelude.{◌≡◌, ◌≤◌, ◌<◌, IfOk, List, length, ℕ};
 ghost use Rattle.std.specs.Str.{IsCharBoundary};
-ghost use Rattle.bx_cells.specs.Simple.{own_columns};
-ghost use Rattle.bx_cells.specs.SimpleFace.{simple_face};
-ghost use Rattle.bx_cells.specs.Units.{units_from};
+ghost use Rattle.bx_rows.specs.cells.Simple.{own_columns};
+ghost use Rattle.bx_rows.specs.cells.SimpleFace.{simple_face};
+ghost use Rattle.bx_rows.specs.cells.UnitFacts.{units_from};
 ghost use Rattle.bx_rows.specs.declared.start_search.RowStart.{RowStart};
 ghost use Rattle.bx_rows.specs.RowScan.{HasUnit, IsInOrder, IsRead};
 ghost use Rattle.bx_rows.specs.RowStarts.{row_starts};
 ghost use Rattle.bx_rows.specs.Wrapping.{columns_at};
 
+use crate::cells::simple::{Simple, common_kind};
+use crate::cells::{Face, SimpleCluster, ruled_unit, simple_cluster, simple_face};
 use crate::narrow_run::{is_blank_cluster, narrow_run};
 use crate::row_scan::{Extent, Scan, new_scan, take_run, take_unit};
 use crate::wrapping::is_break;
-use bx_cells::simple::{Simple, common_kind};
-use bx_cells::{Face, SimpleCluster, ruled_unit, simple_cluster, simple_face};
-use bx_terms::{OutOfMemory, first_char};
+use bx_common::{OutOfMemory, first_char};
 use bx_ucd::BidiData;
 use std::alloc::{AllocError, Global};
 

@@ -1,11 +1,11 @@
 //! The levels of a row's units, by L1: the units are read one after another (`level_read.rt`).
 ghost use Rattle.std.specs.Prelude.{◌≡◌, ◌<◌, All, IfOk, chars, length};
-ghost use Rattle.bx_cells.specs.Units.{StandsIn};
+ghost use Rattle.bx_rows.specs.cells.UnitFacts.{StandsIn};
 ghost use Rattle.bx_rows.specs.RowLevels.{chars_before, row_levels};
 
+use crate::cells::Unit;
 use crate::level_read::{read_unit, settle};
-use bx_cells::Unit;
-use bx_resolve::Levels;
+use bx_levels::Levels;
 use bx_ucd::BidiData;
 use std::alloc::{AllocError, Global};
 

@@ -2,9 +2,9 @@
 ghost use Rattle.std.specs.Prelude.{◌≡◌, ◌≤◌, ◌<◌, ℕ, All, IfOk, List, [], length, map, slice_index_or, unwrap_or, None};
 ghost use Rattle.std.specs.List.{range_with_len};
 ghost use Rattle.bx_rows.specs.ReversedRuns.{AgreeUpTo, turned};
-ghost use Rattle.bx_rows.specs.VisualOrder.{highest, lower_odd, lowest_odd, reverse_runs, visual};
+ghost use Rattle.bx_rows.specs.RowLevels.{highest, lower_odd, lowest_odd, reverse_runs, visual};
 
-use bx_terms::OutOfMemory;
+use bx_common::OutOfMemory;
 use std::alloc::{AllocError, Global};
 
 /// The highest level, or 0 if there is none.
@@ -125,6 +125,5 @@ pub fn visual(alloc: Global, levels: &[u8]) -> Result<Vec<usize>, OutOfMemory>
     ensures order { IfOk result (λ v. v.items ≡ visual levels.now) }
     ensures below { IfOk result (λ v. All (λ k. k < length levels.now) v.items) }
 {
-    let order = numbers_in_order(alloc, levels)?;
-    Ok(order)
+    Ok(numbers_in_order(alloc, levels)?)
 }

@@ -1,6 +1,6 @@
 -- The last unit that passes a test, from the end.
 use Rattle.std.proofs.Common.{◌≡◌, ℕ, zero, suc, ◌-◌, ◌<◌, ◌≤◌, Bool, true, false, List, [], ◌∷◌, length, get_or, take, sym, ap, subst, ◌∙◌, arith}
-use Rattle.bx_cells.specs.declared.unit.Unit.{Unit}
+use Rattle.bx_rows.specs.declared.cells.unit.Unit.{Unit}
 use Rattle.bx_rows.specs.Wrapping.{up_to_last}
 
 last_true : (p : Unit → Bool) (us : List Unit) (n : ℕ) (d : Unit) → n < length us → p (get_or us n d) ≡ true → up_to_last p (take (suc n) us) ≡ suc n

@@ -3,15 +3,14 @@ use Rattle.std.proofs.Common.{ℕ, Bool, List, map, Option}
 use Rattle.std.specs.Prelude.{flat_map, chars, encode_utf8_all, Some, None, ◌==◌, if◌then◌else◌}
 use Rattle.bx_ucd.specs.Data.{Data}
 pub use Rattle.bx_ucd.specs.SmallTables.{mirror}
-use Rattle.bx_resolve.specs.TestTables.{small}
-use Rattle.bx_terms.specs.declared.base.Base.{Base}
-use Rattle.bx_terms.specs.declared.base.Base.TheVariants.{Auto}
-use Rattle.bx_resolve.specs.Levels.{paragraph_level_under, levels_under}
-use Rattle.bx_cells.specs.declared.unit.Unit.{Unit}
-use Rattle.bx_cells.specs.Units.{units}
+use Rattle.bx_ucd.specs.SmallTables.{small}
+use Rattle.bx_common.specs.declared.base.Base.{Base}
+use Rattle.bx_common.specs.declared.base.Base.TheVariants.{Auto}
+use Rattle.bx_levels.specs.resolve.Levels.{paragraph_level_under, levels_under}
+use Rattle.bx_rows.specs.declared.cells.unit.Unit.{Unit}
+use Rattle.bx_rows.specs.cells.Units.{units}
 use Rattle.bx_rows.specs.Wrapping.{wrap, row_units}
-use Rattle.bx_rows.specs.RowLevels.{row_levels}
-use Rattle.bx_rows.specs.VisualOrder.{visual}
+use Rattle.bx_rows.specs.RowLevels.{row_levels, visual}
 use Rattle.bx_rows.specs.RowPicture.{Glyph, draw}
 
 -- the same, but the opening parenthesis mirrors to a wide character
@@ -48,12 +47,12 @@ orders w cs = map visual (levels w cs)
 
 -- the glyphs of each row by any tables
 abbrev pub drawn_by : Data → Base → ℕ → List ℕ → List (List Glyph)
-drawn_by says base w cs =
+drawn_by ucd base w cs =
     let body = encode_utf8_all cs in
-    let us = units says w body in
-    let paragraph = paragraph_level_under says base cs in
-    let each = levels_under says base cs in
-    map (λ r. draw says w body paragraph each (row_units us r) (row_levels says body paragraph each (row_units us r))) (wrap says w body us)
+    let us = units ucd w body in
+    let paragraph = paragraph_level_under ucd base cs in
+    let each = levels_under ucd base cs in
+    map (λ r. draw ucd w body paragraph each (row_units us r) (row_levels ucd body paragraph each (row_units us r))) (wrap ucd w body us)
 
 -- the glyphs of each row, with these mirrors
 abbrev pub drawn : (ℕ → Option ℕ) → Base → ℕ → List ℕ → List (List Glyph)

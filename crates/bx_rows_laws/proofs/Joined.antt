@@ -9,12 +9,13 @@ use Rattle.std.proofs.Math.Seq.{drop-nil}
 use Rattle.bx_ucd.specs.Data.{Data}
 use Rattle.unicode_segmentation.specs.Grapheme.{graphemes}
 use Rattle.unicode_segmentation.specs.Segments.{with_offsets}
-use Rattle.bx_cells.specs.declared.unit.Unit.{Unit}
-use Rattle.bx_cells.specs.Units.{unit_at, unit_text, units}
-use Rattle.bx_cells.proofs.Rest.{cluster-grows, next-cluster, no-cluster, past-all}
-use Rattle.bx_rows.specs.declared.row.Row.{Row}
+use Rattle.bx_rows.specs.declared.cells.unit.Unit.{Unit}
+use Rattle.bx_rows.specs.cells.Units.{unit_at, unit_text, units}
+use Rattle.bx_rows.proofs.cells_lemmas.Rest.{cluster-grows, next-cluster, no-cluster, past-all}
+use Rattle.bx_rows.specs.declared.wrapping.Row.{Row}
 use Rattle.bx_rows_laws.specs.Laws.{CutUnits, StandInTurn}
-use Rattle.bx_rows.specs.Wrapping.{FitsWindow, is_break, row_len, row_units, rows_from, rows_of, wrap}
+use Rattle.bx_rows.specs.Wrapping.{is_break, row_len, row_units, rows_from, rows_of, wrap}
+use Rattle.bx_rows.specs.UnitPlaces.{FitsWindow}
 use Rattle.bx_rows.proofs.EachRow.{row-some}
 use Rattle.bx_rows.proofs.RowsFit.{fit-length, fit_if_wrapped, rest-of, row-within}
 
@@ -25,31 +26,31 @@ text-here body at n =
     let count : at + n - at ≡ n = omega arith in
     ap₂ (λ x y. x ++ y) (ap (λ k. take k (drop at body)) count) (sym (drop-drop n at body)) ∙ take-append-drop n (drop at body)
 
-units-joined : (says : Data) (w : ℕ) (body : List ℕ) → IsUtf8 body → (ps : List (List ℕ)) (at : ℕ) → IsCharBoundary body at
-    → graphemes true (drop at body) ≡ ps → flat_map (unit_text body) (map (unit_at says w) (with_offsets at ps)) ≡ drop at body
+units-joined : (ucd : Data) (w : ℕ) (body : List ℕ) → IsUtf8 body → (ps : List (List ℕ)) (at : ℕ) → IsCharBoundary body at
+    → graphemes true (drop at body) ≡ ps → flat_map (unit_text body) (map (unit_at ucd w) (with_offsets at ps)) ≡ drop at body
 unfolding with_offsets
-units-joined says w body valid [] at b e = sym (no-cluster (drop at body) (IsUtf8-drop body at valid b) e)
-units-joined says w body valid (p ∷ ps) at b e =
-    let n = next-cluster says w body at p ps valid b e in
-    ap (λ x. slice_range body at (at + length p) ++ x) (units-joined says w body valid ps (at + length p) n.boundary (sym n.own))
+units-joined ucd w body valid [] at b e = sym (no-cluster (drop at body) (IsUtf8-drop body at valid b) e)
+units-joined ucd w body valid (p ∷ ps) at b e =
+    let n = next-cluster ucd w body at p ps valid b e in
+    ap (λ x. slice_range body at (at + length p) ++ x) (units-joined ucd w body valid ps (at + length p) n.boundary (sym n.own))
     ∙ text-here body at (length p)
 
-pub units-make-body : (says : Data) (w : ℕ) (body : List ℕ) → IsUtf8 body → flat_map (unit_text body) (units says w body) ≡ body
-units-make-body says w body valid = units-joined says w body valid (graphemes true body) 0 (IsCharBoundary-start body valid) refl
+pub units-make-body : (ucd : Data) (w : ℕ) (body : List ℕ) → IsUtf8 body → flat_map (unit_text body) (units ucd w body) ≡ body
+units-make-body ucd w body valid = units-joined ucd w body valid (graphemes true body) 0 (IsCharBoundary-start body valid) refl
 
-units-in-turn : (says : Data) (w : ℕ) (body : List ℕ) → IsUtf8 body → (ps : List (List ℕ)) (at : ℕ) → IsCharBoundary body at
+units-in-turn : (ucd : Data) (w : ℕ) (body : List ℕ) → IsUtf8 body → (ps : List (List ℕ)) (at : ℕ) → IsCharBoundary body at
     → graphemes true (drop at body) ≡ ps
-    → StandInTurn at (map (λ u. (u.start, u.stop)) (map (unit_at says w) (with_offsets at ps))) (length body)
+    → StandInTurn at (map (λ u. (u.start, u.stop)) (map (unit_at ucd w) (with_offsets at ps))) (length body)
 unfolding with_offsets
-units-in-turn says w body valid [] at b e =
+units-in-turn ucd w body valid [] at b e =
     let within : at ≤ length body = b.0 in omega (arith, within, past-all body at valid b e)
-units-in-turn says w body valid (p ∷ ps) at b e =
-    let n = next-cluster says w body at p ps valid b e in
-    (refl, omega (arith, cluster-grows body at p ps e), units-in-turn says w body valid ps (at + length p) n.boundary (sym n.own))
+units-in-turn ucd w body valid (p ∷ ps) at b e =
+    let n = next-cluster ucd w body at p ps valid b e in
+    (refl, omega (arith, cluster-grows body at p ps e), units-in-turn ucd w body valid ps (at + length p) n.boundary (sym n.own))
 
-pub units-stand-in-turn : (says : Data) (w : ℕ) (body : List ℕ) → IsUtf8 body
-    → StandInTurn 0 (map (λ u. (u.start, u.stop)) (units says w body)) (length body)
-units-stand-in-turn says w body valid = units-in-turn says w body valid (graphemes true body) 0 (IsCharBoundary-start body valid) refl
+pub units-stand-in-turn : (ucd : Data) (w : ℕ) (body : List ℕ) → IsUtf8 body
+    → StandInTurn 0 (map (λ u. (u.start, u.stop)) (units ucd w body)) (length body)
+units-stand-in-turn ucd w body valid = units-in-turn ucd w body valid (graphemes true body) 0 (IsCharBoundary-start body valid) refl
 
 -- ---- rows
 
@@ -112,15 +113,15 @@ one-of : (p : Unit → Bool) (w : ℕ) (us : List Unit) → length us ≡ 0 → 
 one-of p w [] none = refl
 one-of p w (u ∷ us) none = absurd (omega (arith, none))
 
-pub rows-cut : (says : Data) (w : ℕ) (body : List ℕ) (us : List Unit) → 1 ≤ w → All (λ u. FitsWindow w u.face) us
-    → CutUnits w us (wrap says w body us)
-rows-cut says w body us h fit = record {
-  joined = joined-of (is_break says body) w us h fit;
-  in_turn = in-turn-of (is_break says body) w us h fit;
-  fit = fit_if_wrapped says w body us (wrap says w body us) refl;
-  one = one-of (is_break says body) w us;
+pub rows-cut : (ucd : Data) (w : ℕ) (body : List ℕ) (us : List Unit) → 1 ≤ w → All (λ u. FitsWindow w u.face) us
+    → CutUnits w us (wrap ucd w body us)
+rows-cut ucd w body us h fit = record {
+  joined = joined-of (is_break ucd body) w us h fit;
+  in_turn = in-turn-of (is_break ucd body) w us h fit;
+  fit = fit_if_wrapped ucd w body us (wrap ucd w body us) refl;
+  one = one-of (is_break ucd body) w us;
 }
 
-pub cut_if_wrapped : (says : Data) (w : ℕ) (body : List ℕ) (us : List Unit) (rows : List Row) → 1 ≤ w → All (λ u. FitsWindow w u.face) us
-    → rows ≡ wrap says w body us → CutUnits w us rows
-cut_if_wrapped says w body us rows h fit e = subst (CutUnits w us) (sym e) (rows-cut says w body us h fit)
+pub cut_if_wrapped : (ucd : Data) (w : ℕ) (body : List ℕ) (us : List Unit) (rows : List Row) → 1 ≤ w → All (λ u. FitsWindow w u.face) us
+    → rows ≡ wrap ucd w body us → CutUnits w us rows
+cut_if_wrapped ucd w body us rows h fit e = subst (CutUnits w us) (sym e) (rows-cut ucd w body us h fit)

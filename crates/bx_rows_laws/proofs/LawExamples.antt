@@ -12,14 +12,15 @@ use Rattle.bx_ucd.specs.declared.joining.Form.{Form}
 use Rattle.bx_ucd.specs.declared.joining.Joining.{Joining}
 use Rattle.unicode_segmentation.proofs.Computing.{unicode_segmentation}
 use Rattle.unicode_width.proofs.Computing.{unicode_width}
-use Rattle.bx_resolve.specs.TestTables.{small}
-use Rattle.bx_cells.specs.declared.unit.Face.{Face}
-use Rattle.bx_cells.specs.declared.unit.Face.TheVariants.{Tab, Mark, Own}
-use Rattle.bx_cells.specs.declared.unit.Unit.{Unit}
-use Rattle.bx_cells.specs.Units.{HasFace, StandsIn, unit_chars, unit_text, units}
-use Rattle.bx_cells.proofs.Rest.{chars_encoded}
-use Rattle.bx_joining.specs.JoinedText.{AreFormless}
-use Rattle.bx_rows.specs.declared.row.Row.{Row}
+use Rattle.bx_ucd.specs.SmallTables.{small}
+use Rattle.bx_rows.specs.declared.cells.unit.Face.{Face}
+use Rattle.bx_rows.specs.declared.cells.unit.Face.TheVariants.{Tab, Placeholder, Own}
+use Rattle.bx_rows.specs.declared.cells.unit.Unit.{Unit}
+use Rattle.bx_rows.specs.cells.Units.{unit_chars, unit_text, units}
+use Rattle.bx_rows.specs.cells.UnitFacts.{HasFace, StandsIn}
+use Rattle.bx_rows.proofs.cells_lemmas.Rest.{chars_encoded}
+use Rattle.bx_rows.specs.joining.JoinedText.{AreFormless}
+use Rattle.bx_rows.specs.declared.wrapping.Row.{Row}
 use Rattle.bx_rows.specs.declared.start_search.RowStart.{RowStart}
 use Rattle.bx_rows_laws.specs.JoiningLaws.{FormlessRowsStay, FormsChangeTextsAlone, IsSameOrForm, LettersShowTheirForms, ShownLetter, columns_shown, text_shown}
 use Rattle.bx_rows_laws.specs.Laws.{EndsWell, IsFull, RowsAreOfRest, RowsCutUnits, RowsEndWell, RowsMeetAgain, StandInTurn, UnitsFitWindow, UnitsMakeBody}
@@ -30,8 +31,9 @@ use Rattle.bx_rows_laws.specs.OrderLaws.{ShowsLeft, StandsBetween, StandsLeft, S
 use Rattle.bx_rows.specs.RowPicture.{Glyph, blank, columns_used, draw, glyph}
 use Rattle.bx_rows.specs.Shown.{IsRowOf}
 use Rattle.bx_rows.specs.RowStarts.{row_starts}
-use Rattle.bx_rows.specs.VisualOrder.{visual}
-use Rattle.bx_rows.specs.Wrapping.{FitsWindow, columns_at, row_units, wrap}
+use Rattle.bx_rows.specs.RowLevels.{visual}
+use Rattle.bx_rows.specs.Wrapping.{columns_at, row_units, wrap}
+use Rattle.bx_rows.specs.UnitPlaces.{FitsWindow}
 
 -- ---- units
 
@@ -53,26 +55,26 @@ one-step (s ∷ []) t = ap (λ x. (x, s.1) ∷ []) t.0 ∙ ap (λ x. (0, x) ∷ 
 one-step (s ∷ r ∷ ss) t = let some = t.1 in let more = t.2.1 in absurd (omega (arith, some, more, goes-on r.1 1 ss t.2.2))
 
 -- a body of one byte has one unit, from 0 to 1
-one-unit : UnitsStandInTurn → (says : Data) (w : ℕ) → map {B = ℕ × ℕ} (λ u. (u.start, u.stop)) (units says w (codes "a")) ≡ (0, 1) ∷ []
-one-unit law says w = one-step (map {B = ℕ × ℕ} (λ u. (u.start, u.stop)) (units says w (codes "a"))) (law says w (codes "a") one-byte)
+one-unit : UnitsStandInTurn → (ucd : Data) (w : ℕ) → map {B = ℕ × ℕ} (λ u. (u.start, u.stop)) (units ucd w (codes "a")) ≡ (0, 1) ∷ []
+one-unit law ucd w = one-step (map {B = ℕ × ℕ} (λ u. (u.start, u.stop)) (units ucd w (codes "a"))) (law ucd w (codes "a") one-byte)
 
 some-unit : (us : List Unit) → flat_map (unit_text (codes "ab")) us ≡ codes "ab" → 0 < length us
 some-unit [] e = absurd cc
 some-unit (u ∷ us) e = omega arith
 
 -- a body that is not empty has a unit
-some-units : UnitsMakeBody → (says : Data) (w : ℕ) → 0 < length (units says w (codes "ab"))
-some-units law says w = some-unit (units says w (codes "ab")) (law says w (codes "ab") ab)
+some-units : UnitsMakeBody → (ucd : Data) (w : ℕ) → 0 < length (units ucd w (codes "ab"))
+some-units law ucd w = some-unit (units ucd w (codes "ab")) (law ucd w (codes "ab") ab)
 
 one-column : (f : Face) → FitsWindow 1 f → columns_at 1 0 f ≡ 1
 one-column Tab h = omega arith
-one-column (Mark x) h = refl
+one-column (Placeholder x) h = refl
 one-column (Own n) h = omega (arith, h)
 
 -- in a window of one column each unit has one
-one-column-each : UnitsFitWindow → (says : Data) → All (λ u. columns_at 1 0 u.face ≡ 1) (units says 1 (codes "ab"))
-one-column-each law says =
-    All-weaker (λ u. FitsWindow 1 u.face) (λ u. columns_at 1 0 u.face ≡ 1) (λ u h. one-column u.face h) (units says 1 (codes "ab")) (law says 1 (codes "ab") ab)
+one-column-each : UnitsFitWindow → (ucd : Data) → All (λ u. columns_at 1 0 u.face ≡ 1) (units ucd 1 (codes "ab"))
+one-column-each law ucd =
+    All-weaker (λ u. FitsWindow 1 u.face) (λ u. columns_at 1 0 u.face ≡ 1) (λ u h. one-column u.face h) (units ucd 1 (codes "ab")) (law ucd 1 (codes "ab") ab)
 
 -- ---- rows of units
 
@@ -90,7 +92,7 @@ letters-fit =
 
 wider : (f : Face) → FitsWindow 1 f → FitsWindow 5 f
 wider Tab h = tt
-wider (Mark x) h = tt
+wider (Placeholder x) h = tt
 wider (Own n) h = (h.0, omega (arith, h))
 
 same-pair : (s : ℕ × ℕ) (x y : ℕ) → s.0 ≡ x → s.1 ≡ y → s ≡ (x, y)
@@ -117,20 +119,20 @@ too-wide (r ∷ rows) e a =
     let fits : columns_used 1 (row_units letters r) ≤ 1 = here.2 in omega (arith, wide, fits)
 
 -- in a window of one column two letters are in two rows
-two-rows : RowsCutUnits → (says : Data) (body : List ℕ) → map {B = ℕ × ℕ} (λ r. (r.start, r.stop)) (wrap says 1 body letters) ≡ (0, 1) ∷ (1, 2) ∷ []
-two-rows law says body =
-    let cut = law says 1 body letters (omega arith) letters-fit in
-    let rows = wrap says 1 body letters in
+two-rows : RowsCutUnits → (ucd : Data) (body : List ℕ) → map {B = ℕ × ℕ} (λ r. (r.start, r.stop)) (wrap ucd 1 body letters) ≡ (0, 1) ∷ (1, 2) ∷ []
+two-rows law ucd body =
+    let cut = law ucd 1 body letters (omega arith) letters-fit in
+    let rows = wrap ucd 1 body letters in
     let spans : List (ℕ × ℕ) = map {B = ℕ × ℕ} (λ r. (r.start, r.stop)) rows in
     elim (two-steps spans (cut.in_turn (omega arith))) as (λ _. spans ≡ (0, 1) ∷ (1, 2) ∷ []) [
       | inl e ↦ absurd (too-wide rows e cut.fit)
       | inr e ↦ e
     ]
 
-too-short : (says : Data) (body : List ℕ) (rows : List Row) → map {B = ℕ × ℕ} (λ r. (r.start, r.stop)) rows ≡ (0, 1) ∷ (1, 2) ∷ []
-    → All (EndsWell says 5 body letters) rows → ⊥
-too-short says body [] e a = cc
-too-short says body (r ∷ rows) e a =
+too-short : (ucd : Data) (body : List ℕ) (rows : List Row) → map {B = ℕ × ℕ} (λ r. (r.start, r.stop)) rows ≡ (0, 1) ∷ (1, 2) ∷ []
+    → All (EndsWell ucd 5 body letters) rows → ⊥
+too-short ucd body [] e a = cc
+too-short ucd body (r ∷ rows) e a =
     let start : r.start ≡ 0 = ap (λ (ss : List (ℕ × ℕ)). (get_or ss 0 (0, 0)).0) e in
     let stop : r.stop ≡ 1 = ap (λ (ss : List (ℕ × ℕ)). (get_or ss 0 (0, 0)).1) e in
     let here = a 0 r (omega arith) in
@@ -139,22 +141,22 @@ too-short says body (r ∷ rows) e a =
     elim full as (λ _. ⊥) [ inl h ↦ omega (arith, h) | inr h ↦ omega (arith, h) ]
 
 -- in a window of five columns they are in one row, wherever rows may end
-one-row : RowsCutUnits → RowsEndWell → (says : Data) (body : List ℕ)
-    → map {B = ℕ × ℕ} (λ r. (r.start, r.stop)) (wrap says 5 body letters) ≡ (0, 2) ∷ []
-one-row cuts ends says body =
+one-row : RowsCutUnits → RowsEndWell → (ucd : Data) (body : List ℕ)
+    → map {B = ℕ × ℕ} (λ r. (r.start, r.stop)) (wrap ucd 5 body letters) ≡ (0, 2) ∷ []
+one-row cuts ends ucd body =
     let fit : All (λ u. FitsWindow 5 u.face) letters =
     All-weaker (λ u. FitsWindow 1 u.face) (λ u. FitsWindow 5 u.face) (λ u h. wider u.face h) letters letters-fit in
-    let cut = cuts says 5 body letters (omega arith) fit in
-    let rows = wrap says 5 body letters in
+    let cut = cuts ucd 5 body letters (omega arith) fit in
+    let rows = wrap ucd 5 body letters in
     let spans : List (ℕ × ℕ) = map (λ r. (r.start, r.stop)) rows in
     elim (two-steps spans (cut.in_turn (omega arith))) as (λ _. spans ≡ (0, 2) ∷ []) [
       | inl e ↦ e
-      | inr e ↦ absurd (too-short says body rows e (ends says 5 body letters (omega arith) fit))
+      | inr e ↦ absurd (too-short ucd body rows e (ends ucd 5 body letters (omega arith) fit))
     ]
 
 -- no units have one row
-no-units : RowsCutUnits → (says : Data) (w : ℕ) (body : List ℕ) → 1 ≤ w → length (wrap says w body []) ≡ 1
-no-units law says w body h = let cut = law says w body [] h (All-nil (λ u. FitsWindow w u.face)) in cut.one refl
+no-units : RowsCutUnits → (ucd : Data) (w : ℕ) (body : List ℕ) → 1 ≤ w → length (wrap ucd w body []) ≡ 1
+no-units law ucd w body h = let cut = law ucd w body [] h (All-nil (λ u. FitsWindow w u.face)) in cut.one refl
 
 -- ---- rows of bodies
 
@@ -249,22 +251,22 @@ lowest-stays-inside law m n h =
 -- ---- pictures
 
 abbrev mark : ℕ → Unit
-mark x = record { start = 0; stop = 0; face = Mark x }
+mark x = record { start = 0; stop = 0; face = Placeholder x }
 
 abbrev shown : ℕ → Glyph
 shown x = glyph (x ∷ []) 1 true
 
 -- three columns show two marks and one blank, whatever their levels
-marks-and-blank : PicturesShowUnits → (says : Data) (body : List ℕ) (each : List (Option ℕ)) (paragraph x y a b : ℕ)
-    → IsPermutation (shown x ∷ shown y ∷ blank ∷ []) (draw says 3 body paragraph each (mark x ∷ mark y ∷ []) (a ∷ b ∷ []))
-marks-and-blank law says body each paragraph x y a b =
-    let s = law says 3 body paragraph each (mark x ∷ mark y ∷ []) (a ∷ b ∷ []) refl in s.glyphs
+marks-and-blank : PicturesShowUnits → (ucd : Data) (body : List ℕ) (each : List (Option ℕ)) (paragraph x y a b : ℕ)
+    → IsPermutation (shown x ∷ shown y ∷ blank ∷ []) (draw ucd 3 body paragraph each (mark x ∷ mark y ∷ []) (a ∷ b ∷ []))
+marks-and-blank law ucd body each paragraph x y a b =
+    let s = law ucd 3 body paragraph each (mark x ∷ mark y ∷ []) (a ∷ b ∷ []) refl in s.glyphs
 
 -- at an odd level the second mark is shown left of the first
-marks-turned : PicturesGoByLevels → (says : Data) (body : List ℕ) (each : List (Option ℕ)) (paragraph x y n : ℕ) → n % 2 ≡ 1
-    → ShowsLeft (draw says 3 body paragraph each (mark x ∷ mark y ∷ []) (n ∷ n ∷ [])) (shown y ∷ []) (shown x ∷ [])
-marks-turned law says body each paragraph x y n e =
-    let s = law says 3 body paragraph each (mark x ∷ mark y ∷ []) (n ∷ n ∷ []) 0 1 n refl (omega arith) (omega arith)
+marks-turned : PicturesGoByLevels → (ucd : Data) (body : List ℕ) (each : List (Option ℕ)) (paragraph x y n : ℕ) → n % 2 ≡ 1
+    → ShowsLeft (draw ucd 3 body paragraph each (mark x ∷ mark y ∷ []) (n ∷ n ∷ [])) (shown y ∷ []) (shown x ∷ [])
+marks-turned law ucd body each paragraph x y n e =
+    let s = law ucd 3 body paragraph each (mark x ∷ mark y ∷ []) (n ∷ n ∷ []) 0 1 n refl (omega arith) (omega arith)
     (first-lowest n (n ∷ []) (and-least n n [] (omega arith) (All-nil (λ x. n ≤ x)))) in s.odd e
 
 -- ---- joined letters
@@ -301,7 +303,7 @@ abbrev beh_control : List ℕ
 beh_control = encode_utf8_all (0x628 ∷ 1 ∷ [])
 
 abbrev control : Unit
-control = record { start = 2; stop = 3; face = Mark 63 }
+control = record { start = 2; stop = 3; face = Placeholder 63 }
 
 faces-there : (types : ℕ → Joining) (forms : ℕ → Form → Option ℕ) → All (HasFace (with_forms types forms) 3 beh_control) (beh_unit ∷ control ∷ [])
 unfolding unicode_segmentation unicode_width
@@ -321,11 +323,11 @@ letter-stays : FormlessRowsStay → (types : ℕ → Joining) (forms : ℕ → F
     → draw (with_forms types forms) 2 beh 0 (Some 1 ∷ []) (beh_unit ∷ []) (1 ∷ []) ≡ beh_glyph ∷ blank ∷ []
 unfolding unicode_segmentation unicode_width
 letter-stays law types forms none =
-    let says = with_forms types forms in
-    let formless : AreFormless says (0x628 ∷ []) =
+    let ucd = with_forms types forms in
+    let formless : AreFormless ucd (0x628 ∷ []) =
     All-cons (λ c. (f : Form) → forms c f ≡ None) 0x628 [] none (All-nil (λ c. (f : Form) → forms c f ≡ None)) in
-    law says 2 beh 0 (Some 1 ∷ []) (beh_unit ∷ []) (1 ∷ []) whole-beh beh-stands
-    (All-cons (λ u. AreFormless says (unit_chars beh u)) beh_unit [] formless (All-nil (λ u. AreFormless says (unit_chars beh u))))
+    law ucd 2 beh 0 (Some 1 ∷ []) (beh_unit ∷ []) (1 ∷ []) whole-beh beh-stands
+    (All-cons (λ u. AreFormless ucd (unit_chars beh u)) beh_unit [] formless (All-nil (λ u. AreFormless ucd (unit_chars beh u))))
 
 -- the text of a row of the letter
 abbrev beh_shown : (ℕ → Joining) → (ℕ → Form → Option ℕ) → List ℕ
@@ -361,7 +363,7 @@ one-letter : LettersShowTheirForms → (types : ℕ → Joining) (forms : ℕ �
     → (beh_shown types forms ≡ beh) ⊎ FormOfBeh forms (beh_shown types forms)
 unfolding unicode_segmentation unicode_width
 one-letter law types forms =
-    let says = with_forms types forms in
-    let s = law says 1 beh 0 (Some 1 ∷ []) (beh_unit ∷ []) (1 ∷ []) whole-beh beh-stands (beh-face types forms) in
+    let ucd = with_forms types forms in
+    let s = law ucd 1 beh 0 (Some 1 ∷ []) (beh_unit ∷ []) (1 ∷ []) whole-beh beh-stands (beh-face types forms) in
     one-place types forms (beh_shown types forms) s.places (characters (map (λ p. p.letter) s.places) s.letters_are)
     (characters (map (λ p. p.unjoined) s.places) s.unjoined_are) s.shown_are s.each

@@ -9,7 +9,7 @@ use Rattle.std.proofs.lemmas.List.{drop-drop, drop_more, get_or_default, map-app
 use Rattle.std.proofs.lemmas.List.Edits.{get_or-between, length-between}
 use Rattle.std.proofs.lemmas.List.FromFn.{get_or-enumerate_from, length-enumerate_from}
 use Rattle.bx_rows_laws.specs.OrderLaws.{EqualLevelsOrder, IsLowest, IsOrderAt, LowestLevelsOrder, LowestStaysBetween, StandsBetween, StandsLeft, StaysBetween}
-use Rattle.bx_rows.specs.VisualOrder.{highest, lower, lowest_odd, reverse_down, reverse_runs, reversals_from, visual}
+use Rattle.bx_rows.specs.RowLevels.{highest, lower, lowest_odd, reverse_down, reverse_runs, reversals_from, visual}
 use Rattle.bx_rows_laws.proofs.TurnedPairs.{IsPair, Reaches, keeps-order, turns-order}
 
 -- ---- the levels between which runs are reversed

@@ -1,6 +1,6 @@
 -- The characters before a row.
 use Rattle.std.proofs.Common.{◌≡◌, ℕ, ◌<◌, List, [], ◌∷◌, length, get_or, take, chars, refl, arith}
-use Rattle.bx_cells.specs.declared.unit.Unit.{Unit}
+use Rattle.bx_rows.specs.declared.cells.unit.Unit.{Unit}
 use Rattle.bx_rows.specs.RowLevels.{chars_before}
 
 pub before_none : (body : List ℕ) (us : List Unit) → length us ≡ 0 → chars_before body us ≡ 0

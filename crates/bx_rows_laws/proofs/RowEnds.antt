@@ -7,9 +7,10 @@ use Rattle.std.proofs.lemmas.List.{get_or-drop, get_or-take, length-drop, length
 use Rattle.std.proofs.lemmas.List.Elements.{All-cons, All-nil, All-tail}
 use Rattle.std.proofs.lemmas.List.Sums.{sum_by-cons}
 use Rattle.bx_ucd.specs.Data.{Data}
-use Rattle.bx_cells.specs.declared.unit.Unit.{Unit}
+use Rattle.bx_rows.specs.declared.cells.unit.Unit.{Unit}
 use Rattle.bx_rows_laws.specs.Laws.{EndsWell, IsFull}
-use Rattle.bx_rows.specs.Wrapping.{FitsWindow, columns_at, fit_count, fit_count_from, is_break, row_len, row_units, rows_from, up_to_break, up_to_last, wrap}
+use Rattle.bx_rows.specs.Wrapping.{columns_at, fit_count, fit_count_from, is_break, row_len, row_units, rows_from, up_to_break, up_to_last, wrap}
+use Rattle.bx_rows.specs.UnitPlaces.{FitsWindow}
 use Rattle.bx_rows.specs.RowPicture.{columns_used, unit_columns}
 use Rattle.bx_rows.proofs.EachRow.{row-some}
 use Rattle.bx_rows.proofs.PictureSums.{sum_by-same}
@@ -180,16 +181,16 @@ full-row w i n us all e a =
       | inr h ↦ inr (omega (arith, h, next))
     ]
 
-ends-at : (says : Data) (w : ℕ) (body : List ℕ) (i n : ℕ) (us all : List Unit) → us ≡ drop i all → i < length all → 0 < n
-    → EndsAfter (is_break says body) w us n
-    → (i + n ≡ length all) ⊎ (HoldsAt (λ u. is_break says body u ≡ true) all (i + n - 1) ⊎ IsFull w all (record { start = i; stop = i + n }))
-ends-at says w body i n us all e h some (inl a) =
+ends-at : (ucd : Data) (w : ℕ) (body : List ℕ) (i n : ℕ) (us all : List Unit) → us ≡ drop i all → i < length all → 0 < n
+    → EndsAfter (is_break ucd body) w us n
+    → (i + n ≡ length all) ⊎ (HoldsAt (λ u. is_break ucd body u ≡ true) all (i + n - 1) ⊎ IsFull w all (record { start = i; stop = i + n }))
+ends-at ucd w body i n us all e h some (inl a) =
     let count : length us ≡ length all - i = ap length e ∙ length-drop i all in inl (omega (arith, a, count, h))
-ends-at says w body i n us all e h some (inr (inl a)) =
+ends-at ucd w body i n us all e h some (inr (inl a)) =
     let at : i + (n - 1) ≡ i + n - 1 = omega (arith, some) in
-    inr (inl (λ d. ap (is_break says body)
+    inr (inl (λ d. ap (is_break ucd body)
     (ap (λ k. get_or all k d) (sym at) ∙ sym (get_or-drop i all (n - 1) d) ∙ ap (λ xs. get_or xs (n - 1) d) (sym e)) ∙ a d))
-ends-at says w body i n us all e h some (inr (inr a)) = inr (inr (full-row w i n us all e a))
+ends-at ucd w body i n us all e h some (inr (inr a)) = inr (inr (full-row w i n us all e a))
 
 place-in : (p : Unit → Bool) (i k : ℕ) (us all : List Unit) → us ≡ drop i all → i ≤ k → (k + 1 ≡ length all) ⊎ HoldsAt (λ u. p u ≡ true) all k
     → (k - i + 1 ≡ length us) ⊎ HoldsAt (λ u. p u ≡ true) us (k - i)
@@ -198,10 +199,10 @@ place-in p i k us all e h (inr f) =
     let at : i + (k - i) ≡ k = omega (arith, h) in
     inr (λ d. ap p (ap (λ xs. get_or xs (k - i) d) e ∙ get_or-drop i all (k - i) d ∙ ap (λ j. get_or all j d) at) ∙ f d)
 
-longest-at : (says : Data) (w : ℕ) (body : List ℕ) (i k : ℕ) (us all : List Unit) → us ≡ drop i all → i + row_len (is_break says body) w us ≤ k
-    → k < length all → (k + 1 ≡ length all) ⊎ HoldsAt (λ u. is_break says body u ≡ true) all k → IsFull w all (record { start = i; stop = k })
-longest-at says w body i k us all e h l place =
-    let p = is_break says body in
+longest-at : (ucd : Data) (w : ℕ) (body : List ℕ) (i k : ℕ) (us all : List Unit) → us ≡ drop i all → i + row_len (is_break ucd body) w us ≤ k
+    → k < length all → (k + 1 ≡ length all) ⊎ HoldsAt (λ u. is_break ucd body u ≡ true) all k → IsFull w all (record { start = i; stop = k })
+longest-at ucd w body i k us all e h l place =
+    let p = is_break ucd body in
     let n = row_len p w us in
     let count : length us ≡ length all - i = ap length e ∙ length-drop i all in
     let at : i + (k - i) ≡ k = omega (arith, h) in
@@ -211,25 +212,25 @@ longest-at says w body i k us all e h l place =
 
 -- ---- rows
 
-rows-end : (says : Data) (w : ℕ) (body : List ℕ) (i taken : ℕ) (us all : List Unit) → 1 ≤ w → All (λ u. FitsWindow w u.face) us → us ≡ drop i all
-    → All (EndsWell says w body all) (rows_from (is_break says body) w i taken us)
-rows-end says w body i taken [] all h fit e = All-nil (EndsWell says w body all)
-rows-end says w body i (suc taken) (u ∷ us) all h fit e =
-    rows-end says w body (suc i) taken us all h (All-tail (λ v. FitsWindow w v.face) u us fit) (rest-of i u us all e)
-rows-end says w body i zero (u ∷ us) all h fit e =
-    let n = row_len (is_break says body) w (u ∷ us) in
-    let some : 0 < n = row-some (is_break says body) w u us h (fit 0 u (omega arith)) in
+rows-end : (ucd : Data) (w : ℕ) (body : List ℕ) (i taken : ℕ) (us all : List Unit) → 1 ≤ w → All (λ u. FitsWindow w u.face) us → us ≡ drop i all
+    → All (EndsWell ucd w body all) (rows_from (is_break ucd body) w i taken us)
+rows-end ucd w body i taken [] all h fit e = All-nil (EndsWell ucd w body all)
+rows-end ucd w body i (suc taken) (u ∷ us) all h fit e =
+    rows-end ucd w body (suc i) taken us all h (All-tail (λ v. FitsWindow w v.face) u us fit) (rest-of i u us all e)
+rows-end ucd w body i zero (u ∷ us) all h fit e =
+    let n = row_len (is_break ucd body) w (u ∷ us) in
+    let some : 0 < n = row-some (is_break ucd body) w u us h (fit 0 u (omega arith)) in
     let count : suc (length us) ≡ length all - i = ap length e ∙ length-drop i all in
-    All-cons (EndsWell says w body all) (record { start = i; stop = i + n }) (rows_from (is_break says body) w (suc i) (n - 1) us)
+    All-cons (EndsWell ucd w body all) (record { start = i; stop = i + n }) (rows_from (is_break ucd body) w (suc i) (n - 1) us)
     (record {
-      ends = ends-at says w body i n (u ∷ us) all e (omega (arith, count)) some (row-ends (is_break says body) w (u ∷ us));
-      longest = λ k h l place. longest-at says w body i k (u ∷ us) all e h l place;
+      ends = ends-at ucd w body i n (u ∷ us) all e (omega (arith, count)) some (row-ends (is_break ucd body) w (u ∷ us));
+      longest = λ k h l place. longest-at ucd w body i k (u ∷ us) all e h l place;
     })
-    (rows-end says w body (suc i) (n - 1) us all h (All-tail (λ v. FitsWindow w v.face) u us fit) (rest-of i u us all e))
+    (rows-end ucd w body (suc i) (n - 1) us all h (All-tail (λ v. FitsWindow w v.face) u us fit) (rest-of i u us all e))
 
-pub rows-end-well : (says : Data) (w : ℕ) (body : List ℕ) (us : List Unit) → 1 ≤ w → All (λ u. FitsWindow w u.face) us
-    → All (EndsWell says w body us) (wrap says w body us)
-rows-end-well says w body [] h fit =
-    All-cons (EndsWell says w body []) (record { start = 0; stop = 0 }) []
-    (record { ends = inl refl; longest = λ k h l place. absurd (omega (arith, l)) }) (All-nil (EndsWell says w body []))
-rows-end-well says w body (u ∷ us) h fit = rows-end says w body 0 0 (u ∷ us) (u ∷ us) h fit refl
+pub rows-end-well : (ucd : Data) (w : ℕ) (body : List ℕ) (us : List Unit) → 1 ≤ w → All (λ u. FitsWindow w u.face) us
+    → All (EndsWell ucd w body us) (wrap ucd w body us)
+rows-end-well ucd w body [] h fit =
+    All-cons (EndsWell ucd w body []) (record { start = 0; stop = 0 }) []
+    (record { ends = inl refl; longest = λ k h l place. absurd (omega (arith, l)) }) (All-nil (EndsWell ucd w body []))
+rows-end-well ucd w body (u ∷ us) h fit = rows-end ucd w body 0 0 (u ∷ us) (u ∷ us) h fit refl

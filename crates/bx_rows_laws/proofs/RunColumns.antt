@@ -3,7 +3,7 @@ use Rattle.std.proofs.Common.{◌≡◌, ℕ, List, [], ◌∷◌, ◌++◌, map
 use Rattle.std.specs.Prelude.{codes}
 use Rattle.std.specs.Str.{chars}
 use Rattle.unicode_width.proofs.Computing.{unicode_width}
-use Rattle.bx_terms.specs.Glyphs.{run_width}
+use Rattle.bx_common.specs.Glyphs.{run_width}
 
 -- U+4E16, of two columns, and e with an acute accent
 abbrev wide : List ℕ

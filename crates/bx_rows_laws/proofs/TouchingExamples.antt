@@ -11,17 +11,16 @@ use Rattle.bx_ucd.specs.declared.joining.Form.TheVariants.{Initial}
 use Rattle.bx_ucd.specs.declared.joining.Joining.TheVariants.{D, T, U}
 use Rattle.unicode_segmentation.proofs.Computing.{unicode_segmentation}
 use Rattle.unicode_width.proofs.Computing.{unicode_width}
-use Rattle.bx_resolve.specs.TestTables.{small}
-use Rattle.bx_cells.specs.declared.unit.Face.TheVariants.{Mark, Own}
-use Rattle.bx_cells.specs.declared.unit.Unit.{Unit}
-use Rattle.bx_cells.specs.Units.{StandsIn}
+use Rattle.bx_ucd.specs.SmallTables.{small}
+use Rattle.bx_rows.specs.declared.cells.unit.Face.TheVariants.{Placeholder, Own}
+use Rattle.bx_rows.specs.declared.cells.unit.Unit.{Unit}
+use Rattle.bx_rows.specs.cells.UnitFacts.{StandsIn}
 use Rattle.bx_rows_laws.specs.JoiningLaws.{AreByJoining, GoesByJoining, IsOwnAtOdd, LettersGoByJoining, ShownLetter, text_shown}
 use Rattle.bx_rows_laws.specs.Laws.{StandInTurn}
-use Rattle.bx_rows.specs.RowLevels.{is_segment_separator, is_trailing, row_levels}
+use Rattle.bx_rows.specs.RowLevels.{is_segment_separator, is_trailing, row_levels, visual}
 use Rattle.bx_rows.specs.RowPicture.{Glyph, draw, glyph, unit_columns, unit_glyphs}
 use Rattle.bx_rows_laws.specs.TouchingLetters.{BeginJoined, BeginsWithLetter, EqualOddLevelsTouch, IsPassedOver, JoinedLettersTouch, LettersKeepLevels}
 use Rattle.bx_rows_laws.specs.TouchingLetters.{PicturesShowTouch, ShowTouch, Touch}
-use Rattle.bx_rows.specs.VisualOrder.{visual}
 
 -- ---- units side by side
 
@@ -39,7 +38,7 @@ side-by-side : (order : List ℕ) (i : ℕ) → Touch order i (suc i) → Beside
 side-by-side order i t = nothing-inside order i t.front t.middle t.back t.order_is t.inside
 
 abbrev mark : ℕ → Unit
-mark x = record { start = 0; stop = 0; face = Mark x }
+mark x = record { start = 0; stop = 0; face = Placeholder x }
 
 abbrev shown_mark : ℕ → Glyph
 shown_mark x = glyph (x ∷ []) 1 true
@@ -53,12 +52,12 @@ odd-beside law a b n odd =
     (law (a ∷ n ∷ n ∷ b ∷ []) 1 2 n (omega arith) (omega arith) odd (record { one = λ d. refl; other = λ d. refl; least = least }))
 
 -- so are the glyphs of two marks in a picture
-marks-beside : EqualOddLevelsTouch → PicturesShowTouch → (says : Data) (body : List ℕ) (each : List (Option ℕ)) (paragraph x y n : ℕ) → n % 2 ≡ 1
-    → ShowTouch (draw says 3 body paragraph each (mark x ∷ mark y ∷ []) (n ∷ n ∷ [])) ((shown_mark x ∷ []) ∷ (shown_mark y ∷ []) ∷ []) 0 1
-marks-beside law pictures says body each paragraph x y n odd =
+marks-beside : EqualOddLevelsTouch → PicturesShowTouch → (ucd : Data) (body : List ℕ) (each : List (Option ℕ)) (paragraph x y n : ℕ) → n % 2 ≡ 1
+    → ShowTouch (draw ucd 3 body paragraph each (mark x ∷ mark y ∷ []) (n ∷ n ∷ [])) ((shown_mark x ∷ []) ∷ (shown_mark y ∷ []) ∷ []) 0 1
+marks-beside law pictures ucd body each paragraph x y n odd =
     let least : All (λ l. n ≤ l) (n ∷ n ∷ []) =
     All-cons (λ l. n ≤ l) n (n ∷ []) (omega arith) (All-cons (λ l. n ≤ l) n [] (omega arith) (All-nil (λ l. n ≤ l))) in
-    pictures says 3 body paragraph each (mark x ∷ mark y ∷ []) (n ∷ n ∷ []) 0 1
+    pictures ucd 3 body paragraph each (mark x ∷ mark y ∷ []) (n ∷ n ∷ []) 0 1
     (law (n ∷ n ∷ []) 0 1 n (omega arith) (omega arith) odd (record { one = λ d. refl; other = λ d. refl; least = least }))
 
 -- ---- letters that join
@@ -156,11 +155,11 @@ two-joined classes forms l = record {
 letters-beside : JoinedLettersTouch → LettersKeepLevels → (classes : ℕ → Class) (forms : ℕ → Form → Option ℕ) (p l : ℕ) → IsLetter (classes 0x628)
     → Beside (visual (row_levels (classed classes forms) two p (two_levels l) two_units)) 2 1
 letters-beside law keeps classes forms p l h =
-    let says = classed classes forms in
-    let t = law says two p (two_levels l) two_units 0 5 1 2 1 two-valid two-stand two-turn (omega arith) (omega arith) (two-joined classes forms l)
-    (keeps says two p (two_levels l) two_units 0 5 1 1 two-valid two-stand two-turn (omega arith) (one-begins classes forms l h))
-    (keeps says two p (two_levels l) two_units 0 5 2 1 two-valid two-stand two-turn (omega arith) (other-begins classes forms l h)) in
-    side-by-side (visual (row_levels says two p (two_levels l) two_units)) 1 t.touch
+    let ucd = classed classes forms in
+    let t = law ucd two p (two_levels l) two_units 0 5 1 2 1 two-valid two-stand two-turn (omega arith) (omega arith) (two-joined classes forms l)
+    (keeps ucd two p (two_levels l) two_units 0 5 1 1 two-valid two-stand two-turn (omega arith) (one-begins classes forms l h))
+    (keeps ucd two p (two_levels l) two_units 0 5 2 1 two-valid two-stand two-turn (omega arith) (other-begins classes forms l h)) in
+    side-by-side (visual (row_levels ucd two p (two_levels l) two_units)) 1 t.touch
 
 -- `x`, BEH, RIGHT-TO-LEFT MARK and BEH
 abbrev marked : List ℕ
@@ -216,8 +215,8 @@ mark-between law forms l =
 -- the text of unit `i` of the row of the two letters
 abbrev shown : (ℕ → Form → Option ℕ) → ℕ → ℕ → List ℕ
 shown forms l i =
-    let says = joining forms in
-    text_shown (get_or (unit_glyphs says 3 two (two_levels l) two_units (unit_columns 3 0 two_units) (l ∷ 1 ∷ 1 ∷ [])) i [])
+    let ucd = joining forms in
+    text_shown (get_or (unit_glyphs ucd 3 two (two_levels l) two_units (unit_columns 3 0 two_units) (l ∷ 1 ∷ 1 ∷ [])) i [])
 
 abbrev place : ℕ → ShownLetter
 place c = record { letter = 0x628; unjoined = 0x628; shown = c }

@@ -11,10 +11,11 @@ use Rattle.std.proofs.lemmas.Str.{IsUtf8-between, IsUtf8-take, chars-append, enc
 use Rattle.std.specs.Str.{IsCharBoundary}
 use Rattle.bx_ucd.specs.Data.{Data}
 use Rattle.bx_ucd.specs.declared.class.Class.{Class}
-use Rattle.bx_cells.specs.declared.unit.Face.TheVariants.{Tab}
-use Rattle.bx_cells.specs.declared.unit.Unit.{Unit}
-use Rattle.bx_cells.specs.Units.{StandsIn, unit_chars, unit_text}
-use Rattle.bx_joining.specs.Joining.{are_one_odd, is_lower, is_transparent, joins_back, joins_on, none_is_lower}
+use Rattle.bx_rows.specs.declared.cells.unit.Face.TheVariants.{Tab}
+use Rattle.bx_rows.specs.declared.cells.unit.Unit.{Unit}
+use Rattle.bx_rows.specs.cells.Units.{unit_chars, unit_text}
+use Rattle.bx_rows.specs.cells.UnitFacts.{StandsIn}
+use Rattle.bx_rows.specs.joining.Joining.{are_one_odd, is_lower, is_transparent, joins_back, joins_on, none_is_lower}
 use Rattle.bx_rows_laws.specs.Laws.{StandInTurn}
 use Rattle.bx_rows.specs.RowLevels.{CharLevel, chars_before, is_segment_separator, is_trailing, l1, level_at, levels_or_before, only_trailing, row_chars, row_levels, trails, unit_levels}
 use Rattle.bx_rows_laws.specs.TouchingLetters.{BeginJoined, IsPassedOver, JoinedLettersTouch, LettersKeepLevels, joiner}
@@ -34,36 +35,36 @@ not-lower m n e =
 
 -- the class and the level of a character
 abbrev classed : Data → ℕ × Option ℕ → CharLevel
-classed says c = (says.class c.0, c.1)
+classed ucd c = (ucd.class c.0, c.1)
 
 not-lower-at : (n l : ℕ) (o : Option ℕ) → (is_lower o (Some n) || is_lower o (Some n)) ≡ false → o ≡ Some l → n ≤ l
 not-lower-at n l o e f =
     let here = (or_parts (is_lower o (Some n)) (is_lower o (Some n)) e).0 in
     not-lower l n (subst (λ p. is_lower p (Some n) ≡ false) f here)
 
-none-between-lower : (says : Data) (n : ℕ) (cs : List (ℕ × Option ℕ)) → All (IsPassedOver says) cs
-    → list_any (λ x. is_lower x.1 (Some n) || is_lower x.1 (Some n)) (map (joiner says) cs) ≡ false → All (IsBetween n) (map (classed says) cs)
-none-between-lower says n [] a e = All-nil (IsBetween n)
-none-between-lower says n (c ∷ cs) a e =
-    let parts = or_parts (is_lower c.1 (Some n) || is_lower c.1 (Some n)) (list_any (λ x. is_lower x.1 (Some n) || is_lower x.1 (Some n)) (map (joiner says) cs)) e in
-    let own = All-head (IsPassedOver says) c cs a in
-    All-cons (IsBetween n) (classed says c) (map (classed says) cs) (own.1, λ l f. not-lower-at n l c.1 parts.0 f)
-    (none-between-lower says n cs (All-tail (IsPassedOver says) c cs a) parts.1)
+none-between-lower : (ucd : Data) (n : ℕ) (cs : List (ℕ × Option ℕ)) → All (IsPassedOver ucd) cs
+    → list_any (λ x. is_lower x.1 (Some n) || is_lower x.1 (Some n)) (map (joiner ucd) cs) ≡ false → All (IsBetween n) (map (classed ucd) cs)
+none-between-lower ucd n [] a e = All-nil (IsBetween n)
+none-between-lower ucd n (c ∷ cs) a e =
+    let parts = or_parts (is_lower c.1 (Some n) || is_lower c.1 (Some n)) (list_any (λ x. is_lower x.1 (Some n) || is_lower x.1 (Some n)) (map (joiner ucd) cs)) e in
+    let own = All-head (IsPassedOver ucd) c cs a in
+    All-cons (IsBetween n) (classed ucd c) (map (classed ucd) cs) (own.1, λ l f. not-lower-at n l c.1 parts.0 f)
+    (none-between-lower ucd n cs (All-tail (IsPassedOver ucd) c cs a) parts.1)
 
-record Joins (says : Data) (n : ℕ) (between : List (ℕ × Option ℕ)) : Type 0 where
+record Joins (ucd : Data) (n : ℕ) (between : List (ℕ × Option ℕ)) : Type 0 where
   odd : n % 2 ≡ 1
-  least : All (IsBetween n) (map (classed says) between)
+  least : All (IsBetween n) (map (classed ucd) between)
 
-joins-of : (says : Data) (body : List ℕ) (each : List (Option ℕ)) (us : List Unit) (i j n : ℕ) (s : BeginJoined says body each us i j n) → Joins says n s.between
-joins-of says body each us i j n s =
-    let first = joiner says (s.first, Some n) in
-    let second = joiner says (s.second, Some n) in
-    let inside = map (joiner says) s.between in
+joins-of : (ucd : Data) (body : List ℕ) (each : List (Option ℕ)) (us : List Unit) (i j n : ℕ) (s : BeginJoined ucd body each us i j n) → Joins ucd n s.between
+joins-of ucd body each us i j n s =
+    let first = joiner ucd (s.first, Some n) in
+    let second = joiner ucd (s.second, Some n) in
+    let inside = map (joiner ucd) s.between in
     let parts = and_parts (joins_on first.0 && joins_back second.0 && are_one_odd first.1 second.1) (none_is_lower inside first second) s.joined in
     let levels = (and_parts (joins_on first.0 && joins_back second.0) (are_one_odd first.1 second.1) parts.0).1 in
     record {
       odd = eqb-true (n % 2) 1 (and_parts _ _ levels).0;
-      least = none-between-lower says n s.between s.passed (not-false _ parts.1);
+      least = none-between-lower ucd n s.between s.passed (not-false _ parts.1);
     }
 
 -- ---- the units of a row in its body
@@ -190,10 +191,10 @@ module _ {X Y : Type 0} where
   zip-first (x ∷ xs) (y ∷ ys) (q ∷ front) more (suc k) d e f h =
       let tail : zip xs ys ≡ front ++ more = cc f in zip-first xs ys front more k d e tail (omega (arith, h))
 
-classed-zip : (says : Data) (cs : List ℕ) (ls : List (Option ℕ)) → zip (map says.class cs) ls ≡ map (classed says) (zip cs ls)
-classed-zip says [] ls = refl
-classed-zip says (c ∷ cs) [] = refl
-classed-zip says (c ∷ cs) (l ∷ ls) = ap (λ x. (says.class c, l) ∷ x) (classed-zip says cs ls)
+classed-zip : (ucd : Data) (cs : List ℕ) (ls : List (Option ℕ)) → zip (map ucd.class cs) ls ≡ map (classed ucd) (zip cs ls)
+classed-zip ucd [] ls = refl
+classed-zip ucd (c ∷ cs) [] = refl
+classed-zip ucd (c ∷ cs) (l ∷ ls) = ap (λ x. (ucd.class c, l) ∷ x) (classed-zip ucd cs ls)
 
 -- ---- the letters among the characters of the row
 
@@ -239,10 +240,10 @@ record InRow (body : List ℕ) (each : List (Option ℕ)) (us : List Unit) (i j 
   at_one : before i (counts body us) ≡ length front
   at_other : before j (counts body us) ≡ length front + (1 + length between)
 
-in-row : (says : Data) (body : List ℕ) (each : List (Option ℕ)) (us : List Unit) (start stop i j n : ℕ) → IsUtf8 body → All (StandsIn body) us
-    → StandInTurn start (spans us) stop → i < j → j < length us → (s : BeginJoined says body each us i j n)
+in-row : (ucd : Data) (body : List ℕ) (each : List (Option ℕ)) (us : List Unit) (start stop i j n : ℕ) → IsUtf8 body → All (StandsIn body) us
+    → StandInTurn start (spans us) stop → i < j → j < length us → (s : BeginJoined ucd body each us i j n)
     → InRow body each us i j n s.first s.second s.between
-in-row says body each us start stop i j n valid a t h within s =
+in-row ucd body each us start stop i j n valid a t h within s =
     let d : Unit = get_or us 0 (record { start = 0; stop = 0; face = Tab }) in
     let all = (s.first, Some n) ∷ (s.between ++ ((s.second, Some n) ∷ s.after)) in
     let own = flat_map (unit_chars body) us in
@@ -272,17 +273,17 @@ in-row says body each us start stop i j n valid a t h within s =
       at_other = omega (arith, size, one, other);
     }
 
-letters-of : (says : Data) (body : List ℕ) (each : List (Option ℕ)) (us : List Unit) (i j n first second : ℕ) (between : List (ℕ × Option ℕ))
-    → All (IsBetween n) (map (classed says) between) → InRow body each us i j n first second between
-    → HasLetters n i j (counts body us) (row_chars says body each us)
-letters-of says body each us i j n first second between least r =
-    let f = classed says in record {
+letters-of : (ucd : Data) (body : List ℕ) (each : List (Option ℕ)) (us : List Unit) (i j n first second : ℕ) (between : List (ℕ × Option ℕ))
+    → All (IsBetween n) (map (classed ucd) between) → InRow body each us i j n first second between
+    → HasLetters n i j (counts body us) (row_chars ucd body each us)
+letters-of ucd body each us i j n first second between least r =
+    let f = classed ucd in record {
       front = map f r.front;
-      one = says.class first;
+      one = ucd.class first;
       inside = map f between;
-      other = says.class second;
+      other = ucd.class second;
       rest = map f r.rest;
-      are = sym (ap₂ (λ cs ls. zip (map says.class cs) ls) r.own_is r.levels_are) ∙ classed-zip says r.own r.levels ∙ ap (map f) r.are
+      are = sym (ap₂ (λ cs ls. zip (map ucd.class cs) ls) r.own_is r.levels_are) ∙ classed-zip ucd r.own r.levels ∙ ap (map f) r.are
           ∙ map-append f (r.front ++ ((first, Some n) ∷ between)) ((second, Some n) ∷ r.rest)
           ∙ ap (λ x. x ++ (f (second, Some n) ∷ map f r.rest)) (map-append f r.front ((first, Some n) ∷ between))
           ∙ append_assoc (map f r.front) (f (first, Some n) ∷ map f between) (f (second, Some n) ∷ map f r.rest);
@@ -292,11 +293,11 @@ letters-of says body each us i j n first second between least r =
     }
 
 -- the characters of the units between
-passed-over : (says : Data) (body : List ℕ) (each : List (Option ℕ)) (us : List Unit) (start stop i j n first second : ℕ) (between : List (ℕ × Option ℕ))
-    → IsUtf8 body → All (StandsIn body) us → StandInTurn start (spans us) stop → j < length us → All (IsPassedOver says) between
+passed-over : (ucd : Data) (body : List ℕ) (each : List (Option ℕ)) (us : List Unit) (start stop i j n first second : ℕ) (between : List (ℕ × Option ℕ))
+    → IsUtf8 body → All (StandsIn body) us → StandInTurn start (spans us) stop → j < length us → All (IsPassedOver ucd) between
     → InRow body each us i j n first second between
-    → (k : ℕ) → i < k → k < j → HoldsAt (λ u. All (λ c. is_transparent (says.joining c) ≡ true) (unit_chars body u)) us k
-passed-over says body each us start stop i j n first second between valid a t within passed r k h g d x e w =
+    → (k : ℕ) → i < k → k < j → HoldsAt (λ u. All (λ c. is_transparent (ucd.joining c) ≡ true) (unit_chars body u)) us k
+passed-over ucd body each us start stop i j n first second between valid a t within passed r k h g d x e w =
     let cs = counts body us in
     let size : length cs ≡ length us = length-map us (λ u. length (unit_chars body u)) in
     let own : get_or cs k 0 ≡ length (unit_chars body (get_or us k d)) = get_or-map (λ u. length (unit_chars body u)) us k d 0 (omega (arith, g, within)) in
@@ -314,23 +315,23 @@ passed-over says body each us start stop i j n first second between valid a t wi
     sym (char-of-unit body valid us k x d e (omega (arith, g, within)) w) ∙ ap (λ zs. get_or zs (before k cs + x) e) (sym r.own_is)
     ∙ zip-first r.own r.levels front ((second, Some n) ∷ r.rest) (before k cs + x) e None r.are (omega (arith, there, inside, count))
     ∙ ap (λ z. (get_or front z (e, None)).0) there ∙ ap (λ p. p.0) (get_or-append-add r.front ((first, Some n) ∷ between) (suc y) (e, None)) in
-    subst (λ c. is_transparent (says.joining c) ≡ true) (sym letter) (passed y (e, None) inside).0
+    subst (λ c. is_transparent (ucd.joining c) ≡ true) (sym letter) (passed y (e, None) inside).0
 
 pub joined-touch : JoinedLettersTouch
-joined-touch says body paragraph each us start stop i j n valid a t h within s one other =
-    let levels = row_levels says body paragraph each us in
-    let joins = joins-of says body each us i j n s in
-    let r = in-row says body each us start stop i j n valid a t h within s in
-    let letters = letters-of says body each us i j n s.first s.second s.between joins.least r in
+joined-touch ucd body paragraph each us start stop i j n valid a t h within s one other =
+    let levels = row_levels ucd body paragraph each us in
+    let joins = joins-of ucd body each us i j n s in
+    let r = in-row ucd body each us start stop i j n valid a t h within s in
+    let letters = letters-of ucd body each us i j n s.first s.second s.between joins.least r in
     let cs = counts body us in
     let size : length cs ≡ length us = length-map us (λ u. length (unit_chars body u)) in
-    let count : length levels ≡ length us = levels-length paragraph cs (l1 paragraph (row_chars says body each us)) ∙ size in
+    let count : length levels ≡ length us = levels-length paragraph cs (l1 paragraph (row_chars ucd body each us)) ∙ size in
     let least = all-at n levels i j (omega (arith, h)) (omega (arith, within, count))
-    (λ k f g. none-lower paragraph n i j k cs (row_chars says body each us) letters h (omega (arith, within, size))
+    (λ k f g. none-lower paragraph n i j k cs (row_chars ucd body each us) letters h (omega (arith, within, size))
     (unit-some body valid us start stop i a t (omega (arith, h, within))) (unit-some body valid us start stop j a t within) (one 0) (other 0) f g) in
     record {
       touch = equal-odd-touch levels i j n h (omega (arith, within, count)) joins.odd (record { one = one; other = other; least = least });
-      passed = passed-over says body each us start stop i j n s.first s.second s.between valid a t within s.passed r;
+      passed = passed-over ucd body each us start stop i j n s.first s.second s.between valid a t within s.passed r;
     }
 
 -- ---- a letter that L1 leaves
@@ -342,8 +343,8 @@ stays p n class b e f =
     ∙ ap (λ x. level_at p (class, Some n) (x && b)) f
 
 pub letters-keep-levels : LettersKeepLevels
-letters-keep-levels says body paragraph each us start stop i n valid a t within s d =
-    let f = classed says in
+letters-keep-levels ucd body paragraph each us start stop i n valid a t within s d =
+    let f = classed ucd in
     let none : Unit = record { start = 0; stop = 0; face = Tab } in
     let own = flat_map (unit_chars body) us in
     let number = length (chars (take start body)) in
@@ -355,16 +356,16 @@ letters-keep-levels says body paragraph each us start stop i n valid a t within 
     let found = zip-front own (chars (drop stop body)) (drop number each) front (s.letter, Some n) s.after behind
     (omega (arith, size, one, before-within body valid us i within, some)) in
     let cs = counts body us in
-    let ls = l1 paragraph (row_chars says body each us) in
+    let ls = l1 paragraph (row_chars ucd body each us) in
     let rest = map f found.0 in
-    let are : row_chars says body each us ≡ map f front ++ (f (s.letter, Some n) ∷ rest) =
-    ap (λ k. zip (map says.class own) (drop k each)) (begins-where body us start stop t (omega (arith, within)))
-    ∙ classed-zip says own (drop number each) ∙ ap (map f) found.1 ∙ map-append f front ((s.letter, Some n) ∷ found.0) in
+    let are : row_chars ucd body each us ≡ map f front ++ (f (s.letter, Some n) ∷ rest) =
+    ap (λ k. zip (map ucd.class own) (drop k each)) (begins-where body us start stop t (omega (arith, within)))
+    ∙ classed-zip ucd own (drop number each) ∙ ap (map f) found.1 ∙ map-append f front ((s.letter, Some n) ∷ found.0) in
     let place : before i cs ≡ length (map f front) + 0 = omega (arith, one, size, length-map front f) in
     let here : get_or ls (before i cs) None ≡ Some n =
     ap (λ x. get_or ls x None) place ∙ ap (λ ys. get_or (l1 paragraph ys) (length (map f front) + 0) None) are
     ∙ l1-behind paragraph 0 (map f front) (f (s.letter, Some n) ∷ rest)
-    ∙ stays paragraph n (says.class s.letter) (only_trailing rest) s.no_separator s.no_blank in
+    ∙ stays paragraph n (ucd.class s.letter) (only_trailing rest) s.no_separator s.no_blank in
     let count = length-map us (λ u. length (unit_chars body u)) in
     let all = levels-length paragraph cs ls in
     get_or_default (levels_or_before paragraph (unit_levels cs ls)) i d 0 (omega (arith, within, count, all))

@@ -5,7 +5,7 @@ use Rattle.std.proofs.lemmas.Grind.{flat_map-append}
 use Rattle.std.proofs.lemmas.List.{append_assoc}
 use Rattle.bx_rows.specs.RowPicture.{Glyph, blank, columns_used, unit_columns, unit_glyphs}
 use Rattle.bx_rows_laws.specs.TouchingLetters.{PicturesShowTouch, ShowTouch}
-use Rattle.bx_rows.specs.VisualOrder.{visual}
+use Rattle.bx_rows.specs.RowLevels.{visual}
 
 pieces-cut : (piece : ℕ → List Glyph) (order front middle back : List ℕ) (i j : ℕ) → order ≡ front ++ (j ∷ (middle ++ (i ∷ back)))
     → flat_map piece order ≡ flat_map piece front ++ (piece j ++ (flat_map piece middle ++ (piece i ++ flat_map piece back)))
@@ -39,8 +39,8 @@ with-blanks (suc odd) blanks glyphs pieces i j s =
     }
 
 pub pictures-touch : PicturesShowTouch
-pictures-touch says w body paragraph each us levels i j t =
-    let pieces = unit_glyphs says w body each us (unit_columns w 0 us) levels in
+pictures-touch ucd w body paragraph each us levels i j t =
+    let pieces = unit_glyphs ucd w body each us (unit_columns w 0 us) levels in
     let piece : ℕ → List Glyph = λ k. get_or pieces k [] in
     with-blanks (paragraph % 2) (replicate (w - columns_used w us) blank) (flat_map piece (visual levels)) pieces i j (record {
       front = flat_map piece t.front;

@@ -12,7 +12,7 @@ use Rattle.std.proofs.lemmas.List.Sorted.{Contains-permutation, IsPermutation-sy
 use Rattle.std.proofs.lemmas.List.Sums.{sum_by-cons, sum_by-take-le, sum_by_more_le}
 use Rattle.bx_rows_laws.specs.OrderLaws.{AreAtLevel, IsOrderAt, StandsLeft}
 use Rattle.bx_rows_laws.specs.TouchingLetters.{EqualOddLevelsTouch}
-use Rattle.bx_rows.specs.VisualOrder.{visual}
+use Rattle.bx_rows.specs.RowLevels.{visual}
 use Rattle.bx_rows_laws.proofs.LowestLevels.{equal-order, lowest-order, lowest-part}
 use Rattle.bx_rows.proofs.Permutes.{visual-permutes}
 

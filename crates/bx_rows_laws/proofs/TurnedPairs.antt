@@ -6,7 +6,7 @@ use Rattle.std.proofs.lemmas.Bool.{cases_lt}
 use Rattle.std.proofs.lemmas.List.{append-nil, append_assoc, reverse-append}
 use Rattle.std.proofs.lemmas.List.Elements.{All-append, All-cons, All-head, All-nil, All-tail, All-weaker}
 use Rattle.std.proofs.lemmas.List.Sorted.{All-permutation, IsPermutation-reverse}
-use Rattle.bx_rows.specs.VisualOrder.{reverse_runs}
+use Rattle.bx_rows.specs.RowLevels.{reverse_runs}
 use Rattle.bx_rows.proofs.NumbersBelow.{all-runs}
 use Rattle.bx_rows.proofs.Reversals.{high, low}
 

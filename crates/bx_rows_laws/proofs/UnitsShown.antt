@@ -9,10 +9,10 @@ use Rattle.std.proofs.lemmas.List.Folds.{flat_map-map}
 use Rattle.std.proofs.lemmas.List.FromFn.{get_or-map-range_with_len, length-map-range_with_len}
 use Rattle.std.proofs.lemmas.List.Sorted.{IsPermutation-append_comm, IsPermutation-append_left, IsPermutation-map, IsPermutation-trans}
 use Rattle.bx_ucd.specs.Data.{Data}
-use Rattle.bx_cells.specs.declared.unit.Unit.{Unit}
+use Rattle.bx_rows.specs.declared.cells.unit.Unit.{Unit}
 use Rattle.bx_rows_laws.specs.OrderLaws.{PicturesGoByLevels, ShowsEachOnce, ShowsLeft, StandsLeft, joined}
 use Rattle.bx_rows.specs.RowPicture.{Glyph, blank, columns_used, draw, unit_columns, unit_glyphs, with_blanks}
-use Rattle.bx_rows.specs.VisualOrder.{visual}
+use Rattle.bx_rows.specs.RowLevels.{visual}
 use Rattle.bx_rows_laws.proofs.LowestLevels.{lowest-order}
 use Rattle.bx_rows.proofs.Permutes.{made-permutes, visual-permutes}
 use Rattle.bx_rows.proofs.Pieces.{pieces-length}
@@ -54,12 +54,12 @@ shows-pieces paragraph n pieces levels e =
           (subst (λ gs. IsPermutation gs (flat_map piece (visual levels))) all (made-permutes piece levels));
     }
 
-pub shows-units : (says : Data) (w : ℕ) (body : List ℕ) (paragraph : ℕ) (each : List (Option ℕ)) (us : List Unit) (levels : List ℕ)
-    → length levels ≡ length us → ShowsEachOnce paragraph (w - columns_used w us) (unit_glyphs says w body each us (unit_columns w 0 us) levels)
-    (draw says w body paragraph each us levels)
-shows-units says w body paragraph each us levels e =
-    let pieces = unit_glyphs says w body each us (unit_columns w 0 us) levels in
-    shows-pieces paragraph (w - columns_used w us) pieces levels (e ∙ sym (pieces-length says w body each us (unit_columns w 0 us) levels (columns-length w 0 us) e))
+pub shows-units : (ucd : Data) (w : ℕ) (body : List ℕ) (paragraph : ℕ) (each : List (Option ℕ)) (us : List Unit) (levels : List ℕ)
+    → length levels ≡ length us → ShowsEachOnce paragraph (w - columns_used w us) (unit_glyphs ucd w body each us (unit_columns w 0 us) levels)
+    (draw ucd w body paragraph each us levels)
+shows-units ucd w body paragraph each us levels e =
+    let pieces = unit_glyphs ucd w body each us (unit_columns w 0 us) levels in
+    shows-pieces paragraph (w - columns_used w us) pieces levels (e ∙ sym (pieces-length ucd w body each us (unit_columns w 0 us) levels (columns-length w 0 us) e))
 
 -- ---- the order of two units
 
@@ -99,8 +99,8 @@ left-shown paragraph n f order a b s =
     })
 
 pub shows-by-levels : PicturesGoByLevels
-shows-by-levels says w body paragraph each us levels i j lowest e h k l =
-    let piece : ℕ → List Glyph = λ n. get_or (unit_glyphs says w body each us (unit_columns w 0 us) levels) n [] in
+shows-by-levels ucd w body paragraph each us levels i j lowest e h k l =
+    let piece : ℕ → List Glyph = λ n. get_or (unit_glyphs ucd w body each us (unit_columns w 0 us) levels) n [] in
     let n = w - columns_used w us in
     let by = lowest-order levels i j lowest h (omega (arith, e, k)) l in
     record {

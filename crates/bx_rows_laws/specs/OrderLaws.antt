@@ -1,11 +1,11 @@
 -- Laws of the visual order and the picture of every row, with the units `us`, in a window of `w` columns. An order lists the
--- numbers of a row's units, from 0, from left to right. `says` is what any tables say.
+-- numbers of a row's units, from 0, from left to right. `ucd` is what any tables say.
 use Rattle.std.specs.Prelude.{◌≡◌, ◌⊎◌, ◌+◌, ◌-◌, ◌%◌, ◌<◌, ◌≤◌, ℕ, All, Contains, HoldsAt, IsPermutation, List, ◌∷◌, ◌++◌, [], Option, flat_map, length, replicate, slice_index_or}
 use Rattle.std.specs.List.{between, range_with_len}
 use Rattle.bx_ucd.specs.Data.{Data}
-use Rattle.bx_cells.specs.declared.unit.Unit.{Unit}
+use Rattle.bx_rows.specs.declared.cells.unit.Unit.{Unit}
 use Rattle.bx_rows.specs.RowPicture.{Glyph, blank, columns_used, draw, unit_columns, unit_glyphs, with_blanks}
-use Rattle.bx_rows.specs.VisualOrder.{visual}
+use Rattle.bx_rows.specs.RowLevels.{visual}
 
 -- a visual order contains each unit's number once
 abbrev pub OrdersArePermutations : Type 0
@@ -77,9 +77,9 @@ pub record ShowsEachOnce (paragraph blanks : ℕ) (pieces : List (List Glyph)) (
 
 -- a row's picture shows the glyphs of each unit once, and otherwise blanks
 abbrev pub PicturesShowUnits : Type 0
-PicturesShowUnits = (says : Data) (w : ℕ) (body : List ℕ) (paragraph : ℕ) (each : List (Option ℕ)) (us : List Unit) (levels : List ℕ)
-    → length levels ≡ length us → ShowsEachOnce paragraph (w - columns_used w us) (unit_glyphs says w body each us (unit_columns w 0 us) levels)
-    (draw says w body paragraph each us levels)
+PicturesShowUnits = (ucd : Data) (w : ℕ) (body : List ℕ) (paragraph : ℕ) (each : List (Option ℕ)) (us : List Unit) (levels : List ℕ)
+    → length levels ≡ length us → ShowsEachOnce paragraph (w - columns_used w us) (unit_glyphs ucd w body each us (unit_columns w 0 us) levels)
+    (draw ucd w body paragraph each us levels)
 
 -- the glyphs `one` are left of the glyphs `other` if the level is even, and right of them if it is odd
 pub record IsShownAt (level : ℕ) (row one other : List Glyph) : Type 0 where
@@ -88,7 +88,7 @@ pub record IsShownAt (level : ℕ) (row one other : List Glyph) : Type 0 where
 
 -- the lowest level from one unit to another determines their order in a row's picture
 abbrev pub PicturesGoByLevels : Type 0
-PicturesGoByLevels = (says : Data) (w : ℕ) (body : List ℕ) (paragraph : ℕ) (each : List (Option ℕ)) (us : List Unit) (levels : List ℕ)
+PicturesGoByLevels = (ucd : Data) (w : ℕ) (body : List ℕ) (paragraph : ℕ) (each : List (Option ℕ)) (us : List Unit) (levels : List ℕ)
     (i j lowest : ℕ) → length levels ≡ length us → i < j → j < length us → IsLowest lowest (between i (j + 1) levels)
-    → let pieces = unit_glyphs says w body each us (unit_columns w 0 us) levels in
-    IsShownAt lowest (draw says w body paragraph each us levels) (slice_index_or pieces i []) (slice_index_or pieces j [])
+    → let pieces = unit_glyphs ucd w body each us (unit_columns w 0 us) levels in
+    IsShownAt lowest (draw ucd w body paragraph each us levels) (slice_index_or pieces i []) (slice_index_or pieces j [])

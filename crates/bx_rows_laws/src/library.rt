@@ -2,16 +2,18 @@
 //! rows serve as a library. The editor does not run them: it reads rows through `Lines`.
 ghost use Rattle.std.specs.Prelude.{◌≡◌, ◌≤◌, ◌∷◌, [], All, IfOk, length, true};
 ghost use Rattle.bx_ucd.specs.Data.{Data};
-ghost use Rattle.bx_cells.specs.Units.{HasFace, StandsIn, units};
+ghost use Rattle.bx_rows.specs.cells.Units.{units};
+ghost use Rattle.bx_rows.specs.cells.UnitFacts.{HasFace, StandsIn};
 ghost use Rattle.bx_rows_laws.specs.Laws.{CutUnits};
 ghost use Rattle.bx_rows.specs.RowLevels.{chars_before, row_levels};
 ghost use Rattle.bx_rows.specs.Shown.{IsRowOf};
 ghost use Rattle.bx_rows.specs.Wrapping.{fit_count, is_break, row_len, up_to_last, wrap};
 
-use bx_cells::{Unit, is_printable, is_simple_within};
-use bx_resolve::Levels;
-use bx_rows::{Row, char_count, columns_at, each_level, is_break};
-use bx_terms::OutOfMemory;
+use bx_common::OutOfMemory;
+use bx_levels::Levels;
+use bx_rows::{
+    Row, Unit, char_count, columns_at, each_level, is_break, is_printable, is_simple_within,
+};
 use bx_ucd::BidiData;
 use std::alloc::{AllocError, Global};
 
@@ -111,8 +113,7 @@ pub fn wrap<D: BidiData>(
     ensures fit { IfOk result (λ v. All (IsRowOf w units.now) v.items) }
     ensures cut { 1 ≤ w → IfOk result (λ v. CutUnits w units.now v.items) }
 {
-    let rows = all_rows(alloc, body, units, tables, w)?;
-    Ok(rows)
+    Ok(all_rows(alloc, body, units, tables, w)?)
 }
 
 /// The number of a body's characters before a row's units.
@@ -143,15 +144,14 @@ pub fn row_levels<D: BidiData>(
     ensures one_each { IfOk result (λ v. length v.items ≡ length units.now) }
 {
     let chars = chars_before(body, units);
-    let found = each_level(alloc, body, units, chars, levels, tables)?;
-    Ok(found)
+    Ok(each_level(alloc, body, units, chars, levels, tables)?)
 }
 
 /// Whether a body is known to have a single row in a window of `w` columns, from its characters alone: true is sure, false
 /// leaves it open. Makes no units.
 pub fn has_one_row(body: &str, w: u16) -> bool
-    ensures { result ≡ true → (says : Data) → wrap says w body.now (units says w body.now)
-        ≡ record { start = 0; stop = length (units says w body.now) } ∷ [] }
+    ensures { result ≡ true → (ucd : Data) → wrap ucd w body.now (units ucd w body.now)
+        ≡ record { start = 0; stop = length (units ucd w body.now) } ∷ [] }
 {
     if is_printable(body) {
         return body.len() <= w as usize;

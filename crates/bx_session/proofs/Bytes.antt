@@ -2,26 +2,28 @@
 use Rattle.std.proofs.Common.{◌≡◌, ℕ, Bool, true, false, List, [], drop, Option, Some, None, Result, Ok, Err, IsUtf8, refl, sym, ap, subst, ◌∙◌, if◌then◌else◌}
 use Rattle.std.specs.Prelude.{not, ◌||◌, ◌&&◌, is_some, IfErr, OnOk, OnErr}
 use Rattle.std.specs.Result.{result_err}
-use Rattle.bx_terms.specs.Sizes.{is_side}
-use Rattle.bx_terms.specs.declared.base.Base.{Base}
+use Rattle.bx_common.specs.Characters.{is_side}
+use Rattle.bx_common.specs.declared.base.Base.{Base}
 use Rattle.bx_grid.specs.Picture.{PictureState, is_size}
 use Rattle.bx_keys.specs.declared.key.Key.{Key}
 use Rattle.bx_keys.specs.declared.key.Key.TheVariants.{Save}
 use Rattle.bx_keys.specs.Keys.{rest_after}
 use Rattle.bx_keys.specs.Waiting.{head_of}
-use Rattle.bx_store.specs.Stores.{with_fault}
+use Rattle.bx_store.specs.Faults.{with_fault}
 use Rattle.bx_store.specs.declared.store.StoreFault.{StoreFault}
 use Rattle.bx_ucd.specs.Data.{Data}
-use Rattle.bx_editor.specs.Editor.{Editor, EditorState, HasRows, at_start, with_top}
+use Rattle.bx_editor.specs.Editor.{Editor, at_start, with_top}
+use Rattle.bx_editor.specs.Functions.{EditorState, HasRows}
 use Rattle.bx_editor.specs.Keys.{after_key, asks_for_whole}
-use Rattle.bx_editor.specs.Pasting.{paste_ended}
-use Rattle.bx_session.specs.declared.error.Refused.{Refused}
-use Rattle.bx_session.specs.declared.error.Refused.TheVariants.{Edit, Paint, Size}
-use Rattle.bx_session.specs.Session.{Session, SessionState, with_painting, with_painting_owed, with_picture, at_opening, before_painting, key_of_byte}
-use Rattle.bx_session.specs.Session.{after_spending, session_after_any, unpainted_after_byte, is_idle, is_painted, needs_painting, painted_after, picture_of}
-use Rattle.bx_session.specs.Session.{after_byte, session_after_key, unpainted_after_told}
+use Rattle.bx_editor.specs.Putting.{paste_ended}
+use Rattle.bx_session.specs.declared.status.Refused.{Refused}
+use Rattle.bx_session.specs.declared.status.Refused.TheVariants.{Edit, Paint, Size}
+use Rattle.bx_session.specs.Session.{Session, with_painting, with_painting_owed, with_picture, at_opening, before_painting, key_of_byte}
+use Rattle.bx_session.specs.Session.{after_spending, session_after_any, unpainted_after_byte, is_painted, needs_painting, painted_after}
+use Rattle.bx_session.specs.Session.{picture_of, after_byte, session_after_key, unpainted_after_told, SaveEnds, StoreState, may_refuse_key}
+use Rattle.bx_session.specs.Session.{with_text}
+use Rattle.bx_session.specs.Feeding.{SessionState, is_idle, AfterByte, ToldBy}
 use Rattle.bx_session.specs.Painting.{AppendsPainting, FeedAppends, QueuesPicture, FeedPaints}
-use Rattle.bx_session.specs.Saving.{AfterByte, SaveEnds, StoreState, ToldBy, may_refuse_key, with_text}
 use Rattle.bx_session.specs.declared.status.Status.{Status}
 use Rattle.bx_session.proofs.Ending.{save_ahead}
 use Rattle.bx_session.proofs.KeySizes.{key_goes_on, same_ended}
@@ -42,11 +44,11 @@ at_opening_is d text height width base has =
     let s = before_painting text height width base in
     ap (λ top. with_picture s (with_top s.editor top) (picture_of d (with_top s.editor top))) (opening_stays d text height width base has)
 
-pub opening_is : {D : Type 0} (says : D → Data) (tables : D) (text : List ℕ) (height width : ℕ) (base : Base) (e : EditorState D) (rest queue : List ℕ)
+pub opening_is : {D : Type 0} (ucd : D → Data) (tables : D) (text : List ℕ) (height width : ℕ) (base : Base) (e : EditorState D) (rest queue : List ℕ)
     (new : SessionState D) → IsUtf8 text → is_size height width ≡ true
     → e ≡ record { tables = tables; editor = at_start text height width base } → rest ≡ [] → queue ≡ []
     → new.tables ≡ e.tables
-    → new.session ≡ with_painting (says e.tables) (record {
+    → new.session ≡ with_painting (ucd e.tables) (record {
       editor = e.editor;
       rest = rest;
       painted = None;
@@ -54,11 +56,11 @@ pub opening_is : {D : Type 0} (says : D → Data) (tables : D) (text : List ℕ)
       painting_owed = false;
       pending = drop 0 queue;
     })
-    → new ≡ record { tables = tables; session = at_opening (says tables) text height width base }
-opening_is {D} says tables text height width base e rest queue new utf8 sized is waits empty same painted =
-    let state : new.session ≡ at_opening (says tables) text height width base =
+    → new ≡ record { tables = tables; session = at_opening (ucd tables) text height width base }
+opening_is {D} ucd tables text height width base e rest queue new utf8 sized is waits empty same painted =
+    let state : new.session ≡ at_opening (ucd tables) text height width base =
     painted
-    ∙ ap (λ (x : EditorState D). with_painting (says x.tables) (record {
+    ∙ ap (λ (x : EditorState D). with_painting (ucd x.tables) (record {
       editor = x.editor;
       rest = rest;
       painted = None;
@@ -66,7 +68,7 @@ opening_is {D} says tables text height width base e rest queue new utf8 sized is
       painting_owed = false;
       pending = drop 0 queue;
     })) is
-    ∙ ap (λ xs. with_painting (says tables) (record {
+    ∙ ap (λ xs. with_painting (ucd tables) (record {
       editor = at_start text height width base;
       rest = xs;
       painted = None;
@@ -74,7 +76,7 @@ opening_is {D} says tables text height width base e rest queue new utf8 sized is
       painting_owed = false;
       pending = drop 0 queue;
     })) waits
-    ∙ ap (λ xs. with_painting (says tables) (record {
+    ∙ ap (λ xs. with_painting (ucd tables) (record {
       editor = at_start text height width base;
       rest = [];
       painted = None;
@@ -82,47 +84,17 @@ opening_is {D} says tables text height width base e rest queue new utf8 sized is
       painting_owed = false;
       pending = drop 0 xs;
     })) empty
-    ∙ at_opening_is (says tables) text height width base (sized_rows text height width base utf8 sized) in
+    ∙ at_opening_is (ucd tables) text height width base (sized_rows text height width base utf8 sized) in
     ap (λ (x : D). record { tables = x; session = new.session }) (same ∙ ap (λ (x : EditorState D). x.tables) is)
     ∙ ap (λ (x : Session). record { tables = tables; session = x }) state
 
--- ---- a key
+-- ---- how a Save ended
 
-pub applied : {D : Type 0} (says : D → Data) (old new : EditorState D) (key : Key) → new.editor ≡ after_key (says old.tables) None old.editor key
-    → new.tables ≡ old.tables → new ≡ record old { editor = after_key (says old.tables) None old.editor key }
-applied {D} says old new key is same =
-    ap (λ (x : D). record { tables = x; editor = new.editor }) same ∙ ap (λ (x : Editor). record { tables = old.tables; editor = x }) is
-
--- ---- a Save
-
-pub save_is : {D : Type 0} (says : D → Data) (fault : Option StoreFault) (old ended new : EditorState D)
-    → ended ≡ record old { editor = paste_ended (says old.tables) old.editor }
-    → new ≡ record ended { editor = after_key (says ended.tables) fault ended.editor Save }
-    → new ≡ record old { editor = after_key (says old.tables) fault old.editor Save }
-save_is {D} says fault old ended new is saved =
-    saved
-    ∙ ap (λ (x : EditorState D). record x { editor = after_key (says x.tables) fault x.editor Save }) is
-    ∙ ap (λ (x : Editor). record { tables = old.tables; editor = x }) (save_ahead (says old.tables) fault old.editor)
-
--- how it ended
 pub save_ends : (result : Result (Unit {0}) StoreFault) (fault : Option StoreFault) (text : List ℕ) (old new : StoreState) → fault ≡ result_err result
     → OnOk result (new ≡ with_text text old) → OnErr result (new.contents ≡ old.contents) → IfErr result (λ e. new.faults ≡ with_fault e old.faults)
     → SaveEnds fault text old new
 save_ends (Ok done) fault text old new is ok stored failure = subst (λ (f : Option StoreFault). SaveEnds f text old new) (sym is) ok
 save_ends (Err e) fault text old new is ok stored failure = subst (λ (f : Option StoreFault). SaveEnds f text old new) (sym is) (stored, failure)
-
-pub saved_is : {D : Type 0} (says : D → Data) (fault : Option StoreFault) (s : SessionState D) (ended new : EditorState D) → s.session.editor.ended ≡ false
-    → ended ≡ record { tables = s.tables; editor = paste_ended (says s.tables) s.session.editor }
-    → new ≡ record ended { editor = after_key (says ended.tables) fault ended.editor Save }
-    → record { tables = new.tables; session = record s.session { editor = new.editor } }
-    ≡ record s { session = session_after_key (says s.tables) fault s.session Save }
-saved_is {D} says fault s ended new on is saved =
-    let d = says s.tables in
-    let e : Editor = after_key d fault s.session.editor Save in
-    let before : EditorState D = record { tables = s.tables; editor = s.session.editor } in
-    let runs : e.ended ≡ false = key_goes_on d fault s.session.editor Save refl ∙ on in
-    ap (λ (x : EditorState D). record { tables = x.tables; session = record s.session { editor = x.editor } }) (save_is says fault before ended new is saved)
-    ∙ ap (λ (ended : Bool). record { tables = s.tables; session = record s.session { editor = e; known = if ended then None else s.session.known } }) (sym runs)
 
 -- ---- a byte
 
@@ -155,32 +127,32 @@ plain_if true plain painted new is h = absurd (cc is)
 plain_if false plain painted new is h = h
 
 -- a byte after which the picture was painted
-pub after_byte_is : {D : Type 0} (says : D → Data) (fault : Option StoreFault) (old mid new : SessionState D) (b : ℕ) (key : Option Key)
+pub after_byte_is : {D : Type 0} (ucd : D → Data) (fault : Option StoreFault) (old mid new : SessionState D) (b : ℕ) (key : Option Key)
     → is_painted old.session b ≡ true → key ≡ key_of_byte old.session b
-    → mid ≡ record old { session = unpainted_after_byte (says old.tables) fault old.session b }
-    → new.session ≡ painted_after (says mid.tables) mid.session key → new.session ≡ after_byte (says old.tables) fault old.session b
-after_byte_is {D} says fault old mid new b key asks is e painted =
-    let d = says old.tables in
+    → mid ≡ record old { session = unpainted_after_byte (ucd old.tables) fault old.session b }
+    → new.session ≡ painted_after (ucd mid.tables) mid.session key → new.session ≡ after_byte (ucd old.tables) fault old.session b
+after_byte_is {D} ucd fault old mid new b key asks is e painted =
+    let d = ucd old.tables in
     let u = unpainted_after_byte d fault old.session b in
     with_clip_if (is_painted old.session b) u (painted_after d u (key_of_byte old.session b)) new.session asks
     (painted
-    ∙ ap (λ (x : SessionState D). painted_after (says x.tables) x.session key) e
+    ∙ ap (λ (x : SessionState D). painted_after (ucd x.tables) x.session key) e
     ∙ ap (painted_after d u) is)
 
 -- one that needs no painting
-pub quiet_is : {D : Type 0} (says : D → Data) (fault : Option StoreFault) (old new : SessionState D) (b : ℕ) → is_painted old.session b ≡ false
-    → new ≡ record old { session = unpainted_after_byte (says old.tables) fault old.session b }
-    → new.session ≡ after_byte (says old.tables) fault old.session b
-quiet_is {D} says fault old new b unasked e =
-    let d = says old.tables in
+pub quiet_is : {D : Type 0} (ucd : D → Data) (fault : Option StoreFault) (old new : SessionState D) (b : ℕ) → is_painted old.session b ≡ false
+    → new ≡ record old { session = unpainted_after_byte (ucd old.tables) fault old.session b }
+    → new.session ≡ after_byte (ucd old.tables) fault old.session b
+quiet_is {D} ucd fault old new b unasked e =
+    let d = ucd old.tables in
     let u = unpainted_after_byte d fault old.session b in
     plain_if (is_painted old.session b) u (painted_after d u (key_of_byte old.session b)) new.session unasked (ap (λ (x : SessionState D). x.session) e)
 
-pub owing_is : {D : Type 0} (says : D → Data) (fault : Option StoreFault) (old mid new : SessionState D) (b : ℕ) (result : Result Status Refused)
-    → is_painted old.session b ≡ true → mid ≡ record old { session = unpainted_after_byte (says old.tables) fault old.session b }
-    → new.session ≡ with_painting_owed mid.session → result ≡ Err Paint → AfterByte (says old.tables) fault old.session b result new.session
-owing_is {D} says fault old mid new b result asks e owed is =
-    subst (λ r. AfterByte (says old.tables) fault old.session b r new.session) (sym is)
+pub owing_is : {D : Type 0} (ucd : D → Data) (fault : Option StoreFault) (old mid new : SessionState D) (b : ℕ) (result : Result Status Refused)
+    → is_painted old.session b ≡ true → mid ≡ record old { session = unpainted_after_byte (ucd old.tables) fault old.session b }
+    → new.session ≡ with_painting_owed mid.session → result ≡ Err Paint → AfterByte (ucd old.tables) fault old.session b result new.session
+owing_is {D} ucd fault old mid new b result asks e owed is =
+    subst (λ r. AfterByte (ucd old.tables) fault old.session b r new.session) (sym is)
     (owed ∙ ap (λ (x : SessionState D). with_painting_owed x.session) e, asks)
 
 -- ---- a byte that completes no key
@@ -225,37 +197,37 @@ same_screen_after d fault s None = refl
 same_screen_after d fault s (Some key) = ap (λ ended. if asks_for_whole key || ended then None else s.known) (same_ended d fault s.editor key)
 
 -- what is said of the queue and of the screen before the byte's key was applied
-byte_says : {D : Type 0} (Says : Data → List ℕ → Option PictureState → Type 0) (says : D → Data) (fault : Option StoreFault) (old mid : SessionState D) (b : ℕ)
-    → mid ≡ record old { session = unpainted_after_byte (says old.tables) fault old.session b }
-    → Says (says mid.tables) mid.session.pending mid.session.known
-    → Says (says old.tables) old.session.pending (unpainted_after_byte (says old.tables) None old.session b).known
-byte_says {D} Says says fault old mid b e h =
-    let d = says old.tables in
+byte_says : {D : Type 0} (Says : Data → List ℕ → Option PictureState → Type 0) (ucd : D → Data) (fault : Option StoreFault) (old mid : SessionState D) (b : ℕ)
+    → mid ≡ record old { session = unpainted_after_byte (ucd old.tables) fault old.session b }
+    → Says (ucd mid.tables) mid.session.pending mid.session.known
+    → Says (ucd old.tables) old.session.pending (unpainted_after_byte (ucd old.tables) None old.session b).known
+byte_says {D} Says ucd fault old mid b e h =
+    let d = ucd old.tables in
     let s = after_spending old.session b in
     let key = key_of_byte old.session b in
     let pending : (session_after_any d fault s key).pending ≡ old.session.pending = unpainted_pending d fault old.session b in
     subst (λ (q : List ℕ). Says d q (session_after_any d None s key).known) pending
     (subst (λ (p : Option PictureState). Says d (session_after_any d fault s key).pending p) (same_screen_after d fault s key)
-    (subst (λ (x : SessionState D). Says (says x.tables) x.session.pending x.session.known) e h))
+    (subst (λ (x : SessionState D). Says (ucd x.tables) x.session.pending x.session.known) e h))
 
-pub byte_paints : {D : Type 0} (says : D → Data) (fault : Option StoreFault) (old mid : SessionState D) (new : Session) (b : ℕ)
-    → mid ≡ record old { session = unpainted_after_byte (says old.tables) fault old.session b }
-    → QueuesPicture (says mid.tables) mid.session.pending mid.session.known new → FeedPaints (says old.tables) old.session b new
-byte_paints says fault old mid new b e h = byte_says (λ d before known. QueuesPicture d before known new) says fault old mid b e h
+pub byte_paints : {D : Type 0} (ucd : D → Data) (fault : Option StoreFault) (old mid : SessionState D) (new : Session) (b : ℕ)
+    → mid ≡ record old { session = unpainted_after_byte (ucd old.tables) fault old.session b }
+    → QueuesPicture (ucd mid.tables) mid.session.pending mid.session.known new → FeedPaints (ucd old.tables) old.session b new
+byte_paints ucd fault old mid new b e h = byte_says (λ d before known. QueuesPicture d before known new) ucd fault old mid b e h
 
-pub byte_appends : {D : Type 0} (says : D → Data) (fault : Option StoreFault) (old mid : SessionState D) (new : Session) (b : ℕ)
-    → mid ≡ record old { session = unpainted_after_byte (says old.tables) fault old.session b }
-    → AppendsPainting (says mid.tables) mid.session.pending mid.session.known new → FeedAppends (says old.tables) old.session b new
-byte_appends says fault old mid new b e h = byte_says (λ d before known. AppendsPainting d before known new) says fault old mid b e h
+pub byte_appends : {D : Type 0} (ucd : D → Data) (fault : Option StoreFault) (old mid : SessionState D) (new : Session) (b : ℕ)
+    → mid ≡ record old { session = unpainted_after_byte (ucd old.tables) fault old.session b }
+    → AppendsPainting (ucd mid.tables) mid.session.pending mid.session.known new → FeedAppends (ucd old.tables) old.session b new
+byte_appends ucd fault old mid new b e h = byte_says (λ d before known. AppendsPainting d before known new) ucd fault old mid b e h
 
 -- ---- a told size
 
-pub told_is : {D : Type 0} (says : D → Data) (old mid new : SessionState D) (height width : ℕ) (result : Result (Unit {0}) Refused)
+pub told_is : {D : Type 0} (ucd : D → Data) (old mid new : SessionState D) (height width : ℕ) (result : Result (Unit {0}) Refused)
     → is_size height width ≡ true → mid ≡ record old { session = unpainted_after_told old.session height width }
-    → OnOk result (new.session ≡ with_painting (says mid.tables) mid.session) → OnErr result (new.session ≡ with_painting_owed mid.session)
-    → OnErr result (result ≡ Err Paint) → ToldBy (says old.tables) old.session height width result new.session
-told_is {D} says old mid new height width (Ok done) sized e ok err memory =
-    (sized, ok ∙ ap (λ (x : SessionState D). with_painting (says x.tables) x.session) e)
-told_is {D} says old mid new height width (Err Edit) sized e ok err memory = absurd (cc memory)
-told_is {D} says old mid new height width (Err Paint) sized e ok err memory = (sized, err ∙ ap (λ (x : SessionState D). with_painting_owed x.session) e)
-told_is {D} says old mid new height width (Err Size) sized e ok err memory = absurd (cc memory)
+    → OnOk result (new.session ≡ with_painting (ucd mid.tables) mid.session) → OnErr result (new.session ≡ with_painting_owed mid.session)
+    → OnErr result (result ≡ Err Paint) → ToldBy (ucd old.tables) old.session height width result new.session
+told_is {D} ucd old mid new height width (Ok done) sized e ok err memory =
+    (sized, ok ∙ ap (λ (x : SessionState D). with_painting (ucd x.tables) x.session) e)
+told_is {D} ucd old mid new height width (Err Edit) sized e ok err memory = absurd (cc memory)
+told_is {D} ucd old mid new height width (Err Paint) sized e ok err memory = (sized, err ∙ ap (λ (x : SessionState D). with_painting_owed x.session) e)
+told_is {D} ucd old mid new height width (Err Size) sized e ok err memory = absurd (cc memory)

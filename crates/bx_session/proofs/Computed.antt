@@ -1,6 +1,6 @@
 -- A session computed with the small tables.
 use Rattle.std.proofs.Common.{ℕ, List, [], ◌∷◌, None}
-use Rattle.bx_terms.specs.declared.base.Base.TheVariants.{Auto}
+use Rattle.bx_common.specs.declared.base.Base.TheVariants.{Auto}
 use Rattle.bx_editor.proofs.Computed.{tables}
 use Rattle.bx_session.specs.Session.{Session, at_opening, after_byte}
 

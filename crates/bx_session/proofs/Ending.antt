@@ -3,22 +3,21 @@ use Rattle.std.proofs.Common.{◌≡◌, ℕ, Bool, true, List, Option, Some, No
 use Rattle.std.specs.Prelude.{◌≢◌, is_some}
 use Rattle.bx_keys.specs.declared.key.Key.{Key}
 use Rattle.bx_keys.specs.declared.key.Key.TheVariants.{Save, Quit}
-use Rattle.bx_grid.specs.Picture.{PictureState}
 use Rattle.bx_store.specs.declared.store.StoreFault.{StoreFault}
 use Rattle.bx_ucd.specs.Data.{Data}
-use Rattle.bx_asking.specs.declared.question.Ask.{Ask}
-use Rattle.bx_asking.specs.declared.question.Ask.TheVariants as asks
-use Rattle.bx_editor.specs.declared.seek.Seek.{Seek}
-use Rattle.bx_editor.specs.declared.seek.Seek.TheVariants.{Off}
+use Rattle.bx_editor.specs.declared.questions.answers.Prompt.{Prompt}
+use Rattle.bx_editor.specs.declared.questions.answers.Prompt.TheVariants as asks
+use Rattle.bx_editor.specs.declared.search_state.SearchState.{SearchState}
+use Rattle.bx_editor.specs.declared.search_state.SearchState.TheVariants.{Off}
 use Rattle.bx_editor.specs.Editor.{Editor}
 use Rattle.bx_editor.specs.Keys.{after_key, after_press, after_user}
-use Rattle.bx_editor.specs.Pasting.{ended_with, paste_ended}
+use Rattle.bx_editor.specs.Putting.{ended_with, paste_ended}
 use Rattle.bx_editor.specs.Replay.{after_passed_quit, after_passed_save}
 use Rattle.bx_editor.proofs.Pasted.{ended-none}
-use Rattle.bx_session.specs.Painting.{FitsEditor}
-use Rattle.bx_session.specs.Session.{Session, SessionState, after_replay, after_replayed_key, after_spending, key_of_byte, known_after, session_after_replayed}
-use Rattle.bx_session.specs.Session.{session_replayed_on, session_scrolled, with_painting_owed}
-use Rattle.bx_session.proofs.KeySizes.{SameSize, ended_goes_on, fits_still, still_fits}
+use Rattle.bx_session.specs.Session.{Session, after_spending, key_of_byte, known_after, session_after_key}
+use Rattle.bx_session.specs.Feeding.{SessionState}
+use Rattle.bx_session.specs.Replaying.{after_replay, after_replayed_key, session_after_replayed, session_replayed_on, session_scrolled}
+use Rattle.bx_session.specs.Session.{with_painting_owed}
 
 -- no paste is under way any more
 pub over : (d : Data) (e : Editor) → (paste_ended d e).pasted ≡ None
@@ -66,7 +65,7 @@ refused_paste e some = by e.pasted some where
 pub not_pasting : (d : Data) (e : Editor) → e.pasted ≡ None → paste_ended d e ≡ e
 not_pasting d e none = ap (ended_with d e) none
 
-quit_session : (d : Data) (ask : Ask) (seek : Seek) (s : Session)
+quit_session : (d : Data) (ask : Prompt) (seek : SearchState) (s : Session)
     → session_after_replayed d ask seek (record s { editor = paste_ended d s.editor }) Quit ≡ session_after_replayed d ask seek s Quit
 quit_session d asks.Off Off s =
     let e : Editor = paste_ended d s.editor in
@@ -75,51 +74,52 @@ quit_session d asks.Off seek s = ap (λ (x : Editor). record s { editor = x; kno
 quit_session d ask seek s = ap (λ (x : Editor). record s { editor = x; known = known_after s.known Quit x }) (quit_ahead d None s.editor)
 
 -- a Quit, once the paste has ended
-pub quit_passed : {D : Type 0} (says : D → Data) (old mid new : SessionState D)
-    → mid ≡ record old { session = record old.session { editor = paste_ended (says old.tables) old.session.editor } }
-    → new ≡ record mid { session = session_after_replayed (says mid.tables) mid.session.editor.ask mid.session.editor.seek mid.session Quit }
-    → new ≡ record old { session = session_replayed_on (says old.tables) old.session Quit }
-quit_passed {D} says old mid new is passed =
-    let d = says old.tables in
+pub quit_passed : {D : Type 0} (ucd : D → Data) (old mid new : SessionState D)
+    → mid ≡ record old { session = record old.session { editor = paste_ended (ucd old.tables) old.session.editor } }
+    → new ≡ record mid { session = session_after_replayed (ucd mid.tables) mid.session.editor.ask mid.session.editor.seek mid.session Quit }
+    → new ≡ record old { session = session_replayed_on (ucd old.tables) old.session Quit }
+quit_passed {D} ucd old mid new is passed =
+    let d = ucd old.tables in
     let e : Editor = paste_ended d old.session.editor in
     passed
-    ∙ ap (λ (x : SessionState D). record x { session = session_after_replayed (says x.tables) x.session.editor.ask x.session.editor.seek x.session Quit }) is
+    ∙ ap (λ (x : SessionState D). record x { session = session_after_replayed (ucd x.tables) x.session.editor.ask x.session.editor.seek x.session Quit }) is
     ∙ ap (λ (s : Session). record old { session = s }) (quit_session d e.ask e.seek old.session)
 
 -- a Save, once the paste has ended
-pub save_passed : {D : Type 0} (says : D → Data) (old mid new : SessionState D)
-    → mid ≡ record old { session = record old.session { editor = paste_ended (says old.tables) old.session.editor } }
+pub save_passed : {D : Type 0} (ucd : D → Data) (old mid new : SessionState D)
+    → mid ≡ record old { session = record old.session { editor = paste_ended (ucd old.tables) old.session.editor } }
     → new ≡ record mid { session = record mid.session { editor = after_passed_save mid.session.editor } }
-    → new ≡ record old { session = session_replayed_on (says old.tables) old.session Save }
-save_passed {D} says old mid new is passed =
+    → new ≡ record old { session = session_replayed_on (ucd old.tables) old.session Save }
+save_passed {D} ucd old mid new is passed =
     passed ∙ ap (λ (x : SessionState D). record x { session = record x.session { editor = after_passed_save x.session.editor } }) is
 
+-- a Save that is applied, once the paste has ended
+pub save_is : {D : Type 0} (ucd : D → Data) (fault : Option StoreFault) (old mid new : SessionState D)
+    → mid ≡ record old { session = record old.session { editor = paste_ended (ucd old.tables) old.session.editor } }
+    → new ≡ record mid { session = session_after_key (ucd mid.tables) fault mid.session Save }
+    → new ≡ record old { session = session_after_key (ucd old.tables) fault old.session Save }
+save_is {D} ucd fault old mid new is saved =
+    saved
+    ∙ ap (λ (x : SessionState D). record x { session = session_after_key (ucd x.tables) fault x.session Save }) is
+    ∙ ap (λ (e : Editor). record old { session = record old.session { editor = e; known = known_after old.session.known Save e } })
+    (save_ahead (ucd old.tables) fault old.session.editor)
+
 -- a key, once the session is scrolled
-pub scrolled_first : {D : Type 0} (says : D → Data) (old mid new : SessionState D) (key : Key)
-    → mid ≡ record old { session = session_scrolled (says old.tables) old.session }
-    → new ≡ record mid { session = session_replayed_on (says mid.tables) mid.session key }
-    → new ≡ record old { session = after_replayed_key (says old.tables) old.session (Some key) }
-scrolled_first {D} says old mid new key is pressed =
-    pressed ∙ ap (λ (x : SessionState D). record x { session = session_replayed_on (says x.tables) x.session key }) is
+pub scrolled_first : {D : Type 0} (ucd : D → Data) (old mid new : SessionState D) (key : Key)
+    → mid ≡ record old { session = session_scrolled (ucd old.tables) old.session }
+    → new ≡ record mid { session = session_replayed_on (ucd mid.tables) mid.session key }
+    → new ≡ record old { session = after_replayed_key (ucd old.tables) old.session (Some key) }
+scrolled_first {D} ucd old mid new key is pressed =
+    pressed ∙ ap (λ (x : SessionState D). record x { session = session_replayed_on (ucd x.tables) x.session key }) is
 
 -- a byte, once it is decoded
-pub replay_is : {D : Type 0} (says : D → Data) (old mid new : SessionState D) (b : ℕ) (key : Option Key) → key ≡ key_of_byte old.session b
+pub replay_is : {D : Type 0} (ucd : D → Data) (old mid new : SessionState D) (b : ℕ) (key : Option Key) → key ≡ key_of_byte old.session b
     → mid ≡ record old { session = after_spending old.session b }
-    → new ≡ record mid { session = after_replayed_key (says mid.tables) mid.session key }
-    → record new { session = with_painting_owed new.session } ≡ record old { session = after_replay (says old.tables) old.session b }
-replay_is {D} says old mid new b key completes is pressed =
-    let d = says old.tables in
+    → new ≡ record mid { session = after_replayed_key (ucd mid.tables) mid.session key }
+    → record new { session = with_painting_owed new.session } ≡ record old { session = after_replay (ucd old.tables) old.session b }
+replay_is {D} ucd old mid new b key completes is pressed =
+    let d = ucd old.tables in
     ap (λ (x : SessionState D). record x { session = with_painting_owed x.session })
     (pressed
-    ∙ ap (λ (x : SessionState D). record x { session = after_replayed_key (says x.tables) x.session key }) is
+    ∙ ap (λ (x : SessionState D). record x { session = after_replayed_key (ucd x.tables) x.session key }) is
     ∙ ap (λ (k : Option Key). record old { session = after_replayed_key d (after_spending old.session b) k }) completes)
-
--- ---- the window's size
-
--- a painted picture fits as before
-pub ended_fits : (d : Data) (painted : Option PictureState) (e new : Editor) → new ≡ paste_ended d e → FitsEditor painted e → FitsEditor painted new
-ended_fits d painted e new is was = fits_still painted e new (subst (SameSize e) (sym is) (ended_goes_on d e).1) was
-
-pub save_fits : (d d' : Data) (fault : Option StoreFault) (painted : Option PictureState) (e mid new : Editor) → mid ≡ paste_ended d e
-    → new ≡ after_key d' fault mid Save → FitsEditor painted e → FitsEditor painted new
-save_fits d d' fault painted e mid new is saved was = still_fits d' fault painted mid new Save refl saved (ended_fits d painted e mid is was)

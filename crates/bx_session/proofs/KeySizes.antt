@@ -8,40 +8,41 @@ use Rattle.bx_keys.specs.declared.key.Key.TheVariants.{Quit, Size, PasteStart, P
 use Rattle.bx_grid.specs.Picture.{PictureState}
 use Rattle.bx_store.specs.declared.store.StoreFault.{StoreFault}
 use Rattle.bx_ucd.specs.Data.{Data}
-use Rattle.bx_asking.specs.declared.question.Ask.{Ask}
-use Rattle.bx_asking.specs.declared.question.Ask.TheVariants as asks
+use Rattle.bx_editor.specs.declared.questions.answers.Prompt.{Prompt}
+use Rattle.bx_editor.specs.declared.questions.answers.Prompt.TheVariants as asks
 use Rattle.bx_document.specs.History.{next_changes}
 use Rattle.bx_document.specs.Swapped.{behind_character, last_stop, swapped}
 use Rattle.bx_document.specs.declared.history.HistoryStep.{HistoryStep}
 use Rattle.bx_document.specs.declared.history.HistoryStep.TheVariants as history
-use Rattle.bx_runs.specs.declared.typing.Kind.{Kind}
-use Rattle.bx_runs.specs.declared.typing.Kind.TheVariants.{Separator}
-use Rattle.bx_runs.specs.declared.typing.Removal.{Removal}
-use Rattle.bx_runs.specs.declared.typing.Typing.{Typing}
-use Rattle.bx_runs.specs.Typing.{goes_on, kind_of}
-use Rattle.bx_editor.specs.declared.aim.Aim.TheVariants.{Replace}
-use Rattle.bx_editor.specs.declared.seek.Seek.{Seek}
-use Rattle.bx_editor.specs.declared.seek.Seek.TheVariants.{Off, Begun, Typed, WithBegun, WithTyped, Replacing}
-use Rattle.bx_editor.specs.declared.soft.Soft.{Soft}
-use Rattle.bx_editor.specs.declared.soft.Soft.TheVariants as softness
+use Rattle.bx_editor.specs.declared.undo_groups.typing.Kind.{Kind}
+use Rattle.bx_editor.specs.declared.undo_groups.typing.Kind.TheVariants.{Separator}
+use Rattle.bx_editor.specs.declared.undo_groups.typing.Removal.{Removal}
+use Rattle.bx_editor.specs.declared.undo_groups.typing.Typing.{Typing}
+use Rattle.bx_editor.specs.undo_groups.Groups.{goes_on, kind_of}
+use Rattle.bx_editor.specs.declared.search_state.SearchPurpose.TheVariants.{Replace}
+use Rattle.bx_editor.specs.declared.search_state.SearchState.{SearchState}
+use Rattle.bx_editor.specs.declared.search_state.SearchState.TheVariants.{Off, Begun, Typed, WithBegun, WithTyped, Replacing}
+use Rattle.bx_editor.specs.declared.cursor.Soft.{Soft}
+use Rattle.bx_editor.specs.declared.cursor.Soft.TheVariants as softness
 use Rattle.bx_editor.specs.Asking.{without_ask}
-use Rattle.bx_editor.specs.Editor.{Editor, after_quit, after_redo, after_save, after_step, after_undo, cleared, with_exchange}
+use Rattle.bx_editor.specs.Editor.{Editor, after_quit, after_redo, after_save, after_step, after_undo, cleared, with_exchange, by_run}
+use Rattle.bx_editor.specs.Editor.{run_length}
 use Rattle.bx_editor.specs.Effects.{Effect, Types, BeginsLine, Puts, Removes, RemovesWord, Steps, StepsRun, Goes, GoesByRows, Marks, Selects, Unmarks, Copies}
 use Rattle.bx_editor.specs.Effects.{Cuts, Seeks, SeeksNext, Saves, Quits, Turns, Helps, AsksLine, AsksName, Tells, Rests, Before, before, by}
 use Rattle.bx_editor.specs.Erasing.{after_erasing, after_erasing_word, after_removing, or_selection, removed_on}
 use Rattle.bx_editor.specs.Keys.{Answer, Letter, Shortens, GoesBack, Next, Previous, Replaces, Stays, Ends, after_any, after_asking, after_key, after_press, after_user, answer_of}
-use Rattle.bx_editor.specs.Keys.{answered, answered_match, answered_other, as_left, asks_for_whole, effect_of, is_size_key}
-use Rattle.bx_editor.specs.Pasting.{after_paste_end, after_paste_start, ended_with, paste_ended, without_paste}
-use Rattle.bx_editor.specs.Putting.{after_character, after_new_line, after_put, has_room, is_paste, line_end, put_in, typed, yielding}
-use Rattle.bx_editor.specs.Region.{after_copy, after_cut, after_mark, is_at_mark, is_empty, line, region, taken}
-use Rattle.bx_editor.specs.Replacing.{after_asking_other, after_match_letter, after_other_letter, after_replacing, after_replacing_all, after_sought_end, after_sought_letter}
+use Rattle.bx_editor.specs.Keys.{answered, answered_match, answered_replacement, as_left, asks_for_whole, effect_of}
+use Rattle.bx_editor.specs.Functions.{is_size_key}
+use Rattle.bx_editor.specs.Putting.{after_paste_end, after_paste_start, ended_with, paste_ended, without_paste, after_character}
+use Rattle.bx_editor.specs.Putting.{after_new_line, after_put, has_room, is_paste, line_end, put_in, typed, yielding}
+use Rattle.bx_editor.specs.Region.{after_copy, after_cut, after_mark, is_at_mark, is_empty, line, region, taken, is_selection, selecting}
+use Rattle.bx_editor.specs.Region.{unselected}
+use Rattle.bx_editor.specs.Replacing.{after_asking_replacement, after_match_letter, after_replacement_letter, after_replacing, after_replacing_all, after_sought_end, after_sought_letter}
 use Rattle.bx_editor.specs.Replacing.{asked_at, at_match, is_replacing, match_stop, matches_on, next_match, shown_at, with_matches_replaced}
-use Rattle.bx_editor.specs.Runs.{by_run, run_length}
 use Rattle.bx_editor.specs.Search.{after_letter, is_no_letter, landed, landing_from, sought, without_search}
-use Rattle.bx_editor.specs.Selecting.{is_selection, selecting, unselected}
 use Rattle.bx_editor.proofs.EffectsKept.{IsKeptPasting, pasted-letter-keeps, start-keeps}
 use Rattle.bx_editor.proofs.InSearch.{each-key, press-keeps}
-use Rattle.bx_editor.proofs.Questions.{IsKept, question-keeps}
+use Rattle.bx_editor.proofs.QuestionSteps.{IsKept, question-keeps}
 use Rattle.bx_session.specs.Painting.{FitsEditor}
 use Rattle.bx_session.specs.Parts.{is_quit}
 use Rattle.bx_session.proofs.KeyKinds.{effect_kind, is_quitting}
@@ -185,15 +186,15 @@ module _ (key : Key) where
   replacing_kept : (d : Data) (e : Editor) → Keeps e (after_replacing d e)
   replacing_kept d e =
       let stop = match_stop d e in
-      let one = with_matches_replaced d e stop e.other 1 in
-      kept_if (fits e.content.text e.at stop e.other) e _ _
-      (at_kept d (next_match d one (e.at + length e.other)) e one (exchange_kept d e e.at stop e.other)) refl
+      let one = with_matches_replaced d e stop e.replacement 1 in
+      kept_if (fits e.content.text e.at stop e.replacement) e _ _
+      (at_kept d (next_match d one (e.at + length e.replacement)) e one (exchange_kept d e e.at stop e.replacement)) refl
 
   all_kept : (d : Data) (e : Editor) → Keeps e (after_replacing_all d e)
   all_kept d e =
       let spans = matches_on d e in
       let stop = last_stop e.at spans in
-      let new = swapped e.at e.content.text e.other spans in
+      let new = swapped e.at e.content.text e.replacement spans in
       kept_if (fits e.content.text e.at stop new) e _ _ (exchange_kept d e e.at stop new) refl
 
   shown_kept : (e : Editor) (at : Option ℕ) → Keeps e (shown_at e at)
@@ -204,21 +205,21 @@ module _ (key : Key) where
   asked_kept e landed None h = h
   asked_kept e landed (Some place) h = h
 
-  asking_other_kept : (d : Data) (e : Editor) → Keeps e (after_asking_other d e)
-  asking_other_kept d e =
+  asking_replacement_kept : (d : Data) (e : Editor) → Keeps e (after_asking_replacement d e)
+  asking_replacement_kept d e =
       let aimed : Editor = record e { aim = Replace } in
       let landing = landing_from d e.place aimed in
       kept_if (length (sought d aimed) == 0) e _ _ refl (asked_kept e (landed aimed landing) landing.place refl)
 
   sought_end_kept : (d : Data) (typing : Typing) (e : Editor) → Keeps e (after_sought_end d typing e)
   sought_end_kept d typing e =
-      kept_if (is_replacing e.aim) e _ _ (kept_if (is_paste typing) e _ _ refl (asking_other_kept d e)) (kept_if (is_paste typing) e _ _ refl refl)
+      kept_if (is_replacing e.aim) e _ _ (kept_if (is_paste typing) e _ _ refl (asking_replacement_kept d e)) (kept_if (is_paste typing) e _ _ refl refl)
 
   sought_letter_kept : (d : Data) (typing : Typing) (e : Editor) (c : ℕ) → Keeps e (after_sought_letter d typing e c)
   sought_letter_kept d typing e c = kept_if (c == 0xA) e _ _ (sought_end_kept d typing e) (letter_kept d e c)
 
-  other_letter_kept : (d : Data) (typing : Typing) (e : Editor) (c : ℕ) → Keeps e (after_other_letter d typing e c)
-  other_letter_kept d typing e c =
+  replacement_letter_kept : (d : Data) (typing : Typing) (e : Editor) (c : ℕ) → Keeps e (after_replacement_letter d typing e c)
+  replacement_letter_kept d typing e c =
       kept_if (c == 0xA) e _ _ (kept_if (is_paste typing) e _ _ refl (shown_kept e (next_match d e e.place)))
       (kept_if (is_no_letter d c) e _ _ refl refl)
 
@@ -232,21 +233,21 @@ module _ (key : Key) where
   answered_kept d fault was e GoesBack = refl
   answered_kept d fault was e Next = refl
   answered_kept d fault was e Previous = refl
-  answered_kept d fault was e Replaces = asking_other_kept d e
+  answered_kept d fault was e Replaces = asking_replacement_kept d e
   answered_kept d fault was e Stays = refl
   answered_kept d fault was e Ends = ends d fault was e
 
-  -- while the other text is asked for
-  other_text_kept : (d : Data) (fault : Option StoreFault) (was : Before) (e : Editor) (answer : Answer)
-      → Keeps e (answered_other d fault was e key answer)
-  other_text_kept d fault was e (Letter c) = other_letter_kept d was.typing e c
-  other_text_kept d fault was e Shortens = refl
-  other_text_kept d fault was e GoesBack = refl
-  other_text_kept d fault was e Next = refl
-  other_text_kept d fault was e Previous = refl
-  other_text_kept d fault was e Replaces = shown_kept e (next_match d e e.place)
-  other_text_kept d fault was e Stays = refl
-  other_text_kept d fault was e Ends = ends d fault was (without_search e)
+  -- while the replacement is asked for
+  replacement_kept : (d : Data) (fault : Option StoreFault) (was : Before) (e : Editor) (answer : Answer)
+      → Keeps e (answered_replacement d fault was e key answer)
+  replacement_kept d fault was e (Letter c) = replacement_letter_kept d was.typing e c
+  replacement_kept d fault was e Shortens = refl
+  replacement_kept d fault was e GoesBack = refl
+  replacement_kept d fault was e Next = refl
+  replacement_kept d fault was e Previous = refl
+  replacement_kept d fault was e Replaces = shown_kept e (next_match d e e.place)
+  replacement_kept d fault was e Stays = refl
+  replacement_kept d fault was e Ends = ends d fault was (without_search e)
 
   -- while a match is shown
   match_kept : (d : Data) (fault : Option StoreFault) (was : Before) (e : Editor) (answer : Answer)
@@ -276,13 +277,13 @@ module _ (key : Key) where
       question-keeps d (Keeps e) (question_kept d e) fault was e key (answer_of key) refl
       (ends d fault was (without_ask e))
 
-  any_kept : (d : Data) (fault : Option StoreFault) (was : Before) (ask : Ask) (seek : Seek) (e : Editor)
+  any_kept : (d : Data) (fault : Option StoreFault) (was : Before) (ask : Prompt) (seek : SearchState) (e : Editor)
       → Keeps e (after_any d fault was ask seek e key)
   any_kept d fault was asks.Off Off e = ends d fault was e
   any_kept d fault was asks.Off Begun e = answered_kept d fault was e (answer_of key)
   any_kept d fault was asks.Off Typed e = answered_kept d fault was e (answer_of key)
-  any_kept d fault was asks.Off WithBegun e = other_text_kept d fault was e (answer_of key)
-  any_kept d fault was asks.Off WithTyped e = other_text_kept d fault was e (answer_of key)
+  any_kept d fault was asks.Off WithBegun e = replacement_kept d fault was e (answer_of key)
+  any_kept d fault was asks.Off WithTyped e = replacement_kept d fault was e (answer_of key)
   any_kept d fault was asks.Off Replacing e = match_kept d fault was e (answer_of key)
   any_kept d fault was asks.Line seek e = asking_kept d fault was e
   any_kept d fault was asks.Name seek e = asking_kept d fault was e
@@ -358,7 +359,7 @@ ended_goes_on d e =
     let kept = ended_kept PasteEnd d e in (ap (λ (p : Part). p.ended) kept, same_size PasteEnd e (paste_ended d e) kept)
 
 -- what a Quit does does not depend on a Save
-quit_alike : (d : Data) (fault : Option StoreFault) (was : Before) (ask : Ask) (seek : Seek) (e : Editor)
+quit_alike : (d : Data) (fault : Option StoreFault) (was : Before) (ask : Prompt) (seek : SearchState) (e : Editor)
     → after_any d fault was ask seek e Quit ≡ after_any d None was ask seek e Quit
 quit_alike d fault was asks.Off Off e = refl
 quit_alike d fault was asks.Off seek e = refl

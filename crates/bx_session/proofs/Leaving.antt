@@ -9,10 +9,10 @@ use Rattle.bx_ucd.specs.Data.{Data}
 use Rattle.bx_editor.specs.Editor.{Editor, with_top}
 use Rattle.bx_editor.specs.Keys.{after_key}
 use Rattle.bx_editor.specs.Picture.{next_top}
-use Rattle.bx_session.specs.declared.error.Refused.{Refused}
-use Rattle.bx_session.specs.declared.error.Refused.TheVariants as refused
+use Rattle.bx_session.specs.declared.status.Refused.{Refused}
+use Rattle.bx_session.specs.declared.status.Refused.TheVariants as refused
 use Rattle.bx_session.specs.declared.status.Status.{Status}
-use Rattle.bx_session.specs.Saving.{AfterByte}
+use Rattle.bx_session.specs.Feeding.{AfterByte}
 use Rattle.bx_session.specs.Session.{Session, after_spending, is_painted, key_of_byte, painted_after, session_after_any}
 
 abbrev pub editor_after : Data → Option StoreFault → Editor → Option Key → Editor

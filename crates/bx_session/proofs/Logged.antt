@@ -9,8 +9,7 @@ use Rattle.bx_session.specs.declared.end.End.{End}
 use Rattle.bx_session.specs.declared.end.End.TheVariants.{Quit, InputEnded}
 use Rattle.bx_session.specs.declared.end.RunFault.{RunFault}
 use Rattle.bx_session.specs.declared.end.RunFault.TheVariants.{ReadFault, WriteFault, ReadLimit}
-use Rattle.bx_session.specs.Session.{Session}
-use Rattle.bx_session.specs.Saving.{StoreState}
+use Rattle.bx_session.specs.Session.{Session, StoreState}
 use Rattle.bx_session.specs.Running.{ByteAnswer, FedUntilEnd, Sent, Turn, bytes_of, read_in, read_size}
 use Rattle.bx_session.specs.Log.{Step, Calls, AreTaken, HasLogged, IsLog, FailsLast, IsFailedSending, LoggedTurn}
 use Rattle.bx_session.specs.Log.{bytes_by, in_parts, obeyed_in, read_by, kept_by, written_by, part_steps, sending, turn_steps, run_steps}
@@ -154,7 +153,7 @@ module _ {V : Type 0} (did : V → Action → V → Type 0) (obeyed : V → Sess
   -- ---- one turn more
 
   -- what happened in a turn, between its read and its end; the tables stay the same
-  pub record InTurn {D : Type 0} (says : D → Data) (tables tables1 : D) (s s2 s3 : Session) (device1 device2 device3 : V) (answered : List ByteAnswer)
+  pub record InTurn {D : Type 0} (ucd : D → Data) (tables tables1 : D) (s s2 s3 : Session) (device1 device2 device3 : V) (answered : List ByteAnswer)
       (dropped written bytes : List ℕ) (parts : List (List ByteAnswer)) (sends : List Step) : Type 0 where
     pub stay : tables1 ≡ tables
     pub empty : s.pending ≡ []
@@ -164,44 +163,44 @@ module _ {V : Type 0} (did : V → Action → V → Type 0) (obeyed : V → Sess
     pub mid : V
     pub reads : did device1 (Read bytes) mid
     pub reads_stored : stored mid ≡ stored device1
-    pub fed : FedUntilEnd (says tables1) s (stored mid) bytes s2 (stored device2) answered dropped
-    pub kept : AreTaken did obeyed stored (says tables1) mid s (part_steps parts) device2 s2
+    pub fed : FedUntilEnd (ucd tables1) s (stored mid) bytes s2 (stored device2) answered dropped
+    pub kept : AreTaken did obeyed stored (ucd tables1) mid s (part_steps parts) device2 s2
     pub joined : in_parts parts ≡ answered
     pub sent : Sent s2 s3 None None written
     pub sends_taken : (d : Data) → AreTaken did obeyed stored d device2 s2 sends device3 s3
     pub sends_stored : stored device3 ≡ stored device2
 
-  module _ {D : Type 0} (says : D → Data) (tables tables1 : D) (limit : ℕ) (old s s2 s3 : Session) (device device1 device2 device3 : V)
+  module _ {D : Type 0} (ucd : D → Data) (tables tables1 : D) (limit : ℕ) (old s s2 s3 : Session) (device device1 device2 device3 : V)
       (answered : List ByteAnswer) (dropped written bytes : List ℕ) (parts : List (List ByteAnswer)) (sends : List Step)
-      (before : HasLogged did obeyed stored (says tables) limit (Ok Quit) old s device device1)
-      (turn : InTurn says tables tables1 s s2 s3 device1 device2 device3 answered dropped written bytes parts sends) where
+      (before : HasLogged did obeyed stored (ucd tables) limit (Ok Quit) old s device device1)
+      (turn : InTurn ucd tables tables1 s s2 s3 device1 device2 device3 answered dropped written bytes parts sends) where
     abbrev this : LoggedTurn
     this = record { turn = record { fed = answered; dropped = dropped; written = written }; parts = parts; joined = turn.joined }
 
     -- the steps of the turn
-    turn_taken : AreTaken did obeyed stored (says tables) device1 s (turn_by bytes parts sends) device3 s3
+    turn_taken : AreTaken did obeyed stored (ucd tables) device1 s (turn_by bytes parts sends) device3 s3
     turn_taken =
-        let d = says tables in
+        let d = ucd tables in
         let kept : AreTaken did obeyed stored d turn.mid s (part_steps parts) device2 s2 =
-        subst (λ (t : D). AreTaken did obeyed stored (says t) turn.mid s (part_steps parts) device2 s2) turn.stay turn.kept in (
+        subst (λ (t : D). AreTaken did obeyed stored (ucd t) turn.mid s (part_steps parts) device2 s2) turn.stay turn.kept in (
           turn.mid,
           s,
           unwritten did obeyed stored d device1 turn.mid s (Read bytes) refl turn.reads turn.reads_stored,
           taken_more did obeyed stored d turn.mid device2 device3 s s2 s3 (part_steps parts) sends kept (turn.sends_taken d),
         )
 
-    turn_fed : FedUntilEnd (says tables1) s (stored device1) bytes s2 (stored device3) answered dropped
+    turn_fed : FedUntilEnd (ucd tables1) s (stored device1) bytes s2 (stored device3) answered dropped
     turn_fed =
-        subst (λ (x : StoreState). FedUntilEnd (says tables1) s x bytes s2 (stored device3) answered dropped) turn.reads_stored
-        (subst (λ (x : StoreState). FedUntilEnd (says tables1) s (stored turn.mid) bytes s2 x answered dropped) (sym turn.sends_stored) turn.fed)
+        subst (λ (x : StoreState). FedUntilEnd (ucd tables1) s x bytes s2 (stored device3) answered dropped) turn.reads_stored
+        (subst (λ (x : StoreState). FedUntilEnd (ucd tables1) s (stored turn.mid) bytes s2 x answered dropped) (sym turn.sends_stored) turn.fed)
 
     -- the turn, where its sending went so and left a log of this answer
     turn_more : (result : Result End RunFault) → IsSentAlone written sends
         → IsLog limit result before.run.in_turns.first (before.turns ++ this ∷ []) (before.log ++ turn_by bytes parts sends)
-        → HasLogged did obeyed stored (says tables) limit result old s3 device device3
+        → HasLogged did obeyed stored (ucd tables) limit result old s3 device device3
     unfolding turned
     turn_more result alone order =
-        let drops = run_drops (says tables) old s (stored device) (stored device1) None None None None before.answered before.dropped before.written before.all
+        let drops = run_drops (ucd tables) old s (stored device) (stored device1) None None None None before.answered before.dropped before.written before.all
         before.run in
         let on = read_on s s2 before.answered answered before.dropped dropped bytes drops turn.running turn_fed.all in
         let own = turn_alone bytes written parts sends alone in record {
@@ -209,11 +208,11 @@ module _ {V : Type 0} (did : V → Action → V → Type 0) (obeyed : V → Sess
           dropped = dropped;
           written = before.written ++ written;
           all = record s2 { pending = before.all.pending ++ s2.pending };
-          run = turned says tables tables1 old s s2 s3 (stored device) (stored device1) (stored device3) None None None None None None before.answered answered
+          run = turned ucd tables tables1 old s s2 s3 (stored device) (stored device1) (stored device3) None None None None None None before.answered answered
               before.dropped dropped before.written written bytes before.all before.run turn.stay turn.empty turn.running turn.some turn.most tt turn_fed
               turn.sent;
           log = before.log ++ turn_by bytes parts sends;
-          taken = taken_more did obeyed stored (says tables) device device1 device3 old s s3 before.log (turn_by bytes parts sends) before.taken turn_taken;
+          taken = taken_more did obeyed stored (ucd tables) device device1 device3 old s s3 before.log (turn_by bytes parts sends) before.taken turn_taken;
           turns = before.turns ++ this ∷ [];
           in_turns = map-append (λ (l : LoggedTurn). l.turn) before.turns (this ∷ []) ∙ ap (λ xs. xs ++ this.turn ∷ []) before.in_turns;
           order = order;
@@ -233,7 +232,7 @@ module _ {V : Type 0} (did : V → Action → V → Type 0) (obeyed : V → Sess
               ∙ ap (λ xs. xs ++ written) before.writes;
         }
 
-    pub turn_sent : sends ≡ sending written → (after : HasLogged did obeyed stored (says tables) limit (Ok Quit) old s3 device device3)
+    pub turn_sent : sends ≡ sending written → (after : HasLogged did obeyed stored (ucd tables) limit (Ok Quit) old s3 device device3)
         × (length after.turns ≡ length before.turns + 1)
     unfolding turn_more
     turn_sent is = (
@@ -242,7 +241,7 @@ module _ {V : Type 0} (did : V → Action → V → Type 0) (obeyed : V → Sess
       length-append before.turns (this ∷ []),
     )
 
-    pub turn_failed : IsFailedSending written sends → HasLogged did obeyed stored (says tables) limit (Err WriteFault) old s3 device device3
+    pub turn_failed : IsFailedSending written sends → HasLogged did obeyed stored (ucd tables) limit (Err WriteFault) old s3 device device3
     turn_failed failed =
         turn_more (Err WriteFault) (failed_alone written sends failed)
         (failed_turn before.log before.run.in_turns.first before.turns this bytes sends before.order turn.fed.all failed)

@@ -13,8 +13,7 @@ use Rattle.bx_session.specs.declared.end.End.TheVariants.{Quit, InputEnded}
 use Rattle.bx_session.specs.declared.end.RunFault.{RunFault}
 use Rattle.bx_session.specs.declared.end.RunFault.TheVariants.{ReadFault, WriteFault, ReadLimit}
 use Rattle.bx_session.specs.declared.wired.Wired.{Wired}
-use Rattle.bx_session.specs.Session.{Session}
-use Rattle.bx_session.specs.Saving.{StoreState, store_state}
+use Rattle.bx_session.specs.Session.{Session, StoreState, store_state}
 use Rattle.bx_session.specs.Running.{ByteAnswer, EndsWith, HasRead, Turn, TakesTurns, read_in}
 use Rattle.bx_session.specs.Journal.{HasKept, RunsRecorded}
 use Rattle.bx_session.specs.Log.{Step, Calls, Obeys, AreTaken, HasLogged, LoggedTurn}

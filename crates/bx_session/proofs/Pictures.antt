@@ -4,16 +4,20 @@ use Rattle.std.proofs.Common.{◌∙◌, append_assoc, arith, if◌then◌else�
 use Rattle.std.specs.Prelude.{IfSome}
 use Rattle.std.proofs.lemmas.List.{append-nil, drop-append-le, length-append}
 use Rattle.base64.specs.Engines.{standard}
-use Rattle.bx_grid.specs.Clip.{clip_bytes, decode_of, encode_of}
-use Rattle.bx_grid.specs.Picture.{PictureState, AreWholeTokens, IsIdle, IsPicture, Shows}
+use Rattle.base64.specs.GeneralPurpose.{decode_of}
+use Rattle.base64.specs.GeneralPurpose.{encode_of}
+use Rattle.bx_grid.specs.Tokens.{clip_bytes}
+use Rattle.bx_grid.specs.Picture.{PictureState, IsIdle, Shows}
+use Rattle.bx_grid.specs.Grid.{AreWholeTokens, IsPicture}
 use Rattle.bx_grid.specs.Terminal.{Terminal, reads}
 use Rattle.bx_keys.specs.declared.key.Key.{Key}
 use Rattle.bx_ucd.specs.Data.{Data}
-use Rattle.bx_editor.specs.Clipboard.{is_clip}
+use Rattle.bx_editor.specs.Region.{is_clip}
 use Rattle.bx_editor.specs.Editor.{Editor, rows, with_top}
 use Rattle.bx_editor.specs.Picture.{StandsOnItsCell, picture, next_top, blank_picture, text_picture}
 use Rattle.bx_session.specs.declared.session.Session.TheInside.{Inside}
-use Rattle.bx_session.specs.Session.{Session, clip_after, known_if, painted_after, painting, picture_of, then_clip}
+use Rattle.bx_session.specs.Session.{Session, clip_after, painted_after, painting, picture_of, then_clip}
+use Rattle.bx_session.specs.Feeding.{known_if}
 use Rattle.bx_session.specs.Painting.{AppendsPainting, IsClipOf, QueuesPicture, Updates}
 use Rattle.bx_session.proofs.Tops.{drawn_is, stands_on}
 

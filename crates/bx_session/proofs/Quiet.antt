@@ -8,16 +8,17 @@ use Rattle.bx_keys.specs.Waiting.{head_of}
 use Rattle.bx_grid.specs.Picture.{PictureState}
 use Rattle.bx_store.specs.declared.store.StoreFault.{StoreFault}
 use Rattle.bx_ucd.specs.Data.{Data}
-use Rattle.bx_asking.specs.declared.question.Ask.{Ask}
-use Rattle.bx_asking.specs.declared.question.Ask.TheVariants as asks
-use Rattle.bx_editor.specs.declared.seek.Seek.{Seek}
-use Rattle.bx_editor.specs.declared.seek.Seek.TheVariants as seeks
+use Rattle.bx_editor.specs.declared.questions.answers.Prompt.{Prompt}
+use Rattle.bx_editor.specs.declared.questions.answers.Prompt.TheVariants as asks
+use Rattle.bx_editor.specs.declared.search_state.SearchState.{SearchState}
+use Rattle.bx_editor.specs.declared.search_state.SearchState.TheVariants as seeks
 use Rattle.bx_editor.specs.Editor.{Editor, with_typing}
 use Rattle.bx_editor.specs.Keys.{after_key, after_press, asks_for_whole, needs_no_painting}
-use Rattle.bx_editor.specs.Pasting.{after_paste_start, after_pasted_letter, paste_begun}
-use Rattle.bx_editor.specs.Picture.{LooksAs, StandsOnItsCell, picture}
+use Rattle.bx_editor.specs.Putting.{after_paste_start, after_pasted_letter, paste_begun}
+use Rattle.bx_editor.specs.Picture.{StandsOnItsCell, picture}
+use Rattle.bx_editor.specs.PasteLaws.{LooksAs}
 use Rattle.bx_editor.proofs.Unseen.{letter-unseen, start-unseen}
-use Rattle.bx_runs.specs.declared.typing.Typing.TheVariants.{Paste}
+use Rattle.bx_editor.specs.declared.undo_groups.typing.Typing.TheVariants.{Paste}
 use Rattle.bx_session.specs.Painting.{ShowsState}
 use Rattle.bx_session.specs.Session.{Session, after_spending, key_of_byte, needs_painting, picture_of, session_after_any}
 
@@ -40,7 +41,7 @@ letter_quiet d e c =
       width = refl;
     }
 
-begun_is : (e : Editor) (ask : Ask) (seek : Seek) (list : List ℕ) → paste_begun ask seek (Some list) e ≡ e
+begun_is : (e : Editor) (ask : Prompt) (seek : SearchState) (list : List ℕ) → paste_begun ask seek (Some list) e ≡ e
 begun_is e asks.Off seeks.Off list = refl
 begun_is e asks.Off seeks.Begun list = refl
 begun_is e asks.Off seeks.Typed list = refl

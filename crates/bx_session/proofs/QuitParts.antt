@@ -8,13 +8,13 @@ use Rattle.bx_keys.specs.Waiting.{head_of}
 use Rattle.bx_store.specs.declared.store.StoreFault.{StoreFault}
 use Rattle.bx_ucd.specs.Data.{Data}
 use Rattle.bx_editor.specs.Editor.{Editor}
-use Rattle.bx_session.specs.declared.error.Refused.{Refused}
-use Rattle.bx_session.specs.declared.error.Refused.TheVariants as refused
+use Rattle.bx_session.specs.declared.status.Refused.{Refused}
+use Rattle.bx_session.specs.declared.status.Refused.TheVariants as refused
 use Rattle.bx_session.specs.declared.status.Status.{Status}
 use Rattle.bx_session.specs.Parts.{is_quit, part_length}
 use Rattle.bx_session.specs.Running.{ByteAnswer, FeedsAll, FedUntilEnd, bytes_of}
-use Rattle.bx_session.specs.Saving.{StoreState, Feeds}
-use Rattle.bx_session.specs.Session.{Session}
+use Rattle.bx_session.specs.Session.{StoreState, Session}
+use Rattle.bx_session.specs.Feeding.{Feeds}
 use Rattle.bx_session.proofs.Turns.{FeedsAll-append}
 use Rattle.bx_session.proofs.KeySizes.{key_goes_on}
 use Rattle.bx_session.proofs.Leaving.{Leaves, byte_leaves, editor_after}
@@ -109,18 +109,18 @@ fed_whole d s new store store' bytes answered (x ∷ dropped) fed runs =
 -- ---- one part more
 
 -- all bytes of a part are fed
-pub part_more : {D : Type 0} (says : D → Data) (tables tables1 : D) (old now new : Session) (store store1 store2 : StoreState)
+pub part_more : {D : Type 0} (ucd : D → Data) (tables tables1 : D) (old now new : Session) (store store1 store2 : StoreState)
     (bytes rest part behind : List ℕ) (count : ℕ) (answered answered' : List ByteAnswer) (dropped : List ℕ)
-    → FeedsAll (says tables) old store answered now store1 → tables1 ≡ tables → bytes ≡ bytes_of answered ++ rest → now.editor.ended ≡ false
+    → FeedsAll (ucd tables) old store answered now store1 → tables1 ≡ tables → bytes ≡ bytes_of answered ++ rest → now.editor.ended ≡ false
     → count ≡ part_length now.rest rest → part ≡ take count rest → behind ≡ drop count rest
-    → FedUntilEnd (says tables1) now store1 part new store2 answered' dropped
-    → FeedsAll (says tables) old store (answered ++ answered') new store2 × (bytes ≡ bytes_of (answered ++ answered') ++ behind)
+    → FedUntilEnd (ucd tables1) now store1 part new store2 answered' dropped
+    → FeedsAll (ucd tables) old store (answered ++ answered') new store2 × (bytes ≡ bytes_of (answered ++ answered') ++ behind)
     × (part ≡ bytes_of answered')
-part_more {D} says tables tables1 old now new store store1 store2 bytes rest part behind count answered answered' dropped feeds stay all runs is part_is
+part_more {D} ucd tables tables1 old now new store store1 store2 bytes rest part behind count answered answered' dropped feeds stay all runs is part_is
     behind_is fed =
-    let d = says tables in
+    let d = ucd tables in
     let fed_here : FedUntilEnd d now store1 part new store2 answered' dropped =
-    subst (λ (t : D). FedUntilEnd (says t) now store1 part new store2 answered' dropped) stay fed in
+    subst (λ (t : D). FedUntilEnd (ucd t) now store1 part new store2 answered' dropped) stay fed in
     let whole : part ≡ take (part_length now.rest rest) rest = part_is ∙ ap (λ n. take n rest) is in
     let none : dropped ≡ [] =
     fed_whole d now new store1 store2 rest answered' dropped

@@ -5,7 +5,7 @@ use Rattle.std.specs.Prelude.{vec_items}
 use Rattle.std.specs.Io.KnownBytes.{Appends}
 use Rattle.std.proofs.KnownBytes.{Appends-nil, Appends-trans}
 use Rattle.std.proofs.lemmas.List.{append-nil, append_cancel_right, length-append, length-drop, take-append-drop}
-use Rattle.bx_store.specs.Stores.{one_more}
+use Rattle.bx_store.specs.Faults.{one_more}
 use Rattle.bx_session.specs.declared.journal.Backlog.{Backlog}
 use Rattle.bx_session.specs.declared.journal.Backlog.TheVariants.{Empty, Waiting, Lost}
 use Rattle.bx_session.specs.Journal.{RecorderState, AppendsNew, HasKept, HasTried, Holds, LacksRoom, is_lost, room, waiting, after_faults}

@@ -6,25 +6,27 @@ use Rattle.bx_keys.specs.declared.key.Key.TheVariants.{Save, Quit}
 use Rattle.bx_keys.specs.Keys.{key_after, rest_after}
 use Rattle.bx_keys.specs.Waiting.{head_of}
 use Rattle.bx_ucd.specs.Data.{Data}
-use Rattle.bx_asking.specs.declared.question.Ask.{Ask}
-use Rattle.bx_asking.specs.declared.question.Ask.TheVariants as asks
+use Rattle.bx_editor.specs.declared.questions.answers.Prompt.{Prompt}
+use Rattle.bx_editor.specs.declared.questions.answers.Prompt.TheVariants as asks
 use Rattle.bx_editor.specs.Editor.{Editor, cleared}
-use Rattle.bx_editor.specs.declared.seek.Seek.{Seek}
-use Rattle.bx_editor.specs.declared.seek.Seek.TheVariants.{Off, Begun, Typed, WithBegun, WithTyped, Replacing}
+use Rattle.bx_editor.specs.declared.search_state.SearchState.{SearchState}
+use Rattle.bx_editor.specs.declared.search_state.SearchState.TheVariants.{Off, Begun, Typed, WithBegun, WithTyped, Replacing}
 use Rattle.bx_editor.specs.Effects.{before}
 use Rattle.bx_editor.specs.Keys.{after_any, after_key}
-use Rattle.bx_editor.specs.Pasting.{paste_ended}
+use Rattle.bx_editor.specs.Putting.{paste_ended}
 use Rattle.bx_editor.specs.Replay.{after_passed_save}
 use Rattle.bx_session.specs.Laws.{keys_from, after_replaying, ReplaysKeys}
-use Rattle.bx_session.specs.Session.{Session, after_all_replayed, after_replay, after_replayed, after_replayed_key, replayed_on, scrolled, session_after_key}
-use Rattle.bx_session.specs.Session.{session_after_replayed, session_scrolled, with_painting_owed}
+use Rattle.bx_session.specs.Session.{Session, scrolled, session_after_key}
+use Rattle.bx_session.specs.Replaying.{after_all_replayed, after_replay, after_replayed, after_replayed_key, replayed_on}
+use Rattle.bx_session.specs.Replaying.{session_after_replayed, session_scrolled}
+use Rattle.bx_session.specs.Session.{with_painting_owed}
 use Rattle.bx_session.proofs.KeyKinds.{is_other, not_quitting}
 use Rattle.bx_session.proofs.KeySizes.{ended_goes_on, key_goes_on}
 use Rattle.bx_session.proofs.Ending.{quit_user}
 
 -- ---- the keys of a replay
 
-pub each-replayed : (d : Data) (ask : Ask) (seek : Seek) (e : Editor) (P : Key → Editor → Type 0) → P Save (after_passed_save (paste_ended d e))
+pub each-replayed : (d : Data) (ask : Prompt) (seek : SearchState) (e : Editor) (P : Key → Editor → Type 0) → P Save (after_passed_save (paste_ended d e))
     → P Quit (after_replayed d ask seek e Quit) → ((key : Key) → is_other key ≡ true → P key (after_key d None e key)) → (key : Key)
     → P key (after_replayed d ask seek e key)
 each-replayed d ask seek e P save quit other Save = save
@@ -32,7 +34,7 @@ each-replayed d ask seek e P save quit other Quit = quit
 each-replayed d ask seek e P save quit other key = other key refl
 
 -- and the session that each leaves
-pub each-session : (d : Data) (ask : Ask) (seek : Seek) (s : Session) (P : Key → Session → Type 0)
+pub each-session : (d : Data) (ask : Prompt) (seek : SearchState) (s : Session) (P : Key → Session → Type 0)
     → P Save (record s { editor = after_passed_save (paste_ended d s.editor) }) → P Quit (session_after_replayed d ask seek s Quit)
     → ((key : Key) → is_other key ≡ true → P key (session_after_key d None s key)) → (key : Key) → P key (session_after_replayed d ask seek s key)
 each-session d ask seek s P save quit other Save = save
@@ -40,42 +42,42 @@ each-session d ask seek s P save quit other Quit = quit
 each-session d ask seek s P save quit other key = other key refl
 
 -- a key that a replay applies as it is
-other_replayed : (d : Data) (ask : Ask) (seek : Seek) (e : Editor) (key : Key) → is_other key ≡ true → after_key d None e key ≡ after_replayed d ask seek e key
+other_replayed : (d : Data) (ask : Prompt) (seek : SearchState) (e : Editor) (key : Key) → is_other key ≡ true → after_key d None e key ≡ after_replayed d ask seek e key
 other_replayed d ask seek e =
     each-replayed d ask seek e (λ key new. is_other key ≡ true → after_key d None e key ≡ new) (λ other. absurd (cc other)) (λ other. absurd (cc other))
     (λ key other same. refl)
 
-quit_editor : (d : Data) (ask : Ask) (seek : Seek) (s : Session) → (session_after_replayed d ask seek s Quit).editor ≡ after_replayed d ask seek s.editor Quit
+quit_editor : (d : Data) (ask : Prompt) (seek : SearchState) (s : Session) → (session_after_replayed d ask seek s Quit).editor ≡ after_replayed d ask seek s.editor Quit
 quit_editor d asks.Off Off s = refl
 quit_editor d asks.Off seek s = refl
 quit_editor d ask seek s = refl
 
-quit_rest : (d : Data) (ask : Ask) (seek : Seek) (s : Session) → (session_after_replayed d ask seek s Quit).rest ≡ s.rest
+quit_rest : (d : Data) (ask : Prompt) (seek : SearchState) (s : Session) → (session_after_replayed d ask seek s Quit).rest ≡ s.rest
 quit_rest d asks.Off Off s = refl
 quit_rest d asks.Off seek s = refl
 quit_rest d ask seek s = refl
 
-editor_is : (d : Data) (ask : Ask) (seek : Seek) (s : Session) (key : Key) → (session_after_replayed d ask seek s key).editor ≡ after_replayed d ask seek s.editor key
+editor_is : (d : Data) (ask : Prompt) (seek : SearchState) (s : Session) (key : Key) → (session_after_replayed d ask seek s key).editor ≡ after_replayed d ask seek s.editor key
 editor_is d ask seek s =
     each-session d ask seek s (λ key new. new.editor ≡ after_replayed d ask seek s.editor key) refl (quit_editor d ask seek s)
     (λ key other. other_replayed d ask seek s.editor key other)
 
-rest_stays : (d : Data) (ask : Ask) (seek : Seek) (s : Session) (key : Key) → (session_after_replayed d ask seek s key).rest ≡ s.rest
+rest_stays : (d : Data) (ask : Prompt) (seek : SearchState) (s : Session) (key : Key) → (session_after_replayed d ask seek s key).rest ≡ s.rest
 rest_stays d ask seek s = each-session d ask seek s (λ key new. new.rest ≡ s.rest) refl (quit_rest d ask seek s) (λ key other. refl)
 
 -- ---- a replay ends no session
 
 -- a Quit that gives up a search or a question, where a paste ends first
-given_up : (d : Data) (ask : Ask) (seek : Seek) (e : Editor) → (paste_ended d e).ask ≡ ask → (paste_ended d e).seek ≡ seek
+given_up : (d : Data) (ask : Prompt) (seek : SearchState) (e : Editor) → (paste_ended d e).ask ≡ ask → (paste_ended d e).seek ≡ seek
     → ((x : Editor) → (after_any d None (before x) ask seek (cleared x) Quit).ended ≡ x.ended) → (after_key d None e Quit).ended ≡ e.ended
 given_up d ask seek e asked is left =
     let x : Editor = paste_ended d e in
     ap (λ (y : Editor). y.ended) (quit_user d None e)
-    ∙ ap₂ (λ (a : Ask) (s : Seek). (after_any d None (before x) a s (cleared x) Quit).ended) asked is
+    ∙ ap₂ (λ (a : Prompt) (s : SearchState). (after_any d None (before x) a s (cleared x) Quit).ended) asked is
     ∙ left x
     ∙ (ended_goes_on d e).0
 
-quit_goes_on : (d : Data) (ask : Ask) (seek : Seek) (e : Editor) → (paste_ended d e).ask ≡ ask → (paste_ended d e).seek ≡ seek
+quit_goes_on : (d : Data) (ask : Prompt) (seek : SearchState) (e : Editor) → (paste_ended d e).ask ≡ ask → (paste_ended d e).seek ≡ seek
     → (after_replayed d ask seek e Quit).ended ≡ e.ended
 quit_goes_on d asks.Off Off e asked is = (ended_goes_on d e).0
 quit_goes_on d asks.Off Begun e asked is = given_up d asks.Off Begun e asked is (λ x. refl)

@@ -5,10 +5,10 @@ use Rattle.std.proofs.lemmas.List.{append-nil, map-append}
 use Rattle.bx_ucd.specs.Data.{Data}
 use Rattle.bx_session.specs.declared.action.Action.{Action}
 use Rattle.bx_session.specs.declared.action.Action.TheVariants.{Read, Append, Write, WriteFailed, Flush}
-use Rattle.bx_session.specs.declared.error.Refused.{Refused}
+use Rattle.bx_session.specs.declared.status.Refused.{Refused}
 use Rattle.bx_session.specs.declared.status.Status.{Status}
-use Rattle.bx_session.specs.Session.{Session, is_painted}
-use Rattle.bx_session.specs.Saving.{StoreState, Feeds}
+use Rattle.bx_session.specs.Session.{Session, is_painted, StoreState}
+use Rattle.bx_session.specs.Feeding.{Feeds}
 use Rattle.bx_session.specs.Painting.{FeedPaints}
 use Rattle.bx_session.specs.Running.{ByteAnswer, Sent, bytes_of}
 use Rattle.bx_session.specs.Log.{Step, Calls, Obeys, IsCalled, AreTaken, LoggedTurn}
@@ -130,16 +130,16 @@ module _ {V : Type 0} (did : V → Action → V → Type 0) (obeyed : V → Sess
         (b1, mid, unwritten b b1 mid (Append (bytes_of part)) refl appended same, obeys))
 
   -- a byte more was obeyed; the tables stay the same
-  pub obeyed_more_bytes : {D : Type 0} (says : D → Data) (tables tables1 : D) (a b c : V) (old now new : Session) (answered : List ByteAnswer)
-      (byte : ℕ) (answer : Result Status Refused) → AreTaken did obeyed stored (says tables) a old (map Obeys answered) b now → tables1 ≡ tables
-      → now.editor.ended ≡ false → obeyed b now (byte, answer) c new → Feeds (says tables1) now (stored b) byte answer new (stored c)
-      → (is_painted now byte ≡ true → OnOk answer (FeedPaints (says tables1) now byte new))
-      → AreTaken did obeyed stored (says tables) a old (map Obeys (answered ++ (byte, answer) ∷ [])) c new
-  obeyed_more_bytes {D} says tables tables1 a b c old now new answered byte answer before stay running does feeds paints =
-      let d = says tables in
-      let feeds' : Feeds d now (stored b) byte answer new (stored c) = subst (λ (t : D). Feeds (says t) now (stored b) byte answer new (stored c)) stay feeds in
+  pub obeyed_more_bytes : {D : Type 0} (ucd : D → Data) (tables tables1 : D) (a b c : V) (old now new : Session) (answered : List ByteAnswer)
+      (byte : ℕ) (answer : Result Status Refused) → AreTaken did obeyed stored (ucd tables) a old (map Obeys answered) b now → tables1 ≡ tables
+      → now.editor.ended ≡ false → obeyed b now (byte, answer) c new → Feeds (ucd tables1) now (stored b) byte answer new (stored c)
+      → (is_painted now byte ≡ true → OnOk answer (FeedPaints (ucd tables1) now byte new))
+      → AreTaken did obeyed stored (ucd tables) a old (map Obeys (answered ++ (byte, answer) ∷ [])) c new
+  obeyed_more_bytes {D} ucd tables tables1 a b c old now new answered byte answer before stay running does feeds paints =
+      let d = ucd tables in
+      let feeds' : Feeds d now (stored b) byte answer new (stored c) = subst (λ (t : D). Feeds (ucd t) now (stored b) byte answer new (stored c)) stay feeds in
       let paints' : is_painted now byte ≡ true → OnOk answer (FeedPaints d now byte new) =
-      subst (λ (t : D). is_painted now byte ≡ true → OnOk answer (FeedPaints (says t) now byte new)) stay paints in
+      subst (λ (t : D). is_painted now byte ≡ true → OnOk answer (FeedPaints (ucd t) now byte new)) stay paints in
       subst (λ steps. AreTaken did obeyed stored d a old steps c new) (sym (map-append Obeys answered ((byte, answer) ∷ [])))
       (taken_more d a b c old now new (map Obeys answered) (Obeys (byte, answer) ∷ []) before
       (c, new, record { does = does; goes_on = running; feeds = feeds'; paints = paints' }, (refl, refl)))

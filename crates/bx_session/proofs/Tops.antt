@@ -2,8 +2,8 @@
 use Rattle.std.proofs.Common.{◌≡◌, ℕ, ◌-◌, ◌<◌, ◌≤◌, Bool, true, false, List, [], ◌++◌, length, map, get_or, IsUtf8, refl, sym, ap, ap₂, ◌∙◌, nat_le, leb-true, arith, if◌then◌else◌}
 use Rattle.std.specs.Prelude.{◌&&◌}
 use Rattle.std.proofs.lemmas.List.{get_or-map, length-map}
-use Rattle.bx_terms.specs.Sizes.{is_side, largest_side}
-use Rattle.bx_terms.specs.declared.base.Base.{Base}
+use Rattle.bx_common.specs.Characters.{is_side, largest_side}
+use Rattle.bx_common.specs.declared.base.Base.{Base}
 use Rattle.bx_ucd.specs.Data.{Data}
 use Rattle.bx_rows.specs.RowPicture.{Glyph}
 use Rattle.bx_view.specs.TextRows.{TextRow, cell_of, first, no_text_row, row_at, row_of, text_rows}
@@ -12,11 +12,12 @@ use Rattle.bx_view.proofs.LeastMove.{falls-own}
 use Rattle.bx_view.proofs.Rising.{rank-few, rank-here}
 use Rattle.bx_view.proofs.Walking.{rows-rise, text-rank}
 use Rattle.bx_grid.specs.Picture.{PictureState}
-use Rattle.bx_asking.specs.declared.question.Ask.{Ask}
-use Rattle.bx_asking.specs.declared.question.Ask.TheVariants as asks
-use Rattle.bx_editor.specs.declared.seek.Seek.{Seek}
-use Rattle.bx_editor.specs.declared.seek.Seek.TheVariants as seeks
-use Rattle.bx_editor.specs.Editor.{Editor, HasRows, at_start, rows, text_height, with_top}
+use Rattle.bx_editor.specs.declared.questions.answers.Prompt.{Prompt}
+use Rattle.bx_editor.specs.declared.questions.answers.Prompt.TheVariants as asks
+use Rattle.bx_editor.specs.declared.search_state.SearchState.{SearchState}
+use Rattle.bx_editor.specs.declared.search_state.SearchState.TheVariants as seeks
+use Rattle.bx_editor.specs.Editor.{Editor, at_start, rows, text_height, with_top}
+use Rattle.bx_editor.specs.Functions.{HasRows}
 use Rattle.bx_editor.specs.Picture.{StandsOnItsCell, blank_picture, next_top, picture, region_rows}
 use Rattle.bx_editor.specs.Replacing.{seen_in}
 use Rattle.bx_editor.specs.Status.{glyph_row, letter_glyphs, prompt_glyphs, status_text}
@@ -28,7 +29,7 @@ module _ (d : Data) (e : Editor) (shown : ℕ) (clipboard : Bool) where
   abbrev new : Editor
   new = record e { top = shown; clipboard = clipboard }
 
-  same-part : (seek : Seek) → seen_in d new seek ≡ seen_in d e seek
+  same-part : (seek : SearchState) → seen_in d new seek ≡ seen_in d e seek
   same-part seeks.Off = refl
   same-part seeks.Begun = refl
   same-part seeks.Typed = refl
@@ -36,7 +37,7 @@ module _ (d : Data) (e : Editor) (shown : ℕ) (clipboard : Bool) where
   same-part seeks.WithTyped = refl
   same-part seeks.Replacing = refl
 
-  same-prompt : (ask : Ask) → prompt_glyphs d new ask ≡ prompt_glyphs d e ask
+  same-prompt : (ask : Prompt) → prompt_glyphs d new ask ≡ prompt_glyphs d e ask
   same-prompt asks.Off = refl
   same-prompt asks.Line = refl
   same-prompt asks.Name = refl

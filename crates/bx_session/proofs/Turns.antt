@@ -11,12 +11,12 @@ use Rattle.bx_grid.specs.Picture.{PictureState}
 use Rattle.bx_store.specs.declared.store.StoreFault.{StoreFault}
 use Rattle.bx_ucd.specs.Data.{Data}
 use Rattle.bx_session.specs.declared.status.Status.{Status}
-use Rattle.bx_session.specs.declared.error.Refused.{Refused}
-use Rattle.bx_session.specs.declared.error.Refused.TheVariants.{Edit, Paint, Size}
-use Rattle.bx_session.specs.Session.{Session, clip_after, painted_after, painting, picture_of, scrolled, then_clip, with_painting_owed, key_of_byte, after_spending}
-use Rattle.bx_session.specs.Session.{session_after_any, unpainted_after_byte, is_painted}
+use Rattle.bx_session.specs.declared.status.Refused.{Refused}
+use Rattle.bx_session.specs.declared.status.Refused.TheVariants.{Edit, Paint, Size}
+use Rattle.bx_session.specs.Session.{Session, clip_after, painted_after, painting, picture_of, scrolled, then_clip, with_painting_owed}
+use Rattle.bx_session.specs.Session.{key_of_byte, after_spending, session_after_any, unpainted_after_byte, is_painted, StoreState}
 use Rattle.bx_session.specs.Painting.{FeedPaints, QueuesPicture}
-use Rattle.bx_session.specs.Saving.{StoreState, AfterByte, Feeds}
+use Rattle.bx_session.specs.Feeding.{AfterByte, Feeds}
 use Rattle.bx_session.specs.Running.{ByteAnswer, bytes_of, FeedsAll, FedUntilEnd, Sent, HasRun}
 use Rattle.bx_session.proofs.Pictures.{then_clip_after}
 use Rattle.bx_session.specs.Running.{Turn, IsRead, TakesTurn, TakesTurns, read_in, read_size, fed_in, dropped_in, written_in}
@@ -121,18 +121,18 @@ pub record Fed (d : Data) (old : Session) (store : StoreState) (bytes : List ℕ
   pub feeds : FeedsAll d old store answered now now_store
 
 -- the tables stay the same
-pub fed_more : {D : Type 0} (says : D → Data) (tables tables1 : D) (old now new : Session) (store store1 store2 : StoreState) (bytes : List ℕ)
-    (i b : ℕ) (a : Result Status Refused) (answered : List ByteAnswer) → Fed (says tables) old store bytes i now store1 answered → tables1 ≡ tables
-    → now.editor.ended ≡ false → Feeds (says tables1) now store1 b a new store2
-    → (is_painted now b ≡ true → OnOk a (FeedPaints (says tables1) now b new)) → take (i + 1) bytes ≡ take i bytes ++ b ∷ []
-    → Fed (says tables) old store bytes (i + 1) new store2 (answered ++ (b, a) ∷ [])
-fed_more {D} says tables tables1 old now new store store1 store2 bytes i b a answered before same running feeds paints more =
-    let feeds' : Feeds (says tables) now store1 b a new store2 = subst (λ (t : D). Feeds (says t) now store1 b a new store2) same feeds in
-    let paints' : is_painted now b ≡ true → OnOk a (FeedPaints (says tables) now b new) =
-    subst (λ (t : D). is_painted now b ≡ true → OnOk a (FeedPaints (says t) now b new)) same paints in
+pub fed_more : {D : Type 0} (ucd : D → Data) (tables tables1 : D) (old now new : Session) (store store1 store2 : StoreState) (bytes : List ℕ)
+    (i b : ℕ) (a : Result Status Refused) (answered : List ByteAnswer) → Fed (ucd tables) old store bytes i now store1 answered → tables1 ≡ tables
+    → now.editor.ended ≡ false → Feeds (ucd tables1) now store1 b a new store2
+    → (is_painted now b ≡ true → OnOk a (FeedPaints (ucd tables1) now b new)) → take (i + 1) bytes ≡ take i bytes ++ b ∷ []
+    → Fed (ucd tables) old store bytes (i + 1) new store2 (answered ++ (b, a) ∷ [])
+fed_more {D} ucd tables tables1 old now new store store1 store2 bytes i b a answered before same running feeds paints more =
+    let feeds' : Feeds (ucd tables) now store1 b a new store2 = subst (λ (t : D). Feeds (ucd t) now store1 b a new store2) same feeds in
+    let paints' : is_painted now b ≡ true → OnOk a (FeedPaints (ucd tables) now b new) =
+    subst (λ (t : D). is_painted now b ≡ true → OnOk a (FeedPaints (ucd t) now b new)) same paints in
     record {
       so_far = map-append (λ (x : ByteAnswer). x.0) answered ((b, a) ∷ []) ∙ ap (λ xs. xs ++ b ∷ []) before.so_far ∙ sym more;
-      feeds = FeedsAll-append (says tables) old store answered ((b, a) ∷ []) now store1 new store2 before.feeds
+      feeds = FeedsAll-append (ucd tables) old store answered ((b, a) ∷ []) now store1 new store2 before.feeds
           (new, store2, running, feeds', paints', (refl, refl));
     }
 
@@ -283,16 +283,16 @@ pub run_drops : (d : Data) (old s : Session) (store store1 : StoreState) (r r1 w
     → dropped ≢ [] → s.editor.ended ≡ true
 run_drops d old s store store1 r r1 w w1 answered dropped written all run some = ap (λ (x : Session). x.editor.ended) run.session ∙ run.drops some
 
-unfoldable pub turned : {D : Type 0} (says : D → Data) (tables tables1 : D) (old s s2 s3 : Session) (store store1 store2 : StoreState) (r r1 r2 w w1 w2 : Option (List ℕ))
+unfoldable pub turned : {D : Type 0} (ucd : D → Data) (tables tables1 : D) (old s s2 s3 : Session) (store store1 store2 : StoreState) (r r1 r2 w w1 w2 : Option (List ℕ))
     (answered answered' : List ByteAnswer) (dropped dropped' written written' bytes : List ℕ) (all : Session)
-    → HasRun (says tables) old s store store1 r r1 w w1 answered dropped written all → tables1 ≡ tables → s.pending ≡ []
+    → HasRun (ucd tables) old s store store1 r r1 w w1 answered dropped written all → tables1 ≡ tables → s.pending ≡ []
     → s.editor.ended ≡ false → 1 ≤ length bytes → length bytes ≤ read_size → Consumes r1 r2 bytes
-    → FedUntilEnd (says tables1) s store1 bytes s2 store2 answered' dropped' → Sent s2 s3 w1 w2 written'
-    → HasRun (says tables) old s3 store store2 r r2 w w2 (answered ++ answered') dropped' (written ++ written') (prefixed all.pending s2)
-turned {D} says tables tables1 old s s2 s3 store store1 store2 r r1 r2 w w1 w2 answered answered' dropped dropped' written written' bytes all run stay empty
+    → FedUntilEnd (ucd tables1) s store1 bytes s2 store2 answered' dropped' → Sent s2 s3 w1 w2 written'
+    → HasRun (ucd tables) old s3 store store2 r r2 w w2 (answered ++ answered') dropped' (written ++ written') (prefixed all.pending s2)
+turned {D} ucd tables tables1 old s s2 s3 store store1 store2 r r1 r2 w w1 w2 answered answered' dropped dropped' written written' bytes all run stay empty
     running some most reads feeds sends =
-    let d = says tables in
-    let fed : FeedsAll d s store1 answered' s2 store2 = subst (λ (t : D). FeedsAll (says t) s store1 answered' s2 store2) stay feeds.feeds in
+    let d = ucd tables in
+    let fed : FeedsAll d s store1 answered' s2 store2 = subst (λ (t : D). FeedsAll (ucd t) s store1 answered' s2 store2) stay feeds.feeds in
     let same : prefixed all.pending s ≡ all =
     ap (prefixed all.pending) run.session ∙ ap (λ (q : List ℕ). record all { pending = all.pending ++ q }) empty
     ∙ ap (λ (q : List ℕ). record all { pending = q }) (append-nil all.pending) in

@@ -1,9 +1,10 @@
 -- The start of a session: a text is opened, the cursor goes to an offset, a journal is replayed, and the screen is painted. `d` is
 -- Unicode's data, `b` what the session starts with, `s` the session.
 use Rattle.std.specs.Prelude.{ℕ, Bool, true, false, List, [], Option, Some, None}
-use Rattle.bx_terms.specs.declared.base.Base.{Base}
+use Rattle.bx_common.specs.declared.base.Base.{Base}
 use Rattle.bx_ucd.specs.Data.{Data}
-use Rattle.bx_session.specs.Session.{Session, at_opening, after_going, as_changed, after_journal, with_clipboard, with_painting}
+use Rattle.bx_session.specs.Session.{Session, at_opening, with_painting, clipboard_if}
+use Rattle.bx_session.specs.Replaying.{after_going, as_changed, after_journal}
 use Rattle.bx_session.specs.Painting.{QueuesPicture}
 
 -- what a session starts with
@@ -22,11 +23,6 @@ pub record Beginning : Type 0 where
   pub unsaved : Bool
   -- the journal's bytes; empty if there is none
   pub journal : List ℕ
-
--- with a clipboard, if there is one
-abbrev pub clipboard_if : Bool → Session → Session
-clipboard_if true s = with_clipboard s
-clipboard_if false s = s
 
 -- after the cursor goes to the offset, if one is given
 abbrev pub after_going_to : Data → Session → Option ℕ → Session

@@ -4,7 +4,7 @@ use Rattle.bx_store.specs.Stores.{MemoryState}
 use Rattle.bx_session.specs.declared.action.Action.{Action}
 use Rattle.bx_session.specs.declared.action.Action.TheVariants.{Read}
 use Rattle.bx_session.specs.Log.{read_by}
-use Rattle.bx_session.specs.Saving.{StoreState}
+use Rattle.bx_session.specs.Session.{StoreState}
 
 -- the value of a `MemoryDevice`
 pub record DeviceState : Type 0 where

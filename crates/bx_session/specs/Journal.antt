@@ -4,11 +4,10 @@ use Rattle.std.specs.Prelude.{◌≡◌, ◌≢◌, ◌≤◌, ◌<◌, ℕ, zer
 use Rattle.std.specs.Prelude.{vec_items, vec_capacity}
 use Rattle.std.specs.Io.KnownBytes.{Appends}
 use Rattle.bx_ucd.specs.Data.{Data}
-use Rattle.bx_store.specs.Stores.{one_more}
+use Rattle.bx_store.specs.Faults.{one_more}
 use Rattle.bx_session.specs.declared.journal.Backlog.{Backlog}
 use Rattle.bx_session.specs.declared.journal.Backlog.TheVariants.{Empty, Waiting, Lost}
-use Rattle.bx_session.specs.Session.{Session}
-use Rattle.bx_session.specs.Saving.{StoreState}
+use Rattle.bx_session.specs.Session.{Session, StoreState}
 use Rattle.bx_session.specs.Running.{ByteAnswer, HasRun, bytes_of}
 
 -- the value of a `Recorder`: a journal, and the end of the input that it does not have

@@ -1,13 +1,14 @@
 -- Laws of sessions, for any input. `d` is Unicode's data, `s` a session, `b` a byte, `bs` bytes.
 use Rattle.std.specs.Prelude.{◌≡◌, ℕ, false, List, [], Option}
-use Rattle.bx_terms.specs.declared.base.Base.{Base}
+use Rattle.bx_common.specs.declared.base.Base.{Base}
 use Rattle.bx_keys.specs.Keys.{decoding}
-pub use Rattle.bx_keys.specs.Keys.{keys_from}
+pub use Rattle.bx_keys.specs.Waiting.{keys_from}
 use Rattle.bx_store.specs.declared.store.StoreFault.{StoreFault}
 use Rattle.bx_ucd.specs.Data.{Data}
 use Rattle.bx_session.specs.Session.{Session, at_opening, after_spending, after_byte, owing_after_byte, after_told, owing_after_told, after_sending}
-use Rattle.bx_session.specs.Session.{after_all_replayed, after_going, after_replay, at_replay_end, with_clipboard}
-pub use Rattle.bx_session.specs.Session.{after_journal, after_replaying}
+use Rattle.bx_session.specs.Session.{with_clipboard}
+use Rattle.bx_session.specs.Replaying.{after_all_replayed, after_going, after_replay, at_replay_end}
+pub use Rattle.bx_session.specs.Replaying.{after_journal, after_replaying}
 pub use Rattle.bx_session.specs.Painting.{ShowsState}
 
 -- `ShowsState` holds at opening, and each of these calls preserves it, whether it succeeds or is refused

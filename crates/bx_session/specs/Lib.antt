@@ -1,5 +1,4 @@
 pub mod Session
-pub mod Saving
 pub mod Painting
 pub mod Running
 pub mod Log
@@ -9,3 +8,5 @@ pub mod Journal
 pub mod Parts
 pub mod Laws
 pub mod Beginning
+pub mod Replaying
+pub mod Feeding

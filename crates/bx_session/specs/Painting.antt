@@ -3,8 +3,9 @@
 use Rattle.std.specs.Prelude.{◌≡◌, ◌⊎◌, ℕ, false, List, [], ◌∷◌, ◌++◌, Option, Some, None, IfSome, Ok, codes, option_map}
 use Rattle.std.specs.Borrow.{Bor}
 use Rattle.base64.specs.Engines.{standard}
-use Rattle.bx_grid.specs.Clip.{decode_of}
-use Rattle.bx_grid.specs.Picture.{PictureState, AreWholeTokens, IsIdle, IsPicture, Shows}
+use Rattle.base64.specs.GeneralPurpose.{decode_of}
+use Rattle.bx_grid.specs.Picture.{PictureState, IsIdle, Shows}
+use Rattle.bx_grid.specs.Grid.{AreWholeTokens, IsPicture}
 use Rattle.bx_grid.specs.Terminal.{Terminal, reads}
 use Rattle.bx_ucd.specs.Data.{Data}
 use Rattle.bx_editor.specs.Editor.{Editor}

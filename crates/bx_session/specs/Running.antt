@@ -5,14 +5,14 @@ use Rattle.std.specs.Prelude.{◌≡◌, ◌≢◌, ◌≤◌, ◌<◌, length, 
 use Rattle.std.specs.Io.KnownBytes.{Appends, Consumes, IsAtEnd}
 use Rattle.bx_ucd.specs.Data.{Data}
 use Rattle.bx_session.specs.declared.status.Status.{Status}
-use Rattle.bx_session.specs.declared.error.Refused.{Refused}
+use Rattle.bx_session.specs.declared.status.Refused.{Refused}
 use Rattle.bx_session.specs.declared.end.End.{End}
 use Rattle.bx_session.specs.declared.end.End.TheVariants.{Quit, InputEnded}
 use Rattle.bx_session.specs.declared.end.RunFault.{RunFault}
 use Rattle.bx_session.specs.declared.end.RunFault.TheVariants.{ReadFault, WriteFault, ReadLimit}
-use Rattle.bx_editor.specs.Pasting.{has_changes}
-use Rattle.bx_session.specs.Session.{Session, is_painted}
-use Rattle.bx_session.specs.Saving.{StoreState, Feeds}
+use Rattle.bx_editor.specs.Functions.{has_changes}
+use Rattle.bx_session.specs.Session.{Session, is_painted, StoreState}
+use Rattle.bx_session.specs.Feeding.{Feeds}
 use Rattle.bx_session.specs.Painting.{FeedPaints}
 
 -- a byte and the answer to it
@@ -132,7 +132,8 @@ Runs d old new store store' reader reader' writer writer' =
     (answered : List ByteAnswer) × (dropped : List ℕ) × (written : List ℕ) × (all : Session)
     × HasRun d old new store store' reader reader' writer writer' answered dropped written all
 
--- the session, and the bytes that the reader has left, after a run, by its result
+-- The session, and the bytes that the reader has left, after a run, by its result. A failed write or flush can come at any time, so it
+-- tells nothing of the session; that it was the last step of the run is in the log (`IsLog` of Log.antt).
 abbrev pub EndsWith : Result End RunFault → Session → Option (List ℕ) → Type 0
 EndsWith (Ok Quit) s left = (s.editor.ended ≡ true) × (s.pending ≡ [])
 EndsWith (Ok (InputEnded changed)) s left = (s.editor.ended ≡ false) × (s.pending ≡ []) × (changed ≡ has_changes s.editor) × IsAtEnd left

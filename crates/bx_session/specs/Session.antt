@@ -1,30 +1,22 @@
 -- The session's state, and its changes: an editor, the input that waits for more, and the bytes queued for the terminal. `d` is
 -- Unicode's data, `s` the session before, `b` a byte of input.
-use Rattle.std.specs.Prelude.{ℕ, Bool, true, false, not, ◌&&◌, ◌||◌, is_some, List, [], ◌∷◌, ◌++◌, drop, Option, Some, None, if◌then◌else◌}
-use Rattle.bx_terms.specs.declared.base.Base.{Base}
+use Rattle.std.specs.Prelude.{ℕ, Bool, true, false, not, ◌||◌, List, [], ◌++◌, drop, Option, Some, None, if◌then◌else◌, ◌≡◌, option_map}
+use Rattle.bx_common.specs.declared.base.Base.{Base}
 use Rattle.bx_keys.specs.declared.key.Key.{Key}
-use Rattle.bx_keys.specs.declared.key.Key.TheVariants.{Quit, Save}
 use Rattle.bx_keys.specs.Keys.{head_of, key_after, rest_after}
-use Rattle.bx_grid.specs.Clip.{clip_bytes}
+use Rattle.bx_grid.specs.Tokens.{clip_bytes}
 use Rattle.bx_grid.specs.Picture.{PictureState}
 use Rattle.bx_paint.specs.Painting.{whole_bytes, changes_bytes}
 use Rattle.bx_store.specs.declared.store.StoreFault.{StoreFault}
+use Rattle.bx_store.specs.Faults.{with_fault}
+use Rattle.bx_store.specs.declared.faults.Faults.{Faults}
 use Rattle.bx_ucd.specs.Data.{Data}
-use Rattle.bx_asking.specs.declared.question.Ask.{Ask}
-use Rattle.bx_asking.specs.declared.question.Ask.TheVariants as asks
-use Rattle.bx_view.specs.Moves.{place_from}
-use Rattle.bx_editor.specs.Clipboard.{clip_of}
-use Rattle.bx_editor.specs.Editor.{Editor, at_start, cleared, rows, with_place, with_size, with_top}
+use Rattle.bx_editor.specs.Region.{clip_of}
+use Rattle.bx_editor.specs.Editor.{Editor, at_start, with_size, with_top}
 use Rattle.bx_editor.specs.Editor as editors
-use Rattle.bx_editor.specs.declared.seek.Seek.{Seek}
-use Rattle.bx_editor.specs.declared.seek.Seek.TheVariants.{Off}
-use Rattle.bx_editor.specs.Keys.{after_key, asks_for_whole, needs_no_painting}
-use Rattle.bx_editor.specs.Pasting.{paste_ended}
-use Rattle.bx_editor.specs.Replay.{after_passed_quit, after_passed_save}
-use Rattle.bx_editor.specs.Replay as replay
+use Rattle.bx_editor.specs.Keys.{after_key, asks_for_whole, needs_no_painting, is_save, may_refuse}
 use Rattle.bx_editor.specs.Picture.{picture, next_top}
-use Rattle.bx_session.specs.declared.status.Status.{Status}
-use Rattle.bx_session.specs.declared.status.Status.TheVariants.{Running, Ended}
+use Rattle.bx_editor.specs.Putting.{paste_ended}
 
 -- a session, without Unicode's tables
 pub record Session : Type 0 where
@@ -40,16 +32,7 @@ pub record Session : Type 0 where
   -- bytes for the terminal
   pub pending : List ℕ
 
--- the value of a `Session` (`src/session.rt`): a session and Unicode's tables
-pub record SessionState (D : Type 0) : Type 0 where
-  pub tables : D
-  pub session : Session
-
 -- ---- painting
-
--- the picture last painted, if the screen is taken to show it
-abbrev pub known_if : Bool → Option PictureState → Option PictureState
-known_if is_known painted = if is_known then painted else None
 
 -- the bytes that paint a new picture: its changes from the picture shown, or the whole if none is known to be shown
 abbrev pub painting : Option PictureState → PictureState → List ℕ
@@ -139,10 +122,6 @@ session_after_any d fault s (Some key) = session_after_key d fault s key
 abbrev pub unpainted_after_byte : Data → Option StoreFault → Session → ℕ → Session
 unpainted_after_byte d fault s b = session_after_any d fault (after_spending s b) (key_of_byte s b)
 
--- the byte completes no key, and no painting is owed
-abbrev pub is_idle : Session → ℕ → Bool
-is_idle s b = not (is_some (key_of_byte s b)) && not s.painting_owed
-
 -- there is a key, and it may change the picture: all but what goes into a paste
 abbrev pub needs_painting : Editor → Option Key → Bool
 needs_painting e None = false
@@ -171,82 +150,16 @@ after_byte d fault s b =
 abbrev pub owing_after_byte : Data → Option StoreFault → Session → ℕ → Session
 owing_after_byte d fault s b = with_painting_owed (unpainted_after_byte d fault s b)
 
-abbrev pub status_of : Session → Status
-status_of s = if s.editor.ended then Ended else Running
-
--- ---- a byte of a journal
-
--- The effect of a key in a replay. A Save and a Quit end what any key ends, first a paste, and a Save a search and a question too; a
--- Quit gives up a search or a question. Neither stores a text, nor ends the session. `ask` and `seek` are what stands once a paste has
--- ended.
-abbrev pub after_replayed : Data → Ask → Seek → Editor → Key → Editor
-after_replayed d ask seek e Save = after_passed_save (paste_ended d e)
-after_replayed d asks.Off Off e Quit = after_passed_quit (paste_ended d e)
-after_replayed d ask seek e key = after_key d None e key
-
--- the same, in the editor's own state of question and search
-abbrev pub replayed_on : Data → Editor → Key → Editor
-replayed_on d e key = let over = paste_ended d e in after_replayed d over.ask over.seek e key
-
--- The editor after keys of a journal in sequence. Before each of them it scrolls to the cursor, as the painting before that key did in
--- the session, since a key can point at a row of the picture.
-abbrev pub after_all_replayed : Data → Editor → List Key → Editor
-after_all_replayed d e [] = e
-after_all_replayed d e (key ∷ keys) = after_all_replayed d (replayed_on d (scrolled d e) key) keys
-
--- the session after a key of a journal, in these states of question and search
-abbrev pub session_after_replayed : Data → Ask → Seek → Session → Key → Session
-session_after_replayed d ask seek s Save = record s { editor = after_passed_save (paste_ended d s.editor) }
-session_after_replayed d asks.Off Off s Quit = record s { editor = after_passed_quit (paste_ended d s.editor) }
-session_after_replayed d ask seek s key = session_after_key d None s key
-
-abbrev pub session_replayed_on : Data → Session → Key → Session
-session_replayed_on d s key = let over = paste_ended d s.editor in session_after_replayed d over.ask over.seek s key
-
--- the session scrolled to its cursor; nothing is painted
-abbrev pub session_scrolled : Data → Session → Session
-session_scrolled d s = record s { editor = scrolled d s.editor }
-
--- the session after the key of a journal's byte, if it completes one
-abbrev pub after_replayed_key : Data → Session → Option Key → Session
-after_replayed_key d s None = s
-after_replayed_key d s (Some key) = session_replayed_on d (session_scrolled d s) key
-
--- the byte's key is applied, and a painting is owed
-abbrev pub after_replay : Data → Session → ℕ → Session
-after_replay d s b = with_painting_owed (after_replayed_key d (after_spending s b) (key_of_byte s b))
-
--- the session after bytes of a journal
-abbrev pub after_replaying : Data → Session → List ℕ → Session
-after_replaying d s [] = s
-after_replaying d s (b ∷ bs) = after_replaying d (after_replay d s b) bs
-
--- the end of a replay, which ends a paste first; a painting is owed
-abbrev pub at_unscrolled_end : Data → Session → Session
-at_unscrolled_end d s = with_painting_owed (record s { editor = replay.at_replay_end (paste_ended d s.editor) })
-
--- the end of a replay, from which the session goes on with the row first that a painting would show first
-abbrev pub at_replay_end : Data → Session → Session
-at_replay_end d s = session_scrolled d (at_unscrolled_end d s)
-
--- the session after a whole journal
-abbrev pub after_journal : Data → Session → List ℕ → Session
-after_journal d s bytes = at_replay_end d (after_replaying d s bytes)
-
 -- ---- before the keys: a clipboard, the cursor's offset, and an unsaved text
 
 -- from now on text that is copied or cut goes out to a clipboard
 abbrev pub with_clipboard : Session → Session
 with_clipboard s = record s { editor = editors.with_clipboard s.editor }
 
--- the cursor goes to the first place at or after an offset, or to the last place, and a painting is owed
-abbrev pub after_going : Data → Session → ℕ → Session
-after_going d s offset =
-    with_painting_owed (record s { editor = with_place (cleared s.editor) (place_from (rows d s.editor) offset) })
-
--- the text counts as changed, no undo leads to a stored one, and a painting is owed
-abbrev pub as_changed : Session → Session
-as_changed s = with_painting_owed (record s { editor = record s.editor { stored = None; changed = true } })
+-- with a clipboard, if there is one
+abbrev pub clipboard_if : Bool → Session → Session
+clipboard_if true s = with_clipboard s
+clipboard_if false s = s
 
 -- ---- a told size
 
@@ -267,3 +180,47 @@ owing_after_told s height width = with_painting_owed (unpainted_after_told s hei
 -- the first `count` pending bytes were sent
 abbrev pub after_sending : Session → ℕ → Session
 after_sending s count = record s { pending = drop count s.pending }
+
+-- ---- the store after a byte
+
+-- a store's content, None if it is not known, and its failed calls: their number and the latest fault
+pub record StoreState : Type 0 where
+  pub contents : Option (List ℕ)
+  pub faults : Faults
+
+-- the state of a store of any type, of which these functions give content and failed calls
+abbrev pub store_state : {S : Type 0} → (S → Option (List ℕ)) → (S → Faults) → S → StoreState
+store_state contents faults store = record { contents = contents store; faults = faults store }
+
+-- the store with this text as its content
+abbrev pub with_text : List ℕ → StoreState → StoreState
+with_text text store = record store { contents = option_map (λ _. text) store.contents }
+
+-- a save that succeeds stores the text; one that fails leaves the content as it was and counts one more failed call, with its
+-- fault
+abbrev pub SaveEnds : Option StoreFault → List ℕ → StoreState → StoreState → Type 0
+SaveEnds None text old new = new ≡ with_text text old
+SaveEnds (Some fault) text old new = (new.contents ≡ old.contents) × (new.faults ≡ with_fault fault old.faults)
+
+-- there is a key, and it is Save
+abbrev pub is_save_key : Option Key → Bool
+is_save_key None = false
+is_save_key (Some key) = is_save key
+
+-- the byte completes a Save
+abbrev pub is_save_byte : Session → ℕ → Bool
+is_save_byte s b = is_save_key (key_of_byte s b)
+
+-- the text that a Save stores: it first ends a paste
+abbrev pub text_to_save : Data → Editor → List ℕ
+text_to_save d e = (paste_ended d e).content.text
+
+-- the store after a byte: only a Save that is applied changes it
+abbrev pub StoreAfter : Bool → Option StoreFault → List ℕ → StoreState → StoreState → Type 0
+StoreAfter true fault text old new = SaveEnds fault text old new
+StoreAfter false fault text old new = new ≡ old
+
+-- there is a key, and it is one that may be refused for want of memory
+abbrev pub may_refuse_key : Editor → Option Key → Bool
+may_refuse_key e None = false
+may_refuse_key e (Some key) = may_refuse e key

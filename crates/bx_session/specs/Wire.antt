@@ -1,5 +1,5 @@
--- A reader, a recorder, a writer and a store as a device. `remaining` gives the bytes that a reader has left, `out` those that a
--- writer has, `contents` those of a journal; None if they are not known.
+-- Joins a reader, a recorder, a writer and a store into one device. `remaining` gives the bytes that a reader has left, `out` the
+-- bytes written, `contents` a journal's bytes; each is None if the bytes are not known.
 use Rattle.std.specs.Prelude.{◌≡◌, ℕ, List, [], Option}
 use Rattle.std.specs.Io.KnownBytes.{Appends, Consumes, IsAtEnd}
 use Rattle.bx_session.specs.declared.action.Action.{Action}

@@ -1,9 +1,8 @@
 //! What a run reads, journals, writes and saves through: a reader, a journal, a writer and a store as one, so that the order among
 //! them is told.
 
-use crate::error::Refused;
 use crate::session::Session;
-use crate::status::Status;
+use crate::status::{Refused, Status};
 use bx_bytes::WriteFault;
 use bx_ucd::BidiData;
 use thiserror::Error;
@@ -17,8 +16,8 @@ pub struct DeviceFault;
 pub trait Device {
     ghost use Rattle.std.specs.Prelude.{◌≡◌, ◌≤◌, true, IfErr, IfOk, OnErr, OnOk, length, take};
     ghost use Rattle.bx_session.specs.declared.action.Action.{Action};
-    ghost use Rattle.bx_session.specs.Session.{Session as SessionValue, is_painted};
-    ghost use Rattle.bx_session.specs.Saving.{StoreState, Feeds};
+    ghost use Rattle.bx_session.specs.Session.{Session as SessionValue, StoreState, is_painted};
+    ghost use Rattle.bx_session.specs.Feeding.{Feeds};
     ghost use Rattle.bx_session.specs.Painting.{FeedPaints};
     ghost use Rattle.bx_session.specs.Running.{ByteAnswer};
 

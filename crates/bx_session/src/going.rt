@@ -2,10 +2,11 @@
 //! saved.
 
 ghost use Rattle.std.specs.Prelude.{◌≡◌, OnErr, OnOk};
-ghost use Rattle.bx_session.specs.Session.{after_going, as_changed, with_clipboard};
+ghost use Rattle.bx_session.specs.Session.{with_clipboard};
+ghost use Rattle.bx_session.specs.Replaying.{after_going, as_changed};
 
-use crate::error::Refused;
 use crate::session::Session;
+use crate::status::Refused;
 use bx_ucd::BidiData;
 
 impl<D: BidiData + Drop> Session<D> {

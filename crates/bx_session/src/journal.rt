@@ -24,7 +24,7 @@ pub struct JournalFault {
 pub trait Journal {
     ghost use Rattle.std.specs.Prelude.{◌≡◌, ◌≤◌, ℕ, List, Option, IfErr, OnErr, OnOk, length, take};
     ghost use Rattle.std.specs.Io.KnownBytes.{Appends};
-    ghost use Rattle.bx_store.specs.Stores.{one_more};
+    ghost use Rattle.bx_store.specs.Faults.{one_more};
 
     /// The journal's bytes; None if they are not known.
     ghost contents: { Self → Option (List ℕ) };
@@ -55,6 +55,7 @@ impl Journal for NoJournal {
     ghost failure_count = { λ s. 0 };
 
     fn append(&mut self, bytes: &[u8]) -> Result<(), JournalFault> {
+        // No byte is kept.
         let _ = bytes;
         Ok(())
     }
@@ -240,6 +241,7 @@ fn append_last<J: Journal + Drop>(journal: &mut J, mut waiting: Vec<u8>, bytes: 
         (record { journal = journal.old; backlog = Backlog.Lost waiting })
         (record { journal = journal.new; backlog = result }) bytes.now }
 {
+    // Only the contract names the bytes that are lost.
     let _ = bytes;
     if waiting.is_empty() {
         return Backlog::Lost(waiting);

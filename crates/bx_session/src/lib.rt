@@ -4,7 +4,6 @@
 mod action;
 mod device;
 mod end;
-mod error;
 mod feeding;
 mod going;
 mod journal;
@@ -21,15 +20,13 @@ mod status;
 mod wired;
 
 pub use action::{Action, ActionBytes};
-pub use bx_asking::Ask;
-pub use bx_editor::{Aim, OpenError, Seek};
+pub use bx_editor::{OpenError, Prompt, SearchPurpose, SearchState};
 pub use device::{Device, DeviceFault};
 pub use end::{End, RunFault};
-pub use error::Refused;
 pub use journal::{Journal, JournalFault, NoJournal, Recorder, WrittenJournal};
 pub use memory_device::MemoryDevice;
 pub use over_reader::{run, run_recorded};
 pub use running::run_device;
 pub use session::Session;
-pub use status::Status;
+pub use status::{Refused, Status};
 pub use wired::Wired;

@@ -6,9 +6,8 @@ ghost use Rattle.bx_session.specs.InMemory.{DidLog, stored_in};
 
 use crate::action::{Action, ActionBytes};
 use crate::device::{Device, DeviceFault};
-use crate::error::Refused;
 use crate::session::Session;
-use crate::status::Status;
+use crate::status::{Refused, Status};
 use bx_bytes::WriteFault;
 use bx_store::MemoryStore;
 use bx_ucd::BidiData;

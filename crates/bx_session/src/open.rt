@@ -1,16 +1,16 @@
 //! Opening a session.
 
 ghost use Rattle.std.specs.Prelude.{◌≡◌, ◌≤◌, [], true, None, IfErr, IfOk, IsUtf8, OnOk, length};
-ghost use Rattle.bx_terms.specs.Sizes.{largest_text};
+ghost use Rattle.bx_common.specs.Characters.{largest_text};
 ghost use Rattle.bx_grid.specs.Picture.{is_size};
-ghost use Rattle.bx_editor.specs.Opening.{Causes};
+ghost use Rattle.bx_editor.specs.Editor.{Causes};
 ghost use Rattle.bx_session.specs.Painting.{QueuesPicture};
 ghost use Rattle.bx_session.specs.Session.{at_opening};
 
 use crate::session::Session;
+use bx_common::Base;
 use bx_editor::{Editor, OpenError};
 use bx_keys::Decoder;
-use bx_terms::Base;
 use bx_ucd::BidiData;
 
 impl<D: BidiData + Drop> Session<D> {

@@ -3,7 +3,7 @@
 ghost use Rattle.std.specs.Prelude.{◌≡◌, IsErrOf};
 ghost use Rattle.bx_session.specs.Journal.{RunsRecorded};
 ghost use Rattle.bx_session.specs.Running.{EndsWith, HasRead, Runs};
-ghost use Rattle.bx_session.specs.Saving.{store_state};
+ghost use Rattle.bx_session.specs.Session.{store_state};
 
 use crate::end::{End, RunFault};
 use crate::journal::{Journal, NoJournal, Recorder};

@@ -2,19 +2,22 @@
 
 ghost use Rattle.std.specs.Prelude.{◌≡◌, ◌++◌, ℕ, List, true, IfOk, IfSome, Ok, OnErr, OnOk};
 ghost use Rattle.base64.specs.Engines.{standard};
-ghost use Rattle.bx_grid.specs.Clip.{decode_of, encode_of};
-ghost use Rattle.bx_grid.specs.Picture.{AreWholeTokens, IsPicture, PictureState, Shows, is_size};
+ghost use Rattle.base64.specs.GeneralPurpose.{decode_of};
+ghost use Rattle.base64.specs.GeneralPurpose.{encode_of};
+ghost use Rattle.bx_grid.specs.Picture.{PictureState, Shows, is_size};
+ghost use Rattle.bx_grid.specs.Grid.{AreWholeTokens, IsPicture};
 ghost use Rattle.bx_grid.specs.Terminal.{Terminal, reads};
 ghost use Rattle.bx_session.specs.Painting.{AppendsPainting, QueuesPicture, Updates, text_in};
-ghost use Rattle.bx_session.specs.Session.{clip_after, known_if, painted_after, painting, then_clip, with_painting, with_painting_owed};
+ghost use Rattle.bx_session.specs.Session.{clip_after, painted_after, painting, then_clip, with_painting, with_painting_owed};
+ghost use Rattle.bx_session.specs.Feeding.{known_if};
 
-use crate::error::Refused;
 use crate::session::Session;
+use crate::status::Refused;
+use bx_common::OutOfMemory;
 use bx_editor::Editor;
 use bx_grid::{Grid, Picture};
 use bx_keys::Key;
-use bx_paint::{PaintError, changes_into, clip_into, whole_into};
-use bx_terms::OutOfMemory;
+use bx_paint::{changes_into, clip_into, whole_into};
 use bx_ucd::BidiData;
 use std::alloc::Global;
 
@@ -27,7 +30,7 @@ fn append(
     painted: &Option<Picture>,
     is_known: bool,
     picture: &Picture,
-) -> Result<(), PaintError>
+) -> Result<(), OutOfMemory>
     requires fits { IfSome (known_if is_known painted.now) (λ p. (p.height ≡ picture.now.height) × (p.width ≡ picture.now.width)) }
     ensures bytes { OnOk result (queue.new.items ≡ queue.old.items ++ painting (known_if is_known painted.now) picture.now) }
     ensures err { OnErr result (queue.new.items ≡ queue.old.items) }
@@ -44,7 +47,7 @@ fn append(
 /// Appends the clip of a text, if there is one.
 ///
 /// Errors: `OutOfMemory`, and nothing is appended.
-fn append_clip(queue: &mut Vec<u8>, clip: Option<&str>) -> Result<(), PaintError>
+fn append_clip(queue: &mut Vec<u8>, clip: Option<&str>) -> Result<(), OutOfMemory>
     ensures bytes { OnOk result (queue.new.items ≡ then_clip queue.old.items (text_in clip.entry)) }
     ensures err { OnErr result (queue.new.items ≡ queue.old.items) }
     ensures shows { (t : Terminal) (painting : List ℕ) (p : PictureState) → Shows (reads t painting) p
@@ -65,7 +68,7 @@ fn append_both(
     is_known: bool,
     picture: &Picture,
     clip: Option<&str>,
-) -> Result<(), PaintError>
+) -> Result<(), OutOfMemory>
     requires fits { IfSome (known_if is_known painted.now) (λ p. (p.height ≡ picture.now.height) × (p.width ≡ picture.now.width)) }
     ensures bytes { OnOk result (queue.new.items
         ≡ then_clip (queue.old.items ++ painting (known_if is_known painted.now) picture.now) (text_in clip.entry)) }
@@ -125,7 +128,7 @@ fn spare_of(picture: Option<Picture>) -> Option<Grid> {
 }
 
 impl<D: BidiData + Drop> Session<D> {
-    /// Scrolls to the cursor and queues the bytes that paint the picture. `feed` and `told` paint by themselves; `replay`,
+    /// Scrolls to the cursor and queues the bytes that paint the picture. `feed` and `set_window_size` paint by themselves; `replay`,
     /// `go_to` and `count_as_changed` do not.
     ///
     /// Errors: `Paint` if memory runs out: top and queue are unchanged, and the painting is owed.

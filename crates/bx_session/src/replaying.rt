@@ -1,19 +1,17 @@
 //! Replay of a journal's bytes in a session that opened the same text: keys are applied again, and nothing is stored.
 
 ghost use Rattle.std.specs.Prelude.{◌≡◌, ◌↔◌, ◌⊎◌, IsErrOf, IsOk, IsTrue, true, None, Some, is_some, IfErr, IfSome, OnErr, OnOk};
-ghost use Rattle.bx_session.specs.Saving.{may_refuse_key, store_state, with_text};
-ghost use Rattle.bx_keys.specs.Keys.{HasSides};
+ghost use Rattle.bx_session.specs.Session.{after_spending, key_of_byte, may_refuse_key, store_state, with_text};
+ghost use Rattle.bx_keys.specs.Decoder.{HasSides};
 ghost use Rattle.bx_editor.specs.Keys.{may_refuse};
-ghost use Rattle.bx_editor.specs.Pasting.{paste_ended};
-ghost use Rattle.bx_session.specs.Session.{after_replay, after_replayed_key, after_spending, at_replay_end, at_unscrolled_end, key_of_byte};
-ghost use Rattle.bx_session.specs.Session.{session_after_replayed, session_replayed_on, session_scrolled};
-ghost use Rattle.bx_store.specs.Stores.{with_fault};
+ghost use Rattle.bx_editor.specs.Putting.{paste_ended};
+ghost use Rattle.bx_session.specs.Replaying.{after_replay, after_replayed_key, at_replay_end, at_unscrolled_end, session_after_replayed, session_replayed_on, session_scrolled};
+ghost use Rattle.bx_store.specs.Faults.{with_fault};
 
-use crate::error::Refused;
 use crate::saving::{is_text, save_pieces};
 use crate::session::Session;
-use bx_asking::Ask;
-use bx_editor::Seek;
+use crate::status::Refused;
+use bx_editor::{Prompt, SearchState};
 use bx_keys::Key;
 use bx_store::{Store, StoreFault};
 use bx_ucd::BidiData;
@@ -42,7 +40,7 @@ impl<D: BidiData + Drop> Session<D> {
                 self.end_paste()?;
                 self.pass_quit()
             }
-            _ => self.press(key),
+            _ => self.press(key, None),
         }
     }
 
@@ -58,18 +56,18 @@ impl<D: BidiData + Drop> Session<D> {
         ensures ok { IsOk result }
     {
         match (self.editor.ask(), self.editor.seek()) {
-            (Ask::Off, Seek::Off) => {
+            (Prompt::Off, SearchState::Off) => {
                 self.editor.pass_quit();
                 Ok(())
             }
-            _ => self.press(Key::Quit),
+            _ => self.press(Key::Quit, None),
         }
     }
 
     /// Ends a paste, if one is under way: what it has brought goes into the text.
     ///
     /// Errors: `Edit` if memory runs out; nothing has changed. Never without a paste.
-    fn end_paste(&mut self) -> Result<(), Refused>
+    pub(crate) fn end_paste(&mut self) -> Result<(), Refused>
         ensures ok { OnOk result (self.new ≡ record self.old {
           session = record self.old.session { editor = paste_ended (D.data self.old.tables) self.old.session.editor };
         }) }

@@ -1,11 +1,12 @@
 //! Saving a text to a store, and comparing one with bytes, piece by piece, without a copy.
 
 ghost use Rattle.std.specs.Prelude.{◌≡◌, ◌≢◌, ◌++◌, ◌↔◌, ℕ, List, IsTrue, MatchOption, true, IfErr, OnErr, OnOk};
-ghost use Rattle.bx_store.specs.Stores.{with_bytes, with_fault};
-ghost use Rattle.bx_session.specs.Saving.{store_state, with_text};
+ghost use Rattle.bx_store.specs.Stores.{with_bytes};
+ghost use Rattle.bx_store.specs.Faults.{with_fault};
+ghost use Rattle.bx_session.specs.Session.{store_state, with_text};
 
+use bx_common::are_equal;
 use bx_store::{Store, StoreFault};
-use bx_terms::are_equal;
 use bx_text::Slices;
 
 /// Puts all pieces into the store's draft, in order.

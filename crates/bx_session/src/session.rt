@@ -1,12 +1,12 @@
 //! The session's state, and what can be read of it.
 
 ghost use Rattle.std.specs.Prelude.{◌≡◌, ◌≤◌, MatchOption, None, Some, length};
-ghost use Rattle.bx_editor.specs.Pasting.{has_changes};
-ghost use Rattle.bx_session.specs.Session.{after_sending, key_of_byte, status_of};
+ghost use Rattle.bx_editor.specs.Functions.{has_changes};
+ghost use Rattle.bx_session.specs.Session.{after_sending, key_of_byte};
+ghost use Rattle.bx_session.specs.Feeding.{status_of};
 
 use crate::status::Status;
-use bx_asking::Ask;
-use bx_editor::{Aim, Editor, Seek};
+use bx_editor::{Editor, Prompt, SearchPurpose, SearchState};
 use bx_grid::{Grid, Picture};
 use bx_keys::{Decoder, Key};
 use bx_ucd::BidiData;
@@ -36,7 +36,7 @@ pub struct Session<D: BidiData + Drop> {
 impl<D: BidiData + Drop> Model for Session<D> {
     ghost use Rattle.std.specs.Prelude.{◌≤◌, drop, length};
     ghost use Rattle.bx_session.specs.Painting.{FitsEditor};
-    ghost use Rattle.bx_session.specs.Session.{SessionState, known_if};
+    ghost use Rattle.bx_session.specs.Feeding.{SessionState, known_if};
 
     ghost Value = { SessionState D };
 
@@ -129,28 +129,28 @@ impl<D: BidiData + Drop> Session<D> {
     }
 
     /// The text that replaces matches. Allocates nothing.
-    pub fn other(&self) -> &str
-        ensures { result.now ≡ self.now.session.editor.other }
+    pub fn replacement(&self) -> &str
+        ensures { result.now ≡ self.now.session.editor.replacement }
     {
-        self.editor.other()
+        self.editor.replacement()
     }
 
     /// How far the search is, or that none is on. Allocates nothing.
-    pub fn seek(&self) -> Seek
+    pub fn seek(&self) -> SearchState
         ensures { result ≡ self.now.session.editor.seek }
     {
         self.editor.seek()
     }
 
     /// What the search, or the latest one, is for. Allocates nothing.
-    pub fn aim(&self) -> Aim
+    pub fn aim(&self) -> SearchPurpose
         ensures { result ≡ self.now.session.editor.aim }
     {
         self.editor.aim()
     }
 
     /// What the user is asked, or that there is no question. Allocates nothing.
-    pub fn ask(&self) -> Ask
+    pub fn ask(&self) -> Prompt
         ensures { result ≡ self.now.session.editor.ask }
     {
         self.editor.ask()

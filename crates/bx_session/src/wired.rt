@@ -3,10 +3,9 @@
 ghost use Rattle.std.specs.Prelude.{◌≡◌};
 
 use crate::device::{Device, DeviceFault};
-use crate::error::Refused;
 use crate::journal::{Journal, Recorder};
 use crate::session::Session;
-use crate::status::Status;
+use crate::status::{Refused, Status};
 use bx_bytes::{WriteFault, write_all};
 use bx_store::Store;
 use bx_ucd::BidiData;
@@ -57,7 +56,7 @@ impl<'r, 'j, 'w, 's, R: Read, J: Journal + Drop, W: Write, S: Store> Wired<
 }
 
 impl<R: Read, J: Journal + Drop, W: Write, S: Store> Device for Wired<'_, '_, '_, '_, R, J, W, S> {
-    ghost use Rattle.bx_session.specs.Saving.{store_state};
+    ghost use Rattle.bx_session.specs.Session.{store_state};
     ghost use Rattle.bx_session.specs.Wire.{DidWired, ObeyedWired};
 
     ghost did = { λ old action new. DidWired R.remaining J.contents J.failure_count W.contents old action new };

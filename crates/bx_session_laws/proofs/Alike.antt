@@ -7,31 +7,31 @@ use Rattle.bx_store.specs.declared.store.StoreFault.{StoreFault}
 use Rattle.bx_text.specs.declared.change.Change.{Change}
 use Rattle.bx_text.specs.Edits.{Edit, Edited, replaced, splice}
 use Rattle.bx_ucd.specs.Data.{Data}
-use Rattle.bx_document.specs.History.{next_changes, stepped, stepped_times}
+use Rattle.bx_document.specs.History.{next_changes, stepped_times}
+use Rattle.bx_document.specs.Past.{stepped}
 use Rattle.bx_document.specs.declared.history.HistoryStep.{HistoryStep}
 use Rattle.bx_document.specs.declared.history.HistoryStep.TheVariants as history
-use Rattle.bx_runs.specs.declared.typing.Kind.{Kind}
-use Rattle.bx_runs.specs.declared.typing.Kind.TheVariants.{Separator}
-use Rattle.bx_runs.specs.declared.typing.Removal.{Removal}
-use Rattle.bx_runs.specs.declared.typing.Typing.{Typing}
-use Rattle.bx_runs.specs.Runs.{edited, run_end, run_start}
-use Rattle.bx_runs.specs.Typing.{after_insertion, after_removal, goes_on, goes_on_removing, kind_of}
-use Rattle.bx_editor.specs.declared.aim.Aim.TheVariants as aims
+use Rattle.bx_editor.specs.declared.undo_groups.typing.Kind.{Kind}
+use Rattle.bx_editor.specs.declared.undo_groups.typing.Kind.TheVariants.{Separator}
+use Rattle.bx_editor.specs.declared.undo_groups.typing.Removal.{Removal}
+use Rattle.bx_editor.specs.declared.undo_groups.typing.Typing.{Typing}
+use Rattle.bx_editor.specs.undo_groups.Groups.{edited, run_end, run_start, after_insertion, after_removal, goes_on, goes_on_removing, kind_of}
+use Rattle.bx_editor.specs.declared.search_state.SearchPurpose.TheVariants as aims
 use Rattle.bx_editor.specs.declared.message.Message.TheVariants.{TextFull, Copied, LineCopied, MarkOff, MarkSet, NothingToCopy, NothingToPut}
-use Rattle.bx_editor.specs.declared.seek.Seek.TheVariants as seeks
-use Rattle.bx_editor.specs.declared.soft.Soft.{Soft}
-use Rattle.bx_editor.specs.declared.soft.Soft.TheVariants as softness
-use Rattle.bx_editor.specs.Editor.{Editor, after_redo, after_step, after_undo, place_after, stored_behind, with_insertion, with_removal, with_typing}
+use Rattle.bx_editor.specs.declared.search_state.SearchState.TheVariants as seeks
+use Rattle.bx_editor.specs.declared.cursor.Soft.{Soft}
+use Rattle.bx_editor.specs.declared.cursor.Soft.TheVariants as softness
+use Rattle.bx_editor.specs.Editor.{Editor, after_redo, after_step, after_undo, place_after, stored_behind, with_insertion, with_removal}
+use Rattle.bx_editor.specs.Editor.{with_typing, by_run, is_changed_at, run_length}
 use Rattle.bx_editor.specs.Effects.{Effect, Types, BeginsLine, Puts, Removes, RemovesWord, Steps, StepsRun, Goes, GoesByRows, Marks, Selects, Unmarks, Copies}
 use Rattle.bx_editor.specs.Effects.{Cuts, Seeks, SeeksNext, Saves, Quits, Turns, Helps, AsksLine, AsksName, Tells, Rests, Before, before, by}
 use Rattle.bx_editor.specs.Erasing.{after_erasing, after_erasing_word, after_removing, or_selection, removed_on}
 use Rattle.bx_editor.specs.Keys.{effect_of}
 use Rattle.bx_editor.specs.Putting.{after_character, after_new_line, after_put, has_room, line_end, only_paste, put_in, typed}
 use Rattle.bx_editor.specs.Putting.{with_selection_replaced, yielding}
-use Rattle.bx_editor.specs.Region.{after_copy, after_cut, after_mark, bytes_in, held_message, is_at_mark, is_empty, line, region, taken, with_held}
-use Rattle.bx_editor.specs.Runs.{by_run, is_changed_at, run_length}
+use Rattle.bx_editor.specs.Region.{after_copy, after_cut, after_mark, bytes_in, held_message, is_at_mark, is_empty, line, region, taken}
+use Rattle.bx_editor.specs.Region.{with_held, is_selection, selecting, unselected}
 use Rattle.bx_editor.specs.Search.{after_beginning, next_or_start, search_from, sought}
-use Rattle.bx_editor.specs.Selecting.{is_selection, selecting, unselected}
 use Rattle.bx_session.proofs.KeyKinds.{effect_kind, is_quitting, is_saving, not_quitting, not_saving}
 use Rattle.bx_session_laws.proofs.Lasting.{Lasting, Serves, lasting, having, effect_is}
 
@@ -40,13 +40,13 @@ use Rattle.bx_session_laws.proofs.Lasting.{Lasting, Serves, lasting, having, eff
 -- what they change, and whether the session has ended
 pub record Work : Type 0 where
   pub content : Edited
-  pub runs : List ℕ
+  pub undo_groups : List ℕ
   pub stored : Option ℕ
   pub changed : Bool
   pub ended : Bool
 
 abbrev pub work : Editor → Work
-work e = record { content = e.content; runs = e.runs; stored = e.stored; changed = e.changed; ended = e.ended }
+work e = record { content = e.content; undo_groups = e.undo_groups; stored = e.stored; changed = e.changed; ended = e.ended }
 
 -- an edit from one offset to another, by bytes, with the places before and after, that goes on with a run or begins one; one
 -- step, or the steps of a run
@@ -58,12 +58,12 @@ pub data Deed : Type 0 where
 abbrev with_content : Work → Edited → Bool → Work
 with_content w content goes_on =
     let n = length w.content.past in
-    record w { content = content; runs = edited w.runs n goes_on; stored = stored_behind n w.stored; changed = true }
+    record w { content = content; undo_groups = edited w.undo_groups n goes_on; stored = stored_behind n w.stored; changed = true }
 
 -- the length of the past to which a run is undone, or redone, and how many edits that takes
 abbrev pub end_of : HistoryStep → Work → ℕ
-end_of history.Undo w = run_start w.runs (length w.content.past)
-end_of history.Redo w = run_end w.runs (length w.content.past) (length w.content.past + length w.content.future)
+end_of history.Undo w = run_start w.undo_groups (length w.content.past)
+end_of history.Redo w = run_end w.undo_groups (length w.content.past) (length w.content.past + length w.content.future)
 
 abbrev pub count : HistoryStep → Work → ℕ
 count history.Undo w = length w.content.past - end_of history.Undo w

@@ -5,25 +5,24 @@ use Rattle.bx_keys.specs.declared.key.Key.{Key}
 use Rattle.bx_store.specs.declared.store.StoreFault.{StoreFault}
 use Rattle.bx_text.specs.Edits.{fits, fits_both}
 use Rattle.bx_ucd.specs.Data.{Data}
-use Rattle.bx_asking.specs.declared.line.Target.{Target}
-use Rattle.bx_asking.specs.declared.question.Ask.{Ask}
-use Rattle.bx_asking.specs.declared.question.Ask.TheVariants as asks
-use Rattle.bx_asking.specs.Codes.{coded, is_code_letter}
-use Rattle.bx_asking.specs.Line.{asked, is_line_letter}
-use Rattle.bx_asking.specs.Names.{asks_code, closing, named}
-use Rattle.bx_document.specs.Document.{wrapped_text}
-use Rattle.bx_runs.specs.declared.typing.Typing.{Typing}
-use Rattle.bx_runs.specs.Typing.{after_insertion, kind_of}
+use Rattle.bx_editor.specs.declared.questions.line.Target.{Target}
+use Rattle.bx_editor.specs.declared.questions.answers.Prompt.{Prompt}
+use Rattle.bx_editor.specs.declared.questions.answers.Prompt.TheVariants as asks
+use Rattle.bx_editor.specs.questions.Names.{coded, is_code_letter, asks_code, closing, named}
+use Rattle.bx_editor.specs.questions.Answers.{asked, is_line_letter}
+use Rattle.bx_document.specs.Swapped.{wrapped_text}
+use Rattle.bx_editor.specs.declared.undo_groups.typing.Typing.{Typing}
+use Rattle.bx_editor.specs.undo_groups.Groups.{after_insertion, kind_of}
 use Rattle.bx_editor.specs.declared.message.Message.TheVariants.{TextFull, MoreThanOneLine}
-use Rattle.bx_editor.specs.Asking.{after_answer_letter, after_code, after_code_letter, after_going, after_line_letter, after_name_letter, after_named, after_shorter_answer}
-use Rattle.bx_editor.specs.Asking.{gone_to, longest_code, longest_line, unless_paste, with_answer, with_character, without_ask}
+use Rattle.bx_editor.specs.Asking.{after_answer_letter, after_code, after_code_letter, after_going, after_line_letter, after_name_letter}
+use Rattle.bx_editor.specs.Asking.{after_named, after_shorter_answer, gone_to, longest_code, longest_line, unless_paste, with_answer}
+use Rattle.bx_editor.specs.Asking.{with_character, without_ask, after_wrapping, spans_lines, with_wrap}
 use Rattle.bx_editor.specs.Editor.{Editor, place_after, with_insertion, with_typing}
 use Rattle.bx_editor.specs.Effects.{Before}
 use Rattle.bx_editor.specs.Keys.{Answer, Letter, Shortens, GoesBack, Next, Previous, Replaces, Stays, Ends, after_pressing, answered_question}
 use Rattle.bx_editor.specs.Putting.{is_paste, only_paste}
 use Rattle.bx_editor.specs.Region.{is_empty, region}
 use Rattle.bx_editor.specs.Search.{lengthened, shortened}
-use Rattle.bx_editor.specs.Wrapping.{after_wrapping, spans_lines, with_wrap}
 use Rattle.bx_editor.proofs.TwoEdits.{runs-of-two, stored-of-two}
 use Rattle.bx_session_laws.proofs.Lasting.{Lasting, Serves, lasting, having}
 use Rattle.bx_session_laws.proofs.Alike.{Alike, either_alike, idle, going_on, insertion_alike, pressed_alike, Edits, work}
@@ -69,12 +68,12 @@ wrap_alike d e f opener closer =
     let stop = (region e).1 in
     let between = place_after d e (wrapped_text t.text start stop [] closer) (stop + length closer) in
     let after = (with_wrap d e opener closer).place in
-    let runs = sym (runs-of-two e.runs n) in
+    let runs = sym (runs-of-two e.undo_groups n) in
     record {
       lasts = refl;
       deeds = Edits stop stop closer e.place between false ∷ Edits start start opener between after true ∷ [];
-      first = ap₂ (λ rs stored. record (work (with_wrap d e opener closer)) { runs = rs; stored = stored }) runs (sym (stored-of-two n e.stored));
-      other = ap₂ (λ rs stored. record (work (with_wrap d g opener closer)) { runs = rs; stored = stored }) runs (sym (stored-of-two n f.stored));
+      first = ap₂ (λ rs stored. record (work (with_wrap d e opener closer)) { undo_groups = rs; stored = stored }) runs (sym (stored-of-two n e.stored));
+      other = ap₂ (λ rs stored. record (work (with_wrap d g opener closer)) { undo_groups = rs; stored = stored }) runs (sym (stored-of-two n f.stored));
     }
 
 wrapping_alike : (d : Data) (e f : Editor) (opener closer : ℕ)
@@ -133,7 +132,7 @@ unless_paste_alike typing e new f new' same h =
     either_alike (is_paste typing) e (with_typing e typing) new f (with_typing f typing) new'
     (idle e (with_typing e typing) f (with_typing f typing) (ap (λ (l : Lasting). record l { typing = typing }) same) refl refl) h
 
-answer_letter_alike : (d : Data) (typing : Typing) (ask : Ask) (e f : Editor) (c : ℕ)
+answer_letter_alike : (d : Data) (typing : Typing) (ask : Prompt) (e f : Editor) (c : ℕ)
     → Alike e (after_answer_letter d typing ask e c) (having (lasting e) f) (after_answer_letter d typing ask (having (lasting e) f) c)
 answer_letter_alike d typing asks.Off e f c = record { lasts = refl; deeds = []; first = refl; other = refl }
 answer_letter_alike d typing asks.Line e f c =
@@ -146,7 +145,7 @@ answer_letter_alike d typing asks.Code e f c =
     let g = having (lasting e) f in
     unless_paste_alike typing e (after_code_letter d e c) g (after_code_letter d g c) refl (code_letter_alike d e f c)
 
-shorter_alike : (ask : Ask) (e f : Editor) → Alike e (after_shorter_answer ask e) (having (lasting e) f) (after_shorter_answer ask (having (lasting e) f))
+shorter_alike : (ask : Prompt) (e f : Editor) → Alike e (after_shorter_answer ask e) (having (lasting e) f) (after_shorter_answer ask (having (lasting e) f))
 shorter_alike asks.Off e f = record { lasts = refl; deeds = []; first = refl; other = refl }
 shorter_alike asks.Line e f = record { lasts = refl; deeds = []; first = refl; other = refl }
 shorter_alike asks.Name e f = record { lasts = refl; deeds = []; first = refl; other = refl }

@@ -9,8 +9,7 @@ use Rattle.std.proofs.lemmas.Bool.Decides.{nat_tests}
 use Rattle.std.proofs.lemmas.List.{append-nil, length-append}
 use Rattle.unicode_segmentation.proofs.Computing.{unicode_segmentation}
 use Rattle.unicode_width.proofs.Computing.{unicode_width}
-use Rattle.bx_store.specs.Causes.{fault}
-use Rattle.bx_store.specs.Stores.{no_faults}
+use Rattle.bx_store.specs.Stores.{fault, no_faults}
 use Rattle.bx_store.specs.declared.cause.SaveCause.TheVariants.{NoSpace}
 use Rattle.bx_store.specs.declared.faults.Faults.{Faults}
 use Rattle.bx_store.specs.declared.store.StoreFault.{StoreFault}
@@ -23,8 +22,8 @@ use Rattle.bx_session.specs.declared.wired.Wired.{Wired}
 use Rattle.bx_session.specs.Journal.{RecorderState, HasKept, HasTried, is_lost, room, waiting, after_faults}
 use Rattle.bx_session.specs.Log.{AreTaken, Calls}
 use Rattle.bx_session.specs.Running.{ByteAnswer, HasRun, bytes_of}
-use Rattle.bx_session.specs.Saving.{Feeds, SaveEnds, StoreState}
-use Rattle.bx_session.specs.Session.{Session, after_byte}
+use Rattle.bx_session.specs.Session.{SaveEnds, StoreState, Session, after_byte}
+use Rattle.bx_session.specs.Feeding.{Feeds}
 use Rattle.bx_session.specs.Wire.{DidWired, ObeyedWired}
 use Rattle.bx_session.proofs.Computed.{start}
 use Rattle.bx_session.proofs.Recorded.{has_none}

@@ -7,8 +7,7 @@ use Rattle.bx_text.specs.Edits.{Edit, Edited}
 use Rattle.bx_document.specs.History.{stepped_times}
 use Rattle.bx_document.specs.declared.history.HistoryStep.{HistoryStep}
 use Rattle.bx_document.specs.declared.history.HistoryStep.TheVariants as history
-use Rattle.bx_editor.specs.Editor.{stored_behind}
-use Rattle.bx_editor.specs.Runs.{is_changed_at}
+use Rattle.bx_editor.specs.Editor.{stored_behind, is_changed_at}
 use Rattle.bx_session_laws.proofs.Alike.{Deed, Edits, TakesStep, TakesRun, Work, after_deed, after_deeds, count, end_of}
 use Rattle.bx_session_laws.proofs.Versions.{IsChain, redo_ends, replaced_chain, stepped_leads, steps_lead, undo_ends, version, version_here, version_kept}
 use Rattle.bx_session_laws.proofs.Versions.{version_led}
@@ -30,8 +29,8 @@ deeds_go_on (deed ∷ deeds) w = deeds_go_on deeds (after_deed deed w) ∙ deed_
 -- ---- where the steps of a run end
 
 run_ends : (step : HistoryStep) (w : Work) → length (stepped_times step (count step w) w.content).past ≡ end_of step w
-run_ends history.Undo w = undo_ends w.runs w.content
-run_ends history.Redo w = redo_ends w.runs w.content
+run_ends history.Undo w = undo_ends w.undo_groups w.content
+run_ends history.Redo w = redo_ends w.undo_groups w.content
 
 unchanged_at : (n : ℕ) (stored : Option ℕ) → is_changed_at n stored ≡ false → stored ≡ Some n
 unchanged_at n None is = absurd (cc is)
@@ -153,7 +152,7 @@ deeds_trace first (deed ∷ deeds) w h = deeds_trace first deeds (after_deed dee
 
 pub record Tells (w r : Work) : Type 0 where
   pub content : r.content ≡ w.content
-  pub runs : r.runs ≡ w.runs
+  pub undo_groups : r.undo_groups ≡ w.undo_groups
   pub stored : (r.stored ≡ None) ⊎ (r.stored ≡ w.stored)
   pub changed : w.changed ≡ true → r.changed ≡ true
 
@@ -167,19 +166,19 @@ changed_tells n w r (inr same) is = ap (is_changed_at n) same ∙ is
 
 -- the same content and runs
 abbrev like : Work → Work → Work
-like w r = record r { content = w.content; runs = w.runs }
+like w r = record r { content = w.content; undo_groups = w.undo_groups }
 
 likened : (w r : Work) → Tells w r → like w r ≡ r
-likened w r h = ap (λ (t : Edited). record r { content = t; runs = w.runs }) (sym h.content) ∙ ap (λ (ns : List ℕ). record r { runs = ns }) (sym h.runs)
+likened w r h = ap (λ (t : Edited). record r { content = t; undo_groups = w.undo_groups }) (sym h.content) ∙ ap (λ (ns : List ℕ). record r { undo_groups = ns }) (sym h.undo_groups)
 
 like_tells : (deed : Deed) (w r : Work) → Tells w r → Tells (after_deed deed w) (after_deed deed (like w r))
 like_tells (Edits start stop new before after goes_on) w r h =
-    record { content = refl; runs = refl; stored = stored_tells (length w.content.past) w.stored r.stored h.stored; changed = λ is. refl }
-like_tells (TakesStep step) w r h = record { content = refl; runs = refl; stored = h.stored; changed = λ is. refl }
+    record { content = refl; undo_groups = refl; stored = stored_tells (length w.content.past) w.stored r.stored h.stored; changed = λ is. refl }
+like_tells (TakesStep step) w r h = record { content = refl; undo_groups = refl; stored = h.stored; changed = λ is. refl }
 like_tells (TakesRun history.Undo) w r h =
-    record { content = refl; runs = refl; stored = h.stored; changed = changed_tells (end_of history.Undo w) w.stored r.stored h.stored }
+    record { content = refl; undo_groups = refl; stored = h.stored; changed = changed_tells (end_of history.Undo w) w.stored r.stored h.stored }
 like_tells (TakesRun history.Redo) w r h =
-    record { content = refl; runs = refl; stored = h.stored; changed = changed_tells (end_of history.Redo w) w.stored r.stored h.stored }
+    record { content = refl; undo_groups = refl; stored = h.stored; changed = changed_tells (end_of history.Redo w) w.stored r.stored h.stored }
 
 deed_tells : (deed : Deed) (w r : Work) → Tells w r → Tells (after_deed deed w) (after_deed deed r)
 deed_tells deed w r h = subst (λ (x : Work). Tells (after_deed deed w) (after_deed deed x)) (likened w r h) (like_tells deed w r h)

@@ -6,7 +6,8 @@ use Rattle.unicode_segmentation.proofs.Computing.{unicode_segmentation}
 use Rattle.unicode_width.proofs.Computing.{unicode_width}
 use Rattle.bx_editor.proofs.Computed.{tables}
 use Rattle.bx_session.specs.declared.status.Status.TheVariants.{Running, Ended}
-use Rattle.bx_session.specs.Session.{Session, after_byte, owing_after_byte, after_told, owing_after_told, status_of}
+use Rattle.bx_session.specs.Session.{Session, after_byte, owing_after_byte, after_told, owing_after_told}
+use Rattle.bx_session.specs.Feeding.{status_of}
 use Rattle.bx_session.proofs.Computed.{start, with_all_sent, after, outputs, csi}
 
 abbrev text_and_place : Session → List ℕ × ℕ

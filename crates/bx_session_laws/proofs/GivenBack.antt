@@ -5,36 +5,38 @@ use Rattle.std.specs.Prelude.{◌||◌, ◌&&◌, IfSome, option_map, option_to_
 use Rattle.std.specs.Io.KnownBytes.{Appends}
 use Rattle.std.proofs.lemmas.List.{append-nil}
 use Rattle.std.proofs.lemmas.List.Elements.{All-tail}
-use Rattle.bx_terms.specs.declared.base.Base.{Base}
+use Rattle.bx_common.specs.declared.base.Base.{Base}
 use Rattle.bx_keys.specs.declared.key.Key.{Key}
 use Rattle.bx_keys.specs.declared.key.Key.TheVariants.{Quit}
 use Rattle.bx_keys.specs.Keys.{key_after}
 use Rattle.bx_text.specs.Edits.{Edit}
 use Rattle.bx_store.specs.declared.store.StoreFault.{StoreFault}
 use Rattle.bx_ucd.specs.Data.{Data}
-use Rattle.bx_asking.specs.declared.question.Ask.{Ask}
-use Rattle.bx_asking.specs.declared.question.Ask.TheVariants as asks
+use Rattle.bx_editor.specs.declared.questions.answers.Prompt.{Prompt}
+use Rattle.bx_editor.specs.declared.questions.answers.Prompt.TheVariants as asks
 use Rattle.bx_editor.specs.declared.message.Message.TheVariants.{Unsaved}
 use Rattle.bx_editor.specs.Editor.{Editor, after_save, cleared}
 use Rattle.bx_editor.specs.Effects.{before}
-use Rattle.bx_editor.specs.Pasting.{paste_ended}
+use Rattle.bx_editor.specs.Putting.{paste_ended}
 use Rattle.bx_editor.specs.Replay as replay
 use Rattle.bx_editor.specs.Replay.{after_passed_save}
-use Rattle.bx_editor.specs.declared.seek.Seek.{Seek}
-use Rattle.bx_editor.specs.declared.seek.Seek.TheVariants.{Off}
+use Rattle.bx_editor.specs.declared.search_state.SearchState.{SearchState}
+use Rattle.bx_editor.specs.declared.search_state.SearchState.TheVariants.{Off}
 use Rattle.bx_editor.specs.Keys.{after_any, after_key, is_save}
-use Rattle.bx_session.specs.declared.error.Refused.{Refused}
-use Rattle.bx_session.specs.declared.error.Refused.TheVariants as refused
+use Rattle.bx_session.specs.declared.status.Refused.{Refused}
+use Rattle.bx_session.specs.declared.status.Refused.TheVariants as refused
 use Rattle.bx_session.specs.declared.status.Status.{Status}
 use Rattle.bx_session.specs.declared.journal.Backlog.{Backlog}
 use Rattle.bx_session.specs.declared.journal.Backlog.TheVariants.{Empty}
-use Rattle.bx_session.specs.Beginning.{Beginning, after_going_to, at_offset, begun, changed_if, clipboard_if}
+use Rattle.bx_session.specs.Beginning.{Beginning, after_going_to, at_offset, begun, changed_if}
+use Rattle.bx_session.specs.Session.{clipboard_if, Session, at_opening, scrolled, StoreAfter, StoreState, is_save_byte, is_save_key}
+use Rattle.bx_session.specs.Session.{text_to_save}
 use Rattle.bx_session.specs.Journal.{HasKept, RecorderState, is_lost, waiting}
 use Rattle.bx_session.specs.Laws.{after_replaying}
 use Rattle.bx_session_laws.specs.Recovery.{HasAll, HasBack, IsKnown, IsSettled, JournalsGiveBack, RefusesNoKey, TellsChanges, once_pasted}
 use Rattle.bx_session.specs.Running.{ByteAnswer, FeedsAll, bytes_of}
-use Rattle.bx_session.specs.Saving.{StoreAfter, StoreState, Feeds, is_applied, is_save_byte, is_save_key, text_to_save}
-use Rattle.bx_session.specs.Session.{Session, after_all_replayed, after_replay, after_replayed, at_opening, at_replay_end, replayed_on, scrolled}
+use Rattle.bx_session.specs.Feeding.{Feeds, is_applied}
+use Rattle.bx_session.specs.Replaying.{after_all_replayed, after_replay, after_replayed, at_replay_end, replayed_on}
 use Rattle.bx_session_laws.proofs.Alike.{Work, work, after_deeds}
 use Rattle.bx_session_laws.proofs.KeysAlike.{ended_alike, key_alike}
 use Rattle.bx_session_laws.proofs.Deeds.{Knows, Tells, Traces, deeds_know, deeds_tell, deeds_trace, knows_text, traced_text}
@@ -92,7 +94,7 @@ replaying_more d s (b ∷ bs) more = replaying_more d (after_replay d s b) bs mo
 -- ---- a Quit in a session
 
 -- it changes at most whether the session has ended
-quit_leaves : (d : Data) (fault : Option StoreFault) (ask : Ask) (seek : Seek) (e : Editor)
+quit_leaves : (d : Data) (fault : Option StoreFault) (ask : Prompt) (seek : SearchState) (e : Editor)
     → (ended : Bool) × (work (after_any d fault (before e) ask seek (cleared e) Quit) ≡ record (work e) { ended = ended })
 quit_leaves d fault asks.Off Off e = by_end (not e.changed || e.quit_before) where
   by_end : (ends : Bool) → (ended : Bool)
@@ -169,12 +171,12 @@ any_knows d fault first store store' e (Some key) stores h = key_knows d fault f
 -- ---- a replay counts as changed where the session does
 
 ended_tells : (w r : Work) (ended : Bool) → Tells w r → Tells (record w { ended = ended }) r
-ended_tells w r ended h = record { content = h.content; runs = h.runs; stored = h.stored; changed = h.changed }
+ended_tells w r ended h = record { content = h.content; undo_groups = h.undo_groups; stored = h.stored; changed = h.changed }
 
 save_tells : (fault : Option StoreFault) (e f : Editor) → Tells (work e) (work f)
     → Tells (work (after_save (cleared e) fault)) (work (after_passed_save f))
-save_tells None e f h = record { content = h.content; runs = h.runs; stored = inl refl; changed = λ is. absurd (cc is) }
-save_tells (Some fault) e f h = record { content = h.content; runs = h.runs; stored = inl refl; changed = h.changed }
+save_tells None e f h = record { content = h.content; undo_groups = h.undo_groups; stored = inl refl; changed = λ is. absurd (cc is) }
+save_tells (Some fault) e f h = record { content = h.content; undo_groups = h.undo_groups; stored = inl refl; changed = h.changed }
 
 over_tells : (d : Data) (e f : Editor) → let g = having (lasting e) f in
     Tells (work e) (work g) → Tells (work (paste_ended d e)) (work (paste_ended d g))
@@ -312,7 +314,7 @@ starts : (d : Data) (b : Beginning) → Replays b.text (at_offset d b)
 starts d b = starts_at d b.text b.height b.width b.base b.clipboard b.offset b.unsaved
 
 end_tells : (first : List ℕ) (e : Editor) → Traces first (work e) → IsSettled e → Tells (work (replay.at_replay_end e)) (work e)
-end_tells first e traces settled = record { content = refl; runs = refl; stored = by_change e.changed refl traces.stored; changed = λ h. h } where
+end_tells first e traces settled = record { content = refl; undo_groups = refl; stored = by_change e.changed refl traces.stored; changed = λ h. h } where
   by_change : (changed : Bool) → e.changed ≡ changed → (e.stored ≡ None) ⊎ (e.stored ≡ Some 0)
       → (e.stored ≡ None) ⊎ (e.stored ≡ (if changed then None else Some (length e.content.past)))
   by_change true is stored = inl (settled.stored is)
@@ -370,14 +372,14 @@ unsent : (d : Data) (all new replayed : Session) → new ≡ record all { pendin
     → HasBack (once_pasted d new) replayed
 unsent d all new replayed is h = subst (λ (x : Session). HasBack (once_pasted d x) replayed) (sym is) (record {
   content = h.content;
-  runs = h.runs;
+  undo_groups = h.undo_groups;
   place = h.place;
   mark = h.mark;
   soft = h.soft;
   held = h.held;
   query = h.query;
   aim = h.aim;
-  other = h.other;
+  replacement = h.replacement;
   pasted = h.pasted;
   base = h.base;
   goal = h.goal;

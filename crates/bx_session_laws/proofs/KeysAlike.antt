@@ -5,29 +5,28 @@ use Rattle.std.specs.Prelude.{◌==◌}
 use Rattle.bx_keys.specs.declared.key.Key.{Key}
 use Rattle.bx_keys.specs.declared.key.Key.TheVariants.{Insert, Repaint}
 use Rattle.bx_store.specs.declared.store.StoreFault.{StoreFault}
-use Rattle.bx_runs.specs.declared.typing.Typing.{Typing}
-use Rattle.bx_runs.specs.declared.typing.Typing.TheVariants as typings
+use Rattle.bx_editor.specs.declared.undo_groups.typing.Typing.{Typing}
+use Rattle.bx_editor.specs.declared.undo_groups.typing.Typing.TheVariants as typings
 use Rattle.bx_ucd.specs.Data.{Data}
-use Rattle.bx_asking.specs.declared.question.Ask.{Ask}
-use Rattle.bx_asking.specs.declared.question.Ask.TheVariants as asks
+use Rattle.bx_editor.specs.declared.questions.answers.Prompt.{Prompt}
+use Rattle.bx_editor.specs.declared.questions.answers.Prompt.TheVariants as asks
 use Rattle.bx_editor.specs.declared.message.Message.TheVariants.{TextFull}
-use Rattle.bx_editor.specs.declared.seek.Seek.{Seek}
-use Rattle.bx_editor.specs.declared.seek.Seek.TheVariants.{Off, Begun, Typed, WithBegun, WithTyped, Replacing}
+use Rattle.bx_editor.specs.declared.search_state.SearchState.{SearchState}
+use Rattle.bx_editor.specs.declared.search_state.SearchState.TheVariants.{Off, Begun, Typed, WithBegun, WithTyped, Replacing}
 use Rattle.bx_editor.specs.Editor.{Editor, cleared, with_insertion}
-use Rattle.bx_editor.specs.Effects.{Before, before}
-use Rattle.bx_editor.specs.Goal.{goal_behind}
+use Rattle.bx_editor.specs.Effects.{Before, before, goal_behind}
 use Rattle.bx_editor.specs.Keys.{Answer, Letter, Shortens, GoesBack, Next, Previous, Replaces, Stays, Ends, after_any, after_in_paste, after_key, after_press}
 use Rattle.bx_editor.specs.Keys.{after_user, answer_of, answered}
-use Rattle.bx_editor.specs.Pasting.{ended_with, paste_begun, paste_ended, with_paste, with_pasted, without_paste}
-use Rattle.bx_editor.specs.Putting.{has_room, is_paste, only_paste, put_in, with_selection_replaced}
-use Rattle.bx_editor.specs.Replacing.{after_asking_other, after_sought_end, after_sought_letter, is_replacing}
+use Rattle.bx_editor.specs.Putting.{ended_with, paste_begun, paste_ended, with_paste, with_pasted, without_paste, has_room, is_paste}
+use Rattle.bx_editor.specs.Putting.{only_paste, put_in, with_selection_replaced}
+use Rattle.bx_editor.specs.Replacing.{after_asking_replacement, after_sought_end, after_sought_letter, is_replacing}
 use Rattle.bx_editor.specs.Search.{after_letter, is_no_letter, kept, lengthened, longest_query, search_from, with_query, without_search}
-use Rattle.bx_editor.specs.Selecting.{is_selection, soft_behind}
+use Rattle.bx_editor.specs.Region.{is_selection, soft_behind}
 use Rattle.bx_editor.proofs.InSearch.{each-key, pressed-key}
 use Rattle.bx_session_laws.proofs.Lasting.{Lasting, Serves, lasting, having}
 use Rattle.bx_session_laws.proofs.Alike.{Alike, Deed, Work, after_deed, after_deeds, either_alike, going_on, idle, pressed_alike, put_in_alike, work}
 use Rattle.bx_session_laws.proofs.AskedAlike.{question_alike}
-use Rattle.bx_session_laws.proofs.ReplacingAlike.{asking_alike, match_alike, other_alike}
+use Rattle.bx_session_laws.proofs.ReplacingAlike.{asking_alike, match_alike, replacement_alike}
 
 -- ---- a key in a search
 
@@ -43,9 +42,9 @@ end_alike d typing e f =
     let g = having (lasting e) f in
     let left : Editor → Editor = λ x. without_search x in
     let begun : Editor → Editor = λ x. with_paste (without_search x) in
-    either_alike (is_replacing e.aim) e (if is_paste typing then e else after_asking_other d e) (if is_paste typing then begun e else left e) g
-    (if is_paste typing then g else after_asking_other d g) (if is_paste typing then begun g else left g)
-    (either_alike (is_paste typing) e e (after_asking_other d e) g g (after_asking_other d g) (idle e e g g refl refl refl) (asking_alike d e f))
+    either_alike (is_replacing e.aim) e (if is_paste typing then e else after_asking_replacement d e) (if is_paste typing then begun e else left e) g
+    (if is_paste typing then g else after_asking_replacement d g) (if is_paste typing then begun g else left g)
+    (either_alike (is_paste typing) e e (after_asking_replacement d e) g g (after_asking_replacement d g) (idle e e g g refl refl refl) (asking_alike d e f))
     (either_alike (is_paste typing) e (begun e) (left e) g (begun g) (left g) (idle e (begun e) g (begun g) refl refl refl)
     (idle e (left e) g (left g) refl refl refl))
 
@@ -80,14 +79,14 @@ answered_alike d fault was was' e f key Ends other = over e _ (having (lasting e
 
 -- ---- whether a search or a question is on or not
 
-any_alike : (d : Data) (fault : Option StoreFault) (was was' : Before) (ask : Ask) (seek : Seek) (e f : Editor) (key : Key) → Serves e f key
+any_alike : (d : Data) (fault : Option StoreFault) (was was' : Before) (ask : Prompt) (seek : SearchState) (e f : Editor) (key : Key) → Serves e f key
     → Alike e (after_any d fault was ask seek e key) (having (lasting e) f)
     (after_any d None (record was' { typing = was.typing }) ask seek (having (lasting e) f) key)
 any_alike d fault was was' asks.Off Off e f key other = pressed_alike d fault was was' e f key other
 any_alike d fault was was' asks.Off Begun e f key other = answered_alike d fault was was' e f key (answer_of key) other
 any_alike d fault was was' asks.Off Typed e f key other = answered_alike d fault was was' e f key (answer_of key) other
-any_alike d fault was was' asks.Off WithBegun e f key other = other_alike d fault was was' e f key (answer_of key) other
-any_alike d fault was was' asks.Off WithTyped e f key other = other_alike d fault was was' e f key (answer_of key) other
+any_alike d fault was was' asks.Off WithBegun e f key other = replacement_alike d fault was was' e f key (answer_of key) other
+any_alike d fault was was' asks.Off WithTyped e f key other = replacement_alike d fault was was' e f key (answer_of key) other
 any_alike d fault was was' asks.Off Replacing e f key other = match_alike d fault was was' e f key (answer_of key) other
 any_alike d fault was was' asks.Line seek e f key other = question_alike d fault was was' e f key (answer_of key) other
 any_alike d fault was was' asks.Name seek e f key other = question_alike d fault was was' e f key (answer_of key) other
@@ -138,7 +137,7 @@ top_by d e (Some list) =
     (record left { message = Some TextFull }) e.top
     (if_top (is_selection left) (with_selection_replaced d left list) (with_insertion d left list false) e.top refl refl) refl)
 
-begun_alike : (e f : Editor) (ask : Ask) (seek : Seek) (pasted : Option (List ℕ))
+begun_alike : (e f : Editor) (ask : Prompt) (seek : SearchState) (pasted : Option (List ℕ))
     → Alike e (paste_begun ask seek pasted e) (having (lasting e) f) (paste_begun ask seek pasted (having (lasting e) f))
 begun_alike e f asks.Off Off None = record { lasts = refl; deeds = []; first = refl; other = refl }
 begun_alike e f asks.Off Off (Some list) = record { lasts = refl; deeds = []; first = refl; other = refl }

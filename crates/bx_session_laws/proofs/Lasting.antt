@@ -3,15 +3,15 @@ use Rattle.std.proofs.Common.{◌≡◌, ℕ, true, false, nat_le, List, Option,
 use Rattle.std.specs.Prelude.{◌⊎◌}
 use Rattle.bx_keys.specs.declared.key.Key.{Key}
 use Rattle.bx_keys.specs.declared.key.Key.TheVariants.{Point}
-use Rattle.bx_terms.specs.declared.base.Base.{Base}
+use Rattle.bx_common.specs.declared.base.Base.{Base}
 use Rattle.bx_text.specs.Edits.{Edited}
 use Rattle.bx_ucd.specs.Data.{Data}
-use Rattle.bx_asking.specs.declared.question.Ask.{Ask}
-use Rattle.bx_runs.specs.declared.typing.Typing.{Typing}
-use Rattle.bx_editor.specs.declared.aim.Aim.{Aim}
-use Rattle.bx_editor.specs.declared.seek.Seek.{Seek}
-use Rattle.bx_editor.specs.declared.soft.Soft.{Soft}
-use Rattle.bx_view.specs.Pointing.{pointed_at}
+use Rattle.bx_editor.specs.declared.questions.answers.Prompt.{Prompt}
+use Rattle.bx_editor.specs.declared.undo_groups.typing.Typing.{Typing}
+use Rattle.bx_editor.specs.declared.search_state.SearchPurpose.{SearchPurpose}
+use Rattle.bx_editor.specs.declared.search_state.SearchState.{SearchState}
+use Rattle.bx_editor.specs.declared.cursor.Soft.{Soft}
+use Rattle.bx_view.specs.Top.{pointed_at}
 use Rattle.bx_editor.specs.Editor.{Editor, rows, text_height}
 use Rattle.bx_editor.specs.Effects.{Goes}
 use Rattle.bx_editor.specs.Keys.{effect_of}
@@ -23,19 +23,19 @@ use Rattle.bx_session.proofs.KeyKinds.{is_other}
 -- the parts of an editor that a Save and a Quit change in a replay too
 pub record Lasting : Type 0 where
   pub content : Edited
-  pub runs : List ℕ
+  pub undo_groups : List ℕ
   pub place : ℕ
   pub mark : Option ℕ
   pub soft : Soft
   pub held : List ℕ
   pub query : List ℕ
-  pub seek : Seek
-  pub aim : Aim
+  pub seek : SearchState
+  pub aim : SearchPurpose
   pub origin : ℕ
-  pub other : List ℕ
+  pub replacement : List ℕ
   pub at : ℕ
   pub count : ℕ
-  pub ask : Ask
+  pub ask : Prompt
   pub answer : List ℕ
   pub pasted : Option (List ℕ)
   pub typing : Typing
@@ -47,7 +47,7 @@ pub record Lasting : Type 0 where
 abbrev pub lasting : Editor → Lasting
 lasting e = record {
   content = e.content;
-  runs = e.runs;
+  undo_groups = e.undo_groups;
   place = e.place;
   mark = e.mark;
   soft = e.soft;
@@ -56,7 +56,7 @@ lasting e = record {
   seek = e.seek;
   aim = e.aim;
   origin = e.origin;
-  other = e.other;
+  replacement = e.replacement;
   at = e.at;
   count = e.count;
   ask = e.ask;
@@ -73,7 +73,7 @@ lasting e = record {
 abbrev pub having : Lasting → Editor → Editor
 having l e = record e {
   content = l.content;
-  runs = l.runs;
+  undo_groups = l.undo_groups;
   place = l.place;
   mark = l.mark;
   soft = l.soft;
@@ -82,7 +82,7 @@ having l e = record e {
   seek = l.seek;
   aim = l.aim;
   origin = l.origin;
-  other = l.other;
+  replacement = l.replacement;
   at = l.at;
   count = l.count;
   ask = l.ask;

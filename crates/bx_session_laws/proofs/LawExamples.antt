@@ -7,15 +7,16 @@ use Rattle.std.proofs.lemmas.List.{append-nil, append_cancel_right}
 use Rattle.std.proofs.lemmas.List.Elements.{All-cons, All-nil}
 use Rattle.unicode_segmentation.proofs.Computing.{unicode_segmentation}
 use Rattle.unicode_width.proofs.Computing.{unicode_width}
-use Rattle.bx_terms.specs.declared.base.Base.TheVariants.{Auto}
+use Rattle.bx_common.specs.declared.base.Base.TheVariants.{Auto}
 use Rattle.bx_keys.specs.declared.key.Key.{Key}
 use Rattle.bx_keys.specs.declared.key.Key.TheVariants.{Insert, Up}
 use Rattle.bx_store.specs.Stores.{no_faults}
 use Rattle.bx_text.specs.Edits.{Edited}
-use Rattle.bx_editor.specs.Editor.{Editor, HasRows}
+use Rattle.bx_editor.specs.Editor.{Editor}
+use Rattle.bx_editor.specs.Functions.{HasRows}
 use Rattle.bx_editor.proofs.Computed.{tables, ascii_columns}
-use Rattle.bx_session.specs.declared.error.Refused.{Refused}
-use Rattle.bx_session.specs.declared.error.Refused.TheVariants.{Edit, Paint}
+use Rattle.bx_session.specs.declared.status.Refused.{Refused}
+use Rattle.bx_session.specs.declared.status.Refused.TheVariants.{Edit, Paint}
 use Rattle.bx_session.specs.declared.status.Status.{Status}
 use Rattle.bx_session.specs.declared.journal.Backlog.TheVariants.{Empty, Waiting}
 use Rattle.bx_session_laws.specs.Anew.{AlwaysStaysPainted}
@@ -25,8 +26,7 @@ use Rattle.bx_session.specs.Laws.{AlwaysShowsState, HasKeysOfInput, ReplaysKeys,
 use Rattle.bx_session_laws.specs.Recovery.{HasAll, HasBackMidway, HaveRows, IsSettled, JournalsGiveBack, PointsAsSeen, RecoveryGivesBack, RefusesNoKey}
 use Rattle.bx_session_laws.specs.Recovery.{RefusesNoPainting, is_point, once_pasted}
 use Rattle.bx_session.specs.Running.{ByteAnswer, FeedsAll, bytes_of}
-use Rattle.bx_session.specs.Saving.{StoreState}
-use Rattle.bx_session.specs.Session.{Session, after_byte, after_sending, owing_after_byte, with_painting}
+use Rattle.bx_session.specs.Session.{StoreState, Session, after_byte, after_sending, owing_after_byte, with_painting}
 use Rattle.bx_session.proofs.Computed.{start, csi}
 use Rattle.bx_session_laws.proofs.GivenBack.{journal_is}
 use Rattle.bx_session_laws.proofs.RecoveredParts.{has_back}

@@ -7,10 +7,9 @@ use Rattle.bx_session.specs.declared.action.Action.{Action}
 use Rattle.bx_session.specs.declared.action.Action.TheVariants.{Read, Append, Write, WriteFailed, Flush, FlushFailed}
 use Rattle.bx_session.specs.declared.end.End.TheVariants.{Quit}
 use Rattle.bx_session.specs.declared.end.RunFault.TheVariants.{ReadFault, WriteFault}
-use Rattle.bx_session.specs.declared.error.Refused.{Refused}
+use Rattle.bx_session.specs.declared.status.Refused.{Refused}
 use Rattle.bx_session.specs.declared.status.Status.{Status}
-use Rattle.bx_session.specs.Session.{Session}
-use Rattle.bx_session.specs.Saving.{StoreState}
+use Rattle.bx_session.specs.Session.{Session, StoreState}
 use Rattle.bx_session.specs.Running.{ByteAnswer, Turn, bytes_of, read_in}
 use Rattle.bx_session.specs.Log.{Step, Calls, Obeys, AreTaken, HasLogged, IsLog, LoggedTurn, in_parts, part_steps, run_steps, sending, turns_steps}
 

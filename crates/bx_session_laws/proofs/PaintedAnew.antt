@@ -9,7 +9,8 @@ use Rattle.bx_keys.specs.Keys.{key_after, rest_after}
 use Rattle.bx_keys.specs.Waiting.{head_of}
 use Rattle.bx_store.specs.declared.store.StoreFault.{StoreFault}
 use Rattle.bx_ucd.specs.Data.{Data}
-use Rattle.bx_editor.specs.Editor.{Editor, HasRows, with_top}
+use Rattle.bx_editor.specs.Editor.{Editor, with_top}
+use Rattle.bx_editor.specs.Functions.{HasRows}
 use Rattle.bx_editor.specs.Keys.{after_key, asks_for_whole, needs_no_painting}
 use Rattle.bx_editor.specs.Picture.{next_top, picture}
 use Rattle.bx_editor.proofs.TopOnce.{top-stays}

@@ -4,18 +4,18 @@ use Rattle.std.specs.Prelude.{codes}
 use Rattle.std.specs.Fmt.{digits}
 use Rattle.unicode_segmentation.proofs.Computing.{unicode_segmentation}
 use Rattle.unicode_width.proofs.Computing.{unicode_width}
-use Rattle.bx_terms.specs.declared.base.Base.TheVariants.{Auto}
+use Rattle.bx_common.specs.declared.base.Base.TheVariants.{Auto}
 use Rattle.bx_keys.specs.declared.key.Key.{Key}
 use Rattle.bx_keys.specs.declared.key.Key.TheVariants.{Insert, PasteStart, UndoRun}
-use Rattle.bx_keys.specs.Keys.{keys_from}
+use Rattle.bx_keys.specs.Waiting.{keys_from}
 use Rattle.bx_text.specs.Edits.{Edit, edit_of}
-use Rattle.bx_runs.specs.declared.typing.Typing.{Typing}
-use Rattle.bx_runs.specs.declared.typing.Typing.TheVariants as typings
+use Rattle.bx_editor.specs.declared.undo_groups.typing.Typing.{Typing}
+use Rattle.bx_editor.specs.declared.undo_groups.typing.Typing.TheVariants as typings
 use Rattle.bx_editor.specs.Editor.{Editor, at_start}
-use Rattle.bx_editor.specs.Pasting.{paste_ended}
+use Rattle.bx_editor.specs.Putting.{paste_ended}
 use Rattle.bx_editor.specs.Replay.{at_replay_end}
 use Rattle.bx_editor.proofs.Computed.{tables}
-use Rattle.bx_session.specs.Session.{after_all_replayed, after_journal}
+use Rattle.bx_session.specs.Replaying.{after_all_replayed, after_journal}
 use Rattle.bx_session.proofs.Computed.{csi, start}
 use Rattle.bx_session.proofs.Replayed.{keys_in_parts, replays_keys}
 
@@ -24,7 +24,7 @@ abbrev typed_by : List ℕ → List Edit → ℕ → List ℕ → Typing → Edi
 typed_by text past place runs typing = record (at_start [] 2 20 Auto) {
   content = record { text = text; past = past; future = [] };
   place = place;
-  runs = runs;
+  undo_groups = runs;
   typing = typing;
   changed = true;
 }
@@ -59,7 +59,7 @@ next_typed = refl
 
 -- text, its future, where runs begin, and what the next edit may go on with
 abbrev left : Editor → List ℕ × List Edit × List ℕ × Typing
-left e = (e.content.text, e.content.future, e.runs, e.typing)
+left e = (e.content.text, e.content.future, e.undo_groups, e.typing)
 
 last_left : left (at_replay_end (paste_ended tables (after_all_replayed tables both_words last_keys))) ≡ (codes "ab e", [], 0 ∷ 3 ∷ [], typings.Off)
 unfolding unicode_segmentation unicode_width digits

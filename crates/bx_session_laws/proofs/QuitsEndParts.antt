@@ -5,7 +5,8 @@ use Rattle.std.specs.Prelude.{◌≢◌, All, Option, Some, None, option_to_list
 use Rattle.std.proofs.lemmas.List.Elements.{All-cons, All-nil}
 use Rattle.bx_keys.specs.declared.key.Key.{Key}
 use Rattle.bx_keys.specs.declared.key.Key.TheVariants.{Quit}
-use Rattle.bx_keys.specs.Keys.{head_of, key_after, keys_from, rest_after}
+use Rattle.bx_keys.specs.Keys.{head_of, key_after, rest_after}
+use Rattle.bx_keys.specs.Waiting.{keys_from}
 use Rattle.bx_session.specs.Parts.{is_quit, part_length}
 use Rattle.bx_session.proofs.QuitParts.{part_most, part_some}
 use Rattle.bx_session_laws.specs.Parts.{EndsWithQuit, PartsEndAtQuits}

@@ -10,31 +10,32 @@ use Rattle.bx_keys.specs.Keys.{key_after, rest_after}
 use Rattle.bx_keys.specs.Waiting.{head_of}
 use Rattle.bx_store.specs.declared.store.StoreFault.{StoreFault}
 use Rattle.bx_ucd.specs.Data.{Data}
-use Rattle.bx_asking.specs.declared.question.Ask.{Ask}
-use Rattle.bx_asking.specs.declared.question.Ask.TheVariants as asks
-use Rattle.bx_runs.specs.declared.typing.Typing.TheVariants as typings
+use Rattle.bx_editor.specs.declared.questions.answers.Prompt.{Prompt}
+use Rattle.bx_editor.specs.declared.questions.answers.Prompt.TheVariants as asks
+use Rattle.bx_editor.specs.declared.undo_groups.typing.Typing.TheVariants as typings
 use Rattle.bx_editor.specs.declared.message.Message.TheVariants.{Unsaved}
-use Rattle.bx_editor.specs.declared.seek.Seek.{Seek}
-use Rattle.bx_editor.specs.declared.seek.Seek.TheVariants.{Off}
+use Rattle.bx_editor.specs.declared.search_state.SearchState.{SearchState}
+use Rattle.bx_editor.specs.declared.search_state.SearchState.TheVariants.{Off}
 use Rattle.bx_editor.specs.Asking.{without_ask}
 use Rattle.bx_editor.specs.Editor.{Editor, after_save, cleared}
 use Rattle.bx_editor.specs.Effects.{before}
 use Rattle.bx_editor.specs.Keys.{after_any, after_key}
-use Rattle.bx_editor.specs.Pasting.{paste_ended}
+use Rattle.bx_editor.specs.Putting.{paste_ended}
 use Rattle.bx_editor.specs.Prompts.{HasOnePrompt}
 use Rattle.bx_editor.specs.Replay.{after_passed_quit, after_passed_save}
 use Rattle.bx_editor.specs.Search.{without_search}
-use Rattle.bx_editor.specs.Selecting.{aged}
+use Rattle.bx_editor.specs.Region.{aged}
 use Rattle.bx_editor.proofs.InSearch.{behind, save-ends}
 use Rattle.bx_editor.proofs.OnePrompt.{keeps-one-prompt}
-use Rattle.bx_session.specs.declared.error.Refused.{Refused}
-use Rattle.bx_session.specs.declared.error.Refused.TheVariants as refused
+use Rattle.bx_session.specs.declared.status.Refused.{Refused}
+use Rattle.bx_session.specs.declared.status.Refused.TheVariants as refused
 use Rattle.bx_session.specs.declared.status.Status.{Status}
 use Rattle.bx_session.specs.Laws.{after_replaying}
 use Rattle.bx_session_laws.specs.Recovery.{RefusesNoKey, is_point}
 use Rattle.bx_session.specs.Running.{ByteAnswer, FeedsAll, bytes_of}
-use Rattle.bx_session.specs.Saving.{StoreState, Feeds}
-use Rattle.bx_session.specs.Session.{Session, after_all_replayed, after_replay, after_replayed, replayed_on, scrolled}
+use Rattle.bx_session.specs.Session.{StoreState, Session, scrolled}
+use Rattle.bx_session.specs.Feeding.{Feeds}
+use Rattle.bx_session.specs.Replaying.{after_all_replayed, after_replay, after_replayed, replayed_on}
 use Rattle.bx_session_laws.proofs.KeysAlike.{ended_alike, key_alike}
 use Rattle.bx_session.proofs.Ending.{over, quit_user, save_ahead}
 use Rattle.bx_session.proofs.Leaving.{byte_leaves, editor_after}
@@ -68,23 +69,23 @@ quit_by true e = refl
 quit_by false e = refl
 
 -- what a Quit of a replay leaves, once it has ended a paste, by the states of question and search
-abbrev quit_left : Data → Ask → Seek → Editor → Editor
+abbrev quit_left : Data → Prompt → SearchState → Editor → Editor
 quit_left d asks.Off Off e = after_passed_quit e
 quit_left d ask seek e = behind (after_any d None (before e) ask seek (cleared e) Quit)
 
-replayed_quit : (d : Data) (ask : Ask) (seek : Seek) (e : Editor) → (paste_ended d e).ask ≡ ask → (paste_ended d e).seek ≡ seek
+replayed_quit : (d : Data) (ask : Prompt) (seek : SearchState) (e : Editor) → (paste_ended d e).ask ≡ ask → (paste_ended d e).seek ≡ seek
     → after_replayed d ask seek e Quit ≡ quit_left d ask seek (paste_ended d e)
 replayed_quit d asks.Off Off e asked is = refl
 replayed_quit d asks.Off seek e asked is =
-    quit_user d None e ∙ ap₂ (λ (a : Ask) (s : Seek). behind (after_any d None (before (paste_ended d e)) a s (cleared (paste_ended d e)) Quit)) asked is
+    quit_user d None e ∙ ap₂ (λ (a : Prompt) (s : SearchState). behind (after_any d None (before (paste_ended d e)) a s (cleared (paste_ended d e)) Quit)) asked is
 replayed_quit d ask seek e asked is =
-    quit_user d None e ∙ ap₂ (λ (a : Ask) (s : Seek). behind (after_any d None (before (paste_ended d e)) a s (cleared (paste_ended d e)) Quit)) asked is
+    quit_user d None e ∙ ap₂ (λ (a : Prompt) (s : SearchState). behind (after_any d None (before (paste_ended d e)) a s (cleared (paste_ended d e)) Quit)) asked is
 
 -- where the same lasts, one editor has all of the other's
 own : (e f : Editor) → lasting e ≡ lasting f → having (lasting e) f ≡ f
 own e f same = ap (λ l. having l f) same
 
-quit_lasts : (d : Data) (fault : Option StoreFault) (ask : Ask) (seek : Seek) (e f : Editor) → lasting e ≡ lasting f
+quit_lasts : (d : Data) (fault : Option StoreFault) (ask : Prompt) (seek : SearchState) (e f : Editor) → lasting e ≡ lasting f
     → lasting (behind (after_any d fault (before e) ask seek (cleared e) Quit)) ≡ lasting (quit_left d ask seek f)
 quit_lasts d fault asks.Off Off e f same =
     quit_by (not e.changed || e.quit_before) (cleared e)

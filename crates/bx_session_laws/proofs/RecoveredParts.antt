@@ -1,24 +1,25 @@
 -- What a replay gives back, part for part, in its middle and at its end.
 use Rattle.std.proofs.Common.{◌≡◌, ℕ, Bool, true, false, List, Option, Some, None, refl, sym, ap, subst, ◌∙◌}
-use Rattle.bx_terms.specs.declared.base.Base.{Base}
+use Rattle.bx_common.specs.declared.base.Base.{Base}
 use Rattle.bx_keys.specs.declared.key.Key.{Key}
 use Rattle.bx_keys.specs.declared.key.Key.TheVariants as keys
 use Rattle.bx_ucd.specs.Data.{Data}
-use Rattle.bx_asking.specs.declared.question.Ask.{Ask}
-use Rattle.bx_asking.specs.declared.question.Ask.TheVariants as asks
-use Rattle.bx_runs.specs.declared.typing.Typing.{Typing}
-use Rattle.bx_runs.specs.declared.typing.Typing.TheVariants as typings
-use Rattle.bx_editor.specs.Editor.{Editor, HasRows}
-use Rattle.bx_editor.specs.Pasting.{ended_with, paste_ended}
+use Rattle.bx_editor.specs.declared.questions.answers.Prompt.{Prompt}
+use Rattle.bx_editor.specs.declared.questions.answers.Prompt.TheVariants as asks
+use Rattle.bx_editor.specs.declared.undo_groups.typing.Typing.{Typing}
+use Rattle.bx_editor.specs.declared.undo_groups.typing.Typing.TheVariants as typings
+use Rattle.bx_editor.specs.Editor.{Editor}
+use Rattle.bx_editor.specs.Functions.{HasRows}
+use Rattle.bx_editor.specs.Putting.{ended_with, paste_ended}
 use Rattle.bx_editor.specs.Picture.{next_top}
 use Rattle.bx_editor.specs.Replay as replay
-use Rattle.bx_editor.specs.declared.seek.Seek.{Seek}
+use Rattle.bx_editor.specs.declared.search_state.SearchState.{SearchState}
 use Rattle.bx_editor.proofs.TopOnce.{top-stays}
-use Rattle.bx_session.specs.Beginning.{Beginning, after_going_to, at_offset, begun, changed_if, clipboard_if}
+use Rattle.bx_session.specs.Beginning.{Beginning, after_going_to, at_offset, begun, changed_if}
+use Rattle.bx_session.specs.Session.{clipboard_if, Session, after_spending, at_opening, key_of_byte, scrolled, with_painting_owed}
 use Rattle.bx_session.specs.Laws.{after_replaying}
 use Rattle.bx_session.specs.Running.{bytes_of}
-use Rattle.bx_session.specs.Session.{Session, after_all_replayed, after_replay, after_replayed_key, after_spending, at_opening, at_replay_end, key_of_byte, scrolled}
-use Rattle.bx_session.specs.Session.{with_painting_owed}
+use Rattle.bx_session.specs.Replaying.{after_all_replayed, after_replay, after_replayed_key, at_replay_end}
 use Rattle.bx_session.proofs.Ending.{over}
 use Rattle.bx_session.proofs.Input.{keys_of_input}
 use Rattle.bx_session.proofs.KeySizes.{ended_goes_on}
@@ -33,20 +34,20 @@ use Rattle.bx_session_laws.proofs.TopsKept.{ended_top}
 
 -- ---- for each part
 
-same_lasts : (e f : Editor) → f.content ≡ e.content → f.runs ≡ e.runs → f.place ≡ e.place → f.mark ≡ e.mark → f.soft ≡ e.soft → f.held ≡ e.held → f.query ≡ e.query
-    → f.seek ≡ e.seek → f.aim ≡ e.aim → f.origin ≡ e.origin → f.other ≡ e.other → f.at ≡ e.at → f.count ≡ e.count
+same_lasts : (e f : Editor) → f.content ≡ e.content → f.undo_groups ≡ e.undo_groups → f.place ≡ e.place → f.mark ≡ e.mark → f.soft ≡ e.soft → f.held ≡ e.held → f.query ≡ e.query
+    → f.seek ≡ e.seek → f.aim ≡ e.aim → f.origin ≡ e.origin → f.replacement ≡ e.replacement → f.at ≡ e.at → f.count ≡ e.count
     → f.ask ≡ e.ask → f.answer ≡ e.answer → f.pasted ≡ e.pasted → f.typing ≡ e.typing
     → f.base ≡ e.base → f.goal ≡ e.goal → f.height ≡ e.height → f.width ≡ e.width → lasting e ≡ lasting f
 same_lasts e f content runs place mark soft held query seek aim origin other at count ask answer pasted typing base goal height width =
     let was = lasting e in
-    let placed : Lasting = record was { content = f.content; runs = f.runs; place = f.place } in
+    let placed : Lasting = record was { content = f.content; undo_groups = f.undo_groups; place = f.place } in
     let filled : Lasting = record placed { mark = f.mark; soft = f.soft; held = f.held; query = f.query } in
     let began : Lasting = record filled { seek = f.seek; aim = f.aim; origin = f.origin } in
-    let searched : Lasting = record began { other = f.other; at = f.at; count = f.count } in
+    let searched : Lasting = record began { replacement = f.replacement; at = f.at; count = f.count } in
     let sought : Lasting = record searched { ask = f.ask; answer = f.answer; pasted = f.pasted; typing = f.typing } in
     ap (λ x. record was { content = x }) (sym content)
-    ∙ ap (λ x. record was { content = f.content; runs = x }) (sym runs)
-    ∙ ap (λ x. record was { content = f.content; runs = f.runs; place = x }) (sym place)
+    ∙ ap (λ x. record was { content = f.content; undo_groups = x }) (sym runs)
+    ∙ ap (λ x. record was { content = f.content; undo_groups = f.undo_groups; place = x }) (sym place)
     ∙ ap (λ x. record placed { mark = x }) (sym mark)
     ∙ ap (λ x. record placed { mark = f.mark; soft = x }) (sym soft)
     ∙ ap (λ x. record placed { mark = f.mark; soft = f.soft; held = x }) (sym held)
@@ -54,9 +55,9 @@ same_lasts e f content runs place mark soft held query seek aim origin other at 
     ∙ ap (λ x. record filled { seek = x }) (sym seek)
     ∙ ap (λ x. record filled { seek = f.seek; aim = x }) (sym aim)
     ∙ ap (λ x. record filled { seek = f.seek; aim = f.aim; origin = x }) (sym origin)
-    ∙ ap (λ x. record began { other = x }) (sym other)
-    ∙ ap (λ x. record began { other = f.other; at = x }) (sym at)
-    ∙ ap (λ x. record began { other = f.other; at = f.at; count = x }) (sym count)
+    ∙ ap (λ x. record began { replacement = x }) (sym other)
+    ∙ ap (λ x. record began { replacement = f.replacement; at = x }) (sym at)
+    ∙ ap (λ x. record began { replacement = f.replacement; at = f.at; count = x }) (sym count)
     ∙ ap (λ x. record searched { ask = x }) (sym ask)
     ∙ ap (λ x. record searched { ask = f.ask; answer = x }) (sym answer)
     ∙ ap (λ x. record searched { ask = f.ask; answer = f.answer; pasted = x }) (sym pasted)
@@ -69,7 +70,7 @@ same_lasts e f content runs place mark soft held query seek aim origin other at 
 follows : (s r : Session) → HasBackMidway s r → Follows s r
 follows s r h =
     let p = h.parts in record {
-      lasts = same_lasts s.editor r.editor p.content p.runs p.place p.mark p.soft p.held p.query h.seek p.aim h.origin p.other h.at h.count h.ask h.answer p.pasted h.typing p.base p.goal p.height p.width;
+      lasts = same_lasts s.editor r.editor p.content p.undo_groups p.place p.mark p.soft p.held p.query h.seek p.aim h.origin p.replacement h.at h.count h.ask h.answer p.pasted h.typing p.base p.goal p.height p.width;
       rest_is = sym p.rest;
       goes_on = p.goes_on;
       one = h.one;
@@ -79,14 +80,14 @@ pub has_back : (s r : Session) → Follows s r → HasBackMidway s r
 has_back s r h = record {
   parts = record {
     content = ap (λ (l : Lasting). l.content) (sym h.lasts);
-    runs = ap (λ (l : Lasting). l.runs) (sym h.lasts);
+    undo_groups = ap (λ (l : Lasting). l.undo_groups) (sym h.lasts);
     place = ap (λ (l : Lasting). l.place) (sym h.lasts);
     mark = ap (λ (l : Lasting). l.mark) (sym h.lasts);
     soft = ap (λ (l : Lasting). l.soft) (sym h.lasts);
     held = ap (λ (l : Lasting). l.held) (sym h.lasts);
     query = ap (λ (l : Lasting). l.query) (sym h.lasts);
     aim = ap (λ (l : Lasting). l.aim) (sym h.lasts);
-    other = ap (λ (l : Lasting). l.other) (sym h.lasts);
+    replacement = ap (λ (l : Lasting). l.replacement) (sym h.lasts);
     pasted = ap (λ (l : Lasting). l.pasted) (sym h.lasts);
     base = ap (λ (l : Lasting). l.base) (sym h.lasts);
     goal = ap (λ (l : Lasting). l.goal) (sym h.lasts);
@@ -119,14 +120,14 @@ pub ended_back : (d : Data) (s r : Session) → Follows s r → HasBack (once_pa
 ended_back d s r h =
     let same = sym (over_lasts d s.editor r.editor h.lasts) in record {
       content = ap (λ (l : Lasting). l.content) same;
-      runs = ap (λ (l : Lasting). l.runs) same;
+      undo_groups = ap (λ (l : Lasting). l.undo_groups) same;
       place = ap (λ (l : Lasting). l.place) same;
       mark = ap (λ (l : Lasting). l.mark) same;
       soft = ap (λ (l : Lasting). l.soft) same;
       held = ap (λ (l : Lasting). l.held) same;
       query = ap (λ (l : Lasting). l.query) same;
       aim = ap (λ (l : Lasting). l.aim) same;
-      other = ap (λ (l : Lasting). l.other) same;
+      replacement = ap (λ (l : Lasting). l.replacement) same;
       pasted = ap (λ (l : Lasting). l.pasted) same;
       base = ap (λ (l : Lasting). l.base) same;
       goal = ap (λ (l : Lasting). l.goal) same;
@@ -160,8 +161,8 @@ save_settles d s byte is =
 end_lasts : (e : Editor) → IsSettled e → lasting (replay.at_replay_end e) ≡ lasting e
 end_lasts e settled =
     let was = lasting e in
-    ap (λ (seek : Seek). record was { seek = seek; ask = asks.Off; typing = typings.Off }) (sym settled.seek)
-    ∙ ap (λ (ask : Ask). record was { ask = ask; typing = typings.Off }) (sym settled.ask)
+    ap (λ (seek : SearchState). record was { seek = seek; ask = asks.Off; typing = typings.Off }) (sym settled.seek)
+    ∙ ap (λ (ask : Prompt). record was { ask = ask; typing = typings.Off }) (sym settled.ask)
     ∙ ap (λ (typing : Typing). record was { typing = typing }) (sym settled.typing)
 
 settled_lasts : (d : Data) (e : Editor) → IsSettled e → lasting (replay.at_replay_end (paste_ended d e)) ≡ lasting e

@@ -6,20 +6,21 @@ use Rattle.bx_store.specs.declared.store.StoreFault.{StoreFault}
 use Rattle.bx_text.specs.Edits.{fits, splice}
 use Rattle.bx_ucd.specs.Data.{Data}
 use Rattle.bx_document.specs.Swapped.{behind_character, last_stop, swapped}
-use Rattle.bx_runs.specs.declared.typing.Typing.{Typing}
+use Rattle.bx_editor.specs.declared.undo_groups.typing.Typing.{Typing}
 use Rattle.bx_view.specs.Moves.{place_at}
 use Rattle.bx_view.specs.TextRows.{text_rows}
-use Rattle.bx_editor.specs.declared.aim.Aim.TheVariants.{Replace}
+use Rattle.bx_editor.specs.declared.search_state.SearchPurpose.TheVariants.{Replace}
 use Rattle.bx_editor.specs.declared.matches.Landing.{Landing}
 use Rattle.bx_editor.specs.declared.message.Message.TheVariants.{TextFull}
-use Rattle.bx_editor.specs.declared.seek.Seek.TheVariants.{Off, Replacing}
+use Rattle.bx_editor.specs.declared.search_state.SearchState.TheVariants.{Off, Replacing}
 use Rattle.bx_editor.specs.Editor.{Editor, place_after, with_exchange, with_removal}
 use Rattle.bx_editor.specs.Effects.{Before}
-use Rattle.bx_editor.specs.Keys.{Answer, Letter, Shortens, GoesBack, Next, Previous, Replaces, Stays, Ends, answered_match, answered_other}
+use Rattle.bx_editor.specs.Keys.{Answer, Letter, Shortens, GoesBack, Next, Previous, Replaces, Stays, Ends, answered_match, answered_replacement}
 use Rattle.bx_editor.specs.Putting.{is_paste, only_paste}
-use Rattle.bx_editor.specs.Replacing.{after_asking_other, after_ending, after_match_letter, after_other_letter, after_passing_over, after_replacing, after_replacing_all}
-use Rattle.bx_editor.specs.Replacing.{after_showing, asked_at, at_match, longest_other, match_stop, matches_on, next_match, on_from, other_typed}
-use Rattle.bx_editor.specs.Replacing.{shown_at, with_matches_replaced, with_other}
+use Rattle.bx_editor.specs.Replacing.{after_asking_replacement, after_ending, after_match_letter, after_replacement_letter, after_passing_over, after_replacing, after_replacing_all}
+use Rattle.bx_editor.specs.Replacing.{after_showing, asked_at, at_match, match_stop, matches_on, next_match, on_from, replacement_typed}
+use Rattle.bx_editor.specs.Search.{longest_query}
+use Rattle.bx_editor.specs.Replacing.{shown_at, with_matches_replaced, with_replacement}
 use Rattle.bx_editor.specs.Search.{is_no_letter, kept, landed, landing_from, lengthened, sought, without_search}
 use Rattle.bx_session_laws.proofs.Lasting.{Lasting, Serves, lasting, having}
 use Rattle.bx_session_laws.proofs.Alike.{Alike, Edits, either_alike, idle, going_on, pressed_alike, removal_alike}
@@ -90,18 +91,18 @@ replacing_alike : (d : Data) (e f : Editor) → Alike e (after_replacing d e) (h
 replacing_alike d e f =
     let g = having (lasting e) f in
     let stop = match_stop d e in
-    let one = with_matches_replaced d e stop e.other 1 in
-    let one' = with_matches_replaced d g stop e.other 1 in
-    let z = e.at + length e.other in
-    either_alike (fits e.content.text e.at stop e.other) e (on_from d z one) (full e) g (on_from d z one') (full g)
-    (on_alike d z e one g one' (matches_alike d e f stop e.other 1)) (full_alike e f)
+    let one = with_matches_replaced d e stop e.replacement 1 in
+    let one' = with_matches_replaced d g stop e.replacement 1 in
+    let z = e.at + length e.replacement in
+    either_alike (fits e.content.text e.at stop e.replacement) e (on_from d z one) (full e) g (on_from d z one') (full g)
+    (on_alike d z e one g one' (matches_alike d e f stop e.replacement 1)) (full_alike e f)
 
 all_alike : (d : Data) (e f : Editor) → Alike e (after_replacing_all d e) (having (lasting e) f) (after_replacing_all d (having (lasting e) f))
 all_alike d e f =
     let g = having (lasting e) f in
     let spans = matches_on d e in
     let stop = last_stop e.at spans in
-    let new = swapped e.at e.content.text e.other spans in
+    let new = swapped e.at e.content.text e.replacement spans in
     let all = with_matches_replaced d e stop new (length spans) in
     let all' = with_matches_replaced d g stop new (length spans) in
     either_alike (fits e.content.text e.at stop new) e (after_ending all) (full e) g (after_ending all') (full g)
@@ -111,7 +112,7 @@ passing_alike : (d : Data) (e f : Editor) → Alike e (after_passing_over d e) (
 passing_alike d e f =
     let g = having (lasting e) f in on_alike d (behind_character e.content.text e.at) e e g g (same e f)
 
--- ---- the question for the other text
+-- ---- the question for the replacement
 
 shown_alike : (e f : Editor) (at : Option ℕ) → Alike e (shown_at e at) (having (lasting e) f) (shown_at (having (lasting e) f) at)
 shown_alike e f None = same e f
@@ -122,7 +123,7 @@ asked_alike : (e f : Editor) (landing : Landing) (place : Option ℕ) → let g 
 asked_alike e f landing None = record { lasts = refl; deeds = []; first = refl; other = refl }
 asked_alike e f landing (Some place) = record { lasts = refl; deeds = []; first = refl; other = refl }
 
-pub asking_alike : (d : Data) (e f : Editor) → Alike e (after_asking_other d e) (having (lasting e) f) (after_asking_other d (having (lasting e) f))
+pub asking_alike : (d : Data) (e f : Editor) → Alike e (after_asking_replacement d e) (having (lasting e) f) (after_asking_replacement d (having (lasting e) f))
 asking_alike d e f =
     let g = having (lasting e) f in
     let aimed : Editor = record e { aim = Replace } in
@@ -137,13 +138,13 @@ asking_alike d e f =
 unsought_alike : (e new f new' : Editor) → Alike (without_search e) new (without_search f) new' → Alike e new f new'
 unsought_alike e new f new' h = record { lasts = h.lasts; deeds = h.deeds; first = h.first; other = h.other }
 
-other_letter_alike : (d : Data) (typing : Typing) (e f : Editor) (c : ℕ)
-    → Alike e (after_other_letter d typing e c) (having (lasting e) f) (after_other_letter d typing (having (lasting e) f) c)
-other_letter_alike d typing e f c =
+replacement_letter_alike : (d : Data) (typing : Typing) (e f : Editor) (c : ℕ)
+    → Alike e (after_replacement_letter d typing e c) (having (lasting e) f) (after_replacement_letter d typing (having (lasting e) f) c)
+replacement_letter_alike d typing e f c =
     let g = having (lasting e) f in
-    let longer : Editor → Editor = λ x. with_other x (lengthened longest_other (kept x.seek x.other) c) in
-    either_alike (c == 0xA) e (if is_paste typing then e else after_showing d e) (other_typed d e c) g
-    (if is_paste typing then g else after_showing d g) (other_typed d g c)
+    let longer : Editor → Editor = λ x. with_replacement x (lengthened longest_query (kept x.seek x.replacement) c) in
+    either_alike (c == 0xA) e (if is_paste typing then e else after_showing d e) (replacement_typed d e c) g
+    (if is_paste typing then g else after_showing d g) (replacement_typed d g c)
     (either_alike (is_paste typing) e e (after_showing d e) g g (after_showing d g) (same e f) (shown_alike e f (next_match d e e.place)))
     (either_alike (is_no_letter d c) e e (longer e) g g (longer g) (same e f) (idle e (longer e) g (longer g) refl refl refl))
 
@@ -153,19 +154,19 @@ match_letter_alike d typing e f c =
     let g = having (lasting e) f in
     either_alike ((c == 0xA) && not (is_paste typing)) e (after_replacing d e) e g (after_replacing d g) g (replacing_alike d e f) (same e f)
 
-pub other_alike : (d : Data) (fault : Option StoreFault) (was was' : Before) (e f : Editor) (key : Key) (answer : Answer) → Serves e f key
-    → Alike e (answered_other d fault was e key answer) (having (lasting e) f)
-    (answered_other d None (record was' { typing = was.typing }) (having (lasting e) f) key answer)
-other_alike d fault was was' e f key (Letter c) other =
+pub replacement_alike : (d : Data) (fault : Option StoreFault) (was was' : Before) (e f : Editor) (key : Key) (answer : Answer) → Serves e f key
+    → Alike e (answered_replacement d fault was e key answer) (having (lasting e) f)
+    (answered_replacement d None (record was' { typing = was.typing }) (having (lasting e) f) key answer)
+replacement_alike d fault was was' e f key (Letter c) other =
     let g = having (lasting e) f in
-    going_on (only_paste was.typing) e (after_other_letter d was.typing e c) g (after_other_letter d was.typing g c) (other_letter_alike d was.typing e f c)
-other_alike d fault was was' e f key Shortens other = record { lasts = refl; deeds = []; first = refl; other = refl }
-other_alike d fault was was' e f key GoesBack other = record { lasts = refl; deeds = []; first = refl; other = refl }
-other_alike d fault was was' e f key Next other = record { lasts = refl; deeds = []; first = refl; other = refl }
-other_alike d fault was was' e f key Previous other = record { lasts = refl; deeds = []; first = refl; other = refl }
-other_alike d fault was was' e f key Replaces other = shown_alike e f (next_match d e e.place)
-other_alike d fault was was' e f key Stays other = record { lasts = refl; deeds = []; first = refl; other = refl }
-other_alike d fault was was' e f key Ends other =
+    going_on (only_paste was.typing) e (after_replacement_letter d was.typing e c) g (after_replacement_letter d was.typing g c) (replacement_letter_alike d was.typing e f c)
+replacement_alike d fault was was' e f key Shortens other = record { lasts = refl; deeds = []; first = refl; other = refl }
+replacement_alike d fault was was' e f key GoesBack other = record { lasts = refl; deeds = []; first = refl; other = refl }
+replacement_alike d fault was was' e f key Next other = record { lasts = refl; deeds = []; first = refl; other = refl }
+replacement_alike d fault was was' e f key Previous other = record { lasts = refl; deeds = []; first = refl; other = refl }
+replacement_alike d fault was was' e f key Replaces other = shown_alike e f (next_match d e e.place)
+replacement_alike d fault was was' e f key Stays other = record { lasts = refl; deeds = []; first = refl; other = refl }
+replacement_alike d fault was was' e f key Ends other =
     unsought_alike e _ (having (lasting e) f) _ (pressed_alike d fault was was' (without_search e) f key other)
 
 pub match_alike : (d : Data) (fault : Option StoreFault) (was was' : Before) (e f : Editor) (key : Key) (answer : Answer) → Serves e f key

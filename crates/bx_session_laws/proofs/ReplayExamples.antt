@@ -6,17 +6,18 @@ use Rattle.ucd_case.proofs.Computing.{ucd_case}
 use Rattle.unicode_normalization.proofs.Computing.{unicode_normalization}
 use Rattle.unicode_segmentation.proofs.Computing.{unicode_segmentation}
 use Rattle.unicode_width.proofs.Computing.{unicode_width}
-use Rattle.bx_runs.specs.declared.typing.Typing.{Typing}
-use Rattle.bx_runs.specs.declared.typing.Typing.TheVariants as typings
-use Rattle.bx_asking.specs.declared.question.Ask.{Ask}
-use Rattle.bx_asking.specs.declared.question.Ask.TheVariants as asks
-use Rattle.bx_editor.specs.declared.seek.Seek.{Seek}
-use Rattle.bx_editor.specs.declared.seek.Seek.TheVariants.{Off}
-use Rattle.bx_editor.specs.declared.soft.Soft.{Soft}
-use Rattle.bx_editor.specs.declared.soft.Soft.TheVariants as softness
+use Rattle.bx_editor.specs.declared.undo_groups.typing.Typing.{Typing}
+use Rattle.bx_editor.specs.declared.undo_groups.typing.Typing.TheVariants as typings
+use Rattle.bx_editor.specs.declared.questions.answers.Prompt.{Prompt}
+use Rattle.bx_editor.specs.declared.questions.answers.Prompt.TheVariants as asks
+use Rattle.bx_editor.specs.declared.search_state.SearchState.{SearchState}
+use Rattle.bx_editor.specs.declared.search_state.SearchState.TheVariants.{Off}
+use Rattle.bx_editor.specs.declared.cursor.Soft.{Soft}
+use Rattle.bx_editor.specs.declared.cursor.Soft.TheVariants as softness
 use Rattle.bx_editor.specs.Editor.{Editor}
 use Rattle.bx_editor.proofs.Computed.{tables}
-use Rattle.bx_session.specs.Session.{Session, after_journal}
+use Rattle.bx_session.specs.Session.{Session}
+use Rattle.bx_session.specs.Replaying.{after_journal}
 use Rattle.bx_session.proofs.Computed.{after, start, csi}
 
 -- after a journal over this text, and after more bytes that a session takes then
@@ -31,7 +32,7 @@ more s bytes = (after s bytes).editor
 abbrev replayed : List ℕ → Editor
 replayed bytes = (over (codes "abc") bytes).editor
 
-abbrev left : List ℕ → List ℕ × ℕ × Seek
+abbrev left : List ℕ → List ℕ × ℕ × SearchState
 left bytes = let e = replayed bytes in (e.content.text, e.place, e.seek)
 
 -- Find and c
@@ -72,7 +73,7 @@ abbrev coding_a : List ℕ
 coding_a = csi (codes "86~") ++ codes "u61"
 
 -- text, place and question
-abbrev asked : List ℕ → List ℕ × ℕ × Ask
+abbrev asked : List ℕ → List ℕ × ℕ × Prompt
 asked bytes = let e = (over (codes "a\nb") bytes).editor in (e.content.text, e.place, e.ask)
 
 pub an_open_question_is_closed : asked going_to_2 ≡ (codes "a\nb", 0, asks.Off)
@@ -105,13 +106,13 @@ redo_run = csi (codes "83~")
 
 -- text, where runs begin, and what the next edit may go on with
 abbrev typed : Editor → List ℕ × List ℕ × Typing
-typed e = (e.content.text, e.runs, e.typing)
+typed e = (e.content.text, e.undo_groups, e.typing)
 
 pub two_words_are_two_runs : typed (more (over [] (codes "x y")) []) ≡ (codes "x y", 0 ∷ 2 ∷ [], typings.Off)
 unfolding unicode_segmentation unicode_width digits
 two_words_are_two_runs = refl
 
-pub a_run_is_over_at_the_end : (more (over [] (codes "x y")) (codes "z")).runs ≡ 0 ∷ 2 ∷ 3 ∷ []
+pub a_run_is_over_at_the_end : (more (over [] (codes "x y")) (codes "z")).undo_groups ≡ 0 ∷ 2 ∷ 3 ∷ []
 unfolding unicode_segmentation unicode_width digits
 a_run_is_over_at_the_end = refl
 

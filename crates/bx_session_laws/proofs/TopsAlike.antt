@@ -5,24 +5,27 @@ use Rattle.std.specs.Prelude.{◌≢◌, ◌||◌, ◌&&◌, is_some, option_to_
 use Rattle.std.proofs.lemmas.List.Elements.{All-head, All-tail}
 use Rattle.bx_keys.specs.declared.key.Key.{Key}
 use Rattle.bx_keys.specs.declared.key.Key.TheVariants.{Insert, PasteStart}
-use Rattle.bx_keys.specs.Keys.{key_after, keys_from, rest_after}
-use Rattle.bx_keys.specs.Waiting.{head_of}
+use Rattle.bx_keys.specs.Keys.{key_after, rest_after}
+use Rattle.bx_keys.specs.Waiting.{keys_from, head_of}
 use Rattle.bx_store.specs.declared.store.StoreFault.{StoreFault}
 use Rattle.bx_ucd.specs.Data.{Data}
-use Rattle.bx_editor.specs.Editor.{Editor, HasRows, rows, text_height}
+use Rattle.bx_editor.specs.Editor.{Editor, rows, text_height}
+use Rattle.bx_editor.specs.Functions.{HasRows}
 use Rattle.bx_editor.specs.Keys.{after_key, after_press, needs_no_painting}
-use Rattle.bx_editor.specs.Picture.{LooksAs, next_top}
+use Rattle.bx_editor.specs.Picture.{next_top}
+use Rattle.bx_editor.specs.PasteLaws.{LooksAs}
 use Rattle.bx_editor.specs.Prompts.{HasOnePrompt}
 use Rattle.bx_editor.proofs.TopOnce.{top-stays}
 use Rattle.bx_editor.proofs.Unseen.{paste-is-unseen}
 use Rattle.bx_view.specs.Top.{follow}
-use Rattle.bx_session.specs.declared.error.Refused.{Refused}
-use Rattle.bx_session.specs.declared.error.Refused.TheVariants as refused
+use Rattle.bx_session.specs.declared.status.Refused.{Refused}
+use Rattle.bx_session.specs.declared.status.Refused.TheVariants as refused
 use Rattle.bx_session.specs.declared.status.Status.{Status}
 use Rattle.bx_session.specs.Laws.{after_replaying}
 use Rattle.bx_session.specs.Running.{ByteAnswer, FeedsAll, bytes_of}
-use Rattle.bx_session.specs.Saving.{StoreState, Feeds}
-use Rattle.bx_session.specs.Session.{Session, after_all_replayed, after_byte, after_replay, needs_painting, painted_after, replayed_on, scrolled, session_after_any}
+use Rattle.bx_session.specs.Session.{StoreState, Session, after_byte, needs_painting, painted_after, scrolled, session_after_any}
+use Rattle.bx_session.specs.Feeding.{Feeds}
+use Rattle.bx_session.specs.Replaying.{after_all_replayed, after_replay, replayed_on}
 use Rattle.bx_session.proofs.Leaving.{byte_leaves}
 use Rattle.bx_session.proofs.Replayed.{applies}
 use Rattle.bx_session_laws.specs.Recovery.{HasTop, HaveRows, PointsAsSeen, RefusesNoKey, RefusesNoPainting, is_point}

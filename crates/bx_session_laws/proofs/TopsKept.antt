@@ -5,23 +5,23 @@ use Rattle.bx_keys.specs.declared.key.Key.{Key}
 use Rattle.bx_keys.specs.declared.key.Key.TheVariants.{Quit}
 use Rattle.bx_store.specs.declared.store.StoreFault.{StoreFault}
 use Rattle.bx_ucd.specs.Data.{Data}
-use Rattle.bx_asking.specs.declared.question.Ask.{Ask}
-use Rattle.bx_asking.specs.declared.question.Ask.TheVariants as asks
-use Rattle.bx_editor.specs.declared.aim.Aim.TheVariants as aims
-use Rattle.bx_editor.specs.declared.seek.Seek.{Seek}
-use Rattle.bx_editor.specs.declared.seek.Seek.TheVariants.{Off, Begun, Typed, WithBegun, WithTyped, Replacing}
+use Rattle.bx_editor.specs.declared.questions.answers.Prompt.{Prompt}
+use Rattle.bx_editor.specs.declared.questions.answers.Prompt.TheVariants as asks
+use Rattle.bx_editor.specs.declared.search_state.SearchPurpose.TheVariants as aims
+use Rattle.bx_editor.specs.declared.search_state.SearchState.{SearchState}
+use Rattle.bx_editor.specs.declared.search_state.SearchState.TheVariants.{Off, Begun, Typed, WithBegun, WithTyped, Replacing}
 use Rattle.bx_editor.specs.Asking.{without_ask}
 use Rattle.bx_editor.specs.Editor.{Editor, after_save, cleared, with_exchange}
 use Rattle.bx_editor.specs.Effects.{Effect, Seeks, SeeksNext, AsksLine, AsksName, Before, before, by}
-use Rattle.bx_editor.specs.Keys.{after_any, after_asking, after_key, after_seeking, after_user, answer_of, answered_match, answered_other, effect_of}
-use Rattle.bx_editor.specs.Pasting.{paste_ended}
+use Rattle.bx_editor.specs.Keys.{after_any, after_asking, after_key, after_seeking, after_user, answer_of, answered_match, answered_replacement, effect_of}
+use Rattle.bx_editor.specs.Putting.{paste_ended}
 use Rattle.bx_editor.specs.Search.{after_beginning, next_or_start, search_from, sought, without_search}
-use Rattle.bx_editor.specs.Selecting.{unselected}
+use Rattle.bx_editor.specs.Region.{unselected}
 use Rattle.bx_editor.proofs.EffectsKept as kept_by
 use Rattle.bx_editor.proofs.InSearch.{each-key, press-keeps}
-use Rattle.bx_editor.proofs.Questions as questions
+use Rattle.bx_editor.proofs.QuestionSteps as questions
 use Rattle.bx_editor.proofs.Searches as searches
-use Rattle.bx_session.specs.Session.{after_replayed, replayed_on}
+use Rattle.bx_session.specs.Replaying.{after_replayed, replayed_on}
 use Rattle.bx_session.proofs.Replayed.{each-replayed}
 
 module _ (top : ℕ) where
@@ -82,10 +82,10 @@ module _ (top : ℕ) where
   query d fault was e key h =
       searches.query-keeps d IsTop (seeking d) fault was e key (answer_of key) h (λ ends. effect d fault was e (effect_of d e key) h)
 
-  other : (d : Data) (fault : Option StoreFault) (was : Before) (e : Editor) (key : Key) → IsTop e → IsTop (answered_other d fault was e key (answer_of key))
+  other : (d : Data) (fault : Option StoreFault) (was : Before) (e : Editor) (key : Key) → IsTop e → IsTop (answered_replacement d fault was e key (answer_of key))
   other d fault was e key h =
       let left = without_search e in
-      searches.other-keeps d IsTop (seeking d) fault was e key (answer_of key) h h (λ ends. effect d fault was left (effect_of d left key) h)
+      searches.replacement-keeps d IsTop (seeking d) fault was e key (answer_of key) h h (λ ends. effect d fault was left (effect_of d left key) h)
 
   match : (d : Data) (fault : Option StoreFault) (was : Before) (e : Editor) (key : Key) → IsTop e → IsTop (answered_match d fault was e key (answer_of key))
   match d fault was e key h =
@@ -108,7 +108,7 @@ module _ (top : ℕ) where
       let free = without_ask e in
       questions.question-keeps d IsTop (answering d) fault was e key (answer_of key) h (effect d fault was free (effect_of d free key) h)
 
-  any : (d : Data) (fault : Option StoreFault) (was : Before) (ask : Ask) (seek : Seek) (e : Editor) (key : Key) → IsTop e
+  any : (d : Data) (fault : Option StoreFault) (was : Before) (ask : Prompt) (seek : SearchState) (e : Editor) (key : Key) → IsTop e
       → IsTop (after_any d fault was ask seek e key)
   any d fault was asks.Off Off e key h = effect d fault was e (effect_of d e key) h
   any d fault was asks.Off Begun e key h = query d fault was e key h
@@ -143,7 +143,7 @@ pub key_top : (d : Data) (fault : Option StoreFault) (e : Editor) (key : Key) �
 key_top d fault e key = key_keeps e.top d fault e key refl
 
 -- and so it is in a replay
-quit_top : (d : Data) (ask : Ask) (seek : Seek) (e : Editor) → (after_replayed d ask seek e Quit).top ≡ e.top
+quit_top : (d : Data) (ask : Prompt) (seek : SearchState) (e : Editor) → (after_replayed d ask seek e Quit).top ≡ e.top
 quit_top d asks.Off Off e = ended_top d e
 quit_top d asks.Off seek e = key_top d None e Quit
 quit_top d ask seek e = key_top d None e Quit

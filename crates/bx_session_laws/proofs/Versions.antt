@@ -4,12 +4,12 @@ use Rattle.std.proofs.lemmas.Bool.{le-ltb, lt-ltb}
 use Rattle.std.proofs.lemmas.Bool.Decides.{leb_tells}
 use Rattle.std.proofs.lemmas.List.{get_or_append_left, length-append}
 use Rattle.std.proofs.Math.Seq.{get_or-append_seam}
-use Rattle.bx_text.specs.Edits.{Edit, Edited, redone, replaced, undone}
-use Rattle.bx_text.specs.Times.{redone_times, undone_times}
-use Rattle.bx_document.specs.History.{stepped, stepped_times}
+use Rattle.bx_text.specs.Edits.{Edit, Edited, redone, replaced, undone, redone_times, undone_times}
+use Rattle.bx_document.specs.History.{stepped_times}
+use Rattle.bx_document.specs.Past.{stepped}
 use Rattle.bx_document.specs.declared.history.HistoryStep.{HistoryStep}
 use Rattle.bx_document.specs.declared.history.HistoryStep.TheVariants as history
-use Rattle.bx_runs.specs.Runs.{above, least, run_end, run_start}
+use Rattle.bx_editor.specs.undo_groups.Groups.{above, least, run_end, run_start}
 
 -- ---- the versions, from the opened text on
 

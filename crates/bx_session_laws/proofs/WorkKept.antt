@@ -3,31 +3,31 @@ use Rattle.std.proofs.Common.{◌≡◌, Option, Some, None, refl, sym, ap, ap�
 use Rattle.bx_keys.specs.declared.key.Key.TheVariants.{Save, Quit}
 use Rattle.bx_store.specs.declared.store.StoreFault.{StoreFault}
 use Rattle.bx_ucd.specs.Data.{Data}
-use Rattle.bx_asking.specs.declared.question.Ask.{Ask}
-use Rattle.bx_asking.specs.declared.question.Ask.TheVariants as asks
+use Rattle.bx_editor.specs.declared.questions.answers.Prompt.{Prompt}
+use Rattle.bx_editor.specs.declared.questions.answers.Prompt.TheVariants as asks
 use Rattle.bx_editor.specs.Asking.{without_ask}
 use Rattle.bx_editor.specs.Editor.{Editor, after_save, cleared}
-use Rattle.bx_editor.specs.declared.seek.Seek.{Seek}
-use Rattle.bx_editor.specs.declared.seek.Seek.TheVariants.{Off, Begun, Typed}
+use Rattle.bx_editor.specs.declared.search_state.SearchState.{SearchState}
+use Rattle.bx_editor.specs.declared.search_state.SearchState.TheVariants.{Off, Begun, Typed}
 use Rattle.bx_editor.specs.Effects.{Before, before}
 use Rattle.bx_editor.specs.Keys.{after_any, after_key}
-use Rattle.bx_editor.specs.Pasting.{paste_ended}
+use Rattle.bx_editor.specs.Putting.{paste_ended}
 use Rattle.bx_editor.specs.Search.{without_search}
 use Rattle.bx_editor.proofs.InSearch.{any-key}
-use Rattle.bx_session.specs.Session.{after_replayed}
+use Rattle.bx_session.specs.Replaying.{after_replayed}
 use Rattle.bx_session.proofs.Ending.{over, quit_user, save_ahead}
 use Rattle.bx_session_laws.proofs.Alike.{work}
 
 -- a Quit changes nothing that edits and steps change, whether a search or a question is on or not
-pub quit_works : (d : Data) (ask : Ask) (seek : Seek) (e : Editor) → (paste_ended d e).ask ≡ ask → (paste_ended d e).seek ≡ seek
+pub quit_works : (d : Data) (ask : Prompt) (seek : SearchState) (e : Editor) → (paste_ended d e).ask ≡ ask → (paste_ended d e).seek ≡ seek
     → work (after_replayed d ask seek e Quit) ≡ work (paste_ended d e)
 quit_works d asks.Off Off e asked is = refl
 quit_works d asks.Off seek e asked is =
     ap work (quit_user d None e)
-    ∙ ap₂ (λ (a : Ask) (s : Seek). work (after_any d None (before (paste_ended d e)) a s (cleared (paste_ended d e)) Quit)) asked is
+    ∙ ap₂ (λ (a : Prompt) (s : SearchState). work (after_any d None (before (paste_ended d e)) a s (cleared (paste_ended d e)) Quit)) asked is
 quit_works d ask seek e asked is =
     ap work (quit_user d None e)
-    ∙ ap (λ (a : Ask). work (after_any d None (before (paste_ended d e)) a (paste_ended d e).seek (cleared (paste_ended d e)) Quit)) asked
+    ∙ ap (λ (a : Prompt). work (after_any d None (before (paste_ended d e)) a (paste_ended d e).seek (cleared (paste_ended d e)) Quit)) asked
 
 -- nor does a Save of a session change more of that than any Save does
 saved_work : (e : Editor) (fault : Option StoreFault) → work (after_save (without_ask e) fault) ≡ work (after_save e fault)
@@ -38,7 +38,7 @@ sought_work : (e : Editor) (fault : Option StoreFault) → work (after_save (wit
 sought_work e None = refl
 sought_work e (Some fault) = refl
 
-save_any : (d : Data) (fault : Option StoreFault) (was : Before) (ask : Ask) (seek : Seek) (e : Editor)
+save_any : (d : Data) (fault : Option StoreFault) (was : Before) (ask : Prompt) (seek : SearchState) (e : Editor)
     → work (after_any d fault was ask seek e Save) ≡ work (after_save e fault)
 save_any d fault was asks.Off Off e = refl
 save_any d fault was asks.Off Begun e = refl

@@ -1,12 +1,13 @@
 -- A second painting: where none is owed, it changes nothing, so a byte that completes no key needs none. `d` is Unicode's data,
 -- `s` a session, `b` a byte; `fault` is why a Save failed, None if it succeeded.
 use Rattle.std.specs.Prelude.{◌≡◌, ℕ, false, List, Option}
-use Rattle.bx_terms.specs.declared.base.Base.{Base}
+use Rattle.bx_common.specs.declared.base.Base.{Base}
 use Rattle.bx_store.specs.declared.store.StoreFault.{StoreFault}
 use Rattle.bx_ucd.specs.Data.{Data}
 use Rattle.bx_session.specs.Session.{Session, with_painting, at_opening, after_spending, after_byte, owing_after_byte, after_told, owing_after_told, after_sending}
-use Rattle.bx_session.specs.Session.{after_going, after_replay, at_replay_end, with_clipboard}
-use Rattle.bx_editor.specs.Editor.{HasRows}
+use Rattle.bx_session.specs.Session.{with_clipboard}
+use Rattle.bx_session.specs.Replaying.{after_going, after_replay, at_replay_end}
+use Rattle.bx_editor.specs.Functions.{HasRows}
 
 -- if no painting is owed, another painting changes nothing: it queues no byte, and the top and the picture stay
 abbrev pub StaysPainted : Data → Session → Type 0

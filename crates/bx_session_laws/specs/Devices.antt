@@ -7,8 +7,7 @@ use Rattle.bx_session.specs.declared.action.Action.{Action}
 use Rattle.bx_session.specs.declared.end.End.{End}
 use Rattle.bx_session.specs.declared.end.RunFault.{RunFault}
 use Rattle.bx_session.specs.declared.wired.Wired.{Wired}
-use Rattle.bx_session.specs.Session.{Session}
-use Rattle.bx_session.specs.Saving.{store_state}
+use Rattle.bx_session.specs.Session.{Session, store_state}
 use Rattle.bx_session.specs.Running.{EndsWith}
 use Rattle.bx_session.specs.Journal.{RunsRecorded}
 use Rattle.bx_session.specs.Log.{Step, Calls, Obeys, AreTaken, HasLogged}

@@ -1,6 +1,6 @@
 -- The parts in which a run journals and obeys the bytes of a read. `rest` are the bytes before them that are not a whole key yet.
 use Rattle.std.specs.Prelude.{◌≡◌, ◌≢◌, ℕ, ◌<◌, ◌≤◌, List, [], ◌∷◌, ◌++◌, length, take, All}
-use Rattle.bx_keys.specs.Keys.{keys_from}
+use Rattle.bx_keys.specs.Waiting.{keys_from}
 use Rattle.bx_keys.specs.declared.key.Key.{Key}
 use Rattle.bx_keys.specs.declared.key.Key.TheVariants.{Quit}
 use Rattle.bx_session.specs.Parts.{part_length}

@@ -1,25 +1,27 @@
 -- Recovery: what the replay of a session's bytes gives back. `had` and `old` are of the session that was run, `replayed` is the
 -- one that replays its bytes. `d` is Unicode's data, `e` an editor, `s` a session, `b` what a session starts with.
 use Rattle.std.specs.Prelude.{◌≡◌, ◌≢◌, ◌⊎◌, ℕ, Bool, true, false, List, [], ◌∷◌, All, Err, Option, Some, None, IfSome}
-use Rattle.bx_terms.specs.declared.base.Base.{Base}
-use Rattle.bx_keys.specs.Keys.{decoding, keys_from}
+use Rattle.bx_common.specs.declared.base.Base.{Base}
+use Rattle.bx_keys.specs.Keys.{decoding}
+use Rattle.bx_keys.specs.Waiting.{keys_from}
 use Rattle.bx_keys.specs.declared.key.Key.{Key}
 use Rattle.bx_keys.specs.declared.key.Key.TheVariants.{Point, Save}
 use Rattle.bx_ucd.specs.Data.{Data}
-use Rattle.bx_asking.specs.declared.question.Ask.TheVariants as asks
-use Rattle.bx_runs.specs.declared.typing.Typing.TheVariants as typings
-use Rattle.bx_editor.specs.Editor.{Editor, HasRows, at_start}
-use Rattle.bx_editor.specs.Pasting.{paste_ended}
+use Rattle.bx_editor.specs.declared.questions.answers.Prompt.TheVariants as asks
+use Rattle.bx_editor.specs.declared.undo_groups.typing.Typing.TheVariants as typings
+use Rattle.bx_editor.specs.Editor.{Editor, at_start}
+use Rattle.bx_editor.specs.Functions.{HasRows}
+use Rattle.bx_editor.specs.Putting.{paste_ended}
 use Rattle.bx_editor.specs.Prompts.{HasOnePrompt}
-use Rattle.bx_editor.specs.declared.seek.Seek.TheVariants.{Off}
-use Rattle.bx_session.specs.declared.error.Refused.TheVariants as refused
+use Rattle.bx_editor.specs.declared.search_state.SearchState.TheVariants.{Off}
+use Rattle.bx_session.specs.declared.status.Refused.TheVariants as refused
 use Rattle.bx_session.specs.declared.journal.Backlog.TheVariants.{Empty}
 use Rattle.bx_session.specs.Beginning.{Beginning, at_offset, begun, unpainted_at}
 use Rattle.bx_session.specs.Journal.{RecorderState, RunsRecorded}
 use Rattle.bx_session.specs.Laws.{after_journal, after_replaying}
 use Rattle.bx_session.specs.Running.{ByteAnswer, FeedsAll, bytes_of}
-use Rattle.bx_session.specs.Saving.{StoreState}
-use Rattle.bx_session.specs.Session.{Session, after_all_replayed, after_replay, at_opening, at_replay_end, key_of_byte, scrolled}
+use Rattle.bx_session.specs.Session.{StoreState, Session, at_opening, key_of_byte, scrolled}
+use Rattle.bx_session.specs.Replaying.{after_all_replayed, after_replay, at_replay_end}
 
 -- no key was refused because memory ran out
 abbrev pub RefusesNoKey : List ByteAnswer → Type 0
@@ -57,14 +59,14 @@ once_pasted d s = record s { editor = paste_ended d s.editor }
 -- and unfinished input. It has not ended.
 pub record HasBack (had replayed : Session) : Type 0 where
   pub content : replayed.editor.content ≡ had.editor.content
-  pub runs : replayed.editor.runs ≡ had.editor.runs
+  pub undo_groups : replayed.editor.undo_groups ≡ had.editor.undo_groups
   pub place : replayed.editor.place ≡ had.editor.place
   pub mark : replayed.editor.mark ≡ had.editor.mark
   pub soft : replayed.editor.soft ≡ had.editor.soft
   pub held : replayed.editor.held ≡ had.editor.held
   pub query : replayed.editor.query ≡ had.editor.query
   pub aim : replayed.editor.aim ≡ had.editor.aim
-  pub other : replayed.editor.other ≡ had.editor.other
+  pub replacement : replayed.editor.replacement ≡ had.editor.replacement
   pub pasted : replayed.editor.pasted ≡ had.editor.pasted
   pub base : replayed.editor.base ≡ had.editor.base
   pub goal : replayed.editor.goal ≡ had.editor.goal

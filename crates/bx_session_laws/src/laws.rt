@@ -32,7 +32,7 @@ pub fn replays_apply_keys()
 {}
 
 /// A session's bytes, replayed over its opened text, restore text, history, runs, place, mark and its softness, held bytes,
-/// query, other text, direction, kept column, window and unfinished input, wherever it saved and even if it quit; a paste that is
+/// query, replacement, direction, kept column, window and unfinished input, wherever it saved and even if it quit; a paste that is
 /// under way ends. So it is unless the session refused a key for want of memory, which the replay applies, or refused a painting
 /// and was pointed at a row after that.
 pub fn recovery_gives_back()

@@ -1,10 +1,11 @@
 -- Worked examples: stores in memory, and what the clause on a refused put leaves open.
 use Rattle.std.proofs.Common.{◌≡◌, ℕ, ◌⊎◌, inl, inr, true, Option, Some, None, Result, Ok, Err, IsOk, OnErr, refl, arith}
 use Rattle.std.specs.Prelude.{codes, false}
-use Rattle.bx_store.specs.Causes.{fault}
+use Rattle.bx_store.specs.Stores.{fault, LacksRoom, MemoryState, after_begin, after_commit, after_failure, after_put, fails_next, no_bytes}
+use Rattle.bx_store.specs.Stores.{no_faults, with_bytes, with_room}
 use Rattle.bx_store.specs.declared.cause.SaveCause.TheVariants.{NoSpace}
 use Rattle.bx_store.specs.declared.store.StoreFault.{StoreFault}
-use Rattle.bx_store.specs.Stores.{LacksRoom, MemoryState, after_begin, after_commit, after_failure, after_put, fails_next, greatest, no_bytes, no_faults, one_more, with_bytes, with_room}
+use Rattle.bx_store.specs.Faults.{greatest, one_more}
 
 -- a store that has `kept`, and where `draft` is being put, with room for three bytes
 abbrev store : Option ℕ → MemoryState

@@ -1,3 +1,3 @@
 pub mod Asking
-pub mod Causes
+pub mod Faults
 pub mod Stores

@@ -1,22 +1,16 @@
 -- A store's bytes, where it models them, and its failed calls.
-use Rattle.std.specs.Prelude.{ℕ, suc, ◌+◌, ◌-◌, ◌<◌, ◌^◌, ◌==◌, Bool, true, false, List, [], ◌++◌, length, min, Option, Some, None, option_map}
+use Rattle.std.specs.Prelude.{ℕ, ◌+◌, ◌<◌, ◌==◌, Bool, true, false, List, [], ◌++◌, length, Option, Some, None, option_map, if◌then◌else◌}
+use Rattle.std.specs.declared.io.ErrorKind.{ErrorKind}
+use Rattle.std.specs.declared.io.ErrorKind.TheVariants as kind
 use Rattle.bx_store.specs.declared.faults.Faults.{Faults}
 use Rattle.bx_store.specs.declared.store.StoreFault.{StoreFault}
-
--- the greatest u64, at which counts of failures and calls stay
-abbrev pub greatest : ℕ
-greatest = 2 ^ 64 - 1
-
--- a saturating increment
-abbrev pub one_more : ℕ → ℕ
-one_more count = min greatest (suc count)
+use Rattle.bx_store.specs.Faults.{one_more, with_fault}
+use Rattle.bx_store.specs.declared.cause.SaveCause.{SaveCause}
+use Rattle.bx_store.specs.declared.cause.SaveCause.TheVariants as cause
 
 -- no failed call, and one more
 abbrev pub no_faults : Faults
 no_faults = record { count = 0; latest = None }
-
-abbrev pub with_fault : StoreFault → Faults → Faults
-with_fault fault faults = record { count = one_more faults.count; latest = Some fault }
 
 -- the bytes of an empty draft, and of a draft after an append; None, of a store that does not model them, stays None
 abbrev pub no_bytes : Option (List ℕ) → Option (List ℕ)
@@ -67,3 +61,25 @@ LacksRoom bytes s = s.room < length s.draft + length bytes
 -- after a commit that succeeded; the draft's memory is that of the contents now
 abbrev pub after_commit : MemoryState → MemoryState
 after_commit s = record s { contents = s.draft; draft = []; room = 0; has_draft = false; calls = one_more s.calls }
+
+-- ---- causes of failed calls
+
+-- the cause of a fault, by its kind
+abbrev pub cause_of_kind : ErrorKind → SaveCause
+cause_of_kind kind.StorageFull = cause.NoSpace
+cause_of_kind kind.QuotaExceeded = cause.NoSpace
+cause_of_kind kind.PermissionDenied = cause.NotPermitted
+cause_of_kind kind.NotFound = cause.FolderGone
+cause_of_kind kind.NotADirectory = cause.FolderGone
+cause_of_kind kind.ReadOnlyFilesystem = cause.ReadOnly
+cause_of_kind kind.FileTooLarge = cause.TooLarge
+cause_of_kind kind.OutOfMemory = cause.OutOfMemory
+cause_of_kind _ = cause.Other
+
+-- a fault with this cause
+abbrev pub fault : Option SaveCause → StoreFault
+fault told = record { cause = told }
+
+-- the cause of a failed put into a store in memory; None if the call was asked to fail
+abbrev pub cause_of_put : MemoryState → Option SaveCause
+cause_of_put s = if fails_next s then None else Some cause.OutOfMemory

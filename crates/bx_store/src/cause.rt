@@ -1,6 +1,7 @@
 //! Why a save failed.
 ghost use Rattle.std.specs.Prelude.{◌≡◌};
-ghost use Rattle.bx_store.specs.Causes.{cause_of_kind, cause_text};
+ghost use Rattle.bx_store.specs.Stores.{cause_of_kind};
+ghost use Rattle.bx_store.specs.Faults.{cause_text};
 
 use std::io::ErrorKind;
 
@@ -22,7 +23,7 @@ pub enum SaveCause {
     Changed,
     /// A folder, a device, a pipe or a socket took the file's place.
     NotPlain,
-    /// The file has only a beginning of its new text; the mark, a draft beside it, has all.
+    /// The file has only a beginning of its new text; the backup, a file next to it, has all of it.
     CutOff,
     /// Any other fault.
     Other,
@@ -71,7 +72,7 @@ impl SaveCause {
             SaveCause::ReadOnly => "read-only disk",
             SaveCause::TooLarge => "file too large",
             SaveCause::OutOfMemory => "out of memory",
-            SaveCause::Changed => "changed by another program, ^S overwrites it",
+            SaveCause::Changed => "file changed on disk, ^S overwrites it",
             SaveCause::NotPlain => "not a plain file",
             SaveCause::CutOff => "file cut off, its whole text is in a .bx file beside it",
             SaveCause::Other => "disk error",

@@ -1,6 +1,7 @@
 //! The failed calls of a store.
 ghost use Rattle.std.specs.Prelude.{◌≡◌};
-ghost use Rattle.bx_store.specs.Stores.{no_faults, with_fault};
+ghost use Rattle.bx_store.specs.Stores.{no_faults};
+ghost use Rattle.bx_store.specs.Faults.{with_fault};
 
 use crate::store::StoreFault;
 

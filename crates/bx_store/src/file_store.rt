@@ -1,8 +1,8 @@
 //! A store in a file, for a program without a host.
 ghost use Rattle.std.specs.Prelude.{◌≡◌, Some, Err, OnErr};
-ghost use Rattle.bx_store.specs.Causes.{fault};
+ghost use Rattle.bx_store.specs.Stores.{fault};
 ghost use Rattle.bx_store.specs.declared.cause.SaveCause.TheVariants.{OutOfMemory};
-ghost use Rattle.bx_store.specs.Stores.{with_fault};
+ghost use Rattle.bx_store.specs.Faults.{with_fault};
 
 use crate::faults::Faults;
 use crate::store::{Store, StoreFault};

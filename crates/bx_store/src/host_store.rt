@@ -2,7 +2,7 @@
 ghost use Rattle.std.specs.Prelude.{◌≡◌, ◌≤◌, ◌∷◌, ◌++◌, ◌/◌, ◌%◌, [], true, length, OnOk, OnErr, IfErr};
 ghost use Rattle.std.specs.Io.KnownBytes.{Appends, Consumes};
 ghost use Rattle.bx_store.specs.Asking.{IsDone, unknown};
-ghost use Rattle.bx_store.specs.Stores.{with_fault};
+ghost use Rattle.bx_store.specs.Faults.{with_fault};
 
 use crate::cause::SaveCause;
 use crate::faults::Faults;

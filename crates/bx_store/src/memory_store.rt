@@ -1,7 +1,6 @@
 //! A store in memory. A test can have one of its calls fail.
 ghost use Rattle.std.specs.Prelude.{◌≡◌, ◌≤◌, ◌↔◌, ◌⊎◌, true, false, [], None, Err, IfErr, OnOk, OnErr, IsErr};
-ghost use Rattle.bx_store.specs.Causes.{cause_of_put, fault};
-ghost use Rattle.bx_store.specs.Stores.{LacksRoom, after_begin, after_commit, after_failure, after_put, fails_next, no_faults, with_room};
+ghost use Rattle.bx_store.specs.Stores.{LacksRoom, after_begin, after_commit, after_failure, after_put, cause_of_put, fails_next, fault, no_faults, with_room};
 
 use crate::cause::SaveCause;
 use crate::faults::Faults;

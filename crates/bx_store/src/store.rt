@@ -16,7 +16,7 @@ pub struct StoreFault {
 
 impl From<SaveCause> for StoreFault {
     ghost use Rattle.std.specs.Prelude.{Some};
-    ghost use Rattle.bx_store.specs.Causes.{fault};
+    ghost use Rattle.bx_store.specs.Stores.{fault};
 
     ghost from_gives = { λ cause new. new ≡ fault (Some cause) };
 
@@ -27,7 +27,7 @@ impl From<SaveCause> for StoreFault {
 
 impl From<AllocError> for StoreFault {
     ghost use Rattle.std.specs.Prelude.{Some};
-    ghost use Rattle.bx_store.specs.Causes.{fault};
+    ghost use Rattle.bx_store.specs.Stores.{fault};
     ghost use Rattle.bx_store.specs.declared.cause.SaveCause.TheVariants.{OutOfMemory};
 
     ghost from_gives = { λ _ new. new ≡ fault (Some OutOfMemory) };
@@ -42,7 +42,7 @@ impl From<AllocError> for StoreFault {
 impl From<io::Error> for StoreFault {
     ghost use Rattle.std.specs.Prelude.{Some};
     ghost use Rattle.std.specs.IoError.{error_kind};
-    ghost use Rattle.bx_store.specs.Causes.{cause_of_kind, fault};
+    ghost use Rattle.bx_store.specs.Stores.{cause_of_kind, fault};
 
     ghost from_gives = { λ error new. new ≡ fault (Some (cause_of_kind (error_kind error))) };
 
@@ -58,7 +58,8 @@ impl From<io::Error> for StoreFault {
 /// failure, with its fault as the latest; counts saturate at the greatest u64.
 pub trait Store {
     ghost use Rattle.std.specs.Prelude.{◌≡◌, ℕ, Bool, true, List, Option, IfErr, OnOk, OnErr};
-    ghost use Rattle.bx_store.specs.Stores.{no_bytes, with_bytes, with_fault};
+    ghost use Rattle.bx_store.specs.Stores.{no_bytes, with_bytes};
+    ghost use Rattle.bx_store.specs.Faults.{with_fault};
     ghost use Rattle.bx_store.specs.declared.faults.Faults.{Faults};
 
     /// The stored bytes; None if the store does not model them.

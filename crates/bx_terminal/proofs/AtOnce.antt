@@ -21,7 +21,7 @@ use Rattle.bx_grid.proofs.Reading.{at, reads-append, IsFinal, all-append, digits
 use Rattle.bx_terminal.proofs.RunEnds.{half_ended, ended_early}
 use Rattle.bx_terminal.proofs.TextRead.{text_read}
 use Rattle.bx_bytes.specs.Utf8.{are_printable}
-use Rattle.bx_terms.specs.Sizes.{largest_side}
+use Rattle.bx_common.specs.Characters.{largest_side}
 use Rattle.std.specs.Str.{IsUtf8}
 
 -- ---- a run that ends leaves the size

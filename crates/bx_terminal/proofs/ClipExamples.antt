@@ -2,7 +2,7 @@
 use Rattle.std.proofs.Common.{◌≡◌, ℕ, false, List, [], ◌∷◌, ◌++◌, map, take, drop, replicate, codes, Some, None, refl}
 use Rattle.std.specs.Str.{chars}
 use Rattle.base64.proofs.OnLiterals.{base64_on_literals}
-use Rattle.bx_grid.specs.Clip.{is_base64, clip_bytes}
+use Rattle.bx_grid.specs.Tokens.{is_base64, clip_bytes}
 use Rattle.bx_grid.specs.Columns.{Unknown, blank}
 use Rattle.bx_grid.specs.Terminal.{Terminal, reads}
 use Rattle.bx_terminal.proofs.Examples.{g}

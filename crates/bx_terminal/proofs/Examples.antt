@@ -3,8 +3,9 @@ use Rattle.std.proofs.Common.{◌≡◌, ℕ, true, false, List, [], ◌∷◌, 
 use Rattle.std.specs.Prelude.{codes, ◌*◌}
 use Rattle.std.specs.Str.{chars}
 use Rattle.unicode_width.proofs.Computing.{unicode_width}
-use Rattle.bx_grid.specs.Columns.{Col, Unknown, Glyph, blank, paste, run_columns, AreBlank}
-use Rattle.bx_grid.specs.Columns.{is_one_glyph}
+use Rattle.bx_grid.specs.Columns.{Col, Unknown, Glyph, blank, run_columns}
+use Rattle.bx_grid.specs.Grid.{paste, AreBlank}
+use Rattle.bx_common.specs.Glyphs.{is_one_glyph}
 use Rattle.bx_grid.specs.Glyphs.{WholeGlyph, IsGlyph, whole_columns, all_columns, AreWhole, AreWholeRows}
 use Rattle.bx_grid.specs.Picture.{PictureState, Shows}
 use Rattle.bx_grid.specs.Terminal.{Terminal, reads, after_resize}

@@ -7,9 +7,9 @@ use Rattle.std.proofs.Math.Bool.{and-false}
 use Rattle.bx_terminal.specs.Capped.{capped}
 use Rattle.bx_grid.specs.Tokens.{escape_command}
 use Rattle.bx_grid.specs.Terminal.{Terminal, after_move, after_command, token_read}
-use Rattle.bx_terms.specs.Sizes.{largest_side}
+use Rattle.bx_common.specs.Characters.{largest_side}
 use Rattle.bx_bytes.specs.declared.fate.Fate.TheVariants.{Ends}
-use Rattle.bx_bytes.specs.Fate.{fate_in}
+use Rattle.bx_bytes.specs.Pattern.{fate_in}
 use Rattle.bx_bytes.specs.Utf8.{characters}
 use Rattle.bx_bytes.proofs.Encoded.{are_encodings, is_whole}
 use Rattle.std.specs.Char.{encode_utf8}

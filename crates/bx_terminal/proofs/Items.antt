@@ -4,12 +4,11 @@ use Rattle.std.proofs.Common.{subst, ◌∙◌, arith}
 use Rattle.std.proofs.lemmas.Bool.{cases_eq, cases_Bool, cond-true, cond-false, both_ways}
 use Rattle.std.proofs.lemmas.Bool.Decides.{nat_tests}
 use Rattle.std.proofs.lemmas.List.{append-nil}
-use Rattle.bx_bytes.specs.Fate.{fate_in}
-use Rattle.bx_bytes.specs.Pattern.{past, One}
+use Rattle.bx_bytes.specs.Pattern.{fate_in, past, One}
 use Rattle.bx_bytes.specs.Grammar.{is_grammar}
 use Rattle.bx_bytes.specs.declared.fate.Fate.{Fate}
 use Rattle.bx_bytes.specs.declared.fate.Fate.TheVariants.{Waits, Ends, Breaks}
-use Rattle.bx_terms.specs.Characters.{is_ascii_printable}
+use Rattle.bx_common.specs.Characters.{is_ascii_printable}
 use Rattle.bx_bytes.proofs.Patterns.{begins_any_front, matches_any_begins, none_begins_longer}
 use Rattle.bx_bytes.proofs.Encoded.{ends_by}
 use Rattle.bx_terminal.specs.Cutting.{items, is_item, begins_item, beginning_up_to, beginning}

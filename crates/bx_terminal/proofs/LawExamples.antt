@@ -9,7 +9,8 @@ use Rattle.bx_grid.specs.Columns.{Unknown, Glyph, blank}
 use Rattle.bx_terminal.specs.Cutting.{Run, Sequence, cutting, run_token}
 use Rattle.bx_grid.specs.Glyphs.{ShareWholeGlyphs, DifferInWholeGlyphs}
 use Rattle.bx_terminal.specs.Laws.{ReadsTokens, TokensMakeBytes, RunsAreLongest, are_runs_apart, token_bytes}
-use Rattle.bx_grid.specs.Picture.{IsIdle, IsPicture, PictureState}
+use Rattle.bx_grid.specs.Picture.{IsIdle, PictureState}
+use Rattle.bx_grid.specs.Grid.{IsPicture}
 use Rattle.bx_grid.specs.Terminal.{Terminal, reads, after_resize}
 use Rattle.bx_terminal.proofs.Examples.{four, g, wide, wide_row, wide_rows}
 

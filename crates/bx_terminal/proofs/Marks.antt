@@ -4,7 +4,7 @@ use Rattle.std.proofs.Common.{zero, suc, refl, subst, ap, sym, inl, inr, arith}
 use Rattle.std.proofs.lemmas.Bool.{and_parts, cases_lt}
 use Rattle.std.proofs.lemmas.Bool.Decides.{nat_tests}
 use Rattle.unicode_width.proofs.Computing.{unicode_width}
-use Rattle.bx_terms.specs.Characters.{is_within}
+use Rattle.bx_common.specs.Characters.{is_within}
 use Rattle.bx_terminal.specs.Widths.{is_still, is_mark, is_letter}
 use Rattle.unicode_width.specs.Width.{char_width}
 

@@ -3,7 +3,8 @@ use Rattle.std.proofs.Common.{◌≡◌, ℕ, ◌+◌, ◌*◌, ◌-◌, ◌≤�
 use Rattle.std.proofs.lemmas.List.{length-take-le, take-append-drop, take_at, drop_at, drop-drop, take_rest, drop_all, append-nil, map-append, take-map}
 use Rattle.std.proofs.lemmas.List.{drop-map, length-map, length-drop, take-take, length-replicate}
 use borrow.Rule.Slice.PartMut.{put_mid}
-use Rattle.bx_grid.specs.Columns.{Col, cut_before, cut_after, paste, put, put_in_row}
+use Rattle.bx_grid.specs.Columns.{Col, cut_before, cut_after, put, put_in_row}
+use Rattle.bx_grid.specs.Grid.{paste}
 use Rattle.bx_grid.specs.Seen.{seen, all_seen}
 use Rattle.bx_grid.specs.declared.column.Column.{Column}
 use Rattle.bx_terminal.specs.Uncut.{AreUncut}

@@ -8,7 +8,7 @@ use Rattle.std.proofs.lemmas.Bool.Decides.{nat_tests}
 use Rattle.std.proofs.Math.Seq.{take-add}
 use Rattle.std.proofs.lemmas.List.Folds.{list_all-append}
 use Rattle.std.proofs.lemmas.Str.{chars-append, IsUtf8-append, IsUtf8-nil, IsUtf8-encode, chars-nil}
-use Rattle.bx_bytes.specs.Fate.{fate_in}
+use Rattle.bx_bytes.specs.Pattern.{fate_in}
 use Rattle.bx_bytes.specs.Utf8.{characters, is_control}
 use Rattle.bx_bytes.specs.declared.fate.Fate.TheVariants.{Ends}
 use Rattle.bx_bytes.proofs.Codes.{after_two, after_three, chars_of_one, chars_of_two, chars_of_three, code_of_three, IsOfThree}

@@ -6,7 +6,8 @@ use Rattle.std.specs.Char.{encode_utf8}
 use Rattle.std.proofs.Math.Bool.{and-false}
 use Rattle.std.proofs.lemmas.Bool.Decides.{nat_tests}
 use Rattle.bx_bytes.specs.Utf8.{is_control, are_printable}
-use Rattle.bx_grid.specs.Columns.{Col, put, run_columns, run_width}
+use Rattle.bx_grid.specs.Columns.{Col, put, run_columns}
+use Rattle.bx_common.specs.Glyphs.{run_width}
 use Rattle.bx_grid.specs.Terminal.{Terminal, all_unknown, within, glyphs_put, run_put, run_ended, character_read, after_first_byte, read_after, byte_read}
 use Rattle.bx_grid.specs.Terminal.{reads}
 use Rattle.bx_grid.proofs.Puts.{run_length}

@@ -9,7 +9,8 @@ use Rattle.unicode_width.specs.declared.kind.Kind.{Kind}
 use Rattle.unicode_width.specs.declared.kind.Kind.TheVariants as kinds
 use Rattle.unicode_width.specs.Kind.{kind}
 use Rattle.unicode_width.specs.Width.{plain, single, of_kind, alone, char_width, step, past_emoji, read_before, str_width}
-use Rattle.bx_grid.specs.Columns.{are_ascii_printable, run_width}
+use Rattle.bx_grid.specs.Columns.{are_ascii_printable}
+use Rattle.bx_common.specs.Glyphs.{run_width}
 use Rattle.bx_terminal.specs.Widths.{takes_none, is_still, IsBase}
 
 step_high : (c : ℕ) → 0xA0 < c → step false c (0, plain) ≡ (0 + unwrap_or (char_width false c) 0, (alone false c).1)

@@ -7,9 +7,9 @@ use Rattle.base64.specs.declared.decode.DecodeAllocError.TheVariants.{DecodeErro
 use Rattle.base64.specs.declared.decode.DecodeError.{DecodeError}
 use Rattle.base64.specs.GeneralPurpose.{IsDecodeFailure}
 use Rattle.base64.specs.Engines.{standard}
-use Rattle.bx_terms.specs.Characters.{is_ascii_printable}
-use Rattle.bx_grid.specs.Clip.{is_base64, decode_of}
-use Rattle.bx_grid.specs.Tokens.{bell_fate, after_text, escape_fate}
+use Rattle.bx_common.specs.Characters.{is_ascii_printable}
+use Rattle.base64.specs.GeneralPurpose.{decode_of}
+use Rattle.bx_grid.specs.Tokens.{is_base64, bell_fate, after_text, escape_fate}
 use Rattle.bx_bytes.specs.declared.fate.Fate.TheVariants.{Waits, Ends, Breaks}
 
 text_by : (p : Bool) (x : ℕ) (rest ys : List ℕ) → is_ascii_printable x ≡ p → after_text (x ∷ rest) ≡ []

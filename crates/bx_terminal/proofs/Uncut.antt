@@ -5,11 +5,11 @@ use Rattle.std.proofs.lemmas.Bool.Decides.{nat_tests}
 use Rattle.std.proofs.Math.Seq.{take-add}
 use Rattle.std.proofs.lemmas.List.{length-take-le, length-drop, take-append-drop, take_at, drop_at, drop-drop, drop_more, take-replicate, drop-replicate}
 use Rattle.std.proofs.lemmas.List.{get_or-map, map-set, length-map, length-replicate, take-map, drop-map}
-use Rattle.bx_grid.specs.Columns.{Col, Unknown, blank, columns_after, columns_before, cut_before, cut_after, paste, put, put_in_row, are_ascii_printable}
+use Rattle.bx_grid.specs.Columns.{Col, Unknown, blank, columns_after, columns_before, cut_before, cut_after, put, put_in_row, are_ascii_printable}
+use Rattle.bx_grid.specs.Grid.{paste, IsSized}
 use Rattle.bx_grid.specs.Columns.{glyph_columns_from, plain_columns, run_columns}
 use Rattle.std.specs.Str.{chars}
 use Rattle.unicode_width.specs.Width.{str_width}
-use Rattle.bx_grid.specs.Picture.{IsSized}
 use Rattle.bx_terminal.proofs.PutAll.{put_all}
 use Rattle.bx_terminal.specs.Uncut.{Meet, MeetFirst, AreUncut, AreUncutRows}
 use Rattle.bx_grid.specs.Seen.{seen, all_seen}

@@ -2,7 +2,7 @@
 use Rattle.std.specs.Prelude.{◌≡◌, ◌<◌, length, IfSome, string_bytes}
 use Rattle.bx_grid.specs.Seen.{all_seen}
 use Rattle.bx_grid.specs.Tokens.{fate}
-use Rattle.bx_grid.specs.Picture.{IsSized}
+use Rattle.bx_grid.specs.Grid.{IsSized}
 use Rattle.bx_grid.specs.Terminal.{Terminal}
 use Rattle.bx_terminal.specs.Uncut.{AreUncutRows}
 use Rattle.bx_bytes.specs.declared.fate.Fate.TheVariants.{Waits}

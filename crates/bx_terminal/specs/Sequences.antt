@@ -2,7 +2,7 @@
 use Rattle.std.specs.Prelude.{◌≡◌, ◌≤◌, ℕ, List, [], length, drop}
 use Rattle.bx_grid.specs.declared.command.Command.{Command}
 use Rattle.bx_grid.specs.Terminal.{Terminal, run_ended, after_command, reads}
-use Rattle.bx_terms.specs.Sizes.{largest_side}
+use Rattle.bx_common.specs.Characters.{largest_side}
 
 -- the first `len` bytes are a sequence: a terminal `t` with no token half read ends its run, obeys this command, and then reads
 -- the other bytes

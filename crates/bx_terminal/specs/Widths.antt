@@ -3,7 +3,7 @@ use Rattle.std.specs.Prelude.{◌≡◌, ℕ, ◌<◌, Bool, true, false, ◌&&�
 use Rattle.std.specs.List.{list_all}
 use Rattle.std.specs.Str.{chars}
 use Rattle.unicode_width.specs.Width.{char_width}
-use Rattle.bx_terms.specs.Characters.{is_within}
+use Rattle.bx_common.specs.Characters.{is_within}
 
 -- a width in columns is known, and is 0
 abbrev pub takes_none : Option ℕ → Bool

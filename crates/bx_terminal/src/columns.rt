@@ -8,7 +8,7 @@ ghost use Rattle.bx_grid.specs.Columns.{cut_after, columns_after, columns_before
 ghost use Rattle.bx_grid.specs.Columns as spec;
 ghost use Rattle.bx_grid.specs.Seen.{seen, all_seen};
 ghost use Rattle.bx_terminal.specs.Uncut.{AreUncut};
-ghost use Rattle.bx_terms.specs.Sizes.{largest_side};
+ghost use Rattle.bx_common.specs.Characters.{largest_side};
 
 use bx_grid::{Column, GlyphRun, fill_blank, put_glyphs};
 use std::alloc::{AllocError, Global};

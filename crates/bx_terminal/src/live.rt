@@ -3,21 +3,21 @@
 ghost use Rattle.std.specs.Prelude.{◌≡◌, ℕ, ◌*◌, ◌<◌, ◌≤◌, List, [], ◌∷◌, ◌++◌, length, replicate, nat_eq, drop, true, IsTrue, ◌↔◌, IfOk, OnOk};
 ghost use Rattle.bx_grid.specs.Columns as spec;
 ghost use Rattle.bx_grid.specs.Picture.{Shows};
-ghost use Rattle.bx_bytes.specs.Fate.{fate_in};
+ghost use Rattle.bx_bytes.specs.Pattern.{fate_in};
 ghost use Rattle.bx_bytes.specs.Utf8.{characters};
 ghost use Rattle.bx_grid.specs.Columns.{run_columns};
 ghost use Rattle.bx_grid.specs.Tokens.{fate};
 ghost use Rattle.bx_grid.specs.Terminal.{Terminal, all_unknown, after_move, after_clear, after_erase, after_rendition, after_command, glyphs_put, run_ended};
 ghost use Rattle.bx_grid.specs.Terminal.{character_read, token_read, after_first_byte, after_next_byte, byte_read, reads, after_resize};
-ghost use Rattle.bx_terms.specs.Sizes.{largest_side};
+ghost use Rattle.bx_common.specs.Characters.{largest_side};
 
 use crate::columns::{erase_at, fill_unknown, show_at, unknown_columns};
 use crate::strings::escape_command;
 use crate::token::{ESCAPE, fate_of};
 use crate::width::text_width;
 use bx_bytes::{Fate, character};
+use bx_common::is_control;
 use bx_grid::{Column, Command, GlyphRun, Picture, all_same, fill_blank};
-use bx_terms::is_control;
 use std::alloc::{AllocError, Global};
 use std::marker::Model;
 use std::mem;

@@ -8,8 +8,8 @@ ghost use Rattle.bx_grid.specs.Terminal.{Terminal, reads, after_resize};
 ghost use Rattle.bx_terminal.specs.Screens.{IfShown};
 
 use crate::live::Live;
+use bx_common::is_side;
 use bx_grid::{GridError, Picture};
-use bx_terms::is_side;
 use std::alloc::Global;
 use std::marker::Model;
 

@@ -1,8 +1,7 @@
 //! Strings: printable ASCII between OSC (ESC and `]`) and BEL, and the commands of all that begins with ESC.
 
 ghost use Rattle.std.specs.Prelude.{◌≡◌, ◌≤◌, length, take, IfOk};
-ghost use Rattle.bx_grid.specs.Clip.{is_base64};
-ghost use Rattle.bx_grid.specs.Tokens.{string_text, string_command, escape_command};
+ghost use Rattle.bx_grid.specs.Tokens.{escape_command, is_base64, string_command, string_text};
 ghost use Rattle.bx_terminal.specs.Capped.{capped};
 
 use crate::token::command_in;

@@ -6,11 +6,12 @@
 ghost use Rattle.std.specs.Prelude.{◌≡◌, false, IfSome};
 ghost use Rattle.std.specs.List.{list_all};
 ghost use Rattle.std.specs.Str.{chars};
-ghost use Rattle.bx_grid.specs.Columns.{are_ascii_printable, run_width};
+ghost use Rattle.bx_grid.specs.Columns.{are_ascii_printable};
+ghost use Rattle.bx_common.specs.Glyphs.{run_width};
 ghost use Rattle.bx_terminal.specs.Widths.{is_letter, is_mark, is_still, IsBase};
 ghost use Rattle.unicode_width.specs.Width.{char_width};
 
-use bx_terms::run_width;
+use bx_common::run_width;
 use unicode_width::UnicodeWidthChar;
 
 /// Whether a character is a combining mark known without a table look-up.

@@ -4,10 +4,10 @@ use Rattle.std.proofs.Common.{sym, subst, ◌∙◌, append_assoc, length-append
 use Rattle.std.proofs.lemmas.Bool.Decides.{nat_tests}
 use Rattle.std.proofs.lemmas.List.{append-nil, length-take-le, length-drop, take-take, drop-drop, drop-take, take-append-le, drop-append-le}
 use Rattle.std.proofs.Math.Seq.{take-append-add, drop-append-add}
-use Rattle.bx_pieces.specs.declared.piece.Buffer.{Buffer}
-use Rattle.bx_pieces.specs.declared.piece.Buffer.TheVariants.{Opened, Added}
-use Rattle.bx_pieces.specs.declared.piece.Piece.{Piece}
-use Rattle.bx_pieces.specs.Pieces.{total, front, back, first_of, rest_of, IsAddressable}
+use Rattle.bx_text.specs.declared.pieces.piece.Buffer.{Buffer}
+use Rattle.bx_text.specs.declared.pieces.piece.Buffer.TheVariants.{Opened, Added}
+use Rattle.bx_text.specs.declared.pieces.piece.Piece.{Piece}
+use Rattle.bx_text.specs.pieces.Pieces.{total, front, back, first_of, rest_of, IsAddressable}
 use Rattle.std.proofs.lemmas.Str.{IsUtf8-nil, IsUtf8-append, IsUtf8-take, IsUtf8-drop}
 use Rattle.std.specs.Str.{IsUtf8, IsCharBoundary}
 use Rattle.bx_text.specs.Buffers.{Buffers, buffer_bytes, piece_bytes, bytes_of, IsInBuffer, AreInBuffers}

@@ -1,9 +1,9 @@
 -- The bytes of pieces, as the comparison of pieces with bytes has them.
 use Rattle.std.proofs.Common.{◌≡◌, ℕ, ◌+◌, ◌≤◌, List, [], ◌∷◌, ◌++◌, length, take, drop, refl, ap, ap₂, sym, subst}
-use Rattle.bx_pieces.specs.declared.piece.Buffer.{Buffer}
-use Rattle.bx_pieces.specs.declared.piece.Buffer.TheVariants.{Opened, Added}
-use Rattle.bx_pieces.specs.declared.piece.Piece.{Piece}
-use Rattle.bx_pieces.specs.Bytes.{AreWithin, buffer_in, bytes_in, piece_in}
+use Rattle.bx_text.specs.declared.pieces.piece.Buffer.{Buffer}
+use Rattle.bx_text.specs.declared.pieces.piece.Buffer.TheVariants.{Opened, Added}
+use Rattle.bx_text.specs.declared.pieces.piece.Piece.{Piece}
+use Rattle.bx_text.specs.pieces.Bytes.{AreWithin, buffer_in, bytes_in, piece_in}
 use Rattle.bx_text.specs.Buffers.{AreInBuffers, Buffers, buffer_bytes, bytes_of, piece_bytes}
 
 module _ (o a : List ℕ) where

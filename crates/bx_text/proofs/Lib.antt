@@ -15,3 +15,5 @@ pub mod Lent
 pub mod OneStep
 pub mod Without
 pub mod Compared
+pub mod pieces_lemmas
+pub mod index_lemmas

@@ -4,8 +4,8 @@ use Rattle.std.proofs.lemmas.Bool.{cases_lt}
 use Rattle.std.proofs.lemmas.List.{drop-drop, get_or-drop, get_or-take, take-take}
 use Rattle.std.specs.Str.{IsCharBoundary}
 use Rattle.bx_text.specs.declared.change.Change.{Change}
-use Rattle.bx_text.specs.Edits.{IsChange}
-use Rattle.bx_text.specs.Times.{both_start, both_stop, merged}
+use Rattle.bx_text.specs.Edits.{both_start, both_stop, merged}
+use Rattle.bx_text.specs.Changes.{IsChange}
 
 -- ---- boundaries outside a change
 

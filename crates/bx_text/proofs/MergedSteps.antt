@@ -4,14 +4,14 @@ use Rattle.std.proofs.lemmas.List.{reverse-append}
 use Rattle.std.proofs.lemmas.Str.{IsUtf8-append, IsUtf8-take, IsUtf8-drop}
 use Rattle.std.specs.List.{fold, reduce}
 use Rattle.std.specs.Str.{IsUtf8}
-use Rattle.bx_pieces.specs.Pieces.{total}
+use Rattle.bx_text.specs.pieces.Pieces.{total}
 use Rattle.bx_text.specs.declared.change.Change.{Change}
 use Rattle.bx_text.specs.declared.step.Step.{Step}
 use Rattle.bx_text.specs.declared.step.Way.{Way}
 use Rattle.bx_text.specs.Buffers.{Buffers, bytes_of}
-use Rattle.bx_text.specs.Edits.{IsChange, IsRange, splice, largest_text}
+use Rattle.bx_text.specs.Edits.{splice, largest_text, merged}
+use Rattle.bx_text.specs.Changes.{IsChange, IsRange}
 use Rattle.bx_text.specs.Steps.{Apply, AreSteps, after_swap, place_of, step_change}
-use Rattle.bx_text.specs.Times.{merged}
 use Rattle.bx_text.proofs.Bytes.{length-bytes_of, IsUtf8-bytes_of}
 use Rattle.bx_text.proofs.Merged.{merged_leads}
 use Rattle.bx_text.proofs.Versions.{splice_leads}

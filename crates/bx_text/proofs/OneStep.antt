@@ -1,8 +1,9 @@
 -- One edit undone or redone is the first of many.
 use Rattle.std.proofs.Common.{◌≡◌, List, [], ◌∷◌, map, take, refl}
 use Rattle.std.specs.List.{reduce}
-use Rattle.bx_text.specs.Edits.{Edit, Edited, change_back, change_of, first_again, first_back, next_redo, next_undo}
-use Rattle.bx_text.specs.Times.{merged, next_redos, next_undos}
+use Rattle.bx_text.specs.Edits.{Edit, Edited, change_back, change_of, merged, next_redos}
+use Rattle.bx_text.specs.Changes.{first_again, first_back, next_redo, next_undo}
+use Rattle.bx_text.specs.Edits.{next_undos}
 
 back-one : (es : List Edit) → reduce merged (map change_back (take 1 es)) ≡ first_back es
 back-one [] = refl

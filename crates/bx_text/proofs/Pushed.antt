@@ -7,11 +7,11 @@ use Rattle.std.proofs.lemmas.Str.{IsUtf8-append}
 use Rattle.std.proofs.Math.Seq.{take-add}
 use Rattle.std.specs.Str.{IsUtf8}
 use Rattle.std.proofs.lemmas.Bool.{and_parts}
-use Rattle.bx_pieces.specs.declared.piece.Buffer.{Buffer}
-use Rattle.bx_pieces.specs.declared.piece.Buffer.TheVariants.{Opened, Added}
-use Rattle.bx_pieces.specs.declared.piece.Piece.{Piece}
-use Rattle.bx_pieces.specs.Pieces.{total, are_same, goes_on, last_of, longer, pushed, pushed_after}
-use Rattle.bx_pieces.proofs.Ends.{total_pushed}
+use Rattle.bx_text.specs.declared.pieces.piece.Buffer.{Buffer}
+use Rattle.bx_text.specs.declared.pieces.piece.Buffer.TheVariants.{Opened, Added}
+use Rattle.bx_text.specs.declared.pieces.piece.Piece.{Piece}
+use Rattle.bx_text.specs.pieces.Pieces.{total, are_same, goes_on, last_of, longer, pushed, pushed_after}
+use Rattle.bx_text.proofs.pieces_lemmas.Ends.{total_pushed}
 use Rattle.bx_text.specs.Buffers.{Buffers, buffer_bytes, piece_bytes, bytes_of, IsInBuffer, AreInBuffers, with_added}
 use Rattle.bx_text.proofs.Bytes.{bytes_of-append, AreInBuffers-append}
 use Rattle.bx_text.proofs.Versions.{grown, bytes_of-grown, AreInBuffers-grown}

@@ -1,12 +1,13 @@
 -- One edit: the text after it, and the step that takes it back.
 use Rattle.std.proofs.Common.{◌≡◌, ℕ, ◌+◌, ◌-◌, ◌≤◌, List, [], ◌∷◌, ◌++◌, length, take, drop, refl, ap, sym, subst, ◌∙◌, arith}
 use Rattle.std.proofs.lemmas.List.{length-take-le, length-drop}
-use Rattle.bx_pieces.specs.declared.piece.Piece.{Piece}
-use Rattle.bx_pieces.specs.Pieces.{total, front, back}
+use Rattle.bx_text.specs.declared.pieces.piece.Piece.{Piece}
+use Rattle.bx_text.specs.pieces.Pieces.{total, front, back}
 use Rattle.bx_text.specs.declared.step.Step.{Step}
 use Rattle.std.specs.Str.{IsUtf8}
 use Rattle.bx_text.specs.Buffers.{Buffers, bytes_of, AreInBuffers, with_added}
-use Rattle.bx_text.specs.Edits.{Edit, IsRange, edit_of, replaced, splice, largest_text}
+use Rattle.bx_text.specs.Edits.{Edit, edit_of, replaced, splice, largest_text}
+use Rattle.bx_text.specs.Changes.{IsRange}
 use Rattle.bx_text.specs.Steps.{after_swap, past_of, AreSteps}
 use Rattle.bx_text.proofs.Characters.{IsRange-splice}
 use Rattle.bx_text.proofs.Bytes.{length-bytes_of, IsUtf8-bytes_of, bytes_of-append, bytes_of-front, AreInBuffers-append, AreInBuffers-front}

@@ -2,15 +2,15 @@
 use Rattle.std.proofs.Common.{◌≡◌, ℕ, ◌+◌, ◌≤◌, List, [], ◌∷◌, ◌++◌, length, reverse, ap, sym, subst, ◌∙◌, arith}
 use Rattle.std.proofs.lemmas.List.{reverse-append}
 use Rattle.std.specs.Str.{IsCharBoundary, IsUtf8}
-use Rattle.bx_pieces.specs.declared.piece.Piece.{Piece}
-use Rattle.bx_pieces.specs.Pieces.{front, back}
+use Rattle.bx_text.specs.declared.pieces.piece.Piece.{Piece}
+use Rattle.bx_text.specs.pieces.Pieces.{front, back}
 use Rattle.bx_text.specs.declared.pairs.Replacement.{Replacement}
 use Rattle.bx_text.specs.declared.step.Step.{Step}
 use Rattle.bx_text.specs.Buffers.{Buffers, bytes_of, with_added}
-use Rattle.bx_text.specs.Edits.{Edit, Edited, IsChange, IsRange, largest_text, splice}
+use Rattle.bx_text.specs.Edits.{Edit, Edited, largest_text, splice, merged}
+use Rattle.bx_text.specs.Changes.{IsChange, IsRange}
 use Rattle.bx_text.specs.Replacements.{change_made, made, text_after}
 use Rattle.bx_text.specs.Steps.{past_of}
-use Rattle.bx_text.specs.Times.{merged}
 use Rattle.bx_text.proofs.Bytes.{IsUtf8-bytes_of}
 use Rattle.bx_text.proofs.Merged.{merged_leads, new_bounds_before}
 use Rattle.bx_text.proofs.Replaced.{IsReplaced, edited_after, pieces_after, sound_after, step_back}

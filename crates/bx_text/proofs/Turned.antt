@@ -1,11 +1,12 @@
 -- A step taken back or made again: the text after it, and the step that undoes it.
 use Rattle.std.proofs.Common.{◌≡◌, ℕ, ◌+◌, ◌<◌, ◌≤◌, List, [], ◌∷◌, ◌++◌, length, take, drop, reverse, ◌^◌, IfSome, refl, ap, sym, subst, ◌∙◌, arith}
 use Rattle.std.proofs.lemmas.List.{length-take-le, length-drop, reverse-append}
-use Rattle.bx_pieces.specs.declared.piece.Piece.{Piece}
-use Rattle.bx_pieces.specs.Pieces.{total, front, back}
+use Rattle.bx_text.specs.declared.pieces.piece.Piece.{Piece}
+use Rattle.bx_text.specs.pieces.Pieces.{total, front, back}
 use Rattle.bx_text.specs.declared.step.Step.{Step}
 use Rattle.bx_text.specs.Buffers.{Buffers, bytes_of, AreInBuffers}
-use Rattle.bx_text.specs.Edits.{Edit, IsRange, IsChange, splice, undone, redone, next_undo, next_redo, largest_text}
+use Rattle.bx_text.specs.Edits.{Edit, splice, undone, redone, largest_text}
+use Rattle.bx_text.specs.Changes.{IsRange, IsChange, next_undo, next_redo}
 use Rattle.bx_text.specs.Steps.{after_swap, past_of, future_of, AreSteps, turned_pieces, turned_step, Turns}
 use Rattle.bx_text.proofs.Characters.{IsRange-splice}
 use Rattle.bx_text.proofs.Bytes.{length-bytes_of, IsUtf8-bytes_of}

@@ -2,7 +2,7 @@
 use Rattle.std.proofs.Common.{◌≡◌, ℕ, zero, suc, ◌+◌, ◌<◌, ◌^◌, [], ◌∷◌, length, refl, ap, sym, ◌∙◌, length-append, arith}
 use Rattle.std.specs.Fn.{iterate}
 use Rattle.std.proofs.Math.Numerals.{suc-eq-add-one}
-use Rattle.bx_pieces.specs.Pieces.{IsAddressable}
+use Rattle.bx_text.specs.pieces.Pieces.{IsAddressable}
 use Rattle.bx_text.specs.Buffers.{Buffers}
 use Rattle.bx_text.specs.Edits.{undone, redone}
 use Rattle.bx_text.specs.Steps.{Turning, IsTurning, HasTurned, Turns, in_undo, in_redo, IsShort}

@@ -9,10 +9,11 @@ use Rattle.bx_text.specs.declared.step.Step.{Step}
 use Rattle.bx_text.specs.declared.step.Way.{Way}
 use Rattle.bx_text.specs.declared.step.Way.TheVariants.{Back, Again}
 use Rattle.bx_text.specs.Buffers.{Buffers, bytes_of}
-use Rattle.bx_text.specs.Edits.{Edit, Edited, IsChange, change_back, change_of, undone, redone}
+use Rattle.bx_text.specs.Edits.{Edit, Edited, change_back, change_of, undone, redone, merged, next_redos, next_undos}
+use Rattle.bx_text.specs.Changes.{IsChange}
+use Rattle.bx_text.specs.Edits.{redone_times, undone_times}
 use Rattle.bx_text.specs.Steps.{AreSteps, after_swap, future_of, past_of, step_change}
 use Rattle.bx_text.specs.Steps.{HasTurned, HaveTurned, IsTurning, Turning, in_redo, in_undo}
-use Rattle.bx_text.specs.Times.{merged, next_redos, next_undos, redone_times, undone_times}
 use Rattle.bx_text.proofs.Bytes.{IsUtf8-bytes_of}
 use Rattle.bx_text.proofs.Merged.{merged_leads}
 use Rattle.bx_text.proofs.MergedSteps.{one_swap}

@@ -1,14 +1,15 @@
 -- Versions of a text: the result of a swap, its reversal, and that text added later changes no version.
 use Rattle.std.proofs.Common.{◌≡◌, ℕ, ◌+◌, ◌≤◌, List, [], ◌∷◌, ◌++◌, length, take, drop, refl, ap, sym, subst, ◌∙◌, append_assoc, length-append, arith}
 use Rattle.std.proofs.lemmas.List.{length-take-le, length-drop, drop-drop, take-append-drop, take_at, drop_at, take-append-le, drop-append-le}
-use Rattle.bx_pieces.specs.declared.piece.Buffer.{Buffer}
-use Rattle.bx_pieces.specs.declared.piece.Buffer.TheVariants.{Opened, Added}
-use Rattle.bx_pieces.specs.declared.piece.Piece.{Piece}
-use Rattle.bx_pieces.specs.Pieces.{total, front, back}
+use Rattle.bx_text.specs.declared.pieces.piece.Buffer.{Buffer}
+use Rattle.bx_text.specs.declared.pieces.piece.Buffer.TheVariants.{Opened, Added}
+use Rattle.bx_text.specs.declared.pieces.piece.Piece.{Piece}
+use Rattle.bx_text.specs.pieces.Pieces.{total, front, back}
 use Rattle.bx_text.specs.declared.step.Step.{Step}
 use Rattle.std.specs.Str.{IsUtf8, IsCharBoundary}
 use Rattle.bx_text.specs.Buffers.{Buffers, buffer_bytes, piece_bytes, bytes_of, IsInBuffer, AreInBuffers}
-use Rattle.bx_text.specs.Edits.{Edit, IsRange, IsChange, splice}
+use Rattle.bx_text.specs.Edits.{Edit, splice}
+use Rattle.bx_text.specs.Changes.{IsRange, IsChange}
 use Rattle.bx_text.proofs.Characters.{IsCharBoundary-drop, IsRange-splice}
 use Rattle.bx_text.specs.Steps.{after_swap, past_of, AreSteps}
 use Rattle.bx_text.proofs.Bytes.{bytes_of-append, bytes_of-front, bytes_of-back, AreInBuffers-append, AreInBuffers-front, AreInBuffers-back}

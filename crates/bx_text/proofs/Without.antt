@@ -3,9 +3,9 @@ use Rattle.std.proofs.Common.{◌≡◌, ℕ, ◌+◌, ◌-◌, ◌<◌, ◌≤�
 use Rattle.std.proofs.lemmas.Str.{IsUtf8-nil}
 use Rattle.std.specs.Str.{IsCharBoundary}
 use Rattle.bx_text.specs.declared.change.Change.{Change}
-use Rattle.bx_text.specs.Edits.{IsChange, IsRange, splice}
+use Rattle.bx_text.specs.Edits.{splice, merged}
+use Rattle.bx_text.specs.Changes.{IsChange, IsRange}
 use Rattle.bx_text.specs.Replacements.{change_inserted, change_removed}
-use Rattle.bx_text.specs.Times.{merged}
 use Rattle.bx_text.proofs.Merged.{new_bounds_after, new_bounds_before, old_bounds_after, old_bounds_before}
 use Rattle.bx_text.proofs.Versions.{splice_leads}
 

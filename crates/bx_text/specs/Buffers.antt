@@ -1,10 +1,10 @@
 -- The two buffers of a text, and the bytes that its pieces have in them.
 use Rattle.std.specs.Prelude.{◌≡◌, ℕ, ◌+◌, ◌<◌, ◌≤◌, List, [], ◌++◌, ◌∷◌, length, take, drop, IsCharBoundary}
 use Rattle.std.specs.Str.{IsUtf8}
-use Rattle.bx_pieces.specs.declared.piece.Buffer.{Buffer}
-use Rattle.bx_pieces.specs.declared.piece.Buffer.TheVariants.{Opened, Added}
-use Rattle.bx_pieces.specs.declared.piece.Piece.{Piece}
-use Rattle.bx_pieces.specs.Pieces.{pushed}
+use Rattle.bx_text.specs.declared.pieces.piece.Buffer.{Buffer}
+use Rattle.bx_text.specs.declared.pieces.piece.Buffer.TheVariants.{Opened, Added}
+use Rattle.bx_text.specs.declared.pieces.piece.Piece.{Piece}
+use Rattle.bx_text.specs.pieces.Pieces.{pushed}
 
 -- the text as opened, and all text inserted since
 pub record Buffers : Type 0 where

@@ -1,7 +1,9 @@
 pub mod Edits
-pub mod Times
 pub mod Replacements
 pub mod Buffers
 pub mod Steps
 pub mod Text
 pub mod Slices
+pub mod Changes
+pub mod pieces
+pub mod index

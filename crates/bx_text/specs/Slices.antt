@@ -2,7 +2,7 @@
 use Rattle.std.specs.Prelude.{◌≡◌, ℕ, ◌<◌, List, [], ◌∷◌, ◌++◌, length, slice_range, Option, MatchOption}
 use Rattle.std.specs.Borrow.{Bor}
 use Rattle.bx_text.specs.declared.slices.Slices.TheInside.{Inside}
-use Rattle.bx_text.specs.Edits.{IsRange}
+use Rattle.bx_text.specs.Changes.{IsRange}
 
 -- the bytes that it has not lent yet
 abbrev pub bytes_left : Inside → List ℕ

@@ -2,15 +2,15 @@
 -- of the future those from after it. So each version of the text follows from the present text.
 use Rattle.std.specs.Prelude.{◌^◌, ◌<◌, ◌++◌, ◌≡◌, ℕ, ◌+◌, ◌≤◌, List, [], ◌∷◌, length, reverse}
 use Rattle.std.specs.Str.{IsUtf8}
-use Rattle.bx_pieces.specs.declared.piece.Piece.{Piece}
-use Rattle.bx_pieces.specs.Pieces.{total, front, back}
+use Rattle.bx_text.specs.declared.pieces.piece.Piece.{Piece}
+use Rattle.bx_text.specs.pieces.Pieces.{total, front, back}
 use Rattle.bx_text.specs.declared.change.Change.{Change}
 use Rattle.bx_text.specs.declared.step.Step.{Step}
 use Rattle.bx_text.specs.declared.step.Way.{Way}
 use Rattle.bx_text.specs.declared.step.Way.TheVariants.{Back, Again}
 use Rattle.bx_text.specs.Buffers.{Buffers, bytes_of, AreInBuffers}
-use Rattle.bx_text.specs.Edits.{Edit, Edited, IsRange, splice, largest_text}
-use Rattle.bx_text.specs.Times.{redone_times, undone_times}
+use Rattle.bx_text.specs.Edits.{Edit, Edited, splice, largest_text, redone_times, undone_times}
+use Rattle.bx_text.specs.Changes.{IsRange}
 
 -- the text with the step's bytes replaced by its pieces
 abbrev pub after_swap : Buffers → List ℕ → Step → List ℕ

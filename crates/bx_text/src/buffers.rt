@@ -3,7 +3,7 @@
 ghost use Rattle.std.specs.Prelude.{◌≡◌, ◌<◌, ◌↔◌, IsSome, IsTrue, IfSome, drop, length, take, IsCharBoundary};
 ghost use Rattle.bx_text.specs.Buffers.{Buffers, buffer_bytes, bytes_of, AreInBuffers, IsRest};
 
-use bx_pieces::{Buffer, Pieces};
+use crate::pieces::{Buffer, Pieces};
 
 /// The buffer that a piece names.
 fn buffer_of<'a>(opened: &'a str, added: &'a str, buffer: Buffer) -> &'a str

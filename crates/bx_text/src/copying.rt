@@ -2,9 +2,9 @@
 
 ghost use Rattle.std.specs.Prelude.{◌≡◌, None, IfOk};
 
+use crate::pieces::Spares;
 use crate::step::Step;
 use crate::text::Text;
-use bx_pieces::Spares;
 use std::alloc::{AllocError, Global};
 
 /// Copies of steps.

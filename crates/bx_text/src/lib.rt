@@ -7,7 +7,9 @@ mod buffers;
 mod change;
 mod copying;
 mod error;
+mod index;
 mod pairs;
+mod pieces;
 mod slices;
 mod step;
 mod swap;
@@ -17,6 +19,10 @@ mod turns;
 
 pub use change::Change;
 pub use error::TextError;
+pub use index::{
+    Index, ParagraphWalk, bodies_match_spans, paragraphs_join_to_text, separates, separating,
+};
 pub use pairs::EditPlaces;
+pub use pieces::{Buffer, Piece, Pieces, Spares};
 pub use slices::Slices;
 pub use text::Text;

@@ -2,20 +2,20 @@
 
 ghost use Rattle.std.specs.Prelude.{◌≡◌, [], ◌∷◌, ◌++◌, ◌+◌, ◌-◌, ◌≤◌, ◌<◌, ◌^◌, ◌↔◌, false, IfOk, IsErrOf, IsTrue, OnErr, OnOk, length, vec_len, vec_capacity, string_len, string_capacity, string_bytes};
 ghost use Rattle.std.specs.Str.{IsCharBoundary, IsUtf8};
-ghost use Rattle.bx_pieces.specs.Pieces.{total, front, back, IsAddressable};
+ghost use Rattle.bx_text.specs.pieces.Pieces.{total, front, back, IsAddressable};
 ghost use Rattle.bx_text.specs.Buffers.{with_added};
-ghost use Rattle.bx_text.specs.Edits.{exchanged, fits, fits_both, largest_text, splice, wrapped, IsChange, IsRange};
+ghost use Rattle.bx_text.specs.Edits.{fits, fits_both, largest_text, merged, splice, wrapped};
+ghost use Rattle.bx_text.specs.Changes.{IsChange, IsRange, exchanged};
 ghost use Rattle.bx_text.specs.Replacements.{change_inserted, change_made, change_removed, made, text_after};
-ghost use Rattle.bx_text.specs.Times.{merged};
 
 use crate::change::Change;
 use crate::error::TextError;
+use crate::pieces::{Pieces, Spares};
 use crate::step::Step;
 use crate::swap::put;
 use crate::text::Text;
 use crate::turns::merge;
-use bx_pieces::{Pieces, Spares};
-use bx_terms::LARGEST_TEXT;
+use bx_common::LARGEST_TEXT;
 use std::alloc::AllocError;
 
 /// The cursor's places before two edits, between them and after them, in bytes.

@@ -4,7 +4,7 @@ ghost use Rattle.std.specs.Prelude.{◌≡◌, IfOk};
 ghost use Rattle.bx_text.specs.Steps.{step_change};
 
 use crate::change::Change;
-use bx_pieces::Pieces;
+use crate::pieces::Pieces;
 use std::alloc::{AllocError, Global};
 
 /// Where a step leads: back to the text before an edit, or again to the text after it.

@@ -4,10 +4,10 @@
 ghost use Rattle.std.specs.Prelude.{◌≡◌, ◌++◌, ◌+◌, ◌<◌, ◌≤◌, ◌^◌, OnOk, OnErr, length, vec_len, vec_capacity, string_len, string_capacity, string_bytes};
 ghost use Rattle.bx_text.specs.Buffers.{with_added};
 ghost use Rattle.bx_text.specs.Steps.{IsShort, Turns};
-ghost use Rattle.bx_pieces.specs.Pieces.{total, front, back, IsAddressable};
+ghost use Rattle.bx_text.specs.pieces.Pieces.{total, front, back, IsAddressable};
 
+use crate::pieces::{Buffer, Piece, Pieces, Spares};
 use crate::step::Step;
-use bx_pieces::{Buffer, Piece, Pieces, Spares};
 use std::mem;
 
 /// Replaces `len` bytes from the offset `start` on by a span, and returns the pieces replaced.

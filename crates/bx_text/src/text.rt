@@ -3,7 +3,8 @@
 ghost use Rattle.std.specs.Prelude.{◌≡◌, ℕ, List, slice_range, ◌+◌, ◌-◌, IsSome, ◌<◌, ◌≤◌, ◌^◌, ◌↔◌, [], None, Some, true, false, IfSome, take, drop, length};
 ghost use Rattle.std.specs.Prelude.{IsOk, string_bytes, IsTrue, IsCharBoundary, IfOk, OnOk, OnErr, IsErrOf};
 ghost use Rattle.std.specs.Str.{IsUtf8};
-ghost use Rattle.bx_text.specs.Edits.{opened, largest_text, next_undo, next_redo, replaced, inserted, removed, undone, redone, fits, IsRange, IsChange};
+ghost use Rattle.bx_text.specs.Edits.{fits, inserted, largest_text, opened, redone, removed, replaced, undone};
+ghost use Rattle.bx_text.specs.Changes.{IsChange, IsRange, next_redo, next_undo};
 ghost use Rattle.bx_text.specs.Text.{TextState, HasRoomFor};
 ghost use Rattle.bx_text.specs.Slices.{lends, joined};
 ghost use Rattle.std.specs.Iterator.{Drains};
@@ -12,11 +13,11 @@ ghost use Rattle.std.specs.Borrow.{Bor};
 use crate::buffers::{has_in, rest_in};
 use crate::change::Change;
 use crate::error::TextError;
+use crate::pieces::{Buffer, Piece, Pieces, Spares};
 use crate::slices::Slices;
 use crate::step::Step;
 use crate::swap::put;
-use bx_pieces::{Buffer, Piece, Pieces, Spares};
-use bx_terms::LARGEST_TEXT;
+use bx_common::LARGEST_TEXT;
 use std::alloc::{AllocError, Global};
 use std::marker::Model;
 
@@ -99,14 +100,6 @@ impl Text {
         ensures { result ≡ next_undo self.now.edited }
     {
         self.next_undos(1)
-    }
-
-    /// The change that `redo` would make next; none if the future is empty.
-    #[tactic(auto, using(crate::proofs::OneStep::redo_one))]
-    pub fn next_redo(&self) -> Option<Change>
-        ensures { result ≡ next_redo self.now.edited }
-    {
-        self.next_redos(1)
     }
 
     /// Reserves memory for an edit that inserts `bytes` bytes, with three nodes (`put`). The text is unchanged.

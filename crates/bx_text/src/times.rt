@@ -1,8 +1,8 @@
 //! Many edits undone or redone at once.
 
 ghost use Rattle.std.specs.Prelude.{◌≡◌, None, IfOk, IfSome, IsOk, OnErr, OnOk, length};
-ghost use Rattle.bx_text.specs.Edits.{IsChange};
-ghost use Rattle.bx_text.specs.Times.{next_redos, next_undos, redone_times, undone_times};
+ghost use Rattle.bx_text.specs.Edits.{next_redos, next_undos, redone_times, undone_times};
+ghost use Rattle.bx_text.specs.Changes.{IsChange};
 
 use crate::change::Change;
 use crate::error::TextError;

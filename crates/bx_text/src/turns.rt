@@ -2,14 +2,13 @@
 
 ghost use Rattle.std.specs.List.{reduce};
 ghost use Rattle.std.specs.Prelude.{◌≡◌, ◌+◌, ◌*◌, ◌<◌, ◌≤◌, ◌^◌, OnErr, OnOk, length, map, reverse, take, vec_len, vec_capacity};
-ghost use Rattle.bx_text.specs.Edits.{largest_text};
+ghost use Rattle.bx_text.specs.Edits.{largest_text, merged};
 ghost use Rattle.bx_text.specs.Steps.{Apply, CanTurn, HaveTurned, step_change};
-ghost use Rattle.bx_text.specs.Times.{merged};
 
 use crate::change::Change;
+use crate::pieces::{Pieces, Spares};
 use crate::step::{Step, Way};
 use crate::swap::turn;
-use bx_pieces::{Pieces, Spares};
 use std::alloc::AllocError;
 
 /// One change in place of two, of which `next` was made after `first`.

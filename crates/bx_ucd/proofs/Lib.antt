@@ -1,3 +1,4 @@
+pub mod JoinedTables
 pub mod LineLemmas
 pub mod WordLemmas
 pub mod CharacterLemmas

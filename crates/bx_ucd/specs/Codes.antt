@@ -7,6 +7,7 @@ use Rattle.bx_ucd.specs.Lines.{and_then}
 use Rattle.bx_ucd.specs.declared.codes.Range.{Range}
 use Rattle.bx_ucd.specs.declared.error.Cause.{Cause}
 use Rattle.bx_ucd.specs.declared.error.Cause.TheVariants.{BadCode, BadRange}
+use Rattle.bx_common.specs.Characters.{is_surrogate}
 
 -- four to six hexadecimal digits, up to 10FFFF
 abbrev pub is_code : List ℕ → Bool
@@ -15,10 +16,6 @@ is_code field = (nat_le 4 (length field) && nat_le (length field) 6) && (list_al
 -- the code that a field writes
 abbrev pub code_of : List ℕ → Result ℕ Cause
 code_of field = if is_code field then Ok (digits_value 16 field) else Err BadCode
-
--- a surrogate code point, which is not a character
-abbrev pub is_surrogate : ℕ → Bool
-is_surrogate code = nat_le 0xD800 code && nat_le code 0xDFFF
 
 -- the character whose code a field writes
 abbrev pub character_of : List ℕ → Result ℕ Cause

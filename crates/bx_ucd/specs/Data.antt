@@ -1,4 +1,4 @@
--- Unicode's properties of characters. The definitions of other crates take a value of `Data`, which they call `says` or `d`.
+-- Unicode's properties of characters. The definitions of other crates take a value of `Data`, which they call `ucd` or `d`.
 use Rattle.std.specs.Prelude.{ℕ, Option}
 use Rattle.bx_ucd.specs.declared.class.Class.{Class}
 use Rattle.bx_ucd.specs.declared.data.Side.{Side}

@@ -3,7 +3,7 @@ use Rattle.std.specs.Prelude.{ℕ, Bool, true, false, not, ◌&&◌, ◌||◌, �
 use Rattle.bx_ucd.specs.Answers.{find_last}
 use Rattle.bx_ucd.specs.Class.{is_unlettered}
 use Rattle.bx_ucd.specs.Control.{is_control}
-use Rattle.bx_terms.specs.Characters.{is_direction_mark}
+use Rattle.bx_common.specs.Characters.{is_direction_mark}
 use Rattle.bx_ucd.specs.declared.class.Class.{Class}
 use Rattle.bx_ucd.specs.declared.class.Class.TheVariants.{BN}
 use Rattle.bx_ucd.specs.declared.joining.Joining.{Joining}

@@ -17,5 +17,4 @@ pub mod Forms
 pub mod JoinedLetters
 pub mod Reading
 pub mod SmallTables
-pub mod JoinedTables
 pub mod Data

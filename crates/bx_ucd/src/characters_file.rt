@@ -12,7 +12,7 @@ use crate::joining::Form;
 use crate::lines::{before_comment, is_all_blank, trimmed};
 use crate::parts::{separators, skip_parts, split_once};
 use crate::words::two_words;
-use bx_terms::is_control;
+use bx_common::is_control;
 
 /// A line of the file that gives a form: the letter, the form, and the character that is this form of the letter.
 #[derive(Clone, Copy)]

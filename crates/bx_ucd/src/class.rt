@@ -1,10 +1,10 @@
 //! The values of the property Bidi_Class (UAX #9, 3.2).
 
 ghost use Rattle.std.specs.Prelude.{◌≡◌};
-ghost use Rattle.bx_ucd.specs.Class.{is_initiator, is_strong, is_neutral, is_unlettered, direction};
+ghost use Rattle.bx_ucd.specs.Class.{is_initiator, is_strong, is_neutral, is_unlettered, class_name, direction};
 
 /// A bidirectional class, under its short name in the data files. The order of the formatting classes, LRE to PDI without another
-/// between them, makes a test for them one range test (`bx_resolve/src/uniform.rt`).
+/// between them, makes a test for them one range test (`bx_levels/src/resolve/uniform.rt`).
 #[derive(Clone, Copy, PartialEq, Eq)]
 pub enum Class {
     /// Left_To_Right
@@ -99,4 +99,35 @@ pub fn direction(level: u8) -> Class
     ensures { result ≡ direction level }
 {
     if level % 2 == 0 { Class::L } else { Class::R }
+}
+
+/// The short name of a class in the data files.
+pub fn class_name(class: Class) -> &'static str
+    ensures { result.now ≡ class_name class }
+{
+    match class {
+        Class::L => "L",
+        Class::R => "R",
+        Class::AL => "AL",
+        Class::EN => "EN",
+        Class::ES => "ES",
+        Class::ET => "ET",
+        Class::AN => "AN",
+        Class::CS => "CS",
+        Class::NSM => "NSM",
+        Class::BN => "BN",
+        Class::B => "B",
+        Class::S => "S",
+        Class::WS => "WS",
+        Class::ON => "ON",
+        Class::LRE => "LRE",
+        Class::LRO => "LRO",
+        Class::RLE => "RLE",
+        Class::RLO => "RLO",
+        Class::PDF => "PDF",
+        Class::LRI => "LRI",
+        Class::RLI => "RLI",
+        Class::FSI => "FSI",
+        Class::PDI => "PDI",
+    }
 }

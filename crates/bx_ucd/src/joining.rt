@@ -4,7 +4,7 @@ ghost use Rattle.std.specs.Prelude.{◌≡◌};
 ghost use Rattle.bx_ucd.specs.Joining.{counted, is_joined_across, joining_by_class, needs_form};
 
 use crate::class::{Class, is_unlettered};
-use bx_terms::{is_control, is_direction_mark};
+use bx_common::{is_control, is_direction_mark};
 
 /// A joining type (the property Joining_Type), under its short name in the data files.
 #[derive(Clone, Copy)]

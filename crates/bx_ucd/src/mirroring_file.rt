@@ -9,7 +9,7 @@ use crate::error::Cause;
 use crate::file::Entry;
 use crate::lines::{before_comment, is_all_blank, trimmed};
 use crate::parts::{Parts, cut};
-use bx_terms::is_control;
+use bx_common::is_control;
 
 /// A line of the file: a character and its mirror.
 #[derive(Clone, Copy)]

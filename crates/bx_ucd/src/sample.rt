@@ -63,6 +63,7 @@ pub fn sample_tables(alloc: Global) -> Result<Tables, UcdError>
     ensures mirrors { IfOk result (λ t. (code : ℕ) → (⟦<Tables as BidiData>⟧.data t).mirror code ≡ mirror_in_file MIRRORING.now code) }
     ensures refused { IfErr result (λ e. e ≡ no_memory_in e.file) }
 {
+    // The proof compares the tables, so they have a name.
     let tables = Tables::read(
         alloc,
         CLASSES.as_bytes(),

@@ -5,12 +5,12 @@ use Rattle.std.proofs.lemmas.List.{append_cancel_right, drop-drop, drop-take, dr
 use Rattle.std.proofs.lemmas.Str.{chars-append, chars-encodes, encodes-append, encodes-chars, scalars-chars, IsUtf8-take, IsCharBoundary-from_drop}
 use Rattle.bx_ucd.specs.Data.{Data}
 use lib.Utf8.{scalars}
-use Rattle.bx_index.specs.declared.lengths.Lengths.{Lengths}
-use Rattle.bx_index.specs.Paragraphs.{lengths_of}
-use Rattle.bx_index.proofs.Changes.{scalars_back}
-use Rattle.bx_index.proofs.Cuts.{lens, parts, widths}
-use Rattle.bx_index.proofs.Seams.{seam}
-use Rattle.bx_view.specs.Standing.{count, start_at}
+use Rattle.bx_text.specs.declared.index.lengths.Lengths.{Lengths}
+use Rattle.bx_text.specs.index.Paragraphs.{lengths_of}
+use Rattle.bx_text.proofs.index_lemmas.Changes.{scalars_back}
+use Rattle.bx_text.proofs.index_lemmas.Cuts.{lens, parts, widths}
+use Rattle.bx_text.proofs.index_lemmas.Seams.{seam}
+use Rattle.bx_view.specs.Numbers.{count, start_at}
 use Rattle.bx_view.proofs.Numbers.{ahead, behind, here, parts-at, start-is}
 
 -- ---- bytes
@@ -35,23 +35,23 @@ some_chars bs (c ∷ cs) u some e = omega arith
 
 -- ---- a paragraph's begin
 
-module _ (says : Data) (text : List ℕ) (utf8 : IsUtf8 text) where
+module _ (ucd : Data) (text : List ℕ) (utf8 : IsUtf8 text) where
   -- a paragraph begins at an offset, and the paragraphs from there on have these lengths
   pub record IsBegin (at : ℕ) (ls : List Lengths) : Type 0 where
     pub bounds : IsCharBoundary text at
-    pub parts : parts says (chars (take at text)) (chars (drop at text)) ≡ true
-    pub rest : lens says (chars (drop at text)) ≡ ls
+    pub parts : parts ucd (chars (take at text)) (chars (drop at text)) ≡ true
+    pub rest : lens ucd (chars (drop at text)) ≡ ls
 
-  pub begin_at : (n : ℕ) (within : n < count says text)
-      → IsBegin (start_at says text n) (lengths_of (here says text n within) ∷ map lengths_of (behind says text n within))
+  pub begin_at : (n : ℕ) (within : n < count ucd text)
+      → IsBegin (start_at ucd text n) (lengths_of (here ucd text n within) ∷ map lengths_of (behind ucd text n within))
   begin_at n within =
-      let split : lens says (chars text) ≡ map lengths_of (ahead says text n within)
-      ++ lengths_of (here says text n within) ∷ map lengths_of (behind says text n within) = ap (map lengths_of) (parts-at says text n within)
-      ∙ map-append lengths_of (ahead says text n within) (here says text n within ∷ behind says text n within) in
-      let (x, m, s) = seam says (chars text) (map lengths_of (ahead says text n within)) (lengths_of (here says text n within))
-      (map lengths_of (behind says text n within)) split in
-      let at = start_at says text n in
-      let size : widths x ≡ at = s.bytes ∙ sym (start-is says text n) in
+      let split : lens ucd (chars text) ≡ map lengths_of (ahead ucd text n within)
+      ++ lengths_of (here ucd text n within) ∷ map lengths_of (behind ucd text n within) = ap (map lengths_of) (parts-at ucd text n within)
+      ∙ map-append lengths_of (ahead ucd text n within) (here ucd text n within ∷ behind ucd text n within) in
+      let (x, m, s) = seam ucd (chars text) (map lengths_of (ahead ucd text n within)) (lengths_of (here ucd text n within))
+      (map lengths_of (behind ucd text n within)) split in
+      let at = start_at ucd text n in
+      let size : widths x ≡ at = s.bytes ∙ sym (start-is ucd text n) in
       let spelt : text ≡ encode_utf8_all x ++ encode_utf8_all m = sym (encodes-chars text utf8) ∙ ap encode_utf8_all s.whole ∙ encodes-append x m in
       let sound : scalars m ≡ true = scalars_back x m (ap scalars (sym s.whole) ∙ scalars-chars text utf8) in
       let rest : drop at text ≡ encode_utf8_all m = ap (drop at) spelt ∙ drop_at (encode_utf8_all x) (encode_utf8_all m) at size in
@@ -64,6 +64,6 @@ module _ (says : Data) (text : List ℕ) (utf8 : IsUtf8 text) where
       ∙ ap chars (take-append-drop at text) ∙ s.whole) in
       record {
         bounds = bounds;
-        parts = ap (λ v. parts says v (chars (drop at text))) before ∙ ap (parts says x) after ∙ s.parts;
-        rest = ap (lens says) after ∙ s.rest;
+        parts = ap (λ v. parts ucd v (chars (drop at text))) before ∙ ap (parts ucd x) after ∙ s.parts;
+        rest = ap (lens ucd) after ∙ s.rest;
       }

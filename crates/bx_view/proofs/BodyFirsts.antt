@@ -6,10 +6,10 @@ use Rattle.bx_ucd.specs.Data.{Data}
 use Rattle.unicode_segmentation.specs.Grapheme.{graphemes, is_grapheme_break}
 use Rattle.unicode_segmentation.specs.Segments.{with_offsets}
 use Rattle.unicode_segmentation.proofs.SegmentsLemmas.{AllPieces, concat-segments, segments_nonempty}
-use Rattle.bx_terms.specs.declared.base.Base.{Base}
-use Rattle.bx_cells.specs.declared.unit.Unit.{Unit}
-use Rattle.bx_cells.specs.Units.{unit_at, units}
-use Rattle.bx_rows.specs.declared.row.Row.{Row}
+use Rattle.bx_common.specs.declared.base.Base.{Base}
+use Rattle.bx_rows.specs.declared.cells.unit.Unit.{Unit}
+use Rattle.bx_rows.specs.cells.Units.{unit_at, units}
+use Rattle.bx_rows.specs.declared.wrapping.Row.{Row}
 use Rattle.bx_rows.specs.RowStarts.{first_offset, start_of}
 use Rattle.bx_rows.specs.Wrapping.{is_break, row_len, rows_from, rows_of}
 use Rattle.bx_paragraph.specs.BodyRows.{body_rows}
@@ -22,16 +22,16 @@ use Rattle.bx_view.proofs.Rising.{Rises, rises-further, rises-sooner}
 abbrev pub starts_of : List Unit → List ℕ
 starts_of us = map (λ u. u.start) us
 
-units-rise : (says : Data) (w at : ℕ) (gs : List (List ℕ)) → AllPieces (λ g. 0 < length g) gs
-    → Rises at (starts_of (map (unit_at says w) (with_offsets at gs))) (at + length (concat gs))
+units-rise : (ucd : Data) (w at : ℕ) (gs : List (List ℕ)) → AllPieces (λ g. 0 < length g) gs
+    → Rises at (starts_of (map (unit_at ucd w) (with_offsets at gs))) (at + length (concat gs))
 unfolding with_offsets
-units-rise says w at [] h = omega arith
-units-rise says w at (g ∷ gs) h =
-    let more = starts_of (map (unit_at says w) (with_offsets (at + length g) gs)) in
+units-rise ucd w at [] h = omega arith
+units-rise ucd w at (g ∷ gs) h =
+    let more = starts_of (map (unit_at ucd w) (with_offsets (at + length g) gs)) in
     let same : at + length g + length (concat gs) ≡ at + length (concat (g ∷ gs)) = omega (arith, length-append g (concat gs)) in (
       omega arith,
       rises-sooner (at + 1) (at + length g) more (at + length (concat (g ∷ gs))) (omega (arith, h.0))
-          (subst (Rises (at + length g) more) same (units-rise says w (at + length g) gs h.1)),
+          (subst (Rises (at + length g) more) same (units-rise ucd w (at + length g) gs h.1)),
     )
 
 -- ---- where the rows begin
@@ -66,38 +66,38 @@ rows-of-rise p w high body (u ∷ us) h r e =
     let one : u.start + 1 ≡ 1 = omega (arith, e) in
     (rest, ap (λ o. o ∷ rest) e, subst (λ o. Rises o rest high) one (rows-rise p w 1 (n - 1) (u.start + 1) high body us (u ∷ us) refl r.1))
 
-first-unit : (says : Data) (w : ℕ) (gs : List (List ℕ)) → first_offset (map (unit_at says w) (with_offsets 0 gs)) ≡ 0
+first-unit : (ucd : Data) (w : ℕ) (gs : List (List ℕ)) → first_offset (map (unit_at ucd w) (with_offsets 0 gs)) ≡ 0
 unfolding with_offsets
-first-unit says w [] = refl
-first-unit says w (g ∷ gs) = refl
+first-unit ucd w [] = refl
+first-unit ucd w (g ∷ gs) = refl
 
 -- a body's units begin before its end
-pub units-before : (says : Data) (w : ℕ) (body : List ℕ) → IsUtf8 body → Rises 0 (starts_of (units says w body)) (length body)
-units-before says w body utf8 =
+pub units-before : (ucd : Data) (w : ℕ) (body : List ℕ) → IsUtf8 body → Rises 0 (starts_of (units ucd w body)) (length body)
+units-before ucd w body utf8 =
     let gs = graphemes true body in
     let size : 0 + length (concat gs) ≡ length body = omega (arith, ap length (concat-segments (is_grapheme_break true) body utf8)) in
-    subst (Rises 0 (starts_of (units says w body))) size (units-rise says w 0 gs (segments_nonempty (is_grapheme_break true) body))
+    subst (Rises 0 (starts_of (units ucd w body))) size (units-rise ucd w 0 gs (segments_nonempty (is_grapheme_break true) body))
 
-pub units-in : (says : Data) (w : ℕ) (body : List ℕ) → IsUtf8 body → Rises 0 (starts_of (units says w body)) (length body + 1)
-units-in says w body utf8 =
-    rises-further 0 (starts_of (units says w body)) (length body) (length body + 1) (omega arith) (units-before says w body utf8)
+pub units-in : (ucd : Data) (w : ℕ) (body : List ℕ) → IsUtf8 body → Rises 0 (starts_of (units ucd w body)) (length body + 1)
+units-in ucd w body utf8 =
+    rises-further 0 (starts_of (units ucd w body)) (length body) (length body + 1) (omega arith) (units-before ucd w body utf8)
 
 -- a body of no units has no bytes
-units-none : (says : Data) (w : ℕ) (gs : List (List ℕ)) → length (map (unit_at says w) (with_offsets 0 gs)) ≡ 0 → length (concat gs) ≡ 0
+units-none : (ucd : Data) (w : ℕ) (gs : List (List ℕ)) → length (map (unit_at ucd w) (with_offsets 0 gs)) ≡ 0 → length (concat gs) ≡ 0
 unfolding with_offsets
-units-none says w [] e = refl
-units-none says w (g ∷ gs) e = absurd (omega (arith, e))
+units-none ucd w [] e = refl
+units-none ucd w (g ∷ gs) e = absurd (omega (arith, e))
 
-pub none-in : (says : Data) (w : ℕ) (body : List ℕ) → IsUtf8 body → length (units says w body) ≡ 0 → length body ≡ 0
-none-in says w body utf8 e =
+pub none-in : (ucd : Data) (w : ℕ) (body : List ℕ) → IsUtf8 body → length (units ucd w body) ≡ 0 → length body ≡ 0
+none-in ucd w body utf8 e =
     let gs = graphemes true body in
-    omega (arith, ap length (concat-segments (is_grapheme_break true) body utf8), units-none says w gs e)
+    omega (arith, ap length (concat-segments (is_grapheme_break true) body utf8), units-none ucd w gs e)
 
-pub body-firsts : (says : Data) (base : Base) (w : ℕ) → 1 ≤ w → (body : List ℕ) → IsUtf8 body
-    → BodyFirsts body (body_rows says base w body)
-body-firsts says base w side body utf8 =
-    let us = units says w body in
+pub body-firsts : (ucd : Data) (base : Base) (w : ℕ) → 1 ≤ w → (body : List ℕ) → IsUtf8 body
+    → BodyFirsts body (body_rows ucd base w body)
+body-firsts ucd base w side body utf8 =
+    let us = units ucd w body in
     let gs = graphemes true body in
-    let rise : Rises 0 (starts_of us) (length body + 1) = units-in says w body utf8 in
-    let (os, e, r) = rows-of-rise (is_break says body) w (length body + 1) body us (omega arith) rise (first-unit says w gs) in
-    record { others = os; firsts = firsts says base w body side ∙ e; rise = r }
+    let rise : Rises 0 (starts_of us) (length body + 1) = units-in ucd w body utf8 in
+    let (os, e, r) = rows-of-rise (is_break ucd body) w (length body + 1) body us (omega arith) rise (first-unit ucd w gs) in
+    record { others = os; firsts = firsts ucd base w body side ∙ e; rise = r }

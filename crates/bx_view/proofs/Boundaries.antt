@@ -8,9 +8,8 @@ use Rattle.std.proofs.lemmas.List.Elements.{All-append, All-cons, All-head, All-
 use Rattle.std.proofs.lemmas.Str.{IsCharBoundary-from_drop, IsCharBoundary-from_rest, IsCharBoundary-end, IsCharBoundary-start, IsUtf8-append, IsUtf8-drop}
 use Rattle.std.specs.Prelude.{All}
 use Rattle.bx_ucd.specs.Data.{Data}
-use Rattle.bx_terms.specs.declared.base.Base.{Base}
-use Rattle.bx_index.specs.Paragraphs.{Paragraph, lengths_of, paragraphs}
-use Rattle.bx_index.specs.Positions.{bytes_of}
+use Rattle.bx_common.specs.declared.base.Base.{Base}
+use Rattle.bx_text.specs.index.Paragraphs.{Paragraph, lengths_of, paragraphs, bytes_of}
 use Rattle.bx_paragraph.specs.BodyRows.{BodyRow, no_row, offsets_of}
 use Rattle.bx_view.specs.TextRows.{TextRow, first, places, places_of, text_row, text_rows}
 use Rattle.bx_view.specs.Laws.{MovesKeep}
@@ -54,10 +53,10 @@ moved-in : (P : ℕ → Type 0) (start : ℕ) (os : List ℕ) → Within (λ o. 
 moved-in P start [] a = tt
 moved-in P start (o ∷ os) a = (a.0, moved-in P start os a.1)
 
-module _ (says : Data) (base : Base) (w : ℕ) where
+module _ (ucd : Data) (base : Base) (w : ℕ) where
   module _ (text : List ℕ) where
     bound-from : (front : List ℕ) (ps : List Paragraph) → text ≡ front ++ bytes ps → AreUtf8 ps
-        → All (IsBound text w) (from says base w (length front) ps)
+        → All (IsBound text w) (from ucd base w (length front) ps)
     bound-from front [] e u = All-nil (IsBound text w)
     bound-from front (p ∷ ps) e u =
         let rest = p.separator ++ bytes ps in
@@ -66,23 +65,23 @@ module _ (says : Data) (base : Base) (w : ℕ) where
         let size : length (front ++ (p.body ++ p.separator)) ≡ length front + bytes_of (lengths_of p) =
         omega (arith, length-append front (p.body ++ p.separator), length-append p.body p.separator) in
         let rest-is : IsUtf8 rest = IsUtf8-append p.separator (bytes ps) u.0.separator (bytes-utf8 ps u.1) in
-        All-append (IsBound text w) (map (text_row (length front)) (own says base w p))
-        (from says base w (length front + bytes_of (lengths_of p)) ps)
-        (all-moved (IsBound text w) (length front) (own says base w p) (λ k within.
-        body-row-lies (λ o. IsCharBoundary text (length front + o)) says base w p.body k u.0.body
+        All-append (IsBound text w) (map (text_row (length front)) (own ucd base w p))
+        (from ucd base w (length front + bytes_of (lengths_of p)) ps)
+        (all-moved (IsBound text w) (length front) (own ucd base w p) (λ k within.
+        body-row-lies (λ o. IsCharBoundary text (length front + o)) ucd base w p.body k u.0.body
         (λ o b. subst (λ bs. IsCharBoundary bs (length front + o)) (sym whole) (bound-within front p.body rest o u.0.body rest-is b)) within))
-        (subst (λ s. All (IsBound text w) (from says base w s ps)) size
+        (subst (λ s. All (IsBound text w) (from ucd base w s ps)) size
         (bound-from (front ++ (p.body ++ p.separator)) ps further u.1))
 
   module _ (some : 1 ≤ w) (text : List ℕ) (utf8 : IsUtf8 text) where
     abbrev rows : List TextRow
-    rows = text_rows says base w text
+    rows = text_rows ucd base w text
 
     abbrev Bound : ℕ → Type 0
     Bound o = IsCharBoundary text o
 
     rows-bound : All (IsBound text w) rows
-    rows-bound = bound-from text [] (paragraphs says text) (sym (text-bytes says text utf8)) (text-parts says text utf8).utf8
+    rows-bound = bound-from text [] (paragraphs ucd text) (sym (text-bytes ucd text utf8)) (text-parts ucd text utf8).utf8
 
     places-bound-of : (rs : List TextRow) → All (IsBound text w) rs → Within Bound (places rs)
     places-bound-of [] a = tt
@@ -97,10 +96,10 @@ module _ (says : Data) (base : Base) (w : ℕ) where
     places-bound = places-bound-of rows rows-bound
 
     some-row : 0 < length rows
-    some-row = omega (arith, text-rank says base w some text utf8 0, rank-few 0 (map first rows), length-map rows first)
+    some-row = omega (arith, text-rank ucd base w some text utf8 0, rank-few 0 (map first rows), length-map rows first)
 
     -- and where each move leads to
-    pub bounds-kept : MovesKeep says text w rows Bound
+    pub bounds-kept : MovesKeep ucd text w rows Bound
     bounds-kept =
-        moves-keep says text w rows Bound rows-bound places-bound some-row
-        (ends-lie says base w some Bound text utf8 places-bound (IsCharBoundary-start text utf8) (IsCharBoundary-end text))
+        moves-keep ucd text w rows Bound rows-bound places-bound some-row
+        (ends-lie ucd base w some Bound text utf8 places-bound (IsCharBoundary-start text utf8) (IsCharBoundary-end text))

@@ -8,33 +8,34 @@ use Rattle.std.proofs.lemmas.Bool.{and_parts}
 use Rattle.std.proofs.lemmas.Bool.Decides.{nat_tests}
 use Rattle.std.proofs.lemmas.List.Sums.{sum_by-cons}
 use Rattle.bx_ucd.specs.Data.{Data}
-use Rattle.bx_terms.specs.declared.base.Base.{Base}
-use Rattle.bx_resolve.specs.Levels.{paragraph_level_under, levels_under}
-use Rattle.bx_cells.specs.declared.unit.Face.{Face}
-use Rattle.bx_cells.specs.declared.unit.Face.TheVariants.{Tab, Mark, Own}
-use Rattle.bx_cells.specs.declared.unit.Unit.{Unit}
-use Rattle.bx_cells.specs.Units.{HasFace, unit_text, units}
-use Rattle.bx_cells.proofs.Standing.{faces-units}
-use Rattle.bx_rows.specs.declared.row.Row.{Row}
+use Rattle.bx_common.specs.declared.base.Base.{Base}
+use Rattle.bx_levels.specs.resolve.Levels.{paragraph_level_under, levels_under}
+use Rattle.bx_rows.specs.declared.cells.unit.Face.{Face}
+use Rattle.bx_rows.specs.declared.cells.unit.Face.TheVariants.{Tab, Placeholder, Own}
+use Rattle.bx_rows.specs.declared.cells.unit.Unit.{Unit}
+use Rattle.bx_rows.specs.cells.Units.{unit_text, units}
+use Rattle.bx_rows.specs.cells.UnitFacts.{HasFace}
+use Rattle.bx_rows.proofs.cells_lemmas.Standing.{faces-units}
+use Rattle.bx_rows.specs.declared.wrapping.Row.{Row}
 use Rattle.bx_rows.specs.RowPicture.{columns_used, unit_columns}
 use Rattle.bx_rows.specs.Shown.{IsRowOf}
-use Rattle.bx_rows.specs.VisualOrder.{visual}
+use Rattle.bx_rows.specs.RowLevels.{visual}
 use Rattle.bx_rows.specs.Wrapping.{columns_at, fit_count_from, is_break, row_len, row_units, rows_from, rows_of, wrap}
 use Rattle.bx_rows.proofs.FaceGlyphs.{Tells, tells-face}
 use Rattle.bx_rows.proofs.NumbersBelow.{below_if_visual}
 use Rattle.bx_rows.proofs.PictureSums.{columns-length}
 use Rattle.bx_rows.proofs.Resets.{one_each}
 use Rattle.bx_rows.proofs.RowsFit.{fit_if_wrapped, rest-of, row-within}
-use Rattle.bx_paragraph.specs.declared.slot.Slot.{Slot}
+use Rattle.bx_paragraph.specs.declared.slots.Slot.{Slot}
 use Rattle.bx_paragraph.specs.BodyRows.{BodyRow, body_rows, row_with, rows_units}
-use Rattle.bx_paragraph.specs.BodyRows.{row_at as row_at_body, row_of as row_of_body}
+use Rattle.bx_paragraph.specs.BodyRows.{row_at as row_at_body}
+use Rattle.bx_paragraph.specs.Layout.{row_of as row_of_body}
 use Rattle.bx_paragraph.specs.OrderedColumns.{ordered_columns}
 use Rattle.bx_paragraph.specs.Slots.{column_in, end_slot, extent_of, left_column, row_slots, side_by_side, unit_slots}
 use Rattle.bx_paragraph.proofs.LayoutRows.{last-at}
 use Rattle.bx_paragraph.proofs.RowSlots.{columns-in-order, extent-is}
-use Rattle.bx_index.specs.Paragraphs.{lengths}
-use Rattle.bx_index.specs.Positions.{paragraph_of}
-use Rattle.bx_view.specs.Standing.{body_at, start_at}
+use Rattle.bx_text.specs.index.Paragraphs.{lengths, paragraph_of}
+use Rattle.bx_view.specs.Numbers.{body_at, start_at}
 use Rattle.bx_view.specs.TextRows.{cell_of, text_rows}
 use Rattle.bx_view.proofs.Numbers.{body-utf8}
 use Rattle.bx_view.proofs.Walking.{cell-is, row-under}
@@ -56,19 +57,19 @@ AllHave (u ∷ us) = HasColumn u.face × AllHave us
 
 have-of : (text : List ℕ) (f : Face) → Tells text f → HasColumn f
 have-of text Tab h = tt
-have-of text (Mark letter) h = tt
+have-of text (Placeholder letter) h = tt
 have-of text (Own n) h = h.2
 
-pub all-have : (says : Data) (w : ℕ) (body : List ℕ) (us : List Unit) → All (HasFace says w body) us → AllHave us
-all-have says w body [] h = tt
-all-have says w body (u ∷ us) h = (
-  have-of (chars (unit_text body u)) u.face (tells-face says w (unit_text body u) u.face (h 0 u (omega arith))),
-  all-have says w body us (λ i d inside. h (suc i) d (omega (arith, inside))),
+pub all-have : (ucd : Data) (w : ℕ) (body : List ℕ) (us : List Unit) → All (HasFace ucd w body) us → AllHave us
+all-have ucd w body [] h = tt
+all-have ucd w body (u ∷ us) h = (
+  have-of (chars (unit_text body u)) u.face (tells-face ucd w (unit_text body u) u.face (h 0 u (omega arith))),
+  all-have ucd w body us (λ i d inside. h (suc i) d (omega (arith, inside))),
 )
 
 one-column : (w c : ℕ) (f : Face) → c < w → HasColumn f → 1 ≤ columns_at w c f
 one-column w c Tab h k = omega arith
-one-column w c (Mark letter) h k = omega arith
+one-column w c (Placeholder letter) h k = omega arith
 one-column w c (Own n) h k = k
 
 some-by : (w c n : ℕ) (u : Unit) (us : List Unit) (b : Bool) → (nat_lt c w && nat_le (c + columns_at w c u.face) w) ≡ b
@@ -231,40 +232,40 @@ used-at w us (r ∷ rs) (suc k) h = used-at w us rs k (λ i d inside. h (suc i) 
 -- ---- of a text
 
 -- the columns of each row of a body
-module _ (says : Data) (base : Base) (w : ℕ) (some : 1 ≤ w) (body : List ℕ) (utf8 : IsUtf8 body) where
+module _ (ucd : Data) (base : Base) (w : ℕ) (some : 1 ≤ w) (body : List ℕ) (utf8 : IsUtf8 body) where
   abbrev xs : List (List Unit)
-  xs = rows_units says w body
+  xs = rows_units ucd w body
 
   fits-at : (k : ℕ) → columns_used w (get_or xs k []) ≤ w
   fits-at k =
-      let us = units says w body in
-      let rs = wrap says w body us in
-      used-at w us rs k (fit_if_wrapped says w body us rs refl)
+      let us = units ucd w body in
+      let rs = wrap ucd w body us in
+      used-at w us rs k (fit_if_wrapped ucd w body us rs refl)
 
-  pub body-row-lie : (k : ℕ) → k < length xs → Lie w (row_slots w (row_at_body (body_rows says base w body) k))
+  pub body-row-lie : (k : ℕ) → k < length xs → Lie w (row_slots w (row_at_body (body_rows ucd base w body) k))
   body-row-lie k h =
-      let each = levels_under says base (chars body) in
-      let level = paragraph_level_under says base (chars body) in
-      let make = row_with says body level each in
+      let each = levels_under ucd base (chars body) in
+      let level = paragraph_level_under ucd base (chars body) in
+      let make = row_with ucd body level each in
       let us = get_or xs k [] in
       subst (λ r. Lie w (row_slots w r)) (sym (last-at make xs k h))
       (row-lie w (make (k + 1 == length xs) us) some
-      (some-at w xs k (wrapped-some (is_break says body) w (units says w body) (all-have says w body (units says w body) (faces-units says w body utf8))))
-      (fits-at k) (one_each says body level each us _ refl))
+      (some-at w xs k (wrapped-some (is_break ucd body) w (units ucd w body) (all-have ucd w body (units ucd w body) (faces-units ucd w body utf8))))
+      (fits-at k) (one_each ucd body level each us _ refl))
 
 -- the column of the cell of a place
-pub cell-inside : (says : Data) (base : Base) (w : ℕ) (text : List ℕ) (place : ℕ) → 1 ≤ w → IsUtf8 text
-    → (1 ≤ cell_of w (text_rows says base w text) place) × (cell_of w (text_rows says base w text) place ≤ w)
-cell-inside says base w text place some utf8 =
-    let number = paragraph_of (lengths says text) place in
-    let body = body_at says text number in
-    let k = row_of_body (body_rows says base w body) (place - start_at says text number) in
-    let is = row-under says base w some text utf8 place number k refl refl in
-    let valid = body-utf8 says text number is.paragraph utf8 in
+pub cell-inside : (ucd : Data) (base : Base) (w : ℕ) (text : List ℕ) (place : ℕ) → 1 ≤ w → IsUtf8 text
+    → (1 ≤ cell_of w (text_rows ucd base w text) place) × (cell_of w (text_rows ucd base w text) place ≤ w)
+cell-inside ucd base w text place some utf8 =
+    let number = paragraph_of (lengths ucd text) place in
+    let body = body_at ucd text number in
+    let k = row_of_body (body_rows ucd base w body) (place - start_at ucd text number) in
+    let is = row-under ucd base w some text utf8 place number k refl refl in
+    let valid = body-utf8 ucd text number is.paragraph utf8 in
     let within = is.row in
-    let count = length-with-last (row_with says body (paragraph_level_under says base (chars body)) (levels_under says base (chars body)))
-    (rows_units says w body) in
-    let r = row_at_body (body_rows says base w body) k in
-    let column = column-in w (row_slots w r) (place - start_at says text number) some
-    (body-row-lie says base w some body valid k (omega (arith, within, count))) in
-    subst (λ c. (1 ≤ c) × (c ≤ w)) (sym (cell-is says base w some text utf8 place number k refl refl)) column
+    let count = length-with-last (row_with ucd body (paragraph_level_under ucd base (chars body)) (levels_under ucd base (chars body)))
+    (rows_units ucd w body) in
+    let r = row_at_body (body_rows ucd base w body) k in
+    let column = column-in w (row_slots w r) (place - start_at ucd text number) some
+    (body-row-lie ucd base w some body valid k (omega (arith, within, count))) in
+    subst (λ c. (1 ≤ c) × (c ≤ w)) (sym (cell-is ucd base w some text utf8 place number k refl refl)) column

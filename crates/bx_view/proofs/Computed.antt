@@ -2,9 +2,9 @@
 use Rattle.std.proofs.Common.{◌==◌, ℕ, Bool, List, [], ◌∷◌, map}
 use Rattle.std.specs.Prelude.{flat_map, count_by, chars, encode_utf8_all}
 use Rattle.std.specs.List.{list_all}
-use Rattle.bx_resolve.specs.TestTables.{small}
-use Rattle.bx_terms.specs.declared.base.Base.{Base}
-use Rattle.bx_terms.specs.declared.base.Base.TheVariants.{Auto}
+use Rattle.bx_ucd.specs.SmallTables.{small}
+use Rattle.bx_common.specs.declared.base.Base.{Base}
+use Rattle.bx_common.specs.declared.base.Base.TheVariants.{Auto}
 use Rattle.bx_view.specs.TextRows.{TextRow, places, slots, text_row_glyphs, text_rows}
 use Rattle.bx_view.specs.Top.{shown_rows}
 

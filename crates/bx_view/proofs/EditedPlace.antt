@@ -7,16 +7,16 @@ use Rattle.std.proofs.lemmas.List.{append_cancel_right, drop-append-le, drop-dro
 use Rattle.std.proofs.lemmas.Str.{chars-append, chars-encodes, encodes-append, encodes-chars, scalars-chars, IsUtf8-append, IsUtf8-drop, IsUtf8-take}
 use Rattle.bx_ucd.specs.Data.{Data}
 use lib.Utf8.{scalars}
-use Rattle.bx_terms.specs.Sizes.{is_side}
-use Rattle.bx_terms.specs.declared.base.Base.{Base}
-use Rattle.bx_cells.specs.Units.{units}
-use Rattle.bx_text.specs.Edits.{IsRange, splice}
-use Rattle.bx_index.specs.declared.lengths.Lengths.{Lengths}
-use Rattle.bx_index.specs.Paragraphs.{Paragraph, bare, cut, lengths_of, paragraphs}
-use Rattle.bx_index.specs.Positions.{bytes_of}
-use Rattle.bx_index.specs.Scan.{HasNone}
-use Rattle.bx_index.proofs.Changes.{scalars_back}
-use Rattle.bx_index.proofs.Cuts.{parts}
+use Rattle.bx_common.specs.Characters.{is_side}
+use Rattle.bx_common.specs.declared.base.Base.{Base}
+use Rattle.bx_rows.specs.cells.Units.{units}
+use Rattle.bx_text.specs.Edits.{splice}
+use Rattle.bx_text.specs.Changes.{IsRange}
+use Rattle.bx_text.specs.declared.index.lengths.Lengths.{Lengths}
+use Rattle.bx_text.specs.index.Paragraphs.{Paragraph, bare, cut, lengths_of, paragraphs, bytes_of}
+use Rattle.bx_text.specs.index.Scan.{HasNone}
+use Rattle.bx_text.proofs.index_lemmas.Changes.{scalars_back}
+use Rattle.bx_text.proofs.index_lemmas.Cuts.{parts}
 use Rattle.bx_paragraph.specs.BodyRows.{body_rows}
 use Rattle.bx_paragraph.specs.Layout.{LayoutState, rows_by}
 use Rattle.bx_view.specs.BodyPlaces.{body_places, place_in_body}
@@ -24,7 +24,7 @@ use Rattle.bx_view.specs.Caching.{AreCached, Caches, IsCached, ViewState}
 use Rattle.bx_view.specs.FoundRow.{rows_by as rows_of_text}
 use Rattle.bx_view.specs.Moves.{place_from}
 use Rattle.bx_view.specs.Places.{IsTextPlace}
-use Rattle.bx_view.specs.Standing.{body_at, count, start_at}
+use Rattle.bx_view.specs.Numbers.{body_at, count, start_at}
 use Rattle.bx_view.specs.TextRows.{places, rows_from, text_rows}
 use Rattle.bx_view.proofs.Begins.{IsBegin, begin_at, no_chars, some_chars, take_parts}
 use Rattle.bx_view.proofs.BodyFirsts.{starts_of}
@@ -40,21 +40,21 @@ use Rattle.bx_paragraph.proofs.Starts.{side-some}
 -- ---- a text that begins with a body
 
 -- its first places are the body's
-pub place_first : (says : Data) (base : Base) (w : ℕ) → 1 ≤ w → (body back q : List ℕ) (others : List Paragraph)
-    (offset : ℕ) → IsUtf8 body → HasNone says (chars body) → paragraphs says back ≡ bare q ∷ others → offset ≤ length body
-    → place_from (text_rows says base w (body ++ back)) offset ≡ place_in_body (body_rows says base w body) offset
-place_first says base w h body back q others offset utf8 none e within =
+pub place_first : (ucd : Data) (base : Base) (w : ℕ) → 1 ≤ w → (body back q : List ℕ) (others : List Paragraph)
+    (offset : ℕ) → IsUtf8 body → HasNone ucd (chars body) → paragraphs ucd back ≡ bare q ∷ others → offset ≤ length body
+    → place_from (text_rows ucd base w (body ++ back)) offset ≡ place_in_body (body_rows ucd base w body) offset
+place_first ucd base w h body back q others offset utf8 none e within =
     let p : Paragraph = record { body = body; separator = q } in
-    let is : paragraphs says (body ++ back) ≡ p ∷ others =
-    ap (cut says) (chars-append body back utf8) ∙ quiet_cut says (chars body) (chars back) q others none e
+    let is : paragraphs ucd (body ++ back) ≡ p ∷ others =
+    ap (cut ucd) (chars-append body back utf8) ∙ quiet_cut ucd (chars body) (chars back) q others none e
     ∙ ap (λ bs. record { body = bs; separator = q } ∷ others) (encodes-chars body utf8) in
-    let starts = starts_of (units says w body) in
-    let more = places (rows_from says base w (0 + bytes_of (lengths_of p)) others) in
-    let mine : body_places (body_rows says base w body) ≡ starts ++ length body ∷ [] = body-places says base w h body in
-    let whole : places (rows_from says base w 0 (p ∷ others)) ≡ starts ++ length body ∷ more =
-    spots_more says base w h 0 p others ∙ ap (λ os. os ++ more) (not-moved (body_places (body_rows says base w body)) ∙ mine)
+    let starts = starts_of (units ucd w body) in
+    let more = places (rows_from ucd base w (0 + bytes_of (lengths_of p)) others) in
+    let mine : body_places (body_rows ucd base w body) ≡ starts ++ length body ∷ [] = body-places ucd base w h body in
+    let whole : places (rows_from ucd base w 0 (p ∷ others)) ≡ starts ++ length body ∷ more =
+    spots_more ucd base w h 0 p others ∙ ap (λ os. os ++ more) (not-moved (body_places (body_rows ucd base w body)) ∙ mine)
     ∙ append_assoc starts (length body ∷ []) more in
-    ap (λ ps. least offset (places (rows_from says base w 0 ps))) is ∙ ap (least offset) whole
+    ap (λ ps. least offset (places (rows_from ucd base w 0 ps))) is ∙ ap (least offset) whole
     ∙ least_stops offset starts (length body) more [] within ∙ ap (least offset) (sym mine)
 
 -- ---- a paragraph of a text
@@ -63,12 +63,12 @@ abbrev first_body : List Lengths → ℕ
 first_body [] = 0
 first_body (l ∷ ls) = l.body
 
-module _ (says : Data) (text : List ℕ) (utf8 : IsUtf8 text) (number : ℕ) (there : number < count says text) where
+module _ (ucd : Data) (text : List ℕ) (utf8 : IsUtf8 text) (number : ℕ) (there : number < count ucd text) where
   abbrev at : ℕ
-  at = start_at says text number
+  at = start_at ucd text number
 
   abbrev body : List ℕ
-  body = body_at says text number
+  body = body_at ucd text number
 
   abbrev before : List ℕ
   before = take at text
@@ -76,8 +76,8 @@ module _ (says : Data) (text : List ℕ) (utf8 : IsUtf8 text) (number : ℕ) (th
   abbrev rest : List ℕ
   rest = drop at text
 
-  begin : IsBegin says text utf8 at (lengths_of (here says text number there) ∷ map lengths_of (behind says text number there))
-  begin = begin_at says text utf8 number there
+  begin : IsBegin ucd text utf8 at (lengths_of (here ucd text number there) ∷ map lengths_of (behind ucd text number there))
+  begin = begin_at ucd text utf8 number there
 
   rest_utf8 : IsUtf8 rest
   rest_utf8 = IsUtf8-drop text at utf8 begin.bounds
@@ -89,15 +89,15 @@ module _ (says : Data) (text : List ℕ) (utf8 : IsUtf8 text) (number : ℕ) (th
   before_bytes = let bounds : IsCharBoundary text at = begin.bounds in length-take-le at text bounds.0
 
   own_utf8 : IsUtf8 body
-  own_utf8 = body-utf8 says text number there utf8
+  own_utf8 = body-utf8 ucd text number there utf8
 
-  abbrev o : Opens says (chars rest)
-  o = opens says (chars rest)
+  abbrev o : Opens ucd (chars rest)
+  o = opens ucd (chars rest)
 
   own_bytes : length (encode_utf8_all o.body) ≡ length body
   own_bytes =
-      let is : cut says (chars rest) ≡ record { body = encode_utf8_all o.body; separator = o.separator } ∷ o.others =
-      ap (cut says) o.whole ∙ quiet_cut says o.body o.rest o.separator o.others o.none o.behind in
+      let is : cut ucd (chars rest) ≡ record { body = encode_utf8_all o.body; separator = o.separator } ∷ o.others =
+      ap (cut ucd) o.whole ∙ quiet_cut ucd o.body o.rest o.separator o.others o.none o.behind in
       ap first_body (sym (ap (map lengths_of) is) ∙ begin.rest)
 
   -- the text after its body
@@ -119,25 +119,25 @@ module _ (says : Data) (text : List ℕ) (utf8 : IsUtf8 text) (number : ℕ) (th
   back_chars : chars back ≡ o.rest
   back_chars = ap chars back_is ∙ chars-encodes o.rest back_sound
 
-  back_cut : paragraphs says back ≡ bare o.separator ∷ o.others
-  back_cut = ap (cut says) back_chars ∙ o.behind
+  back_cut : paragraphs ucd back ≡ bare o.separator ∷ o.others
+  back_cut = ap (cut ucd) back_chars ∙ o.behind
 
   rest_is : rest ≡ body ++ back
   rest_is =
       let size : length body ≡ at + length body - at = omega arith in
-      let own : take (length body) rest ≡ body = ap (λ n. take n rest) size ∙ body-is says text number there utf8 in
+      let own : take (length body) rest ≡ body = ap (λ n. take n rest) size ∙ body-is ucd text number there utf8 in
       sym (take-append-drop (length body) rest) ∙ ap (λ bs. bs ++ back) own
 
-  own_none : HasNone says (chars body)
+  own_none : HasNone ucd (chars body)
   own_none =
       let same : chars body ++ o.rest ≡ o.body ++ o.rest =
       ap (λ cs. chars body ++ cs) (sym back_chars) ∙ sym (chars-append body back own_utf8) ∙ ap chars (sym rest_is) ∙ o.whole in
-      subst (HasNone says) (sym (append_cancel_right (chars body) o.body o.rest same)) o.none
+      subst (HasNone ucd) (sym (append_cancel_right (chars body) o.body o.rest same)) o.none
 
   -- ---- an edit within it
 
   module _ (start stop : ℕ) (new : List ℕ) (new_utf8 : IsUtf8 new) (order : at ≤ start) (further : start ≤ stop)
-      (range : IsRange body (start - at) (stop - at)) (none : HasNone says (chars new)) where
+      (range : IsRange body (start - at) (stop - at)) (none : HasNone ucd (chars new)) where
     abbrev head : List ℕ
     head = take (start - at) body
 
@@ -166,19 +166,19 @@ module _ (says : Data) (text : List ℕ) (utf8 : IsUtf8 text) (number : ℕ) (th
     now_utf8 : IsUtf8 now
     now_utf8 = IsUtf8-append head (new ++ tail) head_utf8 more_utf8
 
-    now_none : HasNone says (chars now)
+    now_none : HasNone ucd (chars now)
     now_none =
         let split : chars body ≡ chars head ++ chars (drop (start - at) body) =
         ap chars (sym (take-append-drop (start - at) body)) ∙ chars-append head (drop (start - at) body) head_utf8 in
         let ended : chars body ≡ chars (take (stop - at) body) ++ chars tail =
         ap chars (sym (take-append-drop (stop - at) body))
         ∙ chars-append (take (stop - at) body) tail (IsUtf8-take body (stop - at) own_utf8 range.stop_bounds) in
-        let first : HasNone says (chars head) = none_front says (chars head) (chars (drop (start - at) body)) (subst (HasNone says) split own_none) in
-        let last : HasNone says (chars tail) = none_back says (chars (take (stop - at) body)) (chars tail) (subst (HasNone says) ended own_none) in
+        let first : HasNone ucd (chars head) = none_front ucd (chars head) (chars (drop (start - at) body)) (subst (HasNone ucd) split own_none) in
+        let last : HasNone ucd (chars tail) = none_back ucd (chars (take (stop - at) body)) (chars tail) (subst (HasNone ucd) ended own_none) in
         let is : chars now ≡ chars head ++ (chars new ++ chars tail) =
         chars-append head (new ++ tail) head_utf8 ∙ ap (λ cs. chars head ++ cs) (chars-append new tail new_utf8) in
-        subst (HasNone says) (sym is)
-        (none_joined says (chars head) (chars new ++ chars tail) first (none_joined says (chars new) (chars tail) none last))
+        subst (HasNone ucd) (sym is)
+        (none_joined ucd (chars head) (chars new ++ chars tail) first (none_joined ucd (chars new) (chars tail) none last))
 
     head_bytes : length head ≡ start - at
     head_bytes = length-take-le (start - at) body head_inside
@@ -209,31 +209,31 @@ module _ (says : Data) (text : List ℕ) (utf8 : IsUtf8 text) (number : ℕ) (th
         omega (arith, ap length whole, length-append before (now ++ back), length-append now back, now_bytes, before_bytes, order)
 
     -- the same paragraphs end in front of it
-    parts_now : (at ≡ 0) ⊎ (at < start) → parts says (chars before) (chars (now ++ back)) ≡ true
+    parts_now : (at ≡ 0) ⊎ (at < start) → parts ucd (chars before) (chars (now ++ back)) ≡ true
     parts_now (inl none_before) =
-        let empty : chars before ≡ [] = ap (λ n. chars (take n text)) none_before ∙ no_chars in ap (λ cs. parts says cs (chars (now ++ back))) empty
+        let empty : chars before ≡ [] = ap (λ n. chars (take n text)) none_before ∙ no_chars in ap (λ cs. parts ucd cs (chars (now ++ back))) empty
     parts_now (inr less) =
         let after = (new ++ tail) ++ back in
         let was : rest ≡ head ++ drop (start - at) rest =
         sym (take-append-drop (start - at) rest) ∙ ap (λ bs. bs ++ drop (start - at) rest) head_is in
         let some : 0 < length (chars head) = some_chars head (chars head) head_utf8 (omega (arith, head_bytes, less)) refl in
-        ap (parts says (chars before)) (ap chars (append_assoc head (new ++ tail) back) ∙ chars-append head after head_utf8)
-        ∙ parts_ahead says (chars before) (chars head) (chars (drop (start - at) rest)) (chars after) some
-        (ap (parts says (chars before)) (sym (ap chars was ∙ chars-append head (drop (start - at) rest) head_utf8)) ∙ begin.parts)
+        ap (parts ucd (chars before)) (ap chars (append_assoc head (new ++ tail) back) ∙ chars-append head after head_utf8)
+        ∙ parts_ahead ucd (chars before) (chars head) (chars (drop (start - at) rest)) (chars after) some
+        (ap (parts ucd (chars before)) (sym (ap chars was ∙ chars-append head (drop (start - at) rest) head_utf8)) ∙ begin.parts)
 
     pub place_edited : (base : Base) (w : ℕ) → 1 ≤ w → (at ≡ 0) ⊎ (at < start)
-        → place_from (text_rows says base w (splice text start stop new)) (start + length new)
-        ≡ at + place_in_body (body_rows says base w now) (start - at + length new)
+        → place_from (text_rows ucd base w (splice text start stop new)) (start + length new)
+        ≡ at + place_in_body (body_rows ucd base w now) (start - at + length new)
     place_edited base w h inner =
         let offset = start + length new in
         let own : offset - length before ≡ start - at + length new = omega (arith, before_bytes, order) in
-        ap (λ bs. place_from (text_rows says base w bs) offset) whole
-        ∙ place_after_front says base w h before (now ++ back) offset before_utf8 (IsUtf8-append now back now_utf8 back_utf8) (parts_now inner)
+        ap (λ bs. place_from (text_rows ucd base w bs) offset) whole
+        ∙ place_after_front ucd base w h before (now ++ back) offset before_utf8 (IsUtf8-append now back now_utf8 back_utf8) (parts_now inner)
         (omega (arith, before_bytes, order))
-        ∙ ap (λ n. length before + place_from (text_rows says base w (now ++ back)) n) own
-        ∙ ap (λ n. n + place_from (text_rows says base w (now ++ back)) (start - at + length new)) before_bytes
+        ∙ ap (λ n. length before + place_from (text_rows ucd base w (now ++ back)) n) own
+        ∙ ap (λ n. n + place_from (text_rows ucd base w (now ++ back)) (start - at + length new)) before_bytes
         ∙ ap (λ n. at + n)
-        (place_first says base w h now back o.separator o.others (start - at + length new) now_utf8 now_none back_cut now_bytes)
+        (place_first ucd base w h now back o.separator o.others (start - at + length new) now_utf8 now_none back_cut now_bytes)
 
 -- ---- in a cached paragraph
 
@@ -242,11 +242,11 @@ inner_of zero start e = inl refl
 inner_of (suc n) start e = let less : suc n < start = grind (arith, nat_tests) in inr less
 
 -- the cached paragraph at an index
-pub cached_at : (says : Data) (base : Base) (left : List ℕ) (w : ℕ) (cache : List LayoutState) (i : ℕ)
-    (l : LayoutState) → AreCached says base cache → Caches left w cache i → l ≡ get_or cache i l
-    → IsCached says base l × (l.w ≡ w) × (l.body ≡ left)
-cached_at says base left w cache i l all h e = (
-  subst (IsCached says base) (sym e) (all.laid_out i l h.within),
+pub cached_at : (ucd : Data) (base : Base) (left : List ℕ) (w : ℕ) (cache : List LayoutState) (i : ℕ)
+    (l : LayoutState) → AreCached ucd base cache → Caches left w cache i → l ≡ get_or cache i l
+    → IsCached ucd base l × (l.w ≡ w) × (l.body ≡ left)
+cached_at ucd base left w cache i l all h e = (
+  subst (IsCached ucd base) (sym e) (all.laid_out i l h.within),
   ap (λ (x : LayoutState). x.w) e ∙ h.w_is l,
   ap (λ (x : LayoutState). x.body) e ∙ h.body_is l,
 )
@@ -270,43 +270,43 @@ splice_most text first last body i j new within e range =
     )
 
 -- the place after an edit, in the text that it leaves
-pub record IsPlaceAfter (says : Data) (v : ViewState) (text : List ℕ) (start stop : ℕ) (new : List ℕ) (o : ℕ) : Type 0 where
-  pub place : o ≡ place_from (rows_of_text says v (splice text start stop new)) (start + length new)
-  pub text_place : IsTextPlace says (splice text start stop new) o
+pub record IsPlaceAfter (ucd : Data) (v : ViewState) (text : List ℕ) (start stop : ℕ) (new : List ℕ) (o : ℕ) : Type 0 where
+  pub place : o ≡ place_from (rows_of_text ucd v (splice text start stop new)) (start + length new)
+  pub text_place : IsTextPlace ucd (splice text start stop new) o
   pub order : start + length new ≤ o
 
-pub edited_place : (says : Data) (v : ViewState) (text : List ℕ) → IsUtf8 text → (number : ℕ)
-    → number < count says text → (first start stop : ℕ) (new : List ℕ) → IsUtf8 new → (l : LayoutState) (place offset : ℕ)
-    → first ≡ start_at says text number → first ≤ start → start ≤ stop → IsRange (body_at says text number) (start - first) (stop - first)
-    → HasNone says (chars new) → (first ≡ 0) ⊎ (first < start) → is_side v.w ≡ true → l.base ≡ v.base → l.w ≡ v.w
-    → l.body ≡ list_splice (body_at says text number) (start - first) (stop - first) new → offset ≡ start - first + length new
-    → place ≡ place_in_body (rows_by says l) offset
-    → IsPlaceAfter says v text start stop new (first + place)
-edited_place says v text utf8 number there first start stop new new_utf8 l place offset first_is order further range none inner side base_is w_is
+pub edited_place : (ucd : Data) (v : ViewState) (text : List ℕ) → IsUtf8 text → (number : ℕ)
+    → number < count ucd text → (first start stop : ℕ) (new : List ℕ) → IsUtf8 new → (l : LayoutState) (place offset : ℕ)
+    → first ≡ start_at ucd text number → first ≤ start → start ≤ stop → IsRange (body_at ucd text number) (start - first) (stop - first)
+    → HasNone ucd (chars new) → (first ≡ 0) ⊎ (first < start) → is_side v.w ≡ true → l.base ≡ v.base → l.w ≡ v.w
+    → l.body ≡ list_splice (body_at ucd text number) (start - first) (stop - first) new → offset ≡ start - first + length new
+    → place ≡ place_in_body (rows_by ucd l) offset
+    → IsPlaceAfter ucd v text start stop new (first + place)
+edited_place ucd v text utf8 number there first start stop new new_utf8 l place offset first_is order further range none inner side base_is w_is
     body_is offset_is place_is =
-    let at = start_at says text number in
-    let own = body_at says text number in
+    let at = start_at ucd text number in
+    let own = body_at ucd text number in
     let own_range : IsRange own (start - at) (stop - at) = subst (λ s. IsRange own (start - s) (stop - s)) first_is range in
     let own_inner : (at ≡ 0) ⊎ (at < start) = subst (λ s. (s ≡ 0) ⊎ (s < start)) first_is inner in
     let now = list_splice own (start - at) (stop - at) new in
     let spliced : l.body ≡ now = body_is ∙ ap (λ s. list_splice own (start - s) (stop - s) new) first_is in
     let offset_own : offset ≡ start - at + length new = offset_is ∙ ap (λ s. start - s + length new) first_is in
-    let rows_are : rows_by says l ≡ body_rows says v.base v.w now =
-    ap (λ b. body_rows says b l.w l.body) base_is ∙ ap (λ w. body_rows says v.base w l.body) w_is
-    ∙ ap (body_rows says v.base v.w) spliced in
+    let rows_are : rows_by ucd l ≡ body_rows ucd v.base v.w now =
+    ap (λ b. body_rows ucd b l.w l.body) base_is ∙ ap (λ w. body_rows ucd v.base w l.body) w_is
+    ∙ ap (body_rows ucd v.base v.w) spliced in
     let some = side-some v.w side in
     let after : at ≤ start = omega (arith, order, first_is) in
     let left = splice text start stop new in
-    let is : first + place ≡ place_from (rows_of_text says v left) (start + length new) =
+    let is : first + place ≡ place_from (rows_of_text ucd v left) (start + length new) =
     ap (λ n. n + place) first_is
     ∙ ap (λ n. at + n)
-    (place_is ∙ ap (λ rs. place_in_body rs offset) rows_are ∙ ap (place_in_body (body_rows says v.base v.w now)) offset_own)
-    ∙ sym (place_edited says text utf8 number there start stop new new_utf8 after further own_range none v.base v.w some own_inner) in
-    let valid : IsUtf8 left = left_utf8 says text utf8 number there start stop new new_utf8 after further own_range none in
-    let least = (finds-least says v.base v.w some left valid).inside (start + length new)
-    (left_inside says text utf8 number there start stop new new_utf8 after further own_range none) in
+    (place_is ∙ ap (λ rs. place_in_body rs offset) rows_are ∙ ap (place_in_body (body_rows ucd v.base v.w now)) offset_own)
+    ∙ sym (place_edited ucd text utf8 number there start stop new new_utf8 after further own_range none v.base v.w some own_inner) in
+    let valid : IsUtf8 left = left_utf8 ucd text utf8 number there start stop new new_utf8 after further own_range none in
+    let least = (finds-least ucd v.base v.w some left valid).inside (start + length new)
+    (left_inside ucd text utf8 number there start stop new new_utf8 after further own_range none) in
     record {
       place = is;
-      text_place = place-from-kept says v left side valid (start + length new) (first + place) is;
+      text_place = place-from-kept ucd v left side valid (start + length new) (first + place) is;
       order = omega (arith, is, least.not_before);
     }

@@ -5,14 +5,15 @@ use Rattle.std.specs.Prelude.{Contains, MatchOption}
 use Rattle.std.proofs.lemmas.List.{length-reverse}
 use Rattle.std.proofs.lemmas.List.Elements.{Contains-get_or}
 use Rattle.bx_ucd.specs.Data.{Data}
-use Rattle.bx_terms.specs.declared.base.Base.{Base}
+use Rattle.bx_common.specs.declared.base.Base.{Base}
 use Rattle.bx_paragraph.specs.declared.moves.Visual.{Visual}
 use Rattle.bx_paragraph.specs.declared.moves.Visual.TheVariants.{Left, Right}
 use Rattle.bx_paragraph.specs.BodyRows.{offsets_of}
 use Rattle.bx_paragraph.specs.Slots.{covering, entry, first_in, opposite, or_else, reading_end}
 use Rattle.bx_paragraph.specs.Slots.{reading_side, row_slots, slot_offsets, toward}
 use Rattle.bx_paragraph.proofs.OnceEach.{once-contains, once-summed}
-use Rattle.bx_view.specs.Cells.{IsEntered, times}
+use Rattle.bx_view.specs.Cells.{times}
+use Rattle.bx_view.specs.Laws.{IsEntered}
 use Rattle.bx_view.specs.Moves.{place_in}
 use Rattle.bx_view.specs.TextRows.{TextRow, no_text_row, places_of, row_at, text_rows}
 use Rattle.bx_view.proofs.FindPlaces.{head-some, heads-at}
@@ -63,13 +64,13 @@ some-slot w r levels some =
     omega (arith, counted-contains (offsets_of r.row) o there, once-summed w r.row levels (one-at o)) in
     some-of (slot_offsets w r.row) o (contains-counted (slot_offsets w r.row) o counted)
 
-module _ (says : Data) (base : Base) (w : ℕ) (some : 1 ≤ w) (text : List ℕ) (utf8 : IsUtf8 text) where
+module _ (ucd : Data) (base : Base) (w : ℕ) (some : 1 ≤ w) (text : List ℕ) (utf8 : IsUtf8 text) where
   abbrev rows : List TextRow
-  rows = text_rows says base w text
+  rows = text_rows ucd base w text
 
   pub row-entered : (k : ℕ) → k < length rows → IsEntered w (row_at rows k)
   row-entered k within =
       let r = row_at rows k in
-      let levels = rows-leveled says base w text k no_text_row within in
-      let head = heads-at rows k (rows-headed-in says base w some text utf8) within in
+      let levels = rows-leveled ucd base w text k no_text_row within in
+      let head = heads-at rows k (rows-headed-in ucd base w some text utf8) within in
       entered-at w r levels (some-slot w r levels (head-some r head))

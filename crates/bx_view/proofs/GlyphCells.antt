@@ -12,28 +12,29 @@ use Rattle.std.proofs.lemmas.List.Folds.{sum_by-replicate}
 use Rattle.std.proofs.lemmas.List.Elements.{All-append, All-cons, All-contains, All-map, All-nil, All-rest, Contains-append_cases, Contains-append_right}
 use Rattle.std.proofs.lemmas.List.Sums.{sum_by-append, sum_by-cons}
 use Rattle.bx_ucd.specs.Data.{Data}
-use Rattle.bx_terms.specs.declared.base.Base.{Base}
-use Rattle.bx_resolve.specs.Levels.{paragraph_level_under, levels_under}
-use Rattle.bx_cells.specs.declared.unit.Face.TheVariants.{Tab}
-use Rattle.bx_cells.specs.declared.unit.Unit.{Unit}
-use Rattle.bx_cells.specs.Units.{HasFace, unit_text, units}
-use Rattle.bx_cells.proofs.Standing.{faces-units}
+use Rattle.bx_common.specs.declared.base.Base.{Base}
+use Rattle.bx_levels.specs.resolve.Levels.{paragraph_level_under, levels_under}
+use Rattle.bx_rows.specs.declared.cells.unit.Face.TheVariants.{Tab}
+use Rattle.bx_rows.specs.declared.cells.unit.Unit.{Unit}
+use Rattle.bx_rows.specs.cells.Units.{unit_text, units}
+use Rattle.bx_rows.specs.cells.UnitFacts.{HasFace}
+use Rattle.bx_rows.proofs.cells_lemmas.Standing.{faces-units}
 use Rattle.bx_rows.specs.RowPicture.{Glyph, blank, columns_used, unit_columns, unit_glyphs}
 use Rattle.bx_rows.specs.RowPicture.{unit_forms}
-use Rattle.bx_rows.specs.VisualOrder.{visual}
+use Rattle.bx_rows.specs.RowLevels.{visual}
 use Rattle.bx_rows.specs.Wrapping.{columns_at, row_units, wrap}
 use Rattle.bx_rows.proofs.FaceGlyphs.{face-sum, tells-face}
 use Rattle.bx_rows.proofs.NumbersBelow.{below_if_visual}
 use Rattle.bx_rows.proofs.PictureLaws.{columns_of_glyphs, faces-row}
 use Rattle.bx_rows.proofs.PictureSums.{columns-length}
-use Rattle.bx_index.specs.Paragraphs.{Paragraph, lengths_of, paragraphs}
-use Rattle.bx_index.specs.Positions.{bytes_of}
-use Rattle.bx_paragraph.specs.declared.slot.Slot.{Slot}
+use Rattle.bx_text.specs.index.Paragraphs.{Paragraph, lengths_of, paragraphs, bytes_of}
+use Rattle.bx_paragraph.specs.declared.slots.Slot.{Slot}
 use Rattle.bx_paragraph.specs.BodyRows.{BodyRow, body_rows, offsets_of, row_with, rows_units, with_last}
 use Rattle.bx_paragraph.specs.Slots.{column_in, column_of, end_slot, extent_of, left_column, row_slots, side_by_side, slot, slot_offsets, unit_slots}
 use Rattle.bx_paragraph.proofs.OnceEach.{once-summed}
 use Rattle.bx_paragraph.proofs.RowSlots.{extent-is}
-use Rattle.bx_view.specs.Cells.{HasCell, HasCells, IsEndCell, IsUnitCell, glyphs_of, times, with_looks}
+use Rattle.bx_view.specs.Cells.{HasCell, IsEndCell, IsUnitCell, glyphs_of, times, with_looks}
+use Rattle.bx_view.specs.Laws.{HasCells}
 use Rattle.bx_view.specs.TextRows.{IsPlace, TextRow, no_text_row, row_at, row_of, text_row, text_rows}
 use Rattle.bx_view.proofs.RowsAround.{from, own}
 use Rattle.bx_view.proofs.KeptPlaces.{HasLevels, one-at, counted-contains, rows-leveled}
@@ -44,48 +45,48 @@ use Rattle.bx_view.proofs.Parts.{AreUtf8, text-parts}
 -- ---- the units of a row show the faces of their texts
 
 abbrev pub HasFaces : Data → ℕ → BodyRow → Type 0
-HasFaces says w r = All (HasFace says w r.body) r.units
+HasFaces ucd w r = All (HasFace ucd w r.body) r.units
 
-faced-last : (says : Data) (w : ℕ) (body : List ℕ) (paragraph : ℕ) (each : List (Option ℕ)) (xs : List (List Unit)) → All (All (HasFace says w body)) xs
-    → All (HasFaces says w) (with_last (row_with says body paragraph each) xs)
-faced-last says w body paragraph each [] a = All-nil (HasFaces says w)
-faced-last says w body paragraph each (us ∷ []) a =
-    All-cons (HasFaces says w) (row_with says body paragraph each true us) [] (a 0 us (omega arith)) (All-nil (HasFaces says w))
-faced-last says w body paragraph each (us ∷ vs ∷ rest) a =
-    All-cons (HasFaces says w) (row_with says body paragraph each false us) (with_last (row_with says body paragraph each) (vs ∷ rest))
+faced-last : (ucd : Data) (w : ℕ) (body : List ℕ) (paragraph : ℕ) (each : List (Option ℕ)) (xs : List (List Unit)) → All (All (HasFace ucd w body)) xs
+    → All (HasFaces ucd w) (with_last (row_with ucd body paragraph each) xs)
+faced-last ucd w body paragraph each [] a = All-nil (HasFaces ucd w)
+faced-last ucd w body paragraph each (us ∷ []) a =
+    All-cons (HasFaces ucd w) (row_with ucd body paragraph each true us) [] (a 0 us (omega arith)) (All-nil (HasFaces ucd w))
+faced-last ucd w body paragraph each (us ∷ vs ∷ rest) a =
+    All-cons (HasFaces ucd w) (row_with ucd body paragraph each false us) (with_last (row_with ucd body paragraph each) (vs ∷ rest))
     (a 0 us (omega arith))
-    (faced-last says w body paragraph each (vs ∷ rest) (All-rest (All (HasFace says w body)) us (vs ∷ rest) (us ∷ vs ∷ rest) refl a))
+    (faced-last ucd w body paragraph each (vs ∷ rest) (All-rest (All (HasFace ucd w body)) us (vs ∷ rest) (us ∷ vs ∷ rest) refl a))
 
-module _ (says : Data) (base : Base) (w : ℕ) where
-  faced-body : (body : List ℕ) → IsUtf8 body → All (HasFaces says w) (body_rows says base w body)
+module _ (ucd : Data) (base : Base) (w : ℕ) where
+  faced-body : (body : List ℕ) → IsUtf8 body → All (HasFaces ucd w) (body_rows ucd base w body)
   faced-body body utf8 =
-      let us = units says w body in
-      let rs = wrap says w body us in
-      faced-last says w body (paragraph_level_under says base (chars body)) (levels_under says base (chars body)) (rows_units says w body)
-      (All-map (All (HasFace says w body)) (row_units us) rs (λ i d h. faces-row (HasFace says w body) us (get_or rs i d) (faces-units says w body utf8)))
+      let us = units ucd w body in
+      let rs = wrap ucd w body us in
+      faced-last ucd w body (paragraph_level_under ucd base (chars body)) (levels_under ucd base (chars body)) (rows_units ucd w body)
+      (All-map (All (HasFace ucd w body)) (row_units us) rs (λ i d h. faces-row (HasFace ucd w body) us (get_or rs i d) (faces-units ucd w body utf8)))
 
-  faced-from : (start : ℕ) (ps : List Paragraph) → AreUtf8 ps → All (λ r. HasFaces says w r.row) (from says base w start ps)
-  faced-from start [] u = All-nil (λ (r : TextRow). HasFaces says w r.row)
+  faced-from : (start : ℕ) (ps : List Paragraph) → AreUtf8 ps → All (λ r. HasFaces ucd w r.row) (from ucd base w start ps)
+  faced-from start [] u = All-nil (λ (r : TextRow). HasFaces ucd w r.row)
   faced-from start (p ∷ ps) u =
       let next = start + bytes_of (lengths_of p) in
-      All-append (λ (r : TextRow). HasFaces says w r.row) (map (text_row start) (own says base w p)) (from says base w next ps)
-      (All-map (λ (r : TextRow). HasFaces says w r.row) (text_row start) (own says base w p) (faced-body p.body u.0.body))
+      All-append (λ (r : TextRow). HasFaces ucd w r.row) (map (text_row start) (own ucd base w p)) (from ucd base w next ps)
+      (All-map (λ (r : TextRow). HasFaces ucd w r.row) (text_row start) (own ucd base w p) (faced-body p.body u.0.body))
       (faced-from next ps u.1)
 
-  pub rows-faced : (text : List ℕ) → IsUtf8 text → All (λ r. HasFaces says w r.row) (text_rows says base w text)
-  rows-faced text utf8 = faced-from 0 (paragraphs says text) (text-parts says text utf8).utf8
+  pub rows-faced : (text : List ℕ) → IsUtf8 text → All (λ r. HasFaces ucd w r.row) (text_rows ucd base w text)
+  rows-faced text utf8 = faced-from 0 (paragraphs ucd text) (text-parts ucd text utf8).utf8
 
 -- ---- the glyphs of a unit have its columns
 
-piece-sum : (says : Data) (w c : ℕ) (body : List ℕ) (each : List (Option ℕ)) (us : List Unit) (levels : List ℕ) (n : ℕ) → All (HasFace says w body) us
+piece-sum : (ucd : Data) (w c : ℕ) (body : List ℕ) (each : List (Option ℕ)) (us : List Unit) (levels : List ℕ) (n : ℕ) → All (HasFace ucd w body) us
     → length levels ≡ length us → n < length us
-    → columns_of_glyphs (get_or (unit_glyphs says w body each us (unit_columns w c us) levels) n []) ≡ get_or (unit_columns w c us) n 0
-piece-sum says w c body each [] levels n a e h = absurd (omega (arith, h))
-piece-sum says w c body each (u ∷ us) [] n a e h = let more : suc (length us) ≡ length (u ∷ us) = refl in absurd (omega (arith, e, more))
-piece-sum says w c body each (u ∷ us) (l ∷ ls) zero a e h =
-    face-sum says w c l (unit_forms says body each u) (unit_text body u) u.face (tells-face says w (unit_text body u) u.face (a 0 u (omega arith)))
-piece-sum says w c body each (u ∷ us) (l ∷ ls) (suc n) a e h =
-    piece-sum says w (c + columns_at w c u.face) body each us ls n (All-rest (HasFace says w body) u us (u ∷ us) refl a) (omega (arith, e))
+    → columns_of_glyphs (get_or (unit_glyphs ucd w body each us (unit_columns w c us) levels) n []) ≡ get_or (unit_columns w c us) n 0
+piece-sum ucd w c body each [] levels n a e h = absurd (omega (arith, h))
+piece-sum ucd w c body each (u ∷ us) [] n a e h = let more : suc (length us) ≡ length (u ∷ us) = refl in absurd (omega (arith, e, more))
+piece-sum ucd w c body each (u ∷ us) (l ∷ ls) zero a e h =
+    face-sum ucd w c l (unit_forms ucd body each u) (unit_text body u) u.face (tells-face ucd w (unit_text body u) u.face (a 0 u (omega arith)))
+piece-sum ucd w c body each (u ∷ us) (l ∷ ls) (suc n) a e h =
+    piece-sum ucd w (c + columns_at w c u.face) body each us ls n (All-rest (HasFace ucd w body) u us (u ∷ us) refl a) (omega (arith, e))
     (omega (arith, h))
 
 -- ---- slots side by side, and the glyphs of their units
@@ -212,7 +213,7 @@ padded (suc k) n glyphs left own right e = record {
 no_unit : Unit
 no_unit = record { start = 0; stop = 0; face = Tab }
 
-module _ (says : Data) (w : ℕ) (r : TextRow) (levels : HasLevels r.row) (faces : HasFaces says w r.row) where
+module _ (ucd : Data) (w : ℕ) (r : TextRow) (levels : HasLevels r.row) (faces : HasFaces ucd w r.row) where
   abbrev us : List Unit
   us = r.row.units
 
@@ -228,15 +229,15 @@ module _ (says : Data) (w : ℕ) (r : TextRow) (levels : HasLevels r.row) (faces
   extents : (k : ℕ) (d : Unit) → k < length us → extent_of us columns k ≡ ((get_or us k d).start, get_or columns k 0)
   extents k d h = extent-is us columns k d h (columns-length w 0 us)
 
-  pub sums : All (λ k. columns_of_glyphs (glyphs_of says w r.row k) ≡ (extent_of us columns k).1) order
+  pub sums : All (λ k. columns_of_glyphs (glyphs_of ucd w r.row k) ≡ (extent_of us columns k).1) order
   sums = λ i d h.
       let k = get_or order i d in
-      piece-sum says w 0 r.row.body r.row.each us r.row.levels k faces levels (below i d h)
+      piece-sum ucd w 0 r.row.body r.row.each us r.row.levels k faces levels (below i d h)
       ∙ sym (ap (λ (x : ℕ × ℕ). x.1) (extents k no_unit (below i d h)))
 
-  unit-cell : (s : Slot) (place : ℕ) → Contains (unit_slots w r.row) s → r.start + s.offset ≡ place → IsUnitCell says w r place s.column
+  unit-cell : (s : Slot) (place : ℕ) → Contains (unit_slots w r.row) s → r.start + s.offset ≡ place → IsUnitCell ucd w r place s.column
   unit-cell s place c at =
-      let glyphs : ℕ → List Glyph = λ k. glyphs_of says w r.row k in
+      let glyphs : ℕ → List Glyph = λ k. glyphs_of ucd w r.row k in
       let b = beside glyphs (extent_of us columns) (left_column w r.row) order s sums c in
       let among : Contains order b.number =
       subst (λ ks. Contains ks b.number) (sym b.order_is) (Contains-append_right b.before (b.number ∷ b.behind) b.number (0, omega arith, refl)) in
@@ -265,20 +266,20 @@ module _ (says : Data) (w : ℕ) (r : TextRow) (levels : HasLevels r.row) (faces
   }
 
   slot-cell : (s : Slot) (place : ℕ) → Contains (row_slots w r.row) s → r.start + s.offset ≡ place
-      → IsUnitCell says w r place s.column ⊎ IsEndCell w r place s.column
+      → IsUnitCell ucd w r place s.column ⊎ IsEndCell w r place s.column
   slot-cell s place c at = ⊎_elim (λ unit. inl (unit-cell s place unit at)) (λ end. inr (end-cell s place end.0 end.1 at))
       (either-slot (r.row.paragraph % 2) r.row.is_last (end_slot w r.row) (unit_slots w r.row) s c)
 
   -- the cell at an offset of a place of the row
   place-cell : (place : ℕ) → r.start ≤ place → Contains (offsets_of r.row) (place - r.start)
-      → IsUnitCell says w r place (column_of w r.row (place - r.start)) ⊎ IsEndCell w r place (column_of w r.row (place - r.start))
+      → IsUnitCell ucd w r place (column_of w r.row (place - r.start)) ⊎ IsEndCell w r place (column_of w r.row (place - r.start))
   place-cell place low c =
       let offset = place - r.start in
       let some : 0 < times offset (slot_offsets w r.row) =
       omega (arith, counted-contains (offsets_of r.row) offset c, once-summed w r.row levels (one-at offset)) in
       let f = found (row_slots w r.row) offset some in
       let at : r.start + f.one.offset ≡ place = omega (arith, f.offset_is, low) in
-      subst (λ column. IsUnitCell says w r place column ⊎ IsEndCell w r place column) (sym f.column_is) (slot-cell f.one place f.among at)
+      subst (λ column. IsUnitCell ucd w r place column ⊎ IsEndCell w r place column) (sym f.column_is) (slot-cell f.one place f.among at)
 
 -- an offset of the text among a body's offsets
 pub unmoved : (start : ℕ) (os : List ℕ) (p : ℕ) → Contains (map (λ o. start + o) os) p → (start ≤ p) × Contains os (p - start)
@@ -289,23 +290,23 @@ unmoved start os p (k, h, e) =
 
 -- ---- of a text
 
-module _ (says : Data) (base : Base) (w : ℕ) (some : 1 ≤ w) (text : List ℕ) (utf8 : IsUtf8 text) where
+module _ (ucd : Data) (base : Base) (w : ℕ) (some : 1 ≤ w) (text : List ℕ) (utf8 : IsUtf8 text) where
   abbrev rows : List TextRow
-  rows = text_rows says base w text
+  rows = text_rows ucd base w text
 
-  pub has-cell : (place : ℕ) → IsPlace rows place → HasCell says w rows place
+  pub has-cell : (place : ℕ) → IsPlace rows place → HasCell ucd w rows place
   has-cell place is mirror joining form =
       let n = row_of rows place in
       let r = row_at rows n in
-      let one = one-slot says base w some text utf8 place is in
-      let at = unmoved r.start (offsets_of r.row) place (in-own-row says base w some text utf8 place is) in
-      place-cell (with_looks says mirror joining form) w r (rows-leveled says base w text n no_text_row one.row)
-      (rows-faced says base w text utf8 n no_text_row one.row) place at.0 at.1
+      let one = one-slot ucd base w some text utf8 place is in
+      let at = unmoved r.start (offsets_of r.row) place (in-own-row ucd base w some text utf8 place is) in
+      place-cell (with_looks ucd mirror joining form) w r (rows-leveled ucd base w text n no_text_row one.row)
+      (rows-faced ucd base w text utf8 n no_text_row one.row) place at.0 at.1
 
-  pub has-cells : HasCells says w rows
+  pub has-cells : HasCells ucd w rows
   has-cells = record {
-    slots = row-slots says base w some text utf8;
-    entered = row-entered says base w some text utf8;
-    one = one-slot says base w some text utf8;
+    slots = row-slots ucd base w some text utf8;
+    entered = row-entered ucd base w some text utf8;
+    one = one-slot ucd base w some text utf8;
     cell = has-cell;
   }

@@ -4,11 +4,12 @@ use Rattle.std.proofs.Common.{◌≡◌, ℕ, ◌+◌, ◌<◌, ◌≤◌, nat_l
 use Rattle.std.proofs.Common.{sym, ap, subst, ◌∙◌, arith, length-append}
 use Rattle.std.proofs.lemmas.List.{get_or-map, length-map}
 use Rattle.bx_ucd.specs.Data.{Data}
-use Rattle.bx_terms.specs.declared.base.Base.{Base}
-use Rattle.bx_cells.specs.Units.{units}
-use Rattle.bx_index.specs.Paragraphs.{Paragraph}
+use Rattle.bx_common.specs.declared.base.Base.{Base}
+use Rattle.bx_rows.specs.cells.Units.{units}
+use Rattle.bx_text.specs.index.Paragraphs.{Paragraph}
 use Rattle.bx_paragraph.specs.BodyRows.{BodyRow, body_rows, falls_in, first_of, last_of, no_row, offsets_of}
-use Rattle.bx_paragraph.specs.BodyRows.{row_at as row_at_body, row_of as row_of_body}
+use Rattle.bx_paragraph.specs.BodyRows.{row_at as row_at_body}
+use Rattle.bx_paragraph.specs.Layout.{row_of as row_of_body}
 use Rattle.bx_view.specs.BodyPlaces.{body_places, place_in_body}
 use Rattle.bx_view.specs.Moves.{place_from}
 use Rattle.bx_view.specs.TextRows.{TextRow, first, no_text_row, places, places_of, row_at, row_of, text_row}
@@ -25,9 +26,9 @@ not-moved [] = refl
 not-moved (o ∷ os) =
     let same : 0 + o ≡ o = omega arith in ap (λ n. n ∷ map (λ k. 0 + k) os) same ∙ ap (λ ns. o ∷ ns) (not-moved os)
 
-module _ (says : Data) (base : Base) (w : ℕ) (h : 1 ≤ w) (body : List ℕ) (utf8 : IsUtf8 body) (offset : ℕ) where
+module _ (ucd : Data) (base : Base) (w : ℕ) (h : 1 ≤ w) (body : List ℕ) (utf8 : IsUtf8 body) (offset : ℕ) where
   abbrev mine : List BodyRow
-  mine = body_rows says base w body
+  mine = body_rows ucd base w body
 
   -- its rows, as rows of a text
   abbrev alone : List TextRow
@@ -36,11 +37,11 @@ module _ (says : Data) (base : Base) (w : ℕ) (h : 1 ≤ w) (body : List ℕ) (
   abbrev p : Paragraph
   p = record { body = body; separator = [] }
 
-  bodies : (b : List ℕ) → IsUtf8 b → BodyFirsts b (body_rows says base w b)
-  bodies = body-firsts says base w h
+  bodies : (b : List ℕ) → IsUtf8 b → BodyFirsts b (body_rows ucd base w b)
+  bodies = body-firsts ucd base w h
 
   heads : AllHeads alone
-  heads = heads-moved 0 mine (body-headed says base w h body utf8)
+  heads = heads-moved 0 mine (body-headed ucd base w h body utf8)
 
   same-places : places alone ≡ body_places mine
   same-places = places-moved 0 mine ∙ not-moved (body_places mine)
@@ -49,13 +50,13 @@ module _ (says : Data) (base : Base) (w : ℕ) (h : 1 ≤ w) (body : List ℕ) (
   same-firsts = firsts-moved 0 mine ∙ not-moved (map first_of mine)
 
   all-rise : Rises 0 (body_places mine) (length body + 1)
-  all-rise = body-rise says base w h body utf8
+  all-rise = body-rise ucd base w h body utf8
 
   rise : Rises 0 (places alone) (length body + 1)
   rise = subst (λ os. Rises 0 os (length body + 1)) (sym same-places) all-rise
 
   some : 1 ≤ rank offset (map first alone)
-  some = subst (λ os. 1 ≤ rank offset os) (sym same-firsts) (own-rank says base w bodies p offset utf8)
+  some = subst (λ os. 1 ≤ rank offset os) (sym same-firsts) (own-rank ucd base w bodies p offset utf8)
 
   same-least : place_from alone offset ≡ place_in_body mine offset
   same-least = ap (least offset) same-places
@@ -69,7 +70,7 @@ module _ (says : Data) (base : Base) (w : ℕ) (h : 1 ≤ w) (body : List ℕ) (
     number-is = ap (λ os. falls_in os offset) same-firsts ∙ sym falls
 
     within : k < length mine
-    within = omega (arith, falls, own-within says base w bodies p offset utf8)
+    within = omega (arith, falls, own-within ucd base w bodies p offset utf8)
 
     here-is : row_at alone (row_of alone offset) ≡ text_row 0 (row_at_body mine k)
     here-is = ap (row_at alone) number-is ∙ row-is k within
@@ -97,7 +98,7 @@ module _ (says : Data) (base : Base) (w : ℕ) (h : 1 ≤ w) (body : List ℕ) (
           ∙ from-last alone (length body + 1) rise heads offset some end (found-is ∙ none) ∙ same-least
 
   some-place : 0 < length (body_places mine)
-  some-place = omega (arith, ap length (body-places says base w h body), length-append (starts_of (units says w body)) (length body ∷ []))
+  some-place = omega (arith, ap length (body-places ucd base w h body), length-append (starts_of (units ucd w body)) (length body ∷ []))
 
   -- it lies in the body
   pub place-within : place_in_body mine offset ≤ length body

@@ -5,7 +5,7 @@ use Rattle.std.proofs.Common.{arith}
 use Rattle.std.specs.Prelude.{All, IfSome}
 use Rattle.std.proofs.lemmas.List.Elements.{All-head, All-tail}
 use Rattle.bx_ucd.specs.Data.{Data}
-use Rattle.bx_cells.specs.declared.unit.Unit.{Unit}
+use Rattle.bx_rows.specs.declared.cells.unit.Unit.{Unit}
 use Rattle.bx_rows.specs.RowStarts.{first_offset}
 use Rattle.bx_paragraph.specs.declared.moves.Visual.{Visual}
 use Rattle.bx_paragraph.specs.BodyRows.{last_offset}
@@ -16,12 +16,12 @@ use Rattle.bx_view.specs.declared.moves.Move.{Move}
 use Rattle.bx_view.specs.declared.moves.Move.TheVariants as moves
 use Rattle.bx_view.specs.declared.moves.Vertical.{Vertical}
 use Rattle.bx_view.specs.declared.moves.Vertical.TheVariants.{Down}
-use Rattle.bx_view.specs.Moves.{end_of, entry_in, is_to_row_end, moved, past, place_at, place_from, place_in, row_after, row_away}
+use Rattle.bx_view.specs.Moves.{end_of, entry_in, past, place_at, place_from, place_in, row_after, row_away}
+use Rattle.bx_view.specs.Moved.{is_to_row_end, moved}
 use Rattle.bx_view.specs.Moves.{row_before, row_end, row_home, rows_away, start_of, step_logical, step_visual, word_way}
 use Rattle.bx_view.specs.Laws.{MovesKeep}
-use Rattle.bx_view.specs.Pointing.{pointed_at, pointed_row}
+use Rattle.bx_view.specs.Top.{pointed_at, pointed_row, follow, nearest_top}
 use Rattle.bx_view.specs.TextRows.{TextRow, cell_of, first, no_text_row, places, row_at, row_of}
-use Rattle.bx_view.specs.Top.{follow, nearest_top}
 use Rattle.bx_view.specs.Words.{step_word, text_stops}
 use Rattle.bx_view.proofs.KeptRows.{away-within}
 use Rattle.bx_view.proofs.Nearest.{falls-within}
@@ -43,13 +43,13 @@ first-lies-at P [] start a = start
 first-lies-at P (u ∷ us) start a = a.0
 
 -- the stops of words have a property, and so have the text's start and end
-pub record EndsLie (says : Data) (text : List ℕ) (P : ℕ → Type 0) : Type 0 where
+pub record EndsLie (ucd : Data) (text : List ℕ) (P : ℕ → Type 0) : Type 0 where
   pub begin : P 0
   pub end : P (length text)
-  pub stops : (way : Logical) → Within P (text_stops says way text)
+  pub stops : (way : Logical) → Within P (text_stops ucd way text)
 
-module _ (says : Data) (text : List ℕ) (w : ℕ) (rows : List TextRow) (P : ℕ → Type 0) (each : All (λ r. LiesIn (λ o. P (r.start + o)) w r.row) rows)
-    (all : Within P (places rows)) (some : 0 < length rows) (ends : EndsLie says text P) where
+module _ (ucd : Data) (text : List ℕ) (w : ℕ) (rows : List TextRow) (P : ℕ → Type 0) (each : All (λ r. LiesIn (λ o. P (r.start + o)) w r.row) rows)
+    (all : Within P (places rows)) (some : 0 < length rows) (ends : EndsLie ucd text P) where
   abbrev Row : TextRow → Type 0
   Row r = LiesIn (λ o. P (r.start + o)) w r.row
 
@@ -144,15 +144,15 @@ module _ (says : Data) (text : List ℕ) (w : ℕ) (rows : List TextRow) (P : �
   kept-row_end offset =
       let r = row_at rows (row_of rows offset) in last-fits (λ o. P (r.start + o)) w r.row (row-lies (row_of rows offset) (own-row offset))
 
-  kept-word : (way : Logical) (place : ℕ) → P place → P (step_word says text way place)
+  kept-word : (way : Logical) (place : ℕ) → P place → P (step_word ucd text way place)
   kept-word Forward place b =
-      else-lies (find (nat_lt place) (text_stops says Forward text)) place
-      (find-lies P (nat_lt place) (text_stops says Forward text) (ends.stops Forward)) b
+      else-lies (find (nat_lt place) (text_stops ucd Forward text)) place
+      (find-lies P (nat_lt place) (text_stops ucd Forward text) (ends.stops Forward)) b
   kept-word Back place b =
-      else-lies (find (λ p. nat_lt p place) (reverse (text_stops says Back text))) place
-      (find-lies P (λ p. nat_lt p place) (reverse (text_stops says Back text)) (within-reverse P (text_stops says Back text) (ends.stops Back))) b
+      else-lies (find (λ p. nat_lt p place) (reverse (text_stops ucd Back text))) place
+      (find-lies P (λ p. nat_lt p place) (reverse (text_stops ucd Back text)) (within-reverse P (text_stops ucd Back text) (ends.stops Back))) b
 
-  kept-moved : (m : Move) (place : ℕ) → P place → P (moved says text w rows m place)
+  kept-moved : (m : Move) (place : ℕ) → P place → P (moved ucd text w rows m place)
   kept-moved (moves.Logical way) place b = kept-step_logical way place b
   kept-moved (moves.Visual side) place b = kept-step_visual side place b
   kept-moved (moves.Rows way n) place b = kept-rows_away way n (cell_of w rows place) place b
@@ -177,7 +177,7 @@ module _ (says : Data) (text : List ℕ) (w : ℕ) (rows : List TextRow) (P : �
       else-lies (entry_in w (row_at rows k) column) 0 (kept-entry k column within) ends.begin
 
   -- each move
-  pub moves-keep : MovesKeep says text w rows P
+  pub moves-keep : MovesKeep ucd text w rows P
   moves-keep = record {
     from = kept-place_from;
     at = kept-place_at;
@@ -196,12 +196,12 @@ module _ (says : Data) (text : List ℕ) (w : ℕ) (rows : List TextRow) (P : �
 
 -- ---- where a move leads to
 
-module _ (says : Data) (text : List ℕ) (w : ℕ) (rows : List TextRow) (P : ℕ → Type 0) (kept : MovesKeep says text w rows P) (place o : ℕ) where
-  pub moved-keeps : (m : Move) → o ≡ moved says text w rows m place → P place → P o
+module _ (ucd : Data) (text : List ℕ) (w : ℕ) (rows : List TextRow) (P : ℕ → Type 0) (kept : MovesKeep ucd text w rows P) (place o : ℕ) where
+  pub moved-keeps : (m : Move) → o ≡ moved ucd text w rows m place → P place → P o
   moved-keeps m e b = subst P (sym e) (kept.moved m place b)
 
   -- an end of a row, from any offset
-  pub row-end-keeps : (m : Move) → o ≡ moved says text w rows m place → is_to_row_end m ≡ true → P o
+  pub row-end-keeps : (m : Move) → o ≡ moved ucd text w rows m place → is_to_row_end m ≡ true → P o
   row-end-keeps moves.RowHome e h = subst P (sym e) (kept.home place)
   row-end-keeps moves.RowEnd e h = subst P (sym e) (kept.end place)
   row-end-keeps (moves.Logical way) e h = absurd (cc)

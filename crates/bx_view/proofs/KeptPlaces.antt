@@ -10,13 +10,12 @@ use Rattle.std.proofs.lemmas.List.Elements.{All-append, All-cons, All-contains_i
 use Rattle.std.proofs.lemmas.List.Elements.{Contains-append_left, Contains-append_right}
 use Rattle.std.proofs.lemmas.List.Sums.{get_or-le-sum_by, sum_by-cons}
 use Rattle.bx_ucd.specs.Data.{Data}
-use Rattle.bx_terms.specs.Sizes.{is_side}
-use Rattle.bx_terms.specs.declared.base.Base.{Base}
-use Rattle.bx_resolve.specs.Levels.{paragraph_level_under, levels_under}
-use Rattle.bx_cells.specs.declared.unit.Unit.{Unit}
+use Rattle.bx_common.specs.Characters.{is_side}
+use Rattle.bx_common.specs.declared.base.Base.{Base}
+use Rattle.bx_levels.specs.resolve.Levels.{paragraph_level_under, levels_under}
+use Rattle.bx_rows.specs.declared.cells.unit.Unit.{Unit}
 use Rattle.bx_rows.proofs.Resets.{one_each}
-use Rattle.bx_index.specs.Paragraphs.{Paragraph, lengths_of, paragraphs}
-use Rattle.bx_index.specs.Positions.{bytes_of}
+use Rattle.bx_text.specs.index.Paragraphs.{Paragraph, lengths_of, paragraphs, bytes_of}
 use Rattle.bx_paragraph.specs.BodyRows.{BodyRow, body_rows, offsets_of, row_with, rows_units, with_last}
 use Rattle.bx_paragraph.specs.Slots.{slot_offsets}
 use Rattle.bx_paragraph.proofs.OnceEach.{once-contains}
@@ -82,23 +81,23 @@ leveled-last row each (us ∷ []) = All-cons HasLevels (row true us) [] (each tr
 leveled-last row each (us ∷ vs ∷ rest) =
     All-cons HasLevels (row false us) (with_last row (vs ∷ rest)) (each false us) (leveled-last row each (vs ∷ rest))
 
-module _ (says : Data) (base : Base) (w : ℕ) where
-  leveled-body : (body : List ℕ) → All HasLevels (body_rows says base w body)
+module _ (ucd : Data) (base : Base) (w : ℕ) where
+  leveled-body : (body : List ℕ) → All HasLevels (body_rows ucd base w body)
   leveled-body body =
-      let paragraph = paragraph_level_under says base (chars body) in
-      let each = levels_under says base (chars body) in
-      leveled-last (row_with says body paragraph each) (λ b us. one_each says body paragraph each us _ refl) (rows_units says w body)
+      let paragraph = paragraph_level_under ucd base (chars body) in
+      let each = levels_under ucd base (chars body) in
+      leveled-last (row_with ucd body paragraph each) (λ b us. one_each ucd body paragraph each us _ refl) (rows_units ucd w body)
 
-  leveled-from : (start : ℕ) (ps : List Paragraph) → All (λ r. HasLevels r.row) (from says base w start ps)
+  leveled-from : (start : ℕ) (ps : List Paragraph) → All (λ r. HasLevels r.row) (from ucd base w start ps)
   leveled-from start [] = All-nil (λ (r : TextRow). HasLevels r.row)
   leveled-from start (p ∷ ps) =
       let next = start + bytes_of (lengths_of p) in
-      All-append (λ (r : TextRow). HasLevels r.row) (map (text_row start) (own says base w p)) (from says base w next ps)
-      (All-map (λ (r : TextRow). HasLevels r.row) (text_row start) (own says base w p) (leveled-body p.body)) (leveled-from next ps)
+      All-append (λ (r : TextRow). HasLevels r.row) (map (text_row start) (own ucd base w p)) (from ucd base w next ps)
+      (All-map (λ (r : TextRow). HasLevels r.row) (text_row start) (own ucd base w p) (leveled-body p.body)) (leveled-from next ps)
 
   -- each unit of a row has a level
-  pub rows-leveled : (text : List ℕ) → All (λ r. HasLevels r.row) (text_rows says base w text)
-  rows-leveled text = leveled-from 0 (paragraphs says text)
+  pub rows-leveled : (text : List ℕ) → All (λ r. HasLevels r.row) (text_rows ucd base w text)
+  rows-leveled text = leveled-from 0 (paragraphs ucd text)
 
 -- ---- properties of the places of rows hold for their slots
 
@@ -129,37 +128,37 @@ row-of-places rows w r all levels start =
 
 -- ---- of a text
 
-module _ (says : Data) (base : Base) (w : ℕ) (some : 1 ≤ w) (text : List ℕ) (utf8 : IsUtf8 text) where
+module _ (ucd : Data) (base : Base) (w : ℕ) (some : 1 ≤ w) (text : List ℕ) (utf8 : IsUtf8 text) where
   abbrev rows : List TextRow
-  rows = text_rows says base w text
+  rows = text_rows ucd base w text
 
   some-row : 0 < length rows
-  some-row = omega (arith, text-rank says base w some text utf8 0, rank-few 0 (map first rows), length-map rows first)
+  some-row = omega (arith, text-rank ucd base w some text utf8 0, rank-few 0 (map first rows), length-map rows first)
 
   rows-of-places : All (IsOfPlaces rows w) rows
   rows-of-places = λ k d h.
-      row-of-places rows w (get_or rows k d) (in-places rows k d h) (rows-leveled says base w text k d h)
-      (starts-are-places says base w some text utf8 k d h)
+      row-of-places rows w (get_or rows k d) (in-places rows k d h) (rows-leveled ucd base w text k d h)
+      (starts-are-places ucd base w some text utf8 k d h)
 
   -- each move leads from a place of the rows to a place
-  pub places-kept : MovesKeep says text w rows (IsPlace rows)
+  pub places-kept : MovesKeep ucd text w rows (IsPlace rows)
   places-kept =
       let each : Within (IsPlace rows) (places rows) = within-of (IsPlace rows) (places rows) (λ o c. c) in
-      moves-keep says text w rows (IsPlace rows) rows-of-places each some-row
-      (ends-lie says base w some (IsPlace rows) text utf8 each (begin-is-place says base w some text utf8) (end-is-place says base w some text utf8))
+      moves-keep ucd text w rows (IsPlace rows) rows-of-places each some-row
+      (ends-lie ucd base w some (IsPlace rows) text utf8 each (begin-is-place ucd base w some text utf8) (end-is-place ucd base w some text utf8))
 
   -- and so from a place of the text to a place
-  pub text-places-kept : MovesKeep says text w rows (IsTextPlace says text)
-  text-places-kept = subst (λ os. MovesKeep says text w rows (λ p. Contains os p)) (places-are says base w some text utf8) places-kept
+  pub text-places-kept : MovesKeep ucd text w rows (IsTextPlace ucd text)
+  text-places-kept = subst (λ os. MovesKeep ucd text w rows (λ p. Contains os p)) (places-are ucd base w some text utf8) places-kept
 
 -- ---- as a layout answers it
 
-module _ (says : Data) (v : ViewState) (text : List ℕ) (side : is_side v.w ≡ true) (utf8 : IsUtf8 text) where
-  kept : MovesKeep says text v.w (rows_by says v text) (IsTextPlace says text)
-  kept = text-places-kept says v.base v.w (side-some v.w side) text utf8
+module _ (ucd : Data) (v : ViewState) (text : List ℕ) (side : is_side v.w ≡ true) (utf8 : IsUtf8 text) where
+  kept : MovesKeep ucd text v.w (rows_by ucd v text) (IsTextPlace ucd text)
+  kept = text-places-kept ucd v.base v.w (side-some v.w side) text utf8
 
-  pub place-from-kept : (offset o : ℕ) → o ≡ place_from (rows_by says v text) offset → IsTextPlace says text o
-  place-from-kept offset o e = subst (IsTextPlace says text) (sym e) (kept.from offset)
+  pub place-from-kept : (offset o : ℕ) → o ≡ place_from (rows_by ucd v text) offset → IsTextPlace ucd text o
+  place-from-kept offset o e = subst (IsTextPlace ucd text) (sym e) (kept.from offset)
 
-  pub place-at-kept : (offset o : ℕ) → o ≡ place_at (rows_by says v text) offset → IsTextPlace says text o
-  place-at-kept offset o e = subst (IsTextPlace says text) (sym e) (kept.at offset)
+  pub place-at-kept : (offset o : ℕ) → o ≡ place_at (rows_by ucd v text) offset → IsTextPlace ucd text o
+  place-at-kept offset o e = subst (IsTextPlace ucd text) (sym e) (kept.at offset)

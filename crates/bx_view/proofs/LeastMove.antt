@@ -4,7 +4,7 @@ use Rattle.std.specs.Int.{abs_diff}
 use Rattle.std.proofs.lemmas.Bool.{cases_lt}
 use Rattle.std.proofs.lemmas.List.{get_or-map, length-map}
 use Rattle.bx_ucd.specs.Data.{Data}
-use Rattle.bx_terms.specs.declared.base.Base.{Base}
+use Rattle.bx_common.specs.declared.base.Base.{Base}
 use Rattle.bx_view.specs.Laws.{IsShownFrom, MovesLeast}
 use Rattle.bx_view.specs.TextRows.{TextRow, first, no_text_row, row_at, row_of, text_rows}
 use Rattle.bx_view.specs.Top.{follow, nearest_top}
@@ -83,10 +83,10 @@ module _ (rows : List TextRow) (high : ℕ) (rise : Rises 0 (map first rows) hig
 
 -- ---- the rows of a text
 
-pub text-moves-least : (says : Data) (base : Base) (w : ℕ) (text : List ℕ) → 1 ≤ w → IsUtf8 text
-    → MovesLeast (text_rows says base w text)
-text-moves-least says base w text some utf8 =
-    let rows = text_rows says base w text in
+pub text-moves-least : (ucd : Data) (base : Base) (w : ℕ) (text : List ℕ) → 1 ≤ w → IsUtf8 text
+    → MovesLeast (text_rows ucd base w text)
+text-moves-least ucd base w text some utf8 =
+    let rows = text_rows ucd base w text in
     let few = rank-few 0 (map first rows) in
-    let one = text-rank says base w some text utf8 0 in
-    moves-least rows _ (rows-rise says base w some text utf8) (omega (arith, few, one, length-map rows first))
+    let one = text-rank ucd base w some text utf8 0 in
+    moves-least rows _ (rows-rise ucd base w some text utf8) (omega (arith, few, one, length-map rows first))

@@ -9,12 +9,11 @@ use Rattle.std.proofs.lemmas.List.{length-map, map-append}
 use Rattle.std.proofs.lemmas.List.Concat.{flat_map-cons}
 use Rattle.std.proofs.lemmas.Str.{chars-append, IsUtf8-append, IsUtf8-nil}
 use Rattle.bx_ucd.specs.Data.{Data}
-use Rattle.bx_terms.specs.declared.base.Base.{Base}
-use Rattle.bx_index.specs.Paragraphs.{Paragraph, bare, cut, lengths_of, paragraphs}
-use Rattle.bx_index.specs.Positions.{bytes_of, total}
-use Rattle.bx_index.proofs.Cuts.{parts}
-use Rattle.bx_index.proofs.Totals.{total_push}
-use Rattle.bx_index.proofs.Turns.{total_lengths}
+use Rattle.bx_common.specs.declared.base.Base.{Base}
+use Rattle.bx_text.specs.index.Paragraphs.{Paragraph, bare, cut, lengths_of, paragraphs, bytes_of, total}
+use Rattle.bx_text.proofs.index_lemmas.Cuts.{parts}
+use Rattle.bx_text.proofs.index_lemmas.Totals.{total_push}
+use Rattle.bx_text.proofs.index_lemmas.Turns.{total_lengths}
 use Rattle.bx_paragraph.specs.BodyRows.{BodyRow, first_of, last_offset, offsets_of}
 use Rattle.bx_view.specs.Moves.{place_from}
 use Rattle.bx_view.specs.TextRows.{TextRow, places, places_of, rows_from, text_row, text_rows}
@@ -104,30 +103,30 @@ first_place (r ∷ rs) others h e =
 
 -- ---- the places of a text
 
-module _ (says : Data) (base : Base) (w : ℕ) (h : 1 ≤ w) where
+module _ (ucd : Data) (base : Base) (w : ℕ) (h : 1 ≤ w) where
   abbrev rows : List ℕ → List TextRow
-  rows text = text_rows says base w text
+  rows text = text_rows ucd base w text
 
   -- the places of paragraphs; the first begins at the offset `start`
   abbrev spots : ℕ → List Paragraph → List ℕ
-  spots start ps = places (rows_from says base w start ps)
+  spots start ps = places (rows_from ucd base w start ps)
 
   spots_append : (start : ℕ) (ps qs : List Paragraph) → spots start (ps ++ qs) ≡ spots start ps ++ spots (start + total (map lengths_of ps)) qs
   spots_append start ps qs =
-      ap places (from-append says base w start ps qs)
-      ∙ flat_map-append places_of (rows_from says base w start ps) (rows_from says base w (start + total (map lengths_of ps)) qs)
+      ap places (from-append ucd base w start ps qs)
+      ∙ flat_map-append places_of (rows_from ucd base w start ps) (rows_from ucd base w (start + total (map lengths_of ps)) qs)
 
   pub spots_more : (start : ℕ) (p : Paragraph) (ps : List Paragraph)
-      → spots start (p ∷ ps) ≡ map (λ o. start + o) (flat_map offsets_of (own says base w p)) ++ spots (start + bytes_of (lengths_of p)) ps
+      → spots start (p ∷ ps) ≡ map (λ o. start + o) (flat_map offsets_of (own ucd base w p)) ++ spots (start + bytes_of (lengths_of p)) ps
   spots_more start p ps =
-      let mine = own says base w p in
-      let rest = rows_from says base w (start + bytes_of (lengths_of p)) ps in
+      let mine = own ucd base w p in
+      let rest = rows_from ucd base w (start + bytes_of (lengths_of p)) ps in
       flat_map-append places_of (map (text_row start) mine) rest ∙ ap (λ os. os ++ places rest) (places-moved start mine)
 
   spots_moved : (a start : ℕ) (ps : List Paragraph) → spots (a + start) ps ≡ map (λ o. a + o) (spots start ps)
   spots_moved a start [] = refl
   spots_moved a start (p ∷ ps) =
-      let os = flat_map offsets_of (own says base w p) in
+      let os = flat_map offsets_of (own ucd base w p) in
       let next = start + bytes_of (lengths_of p) in
       let same : a + start + bytes_of (lengths_of p) ≡ a + next = omega arith in
       spots_more (a + start) p ps ∙ ap (λ ns. ns ++ spots (a + start + bytes_of (lengths_of p)) ps) (twice_moved a start os)
@@ -135,10 +134,10 @@ module _ (says : Data) (base : Base) (w : ℕ) (h : 1 ≤ w) where
       ∙ ap (λ ns. map (λ o. a + o) (map (λ o. start + o) os) ++ ns) (spots_moved a next ps)
       ∙ sym (map-append (λ o. a + o) (map (λ o. start + o) os) (spots next ps)) ∙ ap (map (λ o. a + o)) (sym (spots_more start p ps))
 
-  body_first : (p : Paragraph) → IsUtf8 p.body → (os : List ℕ) × (flat_map offsets_of (own says base w p) ≡ 0 ∷ os)
+  body_first : (p : Paragraph) → IsUtf8 p.body → (os : List ℕ) × (flat_map offsets_of (own ucd base w p) ≡ 0 ∷ os)
   body_first p u =
-      let f = body-firsts says base w h p.body u in
-      first_place (own says base w p) f.others (body-headed says base w h p.body u) f.firsts
+      let f = body-firsts ucd base w h p.body u in
+      first_place (own ucd base w p) f.others (body-headed ucd base w h p.body u) f.firsts
 
   -- paragraphs have their begin for a first place
   spots_first : (start : ℕ) (p : Paragraph) (ps : List Paragraph) → IsUtf8 p.body → (os : List ℕ) × (spots start (p ∷ ps) ≡ start ∷ os)
@@ -150,56 +149,56 @@ module _ (says : Data) (base : Base) (w : ℕ) (h : 1 ≤ w) where
         spots_more start p ps ∙ ap (λ ns. map (λ o. start + o) ns ++ rest) e ∙ ap (λ n. n ∷ (map (λ o. start + o) os ++ rest)) same,
       )
 
-  first_at : (start : ℕ) (text : List ℕ) (ps : List Paragraph) → paragraphs says text ≡ ps → IsUtf8 text → (os : List ℕ) × (spots start ps ≡ start ∷ os)
-  first_at start text [] e utf8 = absurd (omega (arith, (text-parts says text utf8).some, ap length e))
+  first_at : (start : ℕ) (text : List ℕ) (ps : List Paragraph) → paragraphs ucd text ≡ ps → IsUtf8 text → (os : List ℕ) × (spots start ps ≡ start ∷ os)
+  first_at start text [] e utf8 = absurd (omega (arith, (text-parts ucd text utf8).some, ap length e))
   first_at start text (p ∷ ps) e utf8 =
-      let parts = text-parts says text utf8 in
+      let parts = text-parts ucd text utf8 in
       let u = subst AreUtf8 e parts.utf8 in spots_first start p ps u.0.body
 
-  text_first : (start : ℕ) (text : List ℕ) → IsUtf8 text → (os : List ℕ) × (spots start (paragraphs says text) ≡ start ∷ os)
-  text_first start text utf8 = first_at start text (paragraphs says text) refl utf8
+  text_first : (start : ℕ) (text : List ℕ) → IsUtf8 text → (os : List ℕ) × (spots start (paragraphs ucd text) ≡ start ∷ os)
+  text_first start text utf8 = first_at start text (paragraphs ucd text) refl utf8
 
   -- the bytes of the paragraphs that end in a text which ends with a separator
-  front_bytes : (text : List ℕ) (front : List Paragraph) → IsUtf8 text → paragraphs says text ≡ front ++ bare [] ∷ [] → total (map lengths_of front)
+  front_bytes : (text : List ℕ) (front : List Paragraph) → IsUtf8 text → paragraphs ucd text ≡ front ++ bare [] ∷ [] → total (map lengths_of front)
       ≡ length text
   front_bytes text front utf8 e =
-      let all : total (map lengths_of (front ++ bare [] ∷ [])) ≡ length text = ap (λ ps. total (map lengths_of ps)) (sym e) ∙ total_lengths says text utf8 in
+      let all : total (map lengths_of (front ++ bare [] ∷ [])) ≡ length text = ap (λ ps. total (map lengths_of ps)) (sym e) ∙ total_lengths ucd text utf8 in
       omega (arith, ap total (map-append lengths_of front (bare [] ∷ [])), total_push (map lengths_of front) (lengths_of (bare [])), all)
 
   -- the text before a paragraph's start
-  pub place_after_front : (x v : List ℕ) (offset : ℕ) → IsUtf8 x → IsUtf8 v → parts says (chars x) (chars v) ≡ true → length x ≤ offset
+  pub place_after_front : (x v : List ℕ) (offset : ℕ) → IsUtf8 x → IsUtf8 v → parts ucd (chars x) (chars v) ≡ true → length x ≤ offset
       → place_from (rows (x ++ v)) offset ≡ length x + place_from (rows v) (offset - length x)
   place_after_front x v offset ux uv p order =
-      let j = joins says (chars x) (chars v) p in
+      let j = joins ucd (chars x) (chars v) p in
       let a = length x in
       let bytes : 0 + total (map lengths_of j.front) ≡ a + 0 = omega (arith, front_bytes x j.front ux j.alone) in
       let (os, first) = text_first 0 v uv in
       let before = spots 0 j.front in
       let is : places (rows (x ++ v)) ≡ before ++ map (λ o. a + o) (places (rows v)) =
-      ap (λ cs. spots 0 (cut says cs)) (chars-append x v ux) ∙ ap (spots 0) j.together ∙ spots_append 0 j.front (paragraphs says v)
-      ∙ ap (λ s. before ++ spots s (paragraphs says v)) bytes ∙ ap (λ ns. before ++ ns) (spots_moved a 0 (paragraphs says v)) in
+      ap (λ cs. spots 0 (cut ucd cs)) (chars-append x v ux) ∙ ap (spots 0) j.together ∙ spots_append 0 j.front (paragraphs ucd v)
+      ∙ ap (λ s. before ++ spots s (paragraphs ucd v)) bytes ∙ ap (λ ns. before ++ ns) (spots_moved a 0 (paragraphs ucd v)) in
       let some : 0 < length (places (rows v)) = omega (arith, ap length first) in
       let whole : places (rows (x ++ v)) ≡ before ++ (a + 0) ∷ map (λ o. a + o) os = is ∙ ap (λ ns. before ++ map (λ o. a + o) ns) first in
       let rise : Rises 0 before (a + 0) =
       rises-ahead 0 before (a + 0) (map (λ o. a + o) os) (length (x ++ v) + 1)
-      (subst (λ ns. Rises 0 ns (length (x ++ v) + 1)) whole (places-rise says base w h (x ++ v) (IsUtf8-append x v ux uv))) in
+      (subst (λ ns. Rises 0 ns (length (x ++ v) + 1)) whole (places-rise ucd base w h (x ++ v) (IsUtf8-append x v ux uv))) in
       ap (least offset) is
       ∙ least_behind offset 0 (a + 0) before (map (λ o. a + o) (places (rows v))) rise (omega (arith, order))
       (omega (arith, some, length-map (places (rows v)) (λ o. a + o)))
       ∙ least_moved a offset (places (rows v)) order some
 
   -- the text after a paragraph's end
-  pub place_before_back : (x y : List ℕ) (offset : ℕ) → IsUtf8 x → IsUtf8 y → parts says (chars x) (chars y) ≡ true → offset ≤ length x
+  pub place_before_back : (x y : List ℕ) (offset : ℕ) → IsUtf8 x → IsUtf8 y → parts ucd (chars x) (chars y) ≡ true → offset ≤ length x
       → place_from (rows (x ++ y)) offset ≡ place_from (rows x) offset
   place_before_back x y offset ux uy p within =
-      let j = joins says (chars x) (chars y) p in
+      let j = joins ucd (chars x) (chars y) p in
       let z = 0 + total (map lengths_of j.front) in
       let inside : offset ≤ z = omega (arith, within, front_bytes x j.front ux j.alone) in
       let before = spots 0 j.front in
       let (ys, behind) = text_first z y uy in
       let (zs, last) = spots_first z (bare []) [] IsUtf8-nil in
-      ap (λ cs. least offset (spots 0 (cut says cs))) (chars-append x y ux) ∙ ap (λ ps. least offset (spots 0 ps)) j.together
-      ∙ ap (least offset) (spots_append 0 j.front (paragraphs says y)) ∙ ap (λ ns. least offset (before ++ ns)) behind
+      ap (λ cs. least offset (spots 0 (cut ucd cs))) (chars-append x y ux) ∙ ap (λ ps. least offset (spots 0 ps)) j.together
+      ∙ ap (least offset) (spots_append 0 j.front (paragraphs ucd y)) ∙ ap (λ ns. least offset (before ++ ns)) behind
       ∙ least_stops offset before z ys zs inside
       ∙ ap (λ ns. least offset (before ++ ns)) (sym last) ∙ ap (least offset) (sym (spots_append 0 j.front (bare [] ∷ [])))
       ∙ ap (λ ps. least offset (spots 0 ps)) (sym j.alone)

@@ -8,8 +8,7 @@ use Rattle.std.proofs.lemmas.List.{reverse-append}
 use Rattle.std.proofs.lemmas.List.Folds.{find-append}
 use Rattle.unicode_segmentation.specs.Grapheme.{graphemes}
 use Rattle.bx_ucd.specs.Data.{Data}
-use Rattle.bx_index.specs.Paragraphs.{Paragraph, lengths_of}
-use Rattle.bx_index.specs.Positions.{bytes_of}
+use Rattle.bx_text.specs.index.Paragraphs.{Paragraph, lengths_of, bytes_of}
 use Rattle.bx_view.specs.declared.moves.Logical.{Logical}
 use Rattle.bx_view.specs.declared.moves.Logical.TheVariants.{Back, Forward}
 use Rattle.bx_view.specs.Laws.{IsGreatestBefore, IsLeastBehind}
@@ -44,34 +43,34 @@ ascends-put false at os on a = a
 
 -- ---- the stops of a text
 
-words-on : (says : Data) (inside : Bool) (at : ℕ) (us : List (List ℕ)) → Within (λ o. at ≤ o) (word_starts says inside at us)
-words-on says inside at [] = tt
-words-on says inside at (u ∷ us) =
-    let rest = word_starts says (is_of_word says u) (at + length u) us in
-    let on = within-weaker (λ o. at + length u ≤ o) (λ o. at ≤ o) (λ o h. omega (arith, h)) rest (words-on says (is_of_word says u) (at + length u) us) in
-    put-within (λ o. at ≤ o) (is_of_word says u && not inside) at rest (omega arith) on
+words-on : (ucd : Data) (inside : Bool) (at : ℕ) (us : List (List ℕ)) → Within (λ o. at ≤ o) (word_starts ucd inside at us)
+words-on ucd inside at [] = tt
+words-on ucd inside at (u ∷ us) =
+    let rest = word_starts ucd (is_of_word ucd u) (at + length u) us in
+    let on = within-weaker (λ o. at + length u ≤ o) (λ o. at ≤ o) (λ o h. omega (arith, h)) rest (words-on ucd (is_of_word ucd u) (at + length u) us) in
+    put-within (λ o. at ≤ o) (is_of_word ucd u && not inside) at rest (omega arith) on
 
-words-ascend : (says : Data) (inside : Bool) (at : ℕ) (us : List (List ℕ)) → Ascends (word_starts says inside at us)
-words-ascend says inside at [] = tt
-words-ascend says inside at (u ∷ us) =
-    let rest = word_starts says (is_of_word says u) (at + length u) us in
-    let on = within-weaker (λ o. at + length u ≤ o) (λ o. at ≤ o) (λ o h. omega (arith, h)) rest (words-on says (is_of_word says u) (at + length u) us) in
-    ascends-put (is_of_word says u && not inside) at rest on (words-ascend says (is_of_word says u) (at + length u) us)
+words-ascend : (ucd : Data) (inside : Bool) (at : ℕ) (us : List (List ℕ)) → Ascends (word_starts ucd inside at us)
+words-ascend ucd inside at [] = tt
+words-ascend ucd inside at (u ∷ us) =
+    let rest = word_starts ucd (is_of_word ucd u) (at + length u) us in
+    let on = within-weaker (λ o. at + length u ≤ o) (λ o. at ≤ o) (λ o h. omega (arith, h)) rest (words-on ucd (is_of_word ucd u) (at + length u) us) in
+    ascends-put (is_of_word ucd u && not inside) at rest on (words-ascend ucd (is_of_word ucd u) (at + length u) us)
 
-body-ascends : (says : Data) (way : Logical) (body : List ℕ) → IsUtf8 body → Ascends (body_stops says way body)
-body-ascends says Forward body utf8 =
-    ascends-append (body_words says body) (length body ∷ []) (length body) (words-ascend says false 0 (graphemes true body)) (tt, tt)
-    (words-within says body utf8) (omega arith, tt)
-body-ascends says Back body utf8 = (words-on says false 0 (graphemes true body), words-ascend says false 0 (graphemes true body))
+body-ascends : (ucd : Data) (way : Logical) (body : List ℕ) → IsUtf8 body → Ascends (body_stops ucd way body)
+body-ascends ucd Forward body utf8 =
+    ascends-append (body_words ucd body) (length body ∷ []) (length body) (words-ascend ucd false 0 (graphemes true body)) (tt, tt)
+    (words-within ucd body utf8) (omega arith, tt)
+body-ascends ucd Back body utf8 = (words-on ucd false 0 (graphemes true body), words-ascend ucd false 0 (graphemes true body))
 
-pub stops-ascend : (says : Data) (way : Logical) (start : ℕ) (ps : List Paragraph) → AreUtf8 ps → Ascends (stops_from says way start ps)
-stops-ascend says way start [] u = tt
-stops-ascend says way start (p ∷ ps) u =
+pub stops-ascend : (ucd : Data) (way : Logical) (start : ℕ) (ps : List Paragraph) → AreUtf8 ps → Ascends (stops_from ucd way start ps)
+stops-ascend ucd way start [] u = tt
+stops-ascend ucd way start (p ∷ ps) u =
     let next = start + bytes_of (lengths_of p) in
-    let own = map (λ o. start + o) (body_stops says way p.body) in
-    let upto = within-weaker (λ o. o ≤ start + length p.body) (λ o. o ≤ next) (λ o h. omega (arith, h)) own (own-upto says way start p.body u.0.body) in
-    ascends-append own (stops_from says way next ps) next (ascends-moved start (body_stops says way p.body) (body-ascends says way p.body u.0.body))
-    (stops-ascend says way next ps u.1) upto (from-on says way next ps)
+    let own = map (λ o. start + o) (body_stops ucd way p.body) in
+    let upto = within-weaker (λ o. o ≤ start + length p.body) (λ o. o ≤ next) (λ o h. omega (arith, h)) own (own-upto ucd way start p.body u.0.body) in
+    ascends-append own (stops_from ucd way next ps) next (ascends-moved start (body_stops ucd way p.body) (body-ascends ucd way p.body u.0.body))
+    (stops-ascend ucd way next ps u.1) upto (from-on ucd way next ps)
 
 -- ---- members
 

@@ -15,14 +15,12 @@ use Rattle.bx_ucd.specs.Data.{Data}
 use Rattle.unicode_segmentation.specs.Grapheme.{graphemes, is_grapheme_break}
 use Rattle.unicode_segmentation.specs.Segments.{with_offsets}
 use Rattle.unicode_segmentation.proofs.SegmentsLemmas.{AllPieces, concat-segments, segments_nonempty}
-use Rattle.bx_terms.specs.declared.base.Base.{Base}
-use Rattle.bx_index.specs.Paragraphs.{Paragraph, bare, lengths, lengths_of, paragraphs}
-use Rattle.bx_index.specs.Positions.{bytes_of, paragraph_of, spans}
-use Rattle.bx_index.proofs.Asked.{span_at}
-use Rattle.bx_view.specs.Going.{LeadBack, LeadToPlaces, unit_place}
-use Rattle.bx_view.specs.Numbers.{unit_number, units_before}
-use Rattle.bx_view.specs.Places.{IsTextPlace, boundaries, one_piece, pieces_of, text_places}
-use Rattle.bx_view.specs.Standing.{body_at, count, start_at}
+use Rattle.bx_common.specs.declared.base.Base.{Base}
+use Rattle.bx_text.specs.index.Paragraphs.{Paragraph, bare, lengths, lengths_of, paragraphs, bytes_of, paragraph_of, spans}
+use Rattle.bx_text.proofs.index_lemmas.Asked.{span_at}
+use Rattle.bx_view.specs.Laws.{LeadBack, LeadToPlaces}
+use Rattle.bx_view.specs.Numbers.{unit_place, unit_number, units_before, body_at, count, start_at, boundaries}
+use Rattle.bx_view.specs.Places.{IsTextPlace, one_piece, pieces_of, text_places}
 use Rattle.bx_view.specs.TextRows.{text_rows}
 use Rattle.bx_view.proofs.Numbers.{ahead, behind, bytes-length, body-utf8, falls-at, here, lengths-count, parts-at, some-paragraph, start-is}
 use Rattle.bx_view.proofs.Parts.{AreUtf8, text-parts}
@@ -150,46 +148,46 @@ tail-place stop place body (b ∷ bs) (q ∷ qs) bare ended c =
     ⊎_elim (λ first. sym (the-one stop place first)) (λ later. absurd (omega (arith, ended, bounds-from next more place later)))
     (Contains-append_cases (stop ∷ []) (boundaries next more) place c)
 
-module _ (says : Data) (text : List ℕ) (utf8 : IsUtf8 text) (n : ℕ) (within : n < count says text) where
+module _ (ucd : Data) (text : List ℕ) (utf8 : IsUtf8 text) (n : ℕ) (within : n < count ucd text) where
   abbrev start : ℕ
-  start = start_at says text n
+  start = start_at ucd text n
 
   abbrev body : List ℕ
-  body = body_at says text n
+  body = body_at ucd text n
 
   abbrev gs : List (List ℕ)
   gs = graphemes true body
 
   abbrev front : List (List ℕ)
-  front = flat_map pieces_of (ahead says text n within)
+  front = flat_map pieces_of (ahead ucd text n within)
 
   abbrev rest : List (List ℕ)
-  rest = one_piece (here says text n within).separator ++ flat_map pieces_of (behind says text n within)
+  rest = one_piece (here ucd text n within).separator ++ flat_map pieces_of (behind ucd text n within)
 
-  split : text_places says text ≡ boundaries 0 (front ++ (gs ++ rest))
+  split : text_places ucd text ≡ boundaries 0 (front ++ (gs ++ rest))
   split =
-      let p = here says text n within in
-      let ps = behind says text n within in
-      ap (λ qs. boundaries 0 (flat_map pieces_of qs)) (parts-at says text n within)
-      ∙ ap (boundaries 0) (flat_map-append pieces_of (ahead says text n within) (p ∷ ps)
+      let p = here ucd text n within in
+      let ps = behind ucd text n within in
+      ap (λ qs. boundaries 0 (flat_map pieces_of qs)) (parts-at ucd text n within)
+      ∙ ap (boundaries 0) (flat_map-append pieces_of (ahead ucd text n within) (p ∷ ps)
       ∙ ap (λ xs. front ++ xs) (flat_map-cons pieces_of p ps ∙ append_assoc gs (one_piece p.separator) (flat_map pieces_of ps)))
 
   front-size : 0 + length (concat front) ≡ start
   front-size =
-      let u = ahead-utf8 (ahead says text n within) (here says text n within ∷ behind says text n within)
-      (subst AreUtf8 (parts-at says text n within) (text-parts says text utf8).utf8) in
-      omega (arith, ap length (pieces-bytes (ahead says text n within) u), bytes-length (ahead says text n within), start-is says text n)
+      let u = ahead-utf8 (ahead ucd text n within) (here ucd text n within ∷ behind ucd text n within)
+      (subst AreUtf8 (parts-at ucd text n within) (text-parts ucd text utf8).utf8) in
+      omega (arith, ap length (pieces-bytes (ahead ucd text n within) u), bytes-length (ahead ucd text n within), start-is ucd text n)
 
   body-size : length (concat gs) ≡ length body
-  body-size = ap length (concat-segments (is_grapheme_break true) body (body-utf8 says text n within utf8))
+  body-size = ap length (concat-segments (is_grapheme_break true) body (body-utf8 ucd text n within utf8))
 
   -- a boundary of the body's clusters is a place of the text
-  pub body-place : (x : ℕ) → Contains (boundaries start gs) x → IsTextPlace says text x
+  pub body-place : (x : ℕ) → Contains (boundaries start gs) x → IsTextPlace ucd text x
   body-place x c =
       subst (λ os. Contains os x) (sym split) (bounds-back 0 front (gs ++ rest) x
       (subst (λ s. Contains (boundaries s (gs ++ rest)) x) (sym front-size) (bounds-front start gs rest x c)))
 
-  pub unit-place : (unit : ℕ) → IsTextPlace says text (unit_place start body unit)
+  pub unit-place : (unit : ℕ) → IsTextPlace ucd text (unit_place start body unit)
   unit-place unit =
       let os = boundaries start gs in
       let last : Contains os (start + length body) = subst (λ k. Contains os (start + k)) body-size (end-in start gs) in
@@ -197,12 +195,12 @@ module _ (says : Data) (text : List ℕ) (utf8 : IsUtf8 text) (n : ℕ) (within 
       (λ past. subst (Contains os) (sym (get_or_past os unit (start + length body) past)) last) (cases_lt unit (length os)))
 
   -- and each place that falls in the paragraph is such a boundary
-  pub place-in-body : (place : ℕ) → IsTextPlace says text place → start ≤ place
-      → EndsBefore (behind says text n within) place (start + bytes_of (lengths_of (here says text n within))) → Contains (boundaries start gs) place
+  pub place-in-body : (place : ℕ) → IsTextPlace ucd text place → start ≤ place
+      → EndsBefore (behind ucd text n within) place (start + bytes_of (lengths_of (here ucd text n within))) → Contains (boundaries start gs) place
   place-in-body place c low high =
-      let p = here says text n within in
-      let ps = behind says text n within in
-      let last : LastIsBare (p ∷ ps) = bare-later (ahead says text n within) p ps (subst LastIsBare (parts-at says text n within) (last-bare says (chars text))) in
+      let p = here ucd text n within in
+      let ps = behind ucd text n within in
+      let last : LastIsBare (p ∷ ps) = bare-later (ahead ucd text n within) p ps (subst LastIsBare (parts-at ucd text n within) (last-bare ucd (chars text))) in
       let size : start + bytes_of (lengths_of p) ≡ start + length body + length p.separator = omega arith in
       ⊎_elim
       (λ sooner. subst (Contains (boundaries start gs)) (let upto = bounds-upto 0 front place sooner in omega (arith, low, upto, front-size)) (start-in start gs))
@@ -216,37 +214,37 @@ module _ (says : Data) (text : List ℕ) (utf8 : IsUtf8 text) (n : ℕ) (within 
 
 -- ---- the laws
 
-pub lead-to-places : (says : Data) (text : List ℕ) → IsUtf8 text → LeadToPlaces says text
-lead-to-places says text utf8 paragraph unit =
-    let some = some-paragraph says text utf8 in
-    let n = min (paragraph - 1) (count says text - 1) in unit-place says text utf8 n (omega (arith, some)) (unit - 1)
+pub lead-to-places : (ucd : Data) (text : List ℕ) → IsUtf8 text → LeadToPlaces ucd text
+lead-to-places ucd text utf8 paragraph unit =
+    let some = some-paragraph ucd text utf8 in
+    let n = min (paragraph - 1) (count ucd text - 1) in unit-place ucd text utf8 n (omega (arith, some)) (unit - 1)
 
 -- the units before a place in its paragraph
-units-ahead : (says : Data) (text : List ℕ) (place n : ℕ) → n < count says text → n ≡ paragraph_of (lengths says text) place
-    → unit_number says text place ≡ units_before (start_at says text n) place (body_at says text n) + 1
-units-ahead says text place n within e =
-    let ls = lengths says text in
-    let found = span_at 0 n ls (lengths_of (bare [])) (omega (arith, within, lengths-count says text)) in
-    let begins : (get_or (spans ls) n (0, 0)).0 ≡ start_at says text n =
+units-ahead : (ucd : Data) (text : List ℕ) (place n : ℕ) → n < count ucd text → n ≡ paragraph_of (lengths ucd text) place
+    → unit_number ucd text place ≡ units_before (start_at ucd text n) place (body_at ucd text n) + 1
+units-ahead ucd text place n within e =
+    let ls = lengths ucd text in
+    let found = span_at 0 n ls (lengths_of (bare [])) (omega (arith, within, lengths-count ucd text)) in
+    let begins : (get_or (spans ls) n (0, 0)).0 ≡ start_at ucd text n =
     ap (λ (x : ℕ × ℕ). x.0) (get_or_from_slice_get (spans ls) n _ (0, 0) found) ∙ omega arith in
-    let body : get_or (map (λ p. p.body) (paragraphs says text)) n [] ≡ body_at says text n =
-    get_or-map (λ p. p.body) (paragraphs says text) n (bare []) [] within in
-    ap (λ k. units_before (get_or (spans ls) k (0, 0)).0 place (get_or (map (λ p. p.body) (paragraphs says text)) k []) + 1) (sym e)
+    let body : get_or (map (λ p. p.body) (paragraphs ucd text)) n [] ≡ body_at ucd text n =
+    get_or-map (λ p. p.body) (paragraphs ucd text) n (bare []) [] within in
+    ap (λ k. units_before (get_or (spans ls) k (0, 0)).0 place (get_or (map (λ p. p.body) (paragraphs ucd text)) k []) + 1) (sym e)
     ∙ ap₂ (λ a b. units_before a place b + 1) begins body
 
-pub lead-back : (says : Data) (base : Base) (w : ℕ) (text : List ℕ) → IsUtf8 text → LeadBack says text w (text_rows says base w text)
-lead-back says base w text utf8 place p c is =
-    let n = paragraph_of (lengths says text) place in
-    let falls = falls-at says text place n utf8 refl in
+pub lead-back : (ucd : Data) (base : Base) (w : ℕ) (text : List ℕ) → IsUtf8 text → LeadBack ucd text w (text_rows ucd base w text)
+lead-back ucd base w text utf8 place p c is =
+    let n = paragraph_of (lengths ucd text) place in
+    let falls = falls-at ucd text place n utf8 refl in
     let within = falls.within in
-    let start = start_at says text n in
-    let body = body_at says text n in
+    let start = start_at ucd text n in
+    let body = body_at ucd text n in
     let gs = graphemes true body in
     let here : start ≡ start + 0 = omega arith in
-    let inside = place-in-body says text utf8 n within place c falls.order falls.ended in
-    let number : min (p.paragraph - 1) (count says text - 1) ≡ n = omega (arith, is.paragraph, within) in
-    let ahead : p.unit - 1 ≡ units_before start place body = omega (arith, is.unit, units-ahead says text place n within refl) in
-    ap₂ (λ k u. unit_place (start_at says text k) (body_at says text k) u) number ahead
+    let inside = place-in-body ucd text utf8 n within place c falls.order falls.ended in
+    let number : min (p.paragraph - 1) (count ucd text - 1) ≡ n = omega (arith, is.paragraph, within) in
+    let ahead : p.unit - 1 ≡ units_before start place body = omega (arith, is.unit, units-ahead ucd text place n within refl) in
+    ap₂ (λ k u. unit_place (start_at ucd text k) (body_at ucd text k) u) number ahead
     ∙ ap (λ s. get_or (boundaries s gs) (units_before start place body) (start + length body)) here
     ∙ at-number start place 0 (start + length body) gs (segments_nonempty (is_grapheme_break true) body)
     (subst (λ s. Contains (boundaries s gs) place) here inside)

@@ -8,13 +8,13 @@ use Rattle.std.proofs.lemmas.List.{length-map, length-take-le, take-append-drop,
 use Rattle.std.proofs.lemmas.List.Sums.{sum_by-cons}
 use Rattle.std.proofs.lemmas.Str.{IsCharBoundary-at_seam, IsUtf8-append, IsUtf8-nil}
 use Rattle.bx_ucd.specs.Data.{Data}
-use Rattle.bx_text.specs.Edits.{IsRange}
-use Rattle.bx_index.specs.declared.lengths.Lengths.{Lengths}
-use Rattle.bx_index.specs.Paragraphs.{Paragraph, bare, lengths, lengths_of, paragraphs}
-use Rattle.bx_index.specs.Positions.{bytes_of, paragraph_of, spans, spans_from, total}
-use Rattle.bx_index.proofs.Asked.{span_at}
-use Rattle.bx_index.proofs.Totals.{total_more}
-use Rattle.bx_view.specs.Standing.{IsSpan, body_at, count, paragraph_at, start_at}
+use Rattle.bx_text.specs.Changes.{IsRange}
+use Rattle.bx_text.specs.declared.index.lengths.Lengths.{Lengths}
+use Rattle.bx_text.specs.index.Paragraphs.{Paragraph, bare, lengths, lengths_of, paragraphs, bytes_of, paragraph_of, spans, spans_from, total}
+use Rattle.bx_text.proofs.index_lemmas.Asked.{span_at}
+use Rattle.bx_text.proofs.index_lemmas.Totals.{total_more}
+use Rattle.bx_view.specs.Standing.{IsSpan}
+use Rattle.bx_view.specs.Numbers.{body_at, count, paragraph_at, start_at}
 use Rattle.bx_view.proofs.RowsAround.{EndsBefore, IsAmong, behind-utf8}
 use Rattle.bx_view.proofs.Parts.{AreUtf8, bytes, text-bytes, text-parts}
 
@@ -93,17 +93,17 @@ pair-of a b c d e = let same : ◌≡◌ {A = ℕ × ℕ} (a, b) (c, d) = cc in 
 
 -- ---- a paragraph by its number
 
-module _ (says : Data) (text : List ℕ) where
+module _ (ucd : Data) (text : List ℕ) where
   abbrev all : List Paragraph
-  all = paragraphs says text
+  all = paragraphs ucd text
 
-  pub lengths-count : length (lengths says text) ≡ count says text
+  pub lengths-count : length (lengths ucd text) ≡ count ucd text
   lengths-count = length-map all lengths_of
 
-  pub start-is : (n : ℕ) → start_at says text n ≡ total (map lengths_of (take n all))
+  pub start-is : (n : ℕ) → start_at ucd text n ≡ total (map lengths_of (take n all))
   start-is n = ap total (take-map lengths_of n all)
 
-  module _ (n : ℕ) (within : n < count says text) where
+  module _ (n : ℕ) (within : n < count ucd text) where
     abbrev pub ahead : List Paragraph
     ahead = take n all
 
@@ -111,41 +111,41 @@ module _ (says : Data) (text : List ℕ) where
     behind = drop (n + 1) all
 
     abbrev pub here : Paragraph
-    here = paragraph_at says text n
+    here = paragraph_at ucd text n
 
-    pub parts-at : paragraphs says text ≡ ahead ++ here ∷ behind
+    pub parts-at : paragraphs ucd text ≡ ahead ++ here ∷ behind
     parts-at = sym (take-append-drop n all) ∙ ap (λ ps. take n all ++ ps) (drop_more all n (bare []) within)
 
-    pub among : IsAmong says text n (start_at says text n) here ahead behind
+    pub among : IsAmong ucd text n (start_at ucd text n) here ahead behind
     among = record { parts = parts-at; number_is = sym (length-take-le n all (omega (arith, within))); start_is = start-is n }
 
-    here-length : get_or (lengths says text) n (lengths_of (bare [])) ≡ lengths_of here
+    here-length : get_or (lengths ucd text) n (lengths_of (bare [])) ≡ lengths_of here
     here-length = get_or-map lengths_of all n (bare []) (lengths_of (bare [])) within
 
     -- its numbers in an index
-    pub span-is : (a b : ℕ) → slice_get (spans (lengths says text)) n ≡ Some (a, b)
-        → (a ≡ start_at says text n) × (b ≡ start_at says text n + length (body_at says text n))
+    pub span-is : (a b : ℕ) → slice_get (spans (lengths ucd text)) n ≡ Some (a, b)
+        → (a ≡ start_at ucd text n) × (b ≡ start_at ucd text n + length (body_at ucd text n))
     span-is a b e =
-        let start = start_at says text n in
-        let here-span : slice_get (spans (lengths says text)) n ≡ Some (start, start + (get_or (lengths says text) n (lengths_of (bare []))).body) =
-        span_at 0 n (lengths says text) (lengths_of (bare [])) (omega (arith, within, lengths-count))
-        ∙ ap (λ s. Some (s, s + (get_or (lengths says text) n (lengths_of (bare []))).body)) (omega arith) in
+        let start = start_at ucd text n in
+        let here-span : slice_get (spans (lengths ucd text)) n ≡ Some (start, start + (get_or (lengths ucd text) n (lengths_of (bare []))).body) =
+        span_at 0 n (lengths ucd text) (lengths_of (bare [])) (omega (arith, within, lengths-count))
+        ∙ ap (λ s. Some (s, s + (get_or (lengths ucd text) n (lengths_of (bare []))).body)) (omega arith) in
         pair-of a b start (start + length here.body) (sym e ∙ here-span ∙ ap (λ (l : Lengths). Some (start, start + l.body)) here-length)
 
     -- ---- its bytes
 
     module _ (utf8 : IsUtf8 text) where
       abbrev start : ℕ
-      start = start_at says text n
+      start = start_at ucd text n
 
       are-utf8 : AreUtf8 (ahead ++ here ∷ behind)
-      are-utf8 = subst AreUtf8 parts-at (text-parts says text utf8).utf8
+      are-utf8 = subst AreUtf8 parts-at (text-parts ucd text utf8).utf8
 
-      pub body-utf8 : IsUtf8 (body_at says text n)
+      pub body-utf8 : IsUtf8 (body_at ucd text n)
       body-utf8 = (behind-utf8 ahead (here ∷ behind) are-utf8).0.body
 
       whole : text ≡ bytes ahead ++ (here.body ++ (here.separator ++ bytes behind))
-      whole = sym (text-bytes says text utf8) ∙ ap bytes parts-at ∙ bytes-append ahead (here ∷ behind)
+      whole = sym (text-bytes ucd text utf8) ∙ ap bytes parts-at ∙ bytes-append ahead (here ∷ behind)
           ∙ ap (λ b. bytes ahead ++ b) (append_assoc here.body here.separator (bytes behind))
 
       front : length (bytes ahead) ≡ start
@@ -155,7 +155,7 @@ module _ (says : Data) (text : List ℕ) where
       rest = ap (drop start) whole ∙ drop_at (bytes ahead) (here.body ++ (here.separator ++ bytes behind)) start front
 
       -- the bytes between its offsets are its body
-      pub body-is : slice_range text start (start + length (body_at says text n)) ≡ body_at says text n
+      pub body-is : slice_range text start (start + length (body_at ucd text n)) ≡ body_at ucd text n
       body-is =
           let size : start + length here.body - start ≡ length here.body = omega arith in
           ap (λ k. take k (drop start text)) size ∙ ap (take (length here.body)) rest
@@ -167,7 +167,7 @@ module _ (says : Data) (text : List ℕ) where
           IsUtf8-append here.separator (bytes behind) u.0.separator (bytes-utf8 behind u.1)
 
       -- they bound characters
-      pub body-range : IsRange text start (start + length (body_at says text n))
+      pub body-range : IsRange text start (start + length (body_at ucd text n))
       body-range =
           let upto : text ≡ (bytes ahead ++ here.body) ++ (here.separator ++ bytes behind) =
           whole ∙ sym (append_assoc (bytes ahead) here.body (here.separator ++ bytes behind)) in
@@ -182,13 +182,13 @@ module _ (says : Data) (text : List ℕ) where
 
   -- ---- an offset in it
 
-  pub some-paragraph : IsUtf8 text → 0 < count says text
-  some-paragraph utf8 = (text-parts says text utf8).some
+  pub some-paragraph : IsUtf8 text → 0 < count ucd text
+  some-paragraph utf8 = (text-parts ucd text utf8).some
 
-  next-start : (n : ℕ) → n < count says text → start_at says text (n + 1) ≡ start_at says text n + bytes_of (lengths_of (paragraph_at says text n))
+  next-start : (n : ℕ) → n < count ucd text → start_at ucd text (n + 1) ≡ start_at ucd text n + bytes_of (lengths_of (paragraph_at ucd text n))
   next-start n within =
-      total_more (lengths says text) n (lengths_of (bare [])) (omega (arith, within, lengths-count))
-      ∙ ap (λ (l : Lengths). start_at says text n + bytes_of l) (here-length n within)
+      total_more (lengths ucd text) n (lengths_of (bare [])) (omega (arith, within, lengths-count))
+      ∙ ap (λ (l : Lengths). start_at ucd text n + bytes_of l) (here-length n within)
 
   ends-before : (offset stop : ℕ) (ps : List Paragraph) → (0 < length ps → offset < stop) → EndsBefore ps offset stop
   ends-before offset stop [] h = tt
@@ -196,48 +196,48 @@ module _ (says : Data) (text : List ℕ) where
 
   -- a property of the paragraph that an offset falls in
   pub record Falls (offset n : ℕ) : Type 0 where
-    pub within : n < count says text
-    pub order : start_at says text n ≤ offset
-    pub ended : EndsBefore (drop (n + 1) (paragraphs says text)) offset (start_at says text n + bytes_of (lengths_of (paragraph_at says text n)))
+    pub within : n < count ucd text
+    pub order : start_at ucd text n ≤ offset
+    pub ended : EndsBefore (drop (n + 1) (paragraphs ucd text)) offset (start_at ucd text n + bytes_of (lengths_of (paragraph_at ucd text n)))
 
-  pub falls-at : (offset n : ℕ) → IsUtf8 text → n ≡ paragraph_of (lengths says text) offset → Falls offset n
+  pub falls-at : (offset n : ℕ) → IsUtf8 text → n ≡ paragraph_of (lengths ucd text) offset → Falls offset n
   falls-at offset n utf8 e =
-      let h = holds-of offset (lengths says text) n (omega (arith, lengths-count, some-paragraph utf8)) e in
-      let within : n < count says text = omega (arith, h.within, lengths-count) in
+      let h = holds-of offset (lengths ucd text) n (omega (arith, lengths-count, some-paragraph utf8)) e in
+      let within : n < count ucd text = omega (arith, h.within, lengths-count) in
       record {
         within = within;
         order = omega (arith, h.order);
-        ended = ends-before offset (start_at says text n + bytes_of (lengths_of (paragraph_at says text n))) (drop (n + 1) all)
+        ended = ends-before offset (start_at ucd text n + bytes_of (lengths_of (paragraph_at ucd text n))) (drop (n + 1) all)
             (λ some. omega (arith, h.ended (omega (arith, some, length-drop (n + 1) all, lengths-count)), next-start n within));
       }
 
 -- ---- a span from an index
 
-pub paragraph-span : (says : Data) (text : List ℕ) (ls : List Lengths) (n a b : ℕ) → IsUtf8 text → n < count says text → ls ≡ lengths says text
-    → ◌≡◌ {A = Option (ℕ × ℕ)} (slice_get (spans ls) n) (Some (a, b)) → IsSpan says text n a b
-paragraph-span says text ls n a b utf8 within same e =
-    let found = span-is says text n within a b (ap (λ ks. slice_get (spans ks) n) (sym same) ∙ e) in
-    let stop = start_at says text n + length (body_at says text n) in
-    let range : IsRange text (start_at says text n) stop = body-range says text n within utf8 in
+pub paragraph-span : (ucd : Data) (text : List ℕ) (ls : List Lengths) (n a b : ℕ) → IsUtf8 text → n < count ucd text → ls ≡ lengths ucd text
+    → ◌≡◌ {A = Option (ℕ × ℕ)} (slice_get (spans ls) n) (Some (a, b)) → IsSpan ucd text n a b
+paragraph-span ucd text ls n a b utf8 within same e =
+    let found = span-is ucd text n within a b (ap (λ ks. slice_get (spans ks) n) (sym same) ∙ e) in
+    let stop = start_at ucd text n + length (body_at ucd text n) in
+    let range : IsRange text (start_at ucd text n) stop = body-range ucd text n within utf8 in
     let bounds : IsCharBoundary text stop = range.stop_bounds in
     let inside : stop ≤ length text = bounds.0 in
     record {
       there = within;
       start = found.0;
-      body = ap (λ k. slice_range text k b) found.0 ∙ ap (slice_range text (start_at says text n)) found.1 ∙ body-is says text n within utf8;
+      body = ap (λ k. slice_range text k b) found.0 ∙ ap (slice_range text (start_at ucd text n)) found.1 ∙ body-is ucd text n within utf8;
       range = subst (IsRange text a) (sym found.1) (subst (λ k. IsRange text k stop) (sym found.0) range);
       order = omega (arith, found.0, found.1);
       within = omega (arith, found.1, inside);
     }
 
 -- the span of the paragraph that an offset falls in
-pub record IsUnder (says : Data) (text : List ℕ) (offset n a b : ℕ) : Type 0 where
-  pub span : IsSpan says text n a b
+pub record IsUnder (ucd : Data) (text : List ℕ) (offset n a b : ℕ) : Type 0 where
+  pub span : IsSpan ucd text n a b
   pub before : a ≤ offset
 
-pub paragraph-under : (says : Data) (text : List ℕ) (ls : List Lengths) (offset n a b : ℕ) → IsUtf8 text → ls ≡ lengths says text
-    → n ≡ paragraph_of ls offset → ◌≡◌ {A = Option (ℕ × ℕ)} (slice_get (spans ls) n) (Some (a, b)) → IsUnder says text offset n a b
-paragraph-under says text ls offset n a b utf8 same number e =
-    let falls = falls-at says text offset n utf8 (number ∙ ap (λ ks. paragraph_of ks offset) same) in
-    let span = paragraph-span says text ls n a b utf8 falls.within same e in
+pub paragraph-under : (ucd : Data) (text : List ℕ) (ls : List Lengths) (offset n a b : ℕ) → IsUtf8 text → ls ≡ lengths ucd text
+    → n ≡ paragraph_of ls offset → ◌≡◌ {A = Option (ℕ × ℕ)} (slice_get (spans ls) n) (Some (a, b)) → IsUnder ucd text offset n a b
+paragraph-under ucd text ls offset n a b utf8 same number e =
+    let falls = falls-at ucd text offset n utf8 (number ∙ ap (λ ks. paragraph_of ks offset) same) in
+    let span = paragraph-span ucd text ls n a b utf8 falls.within same e in
     record { span = span; before = omega (arith, falls.order, span.start) }

@@ -7,7 +7,7 @@ use Rattle.std.proofs.lemmas.List.Concat.{flat_map-cons}
 use Rattle.std.proofs.lemmas.List.Sorted.{IsPermutation-map, sum_by-IsPermutation}
 use Rattle.std.proofs.lemmas.List.Sums.{sum_by-append, sum_by-cons}
 use Rattle.bx_ucd.specs.Data.{Data}
-use Rattle.bx_terms.specs.declared.base.Base.{Base}
+use Rattle.bx_common.specs.declared.base.Base.{Base}
 use Rattle.bx_paragraph.specs.BodyRows.{offsets_of}
 use Rattle.bx_paragraph.specs.Slots.{slot_offsets}
 use Rattle.bx_paragraph.proofs.OnceEach.{once-each}
@@ -145,12 +145,12 @@ pub slots-reordered : (w : ℕ) (r : TextRow) → HasLevels r.row → IsPermutat
 slots-reordered w r levels =
     IsPermutation-map (λ o. r.start + o) (offsets_of r.row) (slot_offsets w r.row) (once-each w r.row levels)
 
-module _ (says : Data) (base : Base) (w : ℕ) (some : 1 ≤ w) (text : List ℕ) (utf8 : IsUtf8 text) where
+module _ (ucd : Data) (base : Base) (w : ℕ) (some : 1 ≤ w) (text : List ℕ) (utf8 : IsUtf8 text) where
   abbrev rows : List TextRow
-  rows = text_rows says base w text
+  rows = text_rows ucd base w text
 
   pub row-slots : (k : ℕ) → k < length rows → IsPermutation (places_of (row_at rows k)) (slots w (row_at rows k))
-  row-slots k within = slots-reordered w (row_at rows k) (rows-leveled says base w text k no_text_row within)
+  row-slots k within = slots-reordered w (row_at rows k) (rows-leveled ucd base w text k no_text_row within)
 
   pub same-times : (p k : ℕ) → k < length rows → times p (slots w (row_at rows k)) ≡ times p (places_of (row_at rows k))
   same-times p k within = sum_by-IsPermutation (one-at p) (places_of (row_at rows k)) (slots w (row_at rows k)) (row-slots k within)
@@ -160,7 +160,7 @@ module _ (says : Data) (base : Base) (w : ℕ) (some : 1 ≤ w) (text : List ℕ
 
   found : (p : ℕ) → IsPlace rows p → Found p (length text + 1) rows
   found p place =
-      find-row p (length text + 1) 0 rows (rows-headed-in says base w some text utf8) (places-rise says base w some text utf8)
+      find-row p (length text + 1) 0 rows (rows-headed-in ucd base w some text utf8) (places-rise ucd base w some text utf8)
       (counted-contains (places rows) p place)
 
   row-of-place : (p : ℕ) → IsPlace rows p → IsRowOfPlace p rows (own p)
@@ -175,7 +175,7 @@ module _ (says : Data) (base : Base) (w : ℕ) (some : 1 ≤ w) (text : List ℕ
   pub one-slot : (p : ℕ) → IsPlace rows p → HasOneSlot w rows p
   one-slot p place =
       let is = row-of-place p place in
-      let few = once-at-most 0 (places rows) (length text + 1) p (places-rise says base w some text utf8) in record {
+      let few = once-at-most 0 (places rows) (length text + 1) p (places-rise ucd base w some text utf8) in record {
         row = is.within;
         once = omega (arith, same-times p (own p) is.within, is.there, few, times-few p rows (own p) is.within);
         elsewhere = λ k within not. same-times p k within ∙ is.elsewhere k within not;

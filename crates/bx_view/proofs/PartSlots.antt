@@ -5,12 +5,13 @@ use Rattle.std.specs.Prelude.{filter}
 use Rattle.std.proofs.lemmas.Bool.Decides.{nat_tests}
 use Rattle.std.proofs.lemmas.List.Elements.{filter_agree}
 use Rattle.bx_ucd.specs.declared.data.BidiData.{Ghosts}
-use Rattle.bx_paragraph.specs.declared.slot.Slot.{Slot}
+use Rattle.bx_paragraph.specs.declared.slots.Slot.{Slot}
 use Rattle.bx_paragraph.specs.LentRow.{row}
 use Rattle.bx_paragraph.specs.Slots.{row_slots}
 use Rattle.bx_paragraph.specs.declared.lent_row.LentRow.{LentRow}
 use Rattle.bx_view.specs.Placed.{columns, placed}
-use Rattle.bx_view.specs.TextParts.{is_in, slots_in}
+use Rattle.bx_view.specs.TextParts.{slots_in}
+use Rattle.bx_view.specs.Top.{is_in}
 use Rattle.bx_view.proofs.PlacedRows.{Low, lies}
 use Rattle.bx_view.proofs.Within.{Within}
 

@@ -5,8 +5,8 @@ use Rattle.std.proofs.lemmas.Bool.Decides.{nat_tests}
 use Rattle.std.proofs.lemmas.Str.{encodes-chars, scalars-chars, IsUtf8-append, IsUtf8-encode, IsUtf8-nil}
 use Rattle.bx_ucd.specs.Data.{Data}
 use lib.Utf8.{scalars}
-use Rattle.bx_index.specs.Paragraphs.{Paragraph, after_character, after_cr, bare, begins_with_lf, cut, is_separator, paragraphs}
-use Rattle.bx_index.proofs.Cuts.{width_is_some}
+use Rattle.bx_text.specs.index.Paragraphs.{Paragraph, after_character, after_cr, bare, begins_with_lf, cut, is_separator, paragraphs}
+use Rattle.bx_text.proofs.index_lemmas.Cuts.{width_is_some}
 
 -- ---- properties of each
 
@@ -81,46 +81,46 @@ after-pair separator cs ps u h = record {
   some = omega arith;
 }
 
-module _ (says : Data) where
+module _ (ucd : Data) where
   -- the paragraph that begins with an LF is that LF
-  pub cut-lf : (c : ℕ) (cs : List ℕ) → (c == 10) ≡ true → is_separator (says.class c) ≡ true → cut says (c ∷ cs) ≡ bare (encode_utf8 c) ∷ cut says cs
+  pub cut-lf : (c : ℕ) (cs : List ℕ) → (c == 10) ≡ true → is_separator (ucd.class c) ≡ true → cut ucd (c ∷ cs) ≡ bare (encode_utf8 c) ∷ cut ucd cs
   cut-lf c cs lf e =
       let other : (c == 13) ≡ false = grind (arith, nat_tests) in
       ap (λ b. elim b [
-        | false ↦ after_character c (cut says cs)
-        | true ↦ elim ((c == 13) && begins_with_lf says cs) [ true ↦ after_cr (cut says cs) | false ↦ bare (encode_utf8 c) ∷ cut says cs ]
+        | false ↦ after_character c (cut ucd cs)
+        | true ↦ elim ((c == 13) && begins_with_lf ucd cs) [ true ↦ after_cr (cut ucd cs) | false ↦ bare (encode_utf8 c) ∷ cut ucd cs ]
       ]) e
-      ∙ ap (λ b. elim (b && begins_with_lf says cs) [ true ↦ after_cr (cut says cs) | false ↦ bare (encode_utf8 c) ∷ cut says cs ]) other
+      ∙ ap (λ b. elim (b && begins_with_lf ucd cs) [ true ↦ after_cr (cut ucd cs) | false ↦ bare (encode_utf8 c) ∷ cut ucd cs ]) other
 
-  pair-at : (cs : List ℕ) → IsUtf8 (encode_utf8 13) → begins_with_lf says cs ≡ true → AreParts cs (cut says cs) → AreParts (13 ∷ cs) (after_cr (cut says cs))
+  pair-at : (cs : List ℕ) → IsUtf8 (encode_utf8 13) → begins_with_lf ucd cs ≡ true → AreParts cs (cut ucd cs) → AreParts (13 ∷ cs) (after_cr (cut ucd cs))
   pair-at [] u b h = absurd (grind (arith, nat_tests))
   pair-at (c ∷ cs) u b h =
       let lf : (c == 10) ≡ true = grind (arith, nat_tests) in
-      let ends : is_separator (says.class c) ≡ true = grind (arith, nat_tests) in
+      let ends : is_separator (ucd.class c) ≡ true = grind (arith, nat_tests) in
       let e = cut-lf c cs lf ends in
-      subst (λ ps. AreParts (13 ∷ c ∷ cs) (after_cr ps)) (sym e) (after-pair (encode_utf8 c) (c ∷ cs) (cut says cs) u (subst (AreParts (c ∷ cs)) e h))
+      subst (λ ps. AreParts (13 ∷ c ∷ cs) (after_cr ps)) (sym e) (after-pair (encode_utf8 c) (c ∷ cs) (cut ucd cs) u (subst (AreParts (c ∷ cs)) e h))
 
-  parts-at : (c : ℕ) (cs : List ℕ) (ends cr lf : Bool) → is_separator (says.class c) ≡ ends → (c == 13) ≡ cr → begins_with_lf says cs ≡ lf
-      → IsUtf8 (encode_utf8 c) → AreParts cs (cut says cs) → AreParts (c ∷ cs) (elim ends [
-        | false ↦ after_character c (cut says cs)
-        | true ↦ elim (cr && lf) [ true ↦ after_cr (cut says cs) | false ↦ bare (encode_utf8 c) ∷ cut says cs ]
+  parts-at : (c : ℕ) (cs : List ℕ) (ends cr lf : Bool) → is_separator (ucd.class c) ≡ ends → (c == 13) ≡ cr → begins_with_lf ucd cs ≡ lf
+      → IsUtf8 (encode_utf8 c) → AreParts cs (cut ucd cs) → AreParts (c ∷ cs) (elim ends [
+        | false ↦ after_character c (cut ucd cs)
+        | true ↦ elim (cr && lf) [ true ↦ after_cr (cut ucd cs) | false ↦ bare (encode_utf8 c) ∷ cut ucd cs ]
       ])
-  parts-at c cs false cr lf e f b u h = after-character c cs (cut says cs) u h
-  parts-at c cs true false lf e f b u h = after-bare c cs (cut says cs) u h
-  parts-at c cs true true false e f b u h = after-bare c cs (cut says cs) u h
+  parts-at c cs false cr lf e f b u h = after-character c cs (cut ucd cs) u h
+  parts-at c cs true false lf e f b u h = after-bare c cs (cut ucd cs) u h
+  parts-at c cs true true false e f b u h = after-bare c cs (cut ucd cs) u h
   parts-at c cs true true true e f b u h =
       let cr : 13 ≡ c = grind (arith, nat_tests) in
-      subst (λ n. AreParts (n ∷ cs) (after_cr (cut says cs))) cr (pair-at cs (subst (λ n. IsUtf8 (encode_utf8 n)) (sym cr) u) b h)
+      subst (λ n. AreParts (n ∷ cs) (after_cr (cut ucd cs))) cr (pair-at cs (subst (λ n. IsUtf8 (encode_utf8 n)) (sym cr) u) b h)
 
-  parts : (cs : List ℕ) → scalars cs ≡ true → AreParts cs (cut says cs)
+  parts : (cs : List ℕ) → scalars cs ≡ true → AreParts cs (cut ucd cs)
   parts [] s = record { bytes = refl; utf8 = (record { body = IsUtf8-nil; separator = IsUtf8-nil }, tt); ended = tt; some = omega arith }
   parts (c ∷ cs) s =
       let rest : scalars cs ≡ true = grind (arith, nat_tests) in
-      parts-at c cs (is_separator (says.class c)) (c == 13) (begins_with_lf says cs) refl refl refl (IsUtf8-encode c (search rules)) (parts cs rest)
+      parts-at c cs (is_separator (ucd.class c)) (c == 13) (begins_with_lf ucd cs) refl refl refl (IsUtf8-encode c (search rules)) (parts cs rest)
 
   -- the paragraphs of a text
-  pub text-parts : (text : List ℕ) → IsUtf8 text → AreParts (chars text) (paragraphs says text)
+  pub text-parts : (text : List ℕ) → IsUtf8 text → AreParts (chars text) (paragraphs ucd text)
   text-parts text u = parts (chars text) (scalars-chars text u)
 
-  pub text-bytes : (text : List ℕ) → IsUtf8 text → bytes (paragraphs says text) ≡ text
+  pub text-bytes : (text : List ℕ) → IsUtf8 text → bytes (paragraphs ucd text) ≡ text
   text-bytes text u = (text-parts text u).bytes ∙ encodes-chars text u

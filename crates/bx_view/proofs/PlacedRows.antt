@@ -4,7 +4,7 @@ use Rattle.std.proofs.Common.{ap, ◌∙◌, subst, sym, arith}
 use Rattle.std.specs.Prelude.{All, IfSome}
 use Rattle.bx_ucd.specs.declared.data.BidiData.{Ghosts}
 use Rattle.bx_paragraph.specs.declared.moves.Visual.{Visual}
-use Rattle.bx_paragraph.specs.declared.slot.Slot.{Slot}
+use Rattle.bx_paragraph.specs.declared.slots.Slot.{Slot}
 use Rattle.bx_paragraph.specs.BodyRows.{last_of, offsets_of}
 use Rattle.bx_paragraph.specs.LentRow.{row}
 use Rattle.bx_paragraph.specs.Slots.{beside, entry, reading_end, reading_start, row_slots}
@@ -23,9 +23,9 @@ module _ {D : Type 0} {g : Ghosts D} (s : LentRow D g) where
   pub lies : LiesIn Low (columns s) (row s)
   lies =
       let l = s.paragraph.now in
-      let says = g.data s.tables.now in
+      let ucd = g.data s.tables.now in
       let within = s.within in
-      body-row-lies Low says l.base l.w l.body s.number s.sound.utf8 (λ o b. b.0) (omega (arith, within, row_count l s.sound.side says s.by))
+      body-row-lies Low ucd l.base l.w l.body s.number s.sound.utf8 (λ o b. b.0) (omega (arith, within, row_count l s.sound.side ucd s.by))
 
   abbrev Fits : ℕ → Type 0
   Fits o = s.start + o < 2 ^ 64

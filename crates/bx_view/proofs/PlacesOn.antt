@@ -4,7 +4,7 @@ use Rattle.std.proofs.Common.{Option, Some, None, unwrap_or, IsUtf8, refl, sym, 
 use Rattle.std.specs.Prelude.{Contains}
 use Rattle.std.proofs.lemmas.Bool.Decides.{nat_tests}
 use Rattle.bx_ucd.specs.Data.{Data}
-use Rattle.bx_terms.specs.declared.base.Base.{Base}
+use Rattle.bx_common.specs.declared.base.Base.{Base}
 use Rattle.bx_paragraph.specs.BodyRows.{last_offset}
 use Rattle.bx_view.specs.declared.moves.Logical.TheVariants.{Back, Forward}
 use Rattle.bx_view.specs.Laws.{FindsLeastPlace, IsGreatestBefore, IsLeastBehind, IsLeastPlace, PlacesGoOn}
@@ -96,64 +96,64 @@ module _ (offset : ℕ) where
 
 -- ---- of a text
 
-module _ (says : Data) (base : Base) (w : ℕ) (some : 1 ≤ w) (text : List ℕ) (utf8 : IsUtf8 text) where
+module _ (ucd : Data) (base : Base) (w : ℕ) (some : 1 ≤ w) (text : List ℕ) (utf8 : IsUtf8 text) where
   abbrev os : List ℕ
-  os = places (text_rows says base w text)
+  os = places (text_rows ucd base w text)
 
   rise : Rises 0 os (length text + 1)
-  rise = places-rise says base w some text utf8
+  rise = places-rise ucd base w some text utf8
 
   ascends : Ascends os
   ascends = ascends-rising 0 os (length text + 1) rise
 
-  are : os ≡ text_places says text
-  are = places-are says base w some text utf8
+  are : os ≡ text_places ucd text
+  are = places-are ucd base w some text utf8
 
   begin : Contains os 0
-  begin = begin-is-place says base w some text utf8
+  begin = begin-is-place ucd base w some text utf8
 
   end : Contains os (length text)
-  end = end-is-place says base w some text utf8
+  end = end-is-place ucd base w some text utf8
 
-  inside : (offset : ℕ) → offset ≤ length text → IsLeastPlace says text offset (place_from (text_rows says base w text) offset)
+  inside : (offset : ℕ) → offset ≤ length text → IsLeastPlace ucd text offset (place_from (text_rows ucd base w text) offset)
   inside offset h =
       let passes : nat_le offset (length text) ≡ true = grind (arith, nat_tests) in
       let (n, found) = found-at (nat_le offset) os (length text) end passes (find (nat_le offset) os) refl in
       let is = least-found offset os ascends n found in
-      subst (IsLeastPlace says text offset) (sym (ap (λ x. unwrap_or x (last_offset os)) found)) record {
+      subst (IsLeastPlace ucd text offset) (sym (ap (λ x. unwrap_or x (last_offset os)) found)) record {
         is_place = subst (λ ps. Contains ps n) are is.is_one;
         not_before = is.not_before;
         least = λ p c. is.least p (subst (λ ps. Contains ps p) (sym are) c);
       }
 
-  past : (offset : ℕ) → length text < offset → place_from (text_rows says base w text) offset ≡ length text
+  past : (offset : ℕ) → length text < offset → place_from (text_rows ucd base w text) offset ≡ length text
   past offset h =
       let none = within-weaker (λ p. p ≤ length text) (λ p. nat_le offset p ≡ false)
       (λ p upto. let later : p < offset = omega (arith, upto, h) in grind (arith, nat_tests)) os (rises-to 0 os (length text) rise).0 in
       ap (λ x. unwrap_or x (last_offset os)) (none-found (nat_le offset) os none) ∙ last-is-end 0 os (length text) rise end
 
-  pub finds-least : FindsLeastPlace says text (place_from (text_rows says base w text))
+  pub finds-least : FindsLeastPlace ucd text (place_from (text_rows ucd base w text))
   finds-least = record { inside = inside; past = past }
 
-  forward : (place : ℕ) → place < length text → IsLeastBehind (text_places says text) place (step_logical (text_rows says base w text) Forward place)
+  forward : (place : ℕ) → place < length text → IsLeastBehind (text_places ucd text) place (step_logical (text_rows ucd base w text) Forward place)
   forward place h =
       let passes : nat_lt place (length text) ≡ true = grind (arith, nat_tests) in
       let (n, found) = found-at (nat_lt place) os (length text) end passes (find (nat_lt place) os) refl in
-      subst (λ ps. IsLeastBehind ps place (step_logical (text_rows says base w text) Forward place)) are
+      subst (λ ps. IsLeastBehind ps place (step_logical (text_rows ucd base w text) Forward place)) are
       (subst (IsLeastBehind os place) (sym (ap (λ x. unwrap_or x place) found)) (first-is-least place os ascends n found))
 
-  back : (place : ℕ) → 0 < place → IsGreatestBefore (text_places says text) place (step_logical (text_rows says base w text) Back place)
+  back : (place : ℕ) → 0 < place → IsGreatestBefore (text_places ucd text) place (step_logical (text_rows ucd base w text) Back place)
   back place h =
       let passes : nat_lt 0 place ≡ true = grind (arith, nat_tests) in
       let (n, found) = found-back (λ p. nat_lt p place) os 0 begin passes (find (λ p. nat_lt p place) (reverse os)) refl in
-      subst (λ ps. IsGreatestBefore ps place (step_logical (text_rows says base w text) Back place)) are
+      subst (λ ps. IsGreatestBefore ps place (step_logical (text_rows ucd base w text) Back place)) are
       (subst (IsGreatestBefore os place) (sym (ap (λ x. unwrap_or x place) found)) (last-is-greatest place os ascends n found))
 
-  stays-at-end : (place : ℕ) → length text ≤ place → step_logical (text_rows says base w text) Forward place ≡ place
+  stays-at-end : (place : ℕ) → length text ≤ place → step_logical (text_rows ucd base w text) Forward place ≡ place
   stays-at-end place h =
       let none = within-weaker (λ p. p ≤ length text) (λ p. nat_lt place p ≡ false)
       (λ p upto. let not : p ≤ place = omega (arith, upto, h) in grind (arith, nat_tests)) os (rises-to 0 os (length text) rise).0 in
       ap (λ x. unwrap_or x place) (none-found (nat_lt place) os none)
 
-  pub places-go-on : PlacesGoOn says text (step_logical (text_rows says base w text))
+  pub places-go-on : PlacesGoOn ucd text (step_logical (text_rows ucd base w text))
   places-go-on = record { forward = forward; back = back; at_end = stays-at-end; at_start = none-below-0 (reverse os) }

@@ -7,13 +7,12 @@ use Rattle.std.proofs.lemmas.Grind.{flat_map-append}
 use Rattle.std.proofs.lemmas.List.{map-append, take-append-drop}
 use Rattle.std.proofs.lemmas.List.Concat.{flat_map-cons}
 use Rattle.bx_ucd.specs.Data.{Data}
-use Rattle.bx_terms.specs.declared.base.Base.{Base}
-use Rattle.bx_resolve.specs.Levels.{paragraph_level_under, levels_under}
-use Rattle.bx_cells.specs.declared.unit.Unit.{Unit}
-use Rattle.bx_cells.specs.Units.{units}
+use Rattle.bx_common.specs.declared.base.Base.{Base}
+use Rattle.bx_levels.specs.resolve.Levels.{paragraph_level_under, levels_under}
+use Rattle.bx_rows.specs.declared.cells.unit.Unit.{Unit}
+use Rattle.bx_rows.specs.cells.Units.{units}
 use Rattle.bx_rows.specs.Wrapping.{is_break, row_len, row_units, rows_from as wrap_from, rows_of}
-use Rattle.bx_index.specs.Paragraphs.{Paragraph, lengths_of, paragraphs}
-use Rattle.bx_index.specs.Positions.{bytes_of, total}
+use Rattle.bx_text.specs.index.Paragraphs.{Paragraph, lengths_of, paragraphs, bytes_of, total}
 use Rattle.bx_paragraph.specs.BodyRows.{BodyRow, body_rows, first_of, offsets_of, row_with, rows_units, with_last}
 use Rattle.bx_paragraph.proofs.Starts.{AllFit, some-unit, units-fit}
 use Rattle.bx_view.specs.TextRows.{TextRow, first, places, places_of, text_row, text_rows}
@@ -86,9 +85,9 @@ abbrev pub AllHeaded : List BodyRow → Type 0
 AllHeaded [] = Prim.Unit {0}
 AllHeaded (r ∷ rs) = IsHeaded r × AllHeaded rs
 
-module _ (says : Data) (body : List ℕ) (paragraph : ℕ) (each : List (Option ℕ)) where
+module _ (ucd : Data) (body : List ℕ) (paragraph : ℕ) (each : List (Option ℕ)) where
   abbrev row : Bool → List Unit → BodyRow
-  row is_last us = row_with says body paragraph each is_last us
+  row is_last us = row_with ucd body paragraph each is_last us
 
   places-last : (xs : List (List Unit)) → 0 < length xs → flat_map offsets_of (with_last row xs) ≡ starts_of (joined xs) ++ length body ∷ []
   places-last [] h = absurd (omega (arith, h))
@@ -116,28 +115,28 @@ module _ (says : Data) (body : List ℕ) (paragraph : ℕ) (each : List (Option 
   rows-headed p w [] h fit none = (([], ap (λ n. n ∷ []) (none refl)), tt)
   rows-headed p w (u ∷ us) h fit none = last-headed (map (row_units (u ∷ us)) (rows_of p w (u ∷ us))) (some-from p w h 0 0 (u ∷ us) (u ∷ us) fit refl)
 
-module _ (says : Data) (base : Base) (w : ℕ) (h : 1 ≤ w) where
+module _ (ucd : Data) (base : Base) (w : ℕ) (h : 1 ≤ w) where
   abbrev offsets : List ℕ → List ℕ
-  offsets body = flat_map offsets_of (body_rows says base w body)
+  offsets body = flat_map offsets_of (body_rows ucd base w body)
 
   -- the units' starts and the end
-  pub body-places : (body : List ℕ) → offsets body ≡ starts_of (units says w body) ++ length body ∷ []
+  pub body-places : (body : List ℕ) → offsets body ≡ starts_of (units ucd w body) ++ length body ∷ []
   body-places body =
-      let us = units says w body in
-      places-last says body (paragraph_level_under says base (chars body)) (levels_under says base (chars body)) (rows_units says w body)
-      (some-row (is_break says body) w h us)
-      ∙ ap (λ vs. starts_of vs ++ length body ∷ []) (units-all (is_break says body) w h us (units-fit says w body h))
+      let us = units ucd w body in
+      places-last ucd body (paragraph_level_under ucd base (chars body)) (levels_under ucd base (chars body)) (rows_units ucd w body)
+      (some-row (is_break ucd body) w h us)
+      ∙ ap (λ vs. starts_of vs ++ length body ∷ []) (units-all (is_break ucd body) w h us (units-fit ucd w body h))
 
   pub body-rise : (body : List ℕ) → IsUtf8 body → Rises 0 (offsets body) (length body + 1)
   body-rise body utf8 =
       subst (λ os. Rises 0 os (length body + 1)) (sym (body-places body))
-      (rises-append 0 (starts_of (units says w body)) (length body) (length body ∷ []) (length body + 1) (units-before says w body utf8)
+      (rises-append 0 (starts_of (units ucd w body)) (length body) (length body ∷ []) (length body + 1) (units-before ucd w body utf8)
       (omega arith, omega arith))
 
-  pub body-headed : (body : List ℕ) → IsUtf8 body → AllHeaded (body_rows says base w body)
+  pub body-headed : (body : List ℕ) → IsUtf8 body → AllHeaded (body_rows ucd base w body)
   body-headed body utf8 =
-      rows-headed says body (paragraph_level_under says base (chars body)) (levels_under says base (chars body)) (is_break says body) w
-      (units says w body) h (units-fit says w body h) (none-in says w body utf8)
+      rows-headed ucd body (paragraph_level_under ucd base (chars body)) (levels_under ucd base (chars body)) (is_break ucd body) w
+      (units ucd w body) h (units-fit ucd w body h) (none-in ucd w body utf8)
 
 -- ---- the places of a text
 
@@ -163,21 +162,21 @@ places-moved start (r ∷ rs) =
     flat_map-cons places_of (text_row start r) (map (text_row start) rs) ∙ ap (λ os. places_of (text_row start r) ++ os) (places-moved start rs)
     ∙ sym (map-append (λ o. start + o) (offsets_of r) (flat_map offsets_of rs)) ∙ ap (map (λ o. start + o)) (sym (flat_map-cons offsets_of r rs))
 
-module _ (says : Data) (base : Base) (w : ℕ) (h : 1 ≤ w) where
+module _ (ucd : Data) (base : Base) (w : ℕ) (h : 1 ≤ w) where
   abbrev mine : ℕ → Paragraph → List TextRow
-  mine start p = map (text_row start) (own says base w p)
+  mine start p = map (text_row start) (own ucd base w p)
 
   abbrev rest : ℕ → List Paragraph → List TextRow
-  rest start ps = from says base w start ps
+  rest start ps = from ucd base w start ps
 
   own-rise : (start : ℕ) (p : Paragraph) → IsUtf8 p.body → Rises start (places (mine start p)) (start + length p.body + 1)
   own-rise start p u =
       let same : start + (length p.body + 1) ≡ start + length p.body + 1 = omega arith in
       let low : start + 0 ≡ start = omega arith in
-      let os = flat_map offsets_of (own says base w p) in
-      subst (λ ps. Rises start ps (start + length p.body + 1)) (sym (places-moved start (own says base w p)))
+      let os = flat_map offsets_of (own ucd base w p) in
+      subst (λ ps. Rises start ps (start + length p.body + 1)) (sym (places-moved start (own ucd base w p)))
       (subst (λ s. Rises s (map (λ o. start + o) os) (start + length p.body + 1)) low
-      (subst (Rises (start + 0) (map (λ o. start + o) os)) same (rises-moved start 0 os (length p.body + 1) (body-rise says base w h p.body u))))
+      (subst (Rises (start + 0) (map (λ o. start + o) os)) same (rises-moved start 0 os (length p.body + 1) (body-rise ucd base w h p.body u))))
 
   pub places-from : (start : ℕ) (p : Paragraph) (ps : List Paragraph)
       → places (rest start (p ∷ ps)) ≡ places (mine start p) ++ places (rest (start + bytes_of (lengths_of p)) ps)
@@ -202,20 +201,20 @@ module _ (says : Data) (base : Base) (w : ℕ) (h : 1 ≤ w) where
   from-heads start [] u = tt
   from-heads start (p ∷ ps) u =
       heads-append (mine start p) (rest (start + bytes_of (lengths_of p)) ps)
-      (heads-moved start (own says base w p) (body-headed says base w h p.body u.0.body))
+      (heads-moved start (own ucd base w p) (body-headed ucd base w h p.body u.0.body))
       (from-heads (start + bytes_of (lengths_of p)) ps u.1)
 
   -- the places of a text rise strictly
-  pub places-rise : (text : List ℕ) → IsUtf8 text → Rises 0 (places (text_rows says base w text)) (length text + 1)
+  pub places-rise : (text : List ℕ) → IsUtf8 text → Rises 0 (places (text_rows ucd base w text)) (length text + 1)
   places-rise text utf8 =
-      let all = paragraphs says text in
-      let parts = text-parts says text utf8 in
-      let size : 0 + total (map lengths_of all) + 1 ≡ length text + 1 = omega (arith, bytes-length all, ap length (text-bytes says text utf8)) in
-      subst (Rises 0 (places (text_rows says base w text))) size (from-rise 0 all parts.utf8 parts.ended)
+      let all = paragraphs ucd text in
+      let parts = text-parts ucd text utf8 in
+      let size : 0 + total (map lengths_of all) + 1 ≡ length text + 1 = omega (arith, bytes-length all, ap length (text-bytes ucd text utf8)) in
+      subst (Rises 0 (places (text_rows ucd base w text))) size (from-rise 0 all parts.utf8 parts.ended)
 
   -- and each row has its first offset as its first place
-  pub rows-headed-in : (text : List ℕ) → IsUtf8 text → AllHeads (text_rows says base w text)
-  rows-headed-in text utf8 = from-heads 0 (paragraphs says text) (text-parts says text utf8).utf8
+  pub rows-headed-in : (text : List ℕ) → IsUtf8 text → AllHeads (text_rows ucd base w text)
+  rows-headed-in text utf8 = from-heads 0 (paragraphs ucd text) (text-parts ucd text utf8).utf8
 
 -- the first places of rows rise as all do
 pub firsts-of : (low : ℕ) (rows : List TextRow) (high : ℕ) → AllHeads rows → Rises low (places rows) high → Rises low (map first rows) high
@@ -225,8 +224,8 @@ firsts-of low (s ∷ ss) high a r =
     let rise : Rises low (first s ∷ (a.0.0 ++ places ss)) high = subst (λ os. Rises low os high) opened r in
     (rise.0, firsts-of (first s + 1) ss high a.1 (rises-behind (first s + 1) a.0.0 (places ss) high rise.1))
 
-pub firsts-rise-in : (says : Data) (base : Base) (w : ℕ) → 1 ≤ w → (text : List ℕ) → IsUtf8 text
-    → Rises 0 (map first (text_rows says base w text)) (length text + 1)
-firsts-rise-in says base w h text utf8 =
-    firsts-of 0 (text_rows says base w text) (length text + 1) (rows-headed-in says base w h text utf8)
-    (places-rise says base w h text utf8)
+pub firsts-rise-in : (ucd : Data) (base : Base) (w : ℕ) → 1 ≤ w → (text : List ℕ) → IsUtf8 text
+    → Rises 0 (map first (text_rows ucd base w text)) (length text + 1)
+firsts-rise-in ucd base w h text utf8 =
+    firsts-of 0 (text_rows ucd base w text) (length text + 1) (rows-headed-in ucd base w h text utf8)
+    (places-rise ucd base w h text utf8)

@@ -5,11 +5,11 @@ use Rattle.std.proofs.lemmas.Bool.Decides.{nat_tests}
 use Rattle.std.proofs.lemmas.List.{map-append, length-map, get_or-map, get_or_append_left, get_or-append-add}
 use Rattle.std.proofs.lemmas.List.Sums.{sum_by-cons}
 use Rattle.bx_ucd.specs.Data.{Data}
-use Rattle.bx_terms.specs.declared.base.Base.{Base}
-use Rattle.bx_index.specs.Paragraphs.{Paragraph, lengths_of, paragraphs}
-use Rattle.bx_index.specs.Positions.{bytes_of, total}
+use Rattle.bx_common.specs.declared.base.Base.{Base}
+use Rattle.bx_text.specs.index.Paragraphs.{Paragraph, lengths_of, paragraphs, bytes_of, total}
 use Rattle.bx_paragraph.specs.BodyRows.{BodyRow, body_rows, first_of, no_row}
-use Rattle.bx_paragraph.specs.BodyRows.{row_at as row_at_body, row_of as row_of_body}
+use Rattle.bx_paragraph.specs.BodyRows.{row_at as row_at_body}
+use Rattle.bx_paragraph.specs.Layout.{row_of as row_of_body}
 use Rattle.bx_view.specs.TextRows.{TextRow, first, no_text_row, row_at, row_of, rows_from, text_row, text_rows}
 use Rattle.bx_view.proofs.Parts.{AreEnded, AreUtf8}
 use Rattle.bx_view.proofs.Rising.{Rises, all-rank, rank, rank-append, rank-few, rank-first, none-rank, rises-append, rises-further, rises-moved}
@@ -21,8 +21,8 @@ pub record BodyFirsts (body : List ℕ) (rows : List BodyRow) : Type 0 where
   pub rise : Rises 1 others (length body + 1)
 
 -- a text's paragraphs around the one of a number, which begins at the offset `start`
-pub record IsAmong (says : Data) (text : List ℕ) (number start : ℕ) (p : Paragraph) (ahead behind : List Paragraph) : Type 0 where
-  pub parts : paragraphs says text ≡ ahead ++ p ∷ behind
+pub record IsAmong (ucd : Data) (text : List ℕ) (number start : ℕ) (p : Paragraph) (ahead behind : List Paragraph) : Type 0 where
+  pub parts : paragraphs ucd text ≡ ahead ++ p ∷ behind
   pub number_is : number ≡ length ahead
   pub start_is : start ≡ total (map lengths_of ahead)
 
@@ -69,12 +69,12 @@ rank-moved offset start (o ∷ os) h =
     ∙ ap (λ n. cond (nat_le o (offset - start)) 1 0 + n) (rank-moved offset start os h)
     ∙ sym (sum_by-cons (λ b. cond (nat_le b (offset - start)) 1 0) o os)
 
-module _ (says : Data) (base : Base) (w : ℕ) where
+module _ (ucd : Data) (base : Base) (w : ℕ) where
   abbrev pub own : Paragraph → List BodyRow
-  own p = body_rows says base w p.body
+  own p = body_rows ucd base w p.body
 
   abbrev pub from : ℕ → List Paragraph → List TextRow
-  from start ps = rows_from says base w start ps
+  from start ps = rows_from ucd base w start ps
 
   pub from-append : (start : ℕ) (ps qs : List Paragraph) → from start (ps ++ qs) ≡ from start ps ++ from (start + total (map lengths_of ps)) qs
   from-append start [] qs = let same : start ≡ start + 0 = omega arith in ap (λ s. from s qs) same
@@ -87,7 +87,7 @@ module _ (says : Data) (base : Base) (w : ℕ) where
 
   -- ---- where the rows of some paragraphs begin
 
-  module _ (firsts : (body : List ℕ) → IsUtf8 body → BodyFirsts body (body_rows says base w body)) where
+  module _ (firsts : (body : List ℕ) → IsUtf8 body → BodyFirsts body (body_rows ucd base w body)) where
     own-rise : (start : ℕ) (p : Paragraph) → IsUtf8 p.body → Rises start (map first (map (text_row start) (own p))) (start + length p.body + 1)
     own-rise start p u =
         let f = firsts p.body u in
@@ -148,9 +148,9 @@ module _ (says : Data) (base : Base) (w : ℕ) where
     pub own-within : (p : Paragraph) (n : ℕ) → IsUtf8 p.body → row_of_body (own p) n < length (own p)
     own-within p n u = omega (arith, own-rank p n u, rank-few n (map first_of (own p)), length-map (own p) first_of)
 
-    module _ (text : List ℕ) (number start : ℕ) (p : Paragraph) (ahead behind : List Paragraph) (is : IsAmong says text number start p ahead behind) where
+    module _ (text : List ℕ) (number start : ℕ) (p : Paragraph) (ahead behind : List Paragraph) (is : IsAmong ucd text number start p ahead behind) where
       -- the rows of the text are those ahead, its own, and those after
-      pub rows-around : text_rows says base w text
+      pub rows-around : text_rows ucd base w text
           ≡ from 0 ahead ++ (map (text_row start) (own p) ++ from (start + bytes_of (lengths_of p)) behind)
       rows-around =
           let same : 0 + total (map lengths_of ahead) ≡ start = omega (arith, is.start_is) in
@@ -161,7 +161,7 @@ module _ (says : Data) (base : Base) (w : ℕ) where
 
       -- the number of rows that begin at or before an offset that falls in the paragraph
       pub rank-around : (offset : ℕ) → AreUtf8 (ahead ++ p ∷ behind) → AreEnded (ahead ++ p ∷ behind) → start ≤ offset → EndsBefore behind offset stop
-          → rank offset (map first (text_rows says base w text)) ≡ length (from 0 ahead) + rank (offset - start) (map first_of (own p))
+          → rank offset (map first (text_rows ucd base w text)) ≡ length (from 0 ahead) + rank (offset - start) (map first_of (own p))
       rank-around offset u e low high =
           let mine = map (text_row start) (own p) in
           let others = from stop behind in
@@ -173,7 +173,7 @@ module _ (says : Data) (base : Base) (w : ℕ) where
           let own-part : rank offset (map first mine) ≡ rank (offset - start) (map first_of (own p)) =
           ap (rank offset) (firsts-moved start (own p)) ∙ rank-moved offset start (map first_of (own p)) low in
           let last-part : rank offset (map first others) ≡ 0 = none-behind offset stop behind u'.1 e' high in
-          let split : map first (text_rows says base w text) ≡ map first (from 0 ahead) ++ (map first mine ++ map first others) =
+          let split : map first (text_rows ucd base w text) ≡ map first (from 0 ahead) ++ (map first mine ++ map first others) =
           ap (map first) rows-around ∙ map-append first (from 0 ahead) (mine ++ others)
           ∙ ap (λ os. map first (from 0 ahead) ++ os) (map-append first mine others) in
           ap (rank offset) split ∙ rank-append offset (map first (from 0 ahead)) (map first mine ++ map first others)
@@ -188,14 +188,14 @@ module _ (says : Data) (base : Base) (w : ℕ) where
 
       -- so the row that it falls in
       pub row-falls : (offset : ℕ) → AreUtf8 (ahead ++ p ∷ behind) → AreEnded (ahead ++ p ∷ behind) → start ≤ offset → EndsBefore behind offset stop
-          → row_of (text_rows says base w text) offset ≡ length (from 0 ahead) + row_of_body (own p) (offset - start)
+          → row_of (text_rows ucd base w text) offset ≡ length (from 0 ahead) + row_of_body (own p) (offset - start)
       row-falls offset u e low high =
           let u' = behind-utf8 ahead (p ∷ behind) u in
           omega (arith, rank-around offset u e low high, own-rank p (offset - start) u'.0.body)
 
       -- and a row of the paragraph by its number in the text
       pub row-there : (k : ℕ) → k < length (own p)
-          → row_at (text_rows says base w text) (length (from 0 ahead) + k) ≡ text_row start (row_at_body (own p) k)
+          → row_at (text_rows ucd base w text) (length (from 0 ahead) + k) ≡ text_row start (row_at_body (own p) k)
       row-there k h =
           let mine = map (text_row start) (own p) in
           let others = from stop behind in
@@ -203,7 +203,7 @@ module _ (says : Data) (base : Base) (w : ℕ) where
           ∙ get_or_append_left mine others no_text_row k (omega (arith, h, length-map (own p) (text_row start)))
           ∙ get_or-map (text_row start) (own p) k no_row no_text_row h
 
-      pub count-around : length (text_rows says base w text) ≡ length (from 0 ahead) + length (own p) + length (from stop behind)
+      pub count-around : length (text_rows ucd base w text) ≡ length (from 0 ahead) + length (own p) + length (from stop behind)
       count-around =
           let mine = map (text_row start) (own p) in
           let others = from stop behind in

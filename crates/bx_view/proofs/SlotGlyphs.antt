@@ -7,9 +7,9 @@ use Rattle.std.proofs.lemmas.List.Folds.{sum_by-replicate}
 use Rattle.std.proofs.lemmas.List.Sums.{sum_by-append}
 use Rattle.bx_ucd.specs.Data.{Data}
 use Rattle.bx_rows.specs.RowPicture.{Glyph, blank, columns_used, unit_columns}
-use Rattle.bx_rows.specs.VisualOrder.{visual}
+use Rattle.bx_rows.specs.RowLevels.{visual}
 use Rattle.bx_rows.proofs.PictureLaws.{columns_of_glyphs}
-use Rattle.bx_paragraph.specs.declared.slot.Slot.{Slot}
+use Rattle.bx_paragraph.specs.declared.slots.Slot.{Slot}
 use Rattle.bx_paragraph.specs.Slots.{extent_of, side_by_side, slot, unit_slots}
 use Rattle.bx_view.specs.Cells.{glyphs_of}
 use Rattle.bx_view.specs.TextRows.{TextRow, text_row_glyphs}
@@ -56,8 +56,8 @@ in-row (suc k) n glyphs extent order a =
     subst (λ gs. All (HasGlyphs (replicate n blank ++ gs)) (side_by_side (n + 1) (map extent order))) (append-nil (flat_map glyphs order))
     (units-between glyphs extent [] (replicate n blank) (n + 1) order (omega (arith, blanks)) a)
 
-pub slots-between : (says : Data) (w : ℕ) (r : TextRow) → HasLevels r.row → HasFaces says w r.row
-    → All (HasGlyphs (text_row_glyphs says w r)) (unit_slots w r.row)
-slots-between says w r levels faces =
-    in-row (r.row.paragraph % 2) (w - columns_used w r.row.units) (λ k. glyphs_of says w r.row k)
-    (extent_of r.row.units (unit_columns w 0 r.row.units)) (visual r.row.levels) (sums says w r levels faces)
+pub slots-between : (ucd : Data) (w : ℕ) (r : TextRow) → HasLevels r.row → HasFaces ucd w r.row
+    → All (HasGlyphs (text_row_glyphs ucd w r)) (unit_slots w r.row)
+slots-between ucd w r levels faces =
+    in-row (r.row.paragraph % 2) (w - columns_used w r.row.units) (λ k. glyphs_of ucd w r.row k)
+    (extent_of r.row.units (unit_columns w 0 r.row.units)) (visual r.row.levels) (sums ucd w r levels faces)

@@ -12,14 +12,15 @@ use Rattle.bx_ucd.specs.Data.{Data}
 use Rattle.unicode_segmentation.specs.Grapheme.{graphemes, is_grapheme_break}
 use Rattle.unicode_segmentation.specs.Segments.{with_offsets}
 use Rattle.unicode_segmentation.proofs.SegmentsLemmas.{concat-segments}
-use Rattle.bx_terms.specs.declared.base.Base.{Base}
-use Rattle.bx_terms.specs.declared.base.Base.TheVariants.{Auto}
-use Rattle.bx_cells.specs.Units.{unit_at, units}
-use Rattle.bx_index.specs.Paragraphs.{Paragraph, after_character, after_cr, bare, begins_with_lf, cut, is_separator, lengths_of, paragraphs}
-use Rattle.bx_index.specs.Positions.{bytes_of}
-use Rattle.bx_index.proofs.Cuts.{width_is_some}
+use Rattle.bx_common.specs.declared.base.Base.{Base}
+use Rattle.bx_common.specs.declared.base.Base.TheVariants.{Auto}
+use Rattle.bx_rows.specs.cells.Units.{unit_at, units}
+use Rattle.bx_text.specs.index.Paragraphs.{Paragraph, after_character, after_cr, bare, begins_with_lf, cut, is_separator, lengths_of}
+use Rattle.bx_text.specs.index.Paragraphs.{paragraphs, bytes_of}
+use Rattle.bx_text.proofs.index_lemmas.Cuts.{width_is_some}
 use Rattle.bx_view.specs.Laws.{SpansText}
-use Rattle.bx_view.specs.Places.{IsTextPlace, boundaries, one_piece, pieces, pieces_of, text_places}
+use Rattle.bx_view.specs.Places.{IsTextPlace, one_piece, pieces, pieces_of, text_places}
+use Rattle.bx_view.specs.Numbers.{boundaries}
 use Rattle.bx_view.specs.TextRows.{IsPlace, TextRow, places, text_row, text_rows}
 use Rattle.bx_view.proofs.RowsAround.{from, own}
 use Rattle.bx_view.proofs.BodyFirsts.{starts_of}
@@ -49,29 +50,29 @@ pair-bare : (c : ℕ) (ps : List Paragraph) → LastIsBare (bare (encode_utf8 c)
 pair-bare c [] h = absurd (omega (arith, width_is_some c, ap length h))
 pair-bare c (p ∷ ps) h = h
 
-module _ (says : Data) where
-  lf-bare : (cs : List ℕ) → begins_with_lf says cs ≡ true → LastIsBare (cut says cs) → LastIsBare (after_cr (cut says cs))
+module _ (ucd : Data) where
+  lf-bare : (cs : List ℕ) → begins_with_lf ucd cs ≡ true → LastIsBare (cut ucd cs) → LastIsBare (after_cr (cut ucd cs))
   lf-bare [] b h = absurd (grind (arith, nat_tests))
   lf-bare (c ∷ cs) b h =
       let lf : (c == 10) ≡ true = grind (arith, nat_tests) in
-      let ends : is_separator (says.class c) ≡ true = grind (arith, nat_tests) in
-      let e = cut-lf says c cs lf ends in subst (λ ps. LastIsBare (after_cr ps)) (sym e) (pair-bare c (cut says cs) (subst LastIsBare e h))
+      let ends : is_separator (ucd.class c) ≡ true = grind (arith, nat_tests) in
+      let e = cut-lf ucd c cs lf ends in subst (λ ps. LastIsBare (after_cr ps)) (sym e) (pair-bare c (cut ucd cs) (subst LastIsBare e h))
 
-  bare-at : (c : ℕ) (cs : List ℕ) (ends cr lf : Bool) → (lf ≡ true → LastIsBare (after_cr (cut says cs))) → LastIsBare (cut says cs)
+  bare-at : (c : ℕ) (cs : List ℕ) (ends cr lf : Bool) → (lf ≡ true → LastIsBare (after_cr (cut ucd cs))) → LastIsBare (cut ucd cs)
       → LastIsBare (elim ends [
-        | false ↦ after_character c (cut says cs)
-        | true ↦ elim (cr && lf) [ true ↦ after_cr (cut says cs) | false ↦ bare (encode_utf8 c) ∷ cut says cs ]
+        | false ↦ after_character c (cut ucd cs)
+        | true ↦ elim (cr && lf) [ true ↦ after_cr (cut ucd cs) | false ↦ bare (encode_utf8 c) ∷ cut ucd cs ]
       ])
-  bare-at c cs false cr lf pair h = character-bare c (cut says cs) h
-  bare-at c cs true false lf pair h = bare-behind (bare (encode_utf8 c)) (cut says cs) h
-  bare-at c cs true true false pair h = bare-behind (bare (encode_utf8 c)) (cut says cs) h
+  bare-at c cs false cr lf pair h = character-bare c (cut ucd cs) h
+  bare-at c cs true false lf pair h = bare-behind (bare (encode_utf8 c)) (cut ucd cs) h
+  bare-at c cs true true false pair h = bare-behind (bare (encode_utf8 c)) (cut ucd cs) h
   bare-at c cs true true true pair h = pair refl
 
-  pub last-bare : (cs : List ℕ) → LastIsBare (cut says cs)
+  pub last-bare : (cs : List ℕ) → LastIsBare (cut ucd cs)
   last-bare [] = refl
   last-bare (c ∷ cs) =
-      let rest : LastIsBare (cut says cs) = last-bare cs in
-      bare-at c cs (is_separator (says.class c)) (c == 13) (begins_with_lf says cs) (λ lf. lf-bare cs lf rest) rest
+      let rest : LastIsBare (cut ucd cs) = last-bare cs in
+      bare-at c cs (is_separator (ucd.class c)) (c == 13) (begins_with_lf ucd cs) (λ lf. lf-bare cs lf rest) rest
 
 -- ---- the pieces together
 
@@ -96,8 +97,8 @@ pieces-bytes (p ∷ ps) u =
     ∙ ap (λ b. (b ++ concat (one_piece p.separator)) ++ concat more) (concat-segments (is_grapheme_break true) p.body u.0.body)
     ∙ ap (λ b. (p.body ++ b) ++ concat more) (one-bytes p.separator) ∙ ap (λ b. (p.body ++ p.separator) ++ b) (pieces-bytes ps u.1)
 
-pieces-whole : (says : Data) (text : List ℕ) → IsUtf8 text → concat (pieces says text) ≡ text
-pieces-whole says text utf8 = pieces-bytes (paragraphs says text) (text-parts says text utf8).utf8 ∙ text-bytes says text utf8
+pieces-whole : (ucd : Data) (text : List ℕ) → IsUtf8 text → concat (pieces ucd text) ≡ text
+pieces-whole ucd text utf8 = pieces-bytes (paragraphs ucd text) (text-parts ucd text utf8).utf8 ∙ text-bytes ucd text utf8
 
 -- ---- the boundaries of pieces
 
@@ -131,26 +132,26 @@ last-boundary start (g ∷ gs) =
 
 -- ---- of the rows
 
-cluster-bounds : (says : Data) (w at start : ℕ) (gs rest : List (List ℕ)) → boundaries (start + at) (gs ++ rest)
-    ≡ map (λ o. start + o) (starts_of (map (unit_at says w) (with_offsets at gs))) ++ boundaries (start + (at + length (concat gs))) rest
+cluster-bounds : (ucd : Data) (w at start : ℕ) (gs rest : List (List ℕ)) → boundaries (start + at) (gs ++ rest)
+    ≡ map (λ o. start + o) (starts_of (map (unit_at ucd w) (with_offsets at gs))) ++ boundaries (start + (at + length (concat gs))) rest
 unfolding with_offsets
-cluster-bounds says w at start [] rest = let none : start + at ≡ start + (at + 0) = omega arith in ap (λ n. boundaries n rest) none
-cluster-bounds says w at start (g ∷ gs) rest =
-    let starts = map (λ o. start + o) (starts_of (map (unit_at says w) (with_offsets (at + length g) gs))) in
+cluster-bounds ucd w at start [] rest = let none : start + at ≡ start + (at + 0) = omega arith in ap (λ n. boundaries n rest) none
+cluster-bounds ucd w at start (g ∷ gs) rest =
+    let starts = map (λ o. start + o) (starts_of (map (unit_at ucd w) (with_offsets (at + length g) gs))) in
     let next : start + at + length g ≡ start + (at + length g) = omega arith in
     let size : start + (at + length g + length (concat gs)) ≡ start + (at + length (concat (g ∷ gs))) = omega (arith, length-append g (concat gs)) in
     ap (λ os. (start + at) ∷ os)
-    (ap (λ n. boundaries n (gs ++ rest)) next ∙ cluster-bounds says w (at + length g) start gs rest ∙ ap (λ n. starts ++ boundaries n rest) size)
+    (ap (λ n. boundaries n (gs ++ rest)) next ∙ cluster-bounds ucd w (at + length g) start gs rest ∙ ap (λ n. starts ++ boundaries n rest) size)
 
-module _ (says : Data) (base : Base) (w : ℕ) (h : 1 ≤ w) where
+module _ (ucd : Data) (base : Base) (w : ℕ) (h : 1 ≤ w) where
   abbrev starts : ℕ → List ℕ → List ℕ
-  starts start body = map (λ o. start + o) (starts_of (units says w body))
+  starts start body = map (λ o. start + o) (starts_of (units ucd w body))
 
   abbrev mine : ℕ → Paragraph → List TextRow
-  mine start p = map (text_row start) (own says base w p)
+  mine start p = map (text_row start) (own ucd base w p)
 
   abbrev rest : ℕ → List Paragraph → List TextRow
-  rest start ps = from says base w start ps
+  rest start ps = from ucd base w start ps
 
   body-bounds : (start : ℕ) (body : List ℕ) (others : List (List ℕ)) → IsUtf8 body
       → boundaries start (graphemes true body ++ others) ≡ starts start body ++ boundaries (start + length body) others
@@ -159,12 +160,12 @@ module _ (says : Data) (base : Base) (w : ℕ) (h : 1 ≤ w) where
       let here : start ≡ start + 0 = omega arith in
       let size : start + (0 + length (concat gs)) ≡ start + length body =
       omega (arith, ap length (concat-segments (is_grapheme_break true) body utf8)) in
-      ap (λ n. boundaries n (gs ++ others)) here ∙ cluster-bounds says w 0 start gs others ∙ ap (λ n. starts start body ++ boundaries n others) size
+      ap (λ n. boundaries n (gs ++ others)) here ∙ cluster-bounds ucd w 0 start gs others ∙ ap (λ n. starts start body ++ boundaries n others) size
 
   own-places : (start : ℕ) (p : Paragraph) → places (mine start p) ≡ starts start p.body ++ (start + length p.body) ∷ []
   own-places start p =
-      places-moved start (own says base w p) ∙ ap (map (λ o. start + o)) (body-places says base w h p.body)
-      ∙ map-append (λ o. start + o) (starts_of (units says w p.body)) (length p.body ∷ [])
+      places-moved start (own ucd base w p) ∙ ap (map (λ o. start + o)) (body-places ucd base w h p.body)
+      ∙ map-append (λ o. start + o) (starts_of (units ucd w p.body)) (length p.body ∷ [])
 
   last-bounds : (start : ℕ) (p : Paragraph) → IsUtf8 p.body → p.separator ≡ []
       → boundaries start (flat_map pieces_of (p ∷ [])) ≡ starts start p.body ++ (start + length p.body) ∷ []
@@ -188,18 +189,18 @@ module _ (says : Data) (base : Base) (w : ℕ) (h : 1 ≤ w) where
       → places (rest start ps) ≡ boundaries start (flat_map pieces_of ps)
   from-bounds start [] u e l = absurd l
   from-bounds start (p ∷ []) u e l =
-      places-from says base w h start p [] ∙ append-nil (places (mine start p)) ∙ own-places start p ∙ sym (last-bounds start p u.0.body l)
+      places-from ucd base w h start p [] ∙ append-nil (places (mine start p)) ∙ own-places start p ∙ sym (last-bounds start p u.0.body l)
   from-bounds start (p ∷ q ∷ ps) u e l =
       let next = start + bytes_of (lengths_of p) in
-      places-from says base w h start p (q ∷ ps) ∙ ap (λ os. os ++ places (rest next (q ∷ ps))) (own-places start p)
+      places-from ucd base w h start p (q ∷ ps) ∙ ap (λ os. os ++ places (rest next (q ∷ ps))) (own-places start p)
       ∙ append_assoc (starts start p.body) ((start + length p.body) ∷ []) (places (rest next (q ∷ ps)))
       ∙ ap (λ os. starts start p.body ++ (start + length p.body) ∷ os) (from-bounds next (q ∷ ps) u.1 e.1 l)
       ∙ sym (ended-bounds start p (q ∷ ps) u.0.body e.0)
 
   -- the places of a text's rows
-  pub places-are : (text : List ℕ) → IsUtf8 text → places (text_rows says base w text) ≡ text_places says text
+  pub places-are : (text : List ℕ) → IsUtf8 text → places (text_rows ucd base w text) ≡ text_places ucd text
   places-are text utf8 =
-      let parts = text-parts says text utf8 in from-bounds 0 (paragraphs says text) parts.utf8 parts.ended (last-bare says (chars text))
+      let parts = text-parts ucd text utf8 in from-bounds 0 (paragraphs ucd text) parts.utf8 parts.ended (last-bare ucd (chars text))
 
   -- and the offsets at which their paragraphs begin are places
   first-starts : (all front : List ℕ) (start : ℕ) (p : Paragraph) (ps : List Paragraph) → all ≡ front ++ places (rest start (p ∷ ps))
@@ -208,7 +209,7 @@ module _ (says : Data) (base : Base) (w : ℕ) (h : 1 ≤ w) where
       let own-places = places (rest start (p ∷ ps)) in
       let first : Contains own-places start = subst (λ os. Contains os start) (sym bounds) (start-in start (flat_map pieces_of (p ∷ ps))) in
       let here : Contains all start = subst (λ os. Contains os start) (sym e) (Contains-append_right front own-places start first) in
-      All-map (λ (r : TextRow). Contains all r.start) (text_row start) (own says base w p) (λ i d within. here)
+      All-map (λ (r : TextRow). Contains all r.start) (text_row start) (own ucd base w p) (λ i d within. here)
 
   starts-in : (all front : List ℕ) (start : ℕ) (ps : List Paragraph) → all ≡ front ++ places (rest start ps) → AreUtf8 ps → AreEnded ps → LastIsBare ps
       → All (λ r. Contains all r.start) (rest start ps)
@@ -222,31 +223,31 @@ module _ (says : Data) (base : Base) (w : ℕ) (h : 1 ≤ w) where
       let behind = places (rest next (q ∷ ps)) in
       All-append (λ (r : TextRow). Contains all r.start) (mine start p) (rest next (q ∷ ps))
       (first-starts all front start p (q ∷ ps) e (from-bounds start (p ∷ q ∷ ps) u d l))
-      (starts-in all (front ++ os) next (q ∷ ps) (e ∙ ap (λ xs. front ++ xs) (places-from says base w h start p (q ∷ ps)) ∙ sym (append_assoc front os behind)) u.1 d.1 l)
+      (starts-in all (front ++ os) next (q ∷ ps) (e ∙ ap (λ xs. front ++ xs) (places-from ucd base w h start p (q ∷ ps)) ∙ sym (append_assoc front os behind)) u.1 d.1 l)
 
   pub starts-are-places : (text : List ℕ) → IsUtf8 text
-      → All (λ r. Contains (places (text_rows says base w text)) r.start) (text_rows says base w text)
+      → All (λ r. Contains (places (text_rows ucd base w text)) r.start) (text_rows ucd base w text)
   starts-are-places text utf8 =
-      let parts = text-parts says text utf8 in
-      starts-in (places (text_rows says base w text)) [] 0 (paragraphs says text) refl parts.utf8 parts.ended (last-bare says (chars text))
+      let parts = text-parts ucd text utf8 in
+      starts-in (places (text_rows ucd base w text)) [] 0 (paragraphs ucd text) refl parts.utf8 parts.ended (last-bare ucd (chars text))
 
   -- the first place is the text's begin
-  pub begin-is-place : (text : List ℕ) → IsUtf8 text → Contains (places (text_rows says base w text)) 0
-  begin-is-place text utf8 = subst (λ os. Contains os 0) (sym (places-are text utf8)) (start-in 0 (pieces says text))
+  pub begin-is-place : (text : List ℕ) → IsUtf8 text → Contains (places (text_rows ucd base w text)) 0
+  begin-is-place text utf8 = subst (λ os. Contains os 0) (sym (places-are text utf8)) (start-in 0 (pieces ucd text))
 
   -- and the last is its end
-  pub end-is-place : (text : List ℕ) → IsUtf8 text → Contains (places (text_rows says base w text)) (length text)
+  pub end-is-place : (text : List ℕ) → IsUtf8 text → Contains (places (text_rows ucd base w text)) (length text)
   end-is-place text utf8 =
-      let size : 0 + length (concat (pieces says text)) ≡ length text = omega (arith, ap length (pieces-whole says text utf8)) in
+      let size : 0 + length (concat (pieces ucd text)) ≡ length text = omega (arith, ap length (pieces-whole ucd text utf8)) in
       subst (λ os. Contains os (length text)) (sym (places-are text utf8))
-      (subst (Contains (text_places says text)) size (end-in 0 (pieces says text)))
+      (subst (Contains (text_places ucd text)) size (end-in 0 (pieces ucd text)))
 
 -- ---- windows
 
-module _ (says : Data) (base : Base) (w : ℕ) (h : 1 ≤ w) (text : List ℕ) (utf8 : IsUtf8 text) (p : ℕ) where
+module _ (ucd : Data) (base : Base) (w : ℕ) (h : 1 ≤ w) (text : List ℕ) (utf8 : IsUtf8 text) (p : ℕ) where
   -- a place of the text is a place in any window
-  pub place-in-window : IsTextPlace says text p → IsPlace (text_rows says base w text) p
-  place-in-window c = subst (λ os. Contains os p) (sym (places-are says base w h text utf8)) c
+  pub place-in-window : IsTextPlace ucd text p → IsPlace (text_rows ucd base w text) p
+  place-in-window c = subst (λ os. Contains os p) (sym (places-are ucd base w h text utf8)) c
 
 -- ---- between characters, from begin to end
 
@@ -255,30 +256,30 @@ all-of-within P [] a = All-nil P
 all-of-within P (o ∷ os) a = All-cons P o os a.0 (all-of-within P os a.1)
 
 -- places lie between characters
-pub places-between : (says : Data) (text : List ℕ) → IsUtf8 text → All (IsCharBoundary text) (text_places says text)
-places-between says text utf8 =
+pub places-between : (ucd : Data) (text : List ℕ) → IsUtf8 text → All (IsCharBoundary text) (text_places ucd text)
+places-between ucd text utf8 =
     let one : 1 ≤ 1 = omega arith in
-    subst (All (IsCharBoundary text)) (places-are says Auto 1 one text utf8)
-    (all-of-within (IsCharBoundary text) (places (text_rows says Auto 1 text)) (places-bound says Auto 1 one text utf8))
+    subst (All (IsCharBoundary text)) (places-are ucd Auto 1 one text utf8)
+    (all-of-within (IsCharBoundary text) (places (text_rows ucd Auto 1 text)) (places-bound ucd Auto 1 one text utf8))
 
-pub place-between : (says : Data) (text : List ℕ) (p : ℕ) → IsUtf8 text → IsTextPlace says text p → IsCharBoundary text p
-place-between says text p utf8 c = All-contains (IsCharBoundary text) (text_places says text) p (places-between says text utf8) c
+pub place-between : (ucd : Data) (text : List ℕ) (p : ℕ) → IsUtf8 text → IsTextPlace ucd text p → IsCharBoundary text p
+place-between ucd text p utf8 c = All-contains (IsCharBoundary text) (text_places ucd text) p (places-between ucd text utf8) c
 
-places-rise-strictly : (says : Data) (text : List ℕ) → IsUtf8 text → IsStrictlyIncreasing (text_places says text)
-places-rise-strictly says text utf8 =
+places-rise-strictly : (ucd : Data) (text : List ℕ) → IsUtf8 text → IsStrictlyIncreasing (text_places ucd text)
+places-rise-strictly ucd text utf8 =
     let one : 1 ≤ 1 = omega arith in
-    let rise : Rises 0 (text_places says text) (length text + 1) =
-    subst (λ os. Rises 0 os (length text + 1)) (places-are says Auto 1 one text utf8) (places-rise says Auto 1 one text utf8) in
-    λ k h. rises-apart 0 (text_places says text) (length text + 1) k (k + 1) 0 rise (omega arith) h
+    let rise : Rises 0 (text_places ucd text) (length text + 1) =
+    subst (λ os. Rises 0 os (length text + 1)) (places-are ucd Auto 1 one text utf8) (places-rise ucd Auto 1 one text utf8) in
+    λ k h. rises-apart 0 (text_places ucd text) (length text + 1) k (k + 1) 0 rise (omega arith) h
 
 -- the places of a text go from its begin to its end
-pub places-span : (says : Data) (text : List ℕ) → IsUtf8 text → SpansText says text
-places-span says text utf8 =
-    let last = last-boundary 0 (pieces says text) in
-    let size : 0 + length (concat (pieces says text)) ≡ length text = omega (arith, ap length (pieces-whole says text utf8)) in record {
-      whole = pieces-whole says text utf8;
-      first = first-boundary 0 (pieces says text);
+pub places-span : (ucd : Data) (text : List ℕ) → IsUtf8 text → SpansText ucd text
+places-span ucd text utf8 =
+    let last = last-boundary 0 (pieces ucd text) in
+    let size : 0 + length (concat (pieces ucd text)) ≡ length text = omega (arith, ap length (pieces-whole ucd text utf8)) in record {
+      whole = pieces-whole ucd text utf8;
+      first = first-boundary 0 (pieces ucd text);
       last = last ∙ ap Some size;
-      rise = places-rise-strictly says text utf8;
-      between = places-between says text utf8;
+      rise = places-rise-strictly ucd text utf8;
+      between = places-between ucd text utf8;
     }

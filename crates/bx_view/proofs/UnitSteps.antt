@@ -4,8 +4,8 @@ use Rattle.std.proofs.Common.{refl, sym, ap, subst, ◌∙◌, ⊎_elim, arith, 
 use Rattle.std.proofs.lemmas.List.{drop-drop}
 use Rattle.std.proofs.lemmas.Str.{IsCharBoundary-from_drop, IsUtf8-drop}
 use Rattle.unicode_segmentation.specs.Grapheme.{graphemes}
-use Rattle.bx_cells.proofs.Rest.{first-cluster}
-use Rattle.bx_view.specs.Places.{boundaries}
+use Rattle.bx_rows.proofs.cells_lemmas.Rest.{first-cluster}
+use Rattle.bx_view.specs.Numbers.{boundaries}
 use Rattle.bx_view.proofs.WordParts.{none-left}
 
 -- the unit at an offset ends at a boundary, and the boundaries go on from there

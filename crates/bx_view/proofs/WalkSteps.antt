@@ -1,13 +1,12 @@
 -- Where a walk over the paragraphs goes from one of them.
 use Rattle.std.proofs.Common.{◌≡◌, ◌<◌, ◌≤◌, ◌+◌, ◌-◌, ◌∙◌, ℕ, Bool, true, false, nat_lt, List, length, take, if◌then◌else◌, ap, arith, sym}
 use Rattle.std.proofs.lemmas.Bool.Decides.{nat_tests}
-use Rattle.bx_index.specs.declared.lengths.Lengths.{Lengths}
-use Rattle.bx_index.specs.Paragraphs.{lengths}
-use Rattle.bx_index.specs.Positions.{total}
-use Rattle.bx_index.specs.Walk.{WalkState}
+use Rattle.bx_text.specs.declared.index.lengths.Lengths.{Lengths}
+use Rattle.bx_text.specs.index.Paragraphs.{lengths, total}
+use Rattle.bx_text.specs.index.Walk.{WalkState}
 use Rattle.bx_ucd.specs.Data.{Data}
-use Rattle.bx_view.specs.Standing.{count, start_at}
-use Rattle.bx_view.specs.declared.row_at.RowAt.{RowAt}
+use Rattle.bx_view.specs.Numbers.{count, start_at}
+use Rattle.bx_view.specs.declared.in_row.RowAt.{RowAt}
 use Rattle.bx_view.proofs.Numbers.{lengths-count}
 
 module _ (ps : List Lengths) (n : ℕ) (walk : WalkState) (stands : walk ≡ record { paragraphs = ps; number = n }) (moved : Bool) where
@@ -46,11 +45,11 @@ module _ (ps : List Lengths) (n : ℕ) (walk : WalkState) (stands : walk ≡ rec
 
 -- ---- a walk at a row's paragraph
 
-module _ (says : Data) (text : List ℕ) (ps : List Lengths) (indexed : ps ≡ lengths says text) (at : RowAt) where
-  pub at-inside : at.paragraph < count says text → at.paragraph < length ps
-  at-inside within = omega (arith, within, ap length indexed, lengths-count says text)
+module _ (ucd : Data) (text : List ℕ) (ps : List Lengths) (indexed : ps ≡ lengths ucd text) (at : RowAt) where
+  pub at-inside : at.paragraph < count ucd text → at.paragraph < length ps
+  at-inside within = omega (arith, within, ap length indexed, lengths-count ucd text)
 
-  pub at-begin : at.start ≡ start_at says text at.paragraph → at.start ≡ total (take at.paragraph ps)
+  pub at-begin : at.start ≡ start_at ucd text at.paragraph → at.start ≡ total (take at.paragraph ps)
   at-begin begins = begins ∙ ap (λ ls. total (take at.paragraph ls)) (sym indexed)
 
 pub along-at : {ps qs : List Lengths} {n : ℕ} {walk : WalkState} → ps ≡ qs → walk ≡ record { paragraphs = ps; number = n }

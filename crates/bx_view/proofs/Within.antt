@@ -7,19 +7,20 @@ use Rattle.std.proofs.lemmas.List.{map-append, reverse-append}
 use Rattle.std.proofs.lemmas.List.Elements.{All-cons, All-head, All-nil, All-tail}
 use Rattle.std.proofs.lemmas.Str.{IsCharBoundary-end, IsCharBoundary-start}
 use Rattle.bx_ucd.specs.Data.{Data}
-use Rattle.bx_terms.specs.declared.base.Base.{Base}
-use Rattle.bx_resolve.specs.Levels.{paragraph_level_under, levels_under}
-use Rattle.bx_cells.specs.declared.unit.Unit.{Unit}
-use Rattle.bx_cells.specs.Units.{StandsIn, units}
-use Rattle.bx_cells.proofs.Standing.{stand_if_units}
+use Rattle.bx_common.specs.declared.base.Base.{Base}
+use Rattle.bx_levels.specs.resolve.Levels.{paragraph_level_under, levels_under}
+use Rattle.bx_rows.specs.declared.cells.unit.Unit.{Unit}
+use Rattle.bx_rows.specs.cells.Units.{units}
+use Rattle.bx_rows.specs.cells.UnitFacts.{StandsIn}
+use Rattle.bx_rows.proofs.cells_lemmas.Standing.{stand_if_units}
 use Rattle.bx_rows.specs.RowPicture.{unit_columns}
-use Rattle.bx_rows.specs.VisualOrder.{visual}
+use Rattle.bx_rows.specs.RowLevels.{visual}
 use Rattle.bx_rows.specs.Wrapping.{row_units, wrap}
-use Rattle.bx_rows.specs.declared.row.Row.{Row}
+use Rattle.bx_rows.specs.declared.wrapping.Row.{Row}
 use Rattle.bx_rows.proofs.PictureLaws.{faces-row}
 use Rattle.bx_paragraph.specs.declared.moves.Visual.{Visual}
 use Rattle.bx_paragraph.specs.declared.moves.Visual.TheVariants.{Left, Right}
-use Rattle.bx_paragraph.specs.declared.slot.Slot.{Slot}
+use Rattle.bx_paragraph.specs.declared.slots.Slot.{Slot}
 use Rattle.bx_paragraph.specs.BodyRows.{BodyRow, body_rows, last_of, last_offset, offsets_of, row_with, rows_units, with_last}
 use Rattle.bx_paragraph.specs.BodyRows.{row_at as row_at_body}
 use Rattle.bx_paragraph.specs.Slots.{beside, covering_in, covers, end_slot, entry, extent_of, first_in, left_column, next_in, or_else}
@@ -163,14 +164,14 @@ length-with-last row (us ∷ []) = refl
 length-with-last row (us ∷ vs ∷ rest) = ap suc (length-with-last row (vs ∷ rest))
 
 -- a row of a body
-pub body-row-lies : (P : ℕ → Type 0) (says : Data) (base : Base) (w : ℕ) (body : List ℕ) (k : ℕ) → IsUtf8 body
-    → ((o : ℕ) → IsCharBoundary body o → P o) → k < length (body_rows says base w body)
-    → LiesIn P w (row_at_body (body_rows says base w body) k)
-body-row-lies P says base w body k utf8 each h =
-    let us = units says w body in
-    let xs = rows_units says w body in
-    let make = row_with says body (paragraph_level_under says base (chars body)) (levels_under says base (chars body)) in
-    let all = rows-all P us (wrap says w body us) k (units-all P body us each (stand_if_units says w body us utf8 refl)) in
+pub body-row-lies : (P : ℕ → Type 0) (ucd : Data) (base : Base) (w : ℕ) (body : List ℕ) (k : ℕ) → IsUtf8 body
+    → ((o : ℕ) → IsCharBoundary body o → P o) → k < length (body_rows ucd base w body)
+    → LiesIn P w (row_at_body (body_rows ucd base w body) k)
+body-row-lies P ucd base w body k utf8 each h =
+    let us = units ucd w body in
+    let xs = rows_units ucd w body in
+    let make = row_with ucd body (paragraph_level_under ucd base (chars body)) (levels_under ucd base (chars body)) in
+    let all = rows-all P us (wrap ucd w body us) k (units-all P body us each (stand_if_units ucd w body us utf8 refl)) in
     subst (LiesIn P w) (sym (last-at make xs k (omega (arith, h, length-with-last make xs))))
     (row-lies P w (make (k + 1 == length xs) (get_or xs k [])) (each 0 (IsCharBoundary-start body utf8)) (each (length body) (IsCharBoundary-end body)) all)
 

@@ -11,8 +11,8 @@ use Rattle.std.proofs.lemmas.Str.{chars-nil, IsCharBoundary-start}
 use Rattle.unicode_segmentation.specs.Grapheme.{graphemes, is_grapheme_break}
 use Rattle.unicode_segmentation.specs.Segments.{cut, segments, with_offsets}
 use Rattle.bx_ucd.specs.Data.{Data}
-use Rattle.bx_cells.specs.Units.{unit_at, units}
-use Rattle.bx_cells.proofs.Rest.{next-cluster}
+use Rattle.bx_rows.specs.cells.Units.{unit_at, units}
+use Rattle.bx_rows.proofs.cells_lemmas.Rest.{next-cluster}
 use Rattle.bx_rows.specs.RowStarts.{first_offset}
 use Rattle.bx_view.specs.Words.{body_words, is_of_word, put_if, word_starts}
 use Rattle.bx_view.proofs.Within.{Within, within-append, within-reverse}
@@ -71,37 +71,37 @@ pub put-within : (P : ℕ → Type 0) (b : Bool) (at : ℕ) (os : List ℕ) → 
 put-within P true at os here a = (here, a)
 put-within P false at os here a = a
 
-module _ (says : Data) where
+module _ (ucd : Data) where
   -- the last cluster is of a word
   abbrev ends-inside : Bool → List (List ℕ) → Bool
   ends-inside b [] = b
-  ends-inside b (u ∷ us) = ends-inside (is_of_word says u) us
+  ends-inside b (u ∷ us) = ends-inside (is_of_word ucd u) us
 
   words-append : (b : Bool) (at : ℕ) (us vs : List (List ℕ))
-      → word_starts says b at (us ++ vs) ≡ word_starts says b at us ++ word_starts says (ends-inside b us) (at + size us) vs
-  words-append b at [] vs = let none : at ≡ at + 0 = omega arith in ap (λ n. word_starts says b n vs) none
+      → word_starts ucd b at (us ++ vs) ≡ word_starts ucd b at us ++ word_starts ucd (ends-inside b us) (at + size us) vs
+  words-append b at [] vs = let none : at ≡ at + 0 = omega arith in ap (λ n. word_starts ucd b n vs) none
   words-append b at (u ∷ us) vs =
-      let i = is_of_word says u in
+      let i = is_of_word ucd u in
       let begins = i && not b in
-      let more = word_starts says i (at + length u) us in
+      let more = word_starts ucd i (at + length u) us in
       let sum : at + length u + size us ≡ at + size (u ∷ us) = omega arith in
       ap (put_if begins at) (words-append i (at + length u) us vs)
-      ∙ ap (λ n. put_if begins at (more ++ word_starts says (ends-inside i us) n vs)) sum
-      ∙ put-append begins at more (word_starts says (ends-inside i us) (at + size (u ∷ us)) vs)
+      ∙ ap (λ n. put_if begins at (more ++ word_starts ucd (ends-inside i us) n vs)) sum
+      ∙ put-append begins at more (word_starts ucd (ends-inside i us) (at + size (u ∷ us)) vs)
 
-  pub words-from : (b : Bool) (at : ℕ) (us : List (List ℕ)) → Within (λ o. at ≤ o) (word_starts says b at us)
+  pub words-from : (b : Bool) (at : ℕ) (us : List (List ℕ)) → Within (λ o. at ≤ o) (word_starts ucd b at us)
   words-from b at [] = tt
   words-from b at (u ∷ us) =
-      put-within (λ o. at ≤ o) (is_of_word says u && not b) at (word_starts says (is_of_word says u) (at + length u) us) (omega arith)
-      (within-weaker (λ o. at + length u ≤ o) (λ o. at ≤ o) (λ o h. omega (arith, h)) (word_starts says (is_of_word says u) (at + length u) us)
-      (words-from (is_of_word says u) (at + length u) us))
+      put-within (λ o. at ≤ o) (is_of_word ucd u && not b) at (word_starts ucd (is_of_word ucd u) (at + length u) us) (omega arith)
+      (within-weaker (λ o. at + length u ≤ o) (λ o. at ≤ o) (λ o h. omega (arith, h)) (word_starts ucd (is_of_word ucd u) (at + length u) us)
+      (words-from (is_of_word ucd u) (at + length u) us))
 
-  pub words-upto : (b : Bool) (at : ℕ) (us : List (List ℕ)) → Within (λ o. o ≤ at + size us) (word_starts says b at us)
+  pub words-upto : (b : Bool) (at : ℕ) (us : List (List ℕ)) → Within (λ o. o ≤ at + size us) (word_starts ucd b at us)
   words-upto b at [] = tt
   words-upto b at (u ∷ us) =
-      put-within (λ o. o ≤ at + size (u ∷ us)) (is_of_word says u && not b) at (word_starts says (is_of_word says u) (at + length u) us) (omega arith)
+      put-within (λ o. o ≤ at + size (u ∷ us)) (is_of_word ucd u && not b) at (word_starts ucd (is_of_word ucd u) (at + length u) us) (omega arith)
       (within-weaker (λ o. o ≤ at + length u + size us) (λ o. o ≤ at + size (u ∷ us)) (λ o h. omega (arith, h))
-      (word_starts says (is_of_word says u) (at + length u) us) (words-upto (is_of_word says u) (at + length u) us))
+      (word_starts ucd (is_of_word ucd u) (at + length u) us) (words-upto (is_of_word ucd u) (at + length u) us))
 
   -- starts are those after the first unit, and maybe the first unit's
   lead : (i b : Bool) (at : ℕ) (os : List ℕ) → (ps : List ℕ) × ((put_if (i && not b) at os ≡ ps ++ put_if (i && not true) at os) × Within (λ o. o ≤ at) ps)
@@ -110,9 +110,9 @@ module _ (says : Data) where
   lead false b at os = ([], (refl, tt))
 
   words-lead : (b : Bool) (at : ℕ) (us : List (List ℕ))
-      → (ps : List ℕ) × ((word_starts says b at us ≡ ps ++ word_starts says true at us) × Within (λ o. o ≤ at) ps)
+      → (ps : List ℕ) × ((word_starts ucd b at us ≡ ps ++ word_starts ucd true at us) × Within (λ o. o ≤ at) ps)
   words-lead b at [] = ([], (refl, tt))
-  words-lead b at (u ∷ us) = lead (is_of_word says u) b at (word_starts says (is_of_word says u) (at + length u) us)
+  words-lead b at (u ∷ us) = lead (is_of_word ucd u) b at (word_starts ucd (is_of_word ucd u) (at + length u) us)
 
 -- ---- a boundary of a body's clusters
 
@@ -126,20 +126,20 @@ module _ (body : List ℕ) (utf8 : IsUtf8 body) where
   pub part-start : IsPart body 0
   part-start = record { front = []; parts = refl; size_is = refl; bound = IsCharBoundary-start body utf8 }
 
-  module _ (says : Data) (w : ℕ) where
+  module _ (ucd : Data) (w : ℕ) where
     part-from : (i at : ℕ) (front ps : List (List ℕ)) → graphemes true body ≡ front ++ ps → graphemes true (drop at body) ≡ ps → size front ≡ at
-        → IsCharBoundary body at → IsPart body (first_offset (drop i (map (unit_at says w) (with_offsets at ps))))
+        → IsCharBoundary body at → IsPart body (first_offset (drop i (map (unit_at ucd w) (with_offsets at ps))))
     unfolding with_offsets
     part-from zero at front [] e r s b = part-start
     part-from (suc i) at front [] e r s b = part-start
     part-from zero at front (p ∷ ps) e r s b = record { front = front; parts = e ∙ ap (λ x. front ++ x) (sym r); size_is = s; bound = b }
     part-from (suc i) at front (p ∷ ps) e r s b =
-        let n = next-cluster says w body at p ps utf8 b r in
+        let n = next-cluster ucd w body at p ps utf8 b r in
         part-from i (at + length p) (front ++ p ∷ []) ps (e ∙ sym (append_assoc front (p ∷ []) ps)) (sym n.own)
         (omega (arith, s, size-append front (p ∷ []))) n.boundary
 
     -- each unit begins at one
-    pub part-at : (i : ℕ) → IsPart body (first_offset (drop i (units says w body)))
+    pub part-at : (i : ℕ) → IsPart body (first_offset (drop i (units ucd w body)))
     part-at i = part-from i 0 [] (graphemes true body) refl refl refl (IsCharBoundary-start body utf8)
 
 -- nothing is left at the end
@@ -151,34 +151,34 @@ none-left body at h =
 
 -- ---- a body's words, cut at a boundary
 
-module _ (says : Data) (body : List ℕ) (at : ℕ) (part : IsPart body at) where
+module _ (ucd : Data) (body : List ℕ) (at : ℕ) (part : IsPart body at) where
   -- the starts of words after the unit at the boundary
   abbrev pub behind : List ℕ
-  behind = word_starts says true at (graphemes true (drop at body))
+  behind = word_starts ucd true at (graphemes true (drop at body))
 
   pub record IsCut : Type 0 where
     pub ahead : List ℕ
-    pub words : body_words says body ≡ ahead ++ behind
+    pub words : body_words ucd body ≡ ahead ++ behind
     pub upto : Within (λ o. o ≤ at) ahead
 
   pub words-cut : IsCut
   words-cut =
       let front = part.front in
       let rest = graphemes true (drop at body) in
-      let b = ends-inside says false front in
-      let (ps, (e, upto)) = words-lead says b at rest in
-      let first = word_starts says false 0 front in
+      let b = ends-inside ucd false front in
+      let (ps, (e, upto)) = words-lead ucd b at rest in
+      let first = word_starts ucd false 0 front in
       let place : 0 + size front ≡ at = omega (arith, part.size_is) in
       record {
         ahead = first ++ ps;
-        words = ap (word_starts says false 0) part.parts ∙ words-append says false 0 front rest ∙ ap (λ n. first ++ word_starts says b n rest) place
+        words = ap (word_starts ucd false 0) part.parts ∙ words-append ucd false 0 front rest ∙ ap (λ n. first ++ word_starts ucd b n rest) place
             ∙ ap (λ os. first ++ os) e ∙ sym (append_assoc first ps behind);
-        upto = within-append (λ o. o ≤ at) first ps (subst (λ n. Within (λ o. o ≤ n) first) place (words-upto says false 0 front)) upto;
+        upto = within-append (λ o. o ≤ at) first ps (subst (λ n. Within (λ o. o ≤ n) first) place (words-upto ucd false 0 front)) upto;
       }
 
   -- ---- the first start from an offset on
 
-  pub first-behind : (offset : ℕ) → at ≤ offset → find (nat_lt offset) (body_words says body) ≡ find (nat_le (offset + 1)) behind
+  pub first-behind : (offset : ℕ) → at ≤ offset → find (nat_lt offset) (body_words ucd body) ≡ find (nat_le (offset + 1)) behind
   first-behind offset order =
       let c = words-cut in
       let fail : Within (λ o. nat_lt offset o ≡ false) c.ahead =
@@ -187,7 +187,7 @@ module _ (says : Data) (body : List ℕ) (at : ℕ) (part : IsPart body at) wher
       ∙ ap (λ x. option_or x (find (nat_lt offset) behind)) (none-found (nat_lt offset) c.ahead fail)
       ∙ found-same (nat_lt offset) (nat_le (offset + 1)) behind
       (within-weaker (λ o. at ≤ o) (λ o. nat_lt offset o ≡ nat_le (offset + 1) o) (λ o h. grind (arith, nat_tests)) behind
-      (words-from says true at (graphemes true (drop at body))))
+      (words-from ucd true at (graphemes true (drop at body))))
 
   -- ---- the last start before a bound
 
@@ -195,13 +195,13 @@ module _ (says : Data) (body : List ℕ) (at : ℕ) (part : IsPart body at) wher
     abbrev before : ℕ → Bool
     before o = nat_lt o bound
 
-    last-cut : find before (reverse (body_words says body)) ≡ option_or (find before (reverse behind)) (find before (reverse words-cut.ahead))
+    last-cut : find before (reverse (body_words ucd body)) ≡ option_or (find before (reverse behind)) (find before (reverse words-cut.ahead))
     last-cut =
         let c = words-cut in
         ap (λ os. find before (reverse os)) c.words ∙ ap (find before) (reverse-append c.ahead behind)
         ∙ find-append before (reverse behind) (reverse c.ahead)
 
-    pub last-found : (o : ℕ) → find before (reverse behind) ≡ Some o → find before (reverse (body_words says body)) ≡ Some o
+    pub last-found : (o : ℕ) → find before (reverse behind) ≡ Some o → find before (reverse (body_words ucd body)) ≡ Some o
     last-found o e = last-cut ∙ ap (λ x. option_or x (find before (reverse words-cut.ahead))) e
 
   -- none after the boundary: the last start is before a bound just past it
@@ -222,21 +222,21 @@ module _ (says : Data) (body : List ℕ) (at : ℕ) (part : IsPart body at) wher
         (within-weaker (λ o. o ≤ at) (λ o. nat_lt o bound ≡ nearer o) (λ o h. grind (arith, nat_tests)) (reverse c.ahead)
         (within-reverse (λ o. o ≤ at) c.ahead c.upto))
 
-    pub last-nearer : find (λ o. nat_lt o bound) (reverse (body_words says body)) ≡ find nearer (reverse (body_words says body))
+    pub last-nearer : find (λ o. nat_lt o bound) (reverse (body_words ucd body)) ≡ find nearer (reverse (body_words ucd body))
     last-nearer =
         last-cut bound ∙ ap (λ x. option_or x (find (λ o. nat_lt o bound) (reverse words-cut.ahead))) none ∙ same-ahead
         ∙ sym (last-cut (min bound (at + 1)) ∙ ap (λ x. option_or x (find nearer (reverse words-cut.ahead))) still-none)
 
 -- from a body's start on, all starts are after it or at it
-pub last-of-all : (says : Data) (body : List ℕ) (utf8 : IsUtf8 body) (bound : ℕ)
-    → unwrap_or (find (λ o. nat_lt o bound) (reverse (body_words says body))) 0
-    ≡ unwrap_or (find (λ o. nat_lt o bound) (reverse (word_starts says true 0 (graphemes true body)))) 0
-last-of-all says body utf8 bound =
+pub last-of-all : (ucd : Data) (body : List ℕ) (utf8 : IsUtf8 body) (bound : ℕ)
+    → unwrap_or (find (λ o. nat_lt o bound) (reverse (body_words ucd body))) 0
+    ≡ unwrap_or (find (λ o. nat_lt o bound) (reverse (word_starts ucd true 0 (graphemes true body)))) 0
+last-of-all ucd body utf8 bound =
     let part = part-start body utf8 in
-    let c = words-cut says body 0 part in
+    let c = words-cut ucd body 0 part in
     let before : ℕ → Bool = λ o. nat_lt o bound in
-    ap (λ x. unwrap_or x 0) (last-cut says body 0 part bound)
-    ∙ or-zero (find before (reverse (behind says body 0 part))) (find before (reverse c.ahead))
+    ap (λ x. unwrap_or x 0) (last-cut ucd body 0 part bound)
+    ∙ or-zero (find before (reverse (behind ucd body 0 part))) (find before (reverse c.ahead))
     (zero-found before (reverse c.ahead) (within-reverse (λ o. o ≤ 0) c.ahead c.upto))
 
 -- ---- steps of a search by units
@@ -270,13 +270,13 @@ module _ (bound at : ℕ) (rest : List ℕ) (found : Option ℕ) where
   last-later false h = refl
 
 -- none of the units from an offset on begins before the bound and before the body's end
-module _ (says : Data) (body : List ℕ) (inside : Bool) (at bound : ℕ) where
+module _ (ucd : Data) (body : List ℕ) (inside : Bool) (at bound : ℕ) where
   abbrev left : List ℕ
-  left = word_starts says inside at (graphemes true (drop at body))
+  left = word_starts ucd inside at (graphemes true (drop at body))
 
   pub none-from : min bound (length body) ≤ at → find (λ o. nat_lt o bound) (reverse left) ≡ None
   none-from h = ⊎_elim
-      (λ short. ap (λ us. find (λ o. nat_lt o bound) (reverse (word_starts says inside at us))) (none-left body at (omega (arith, h, short))))
+      (λ short. ap (λ us. find (λ o. nat_lt o bound) (reverse (word_starts ucd inside at us))) (none-left body at (omega (arith, h, short))))
       (λ past. none-found (λ o. nat_lt o bound) (reverse left)
       (within-weaker (λ o. at ≤ o) (λ o. nat_lt o bound ≡ false) (λ o b. grind (arith, nat_tests)) (reverse left)
-      (within-reverse (λ o. at ≤ o) left (words-from says inside at (graphemes true (drop at body)))))) (cases_lt at bound)
+      (within-reverse (λ o. at ≤ o) left (words-from ucd inside at (graphemes true (drop at body)))))) (cases_lt at bound)

@@ -5,12 +5,11 @@ use Rattle.std.proofs.lemmas.Bool.{cases_lt}
 use Rattle.std.proofs.lemmas.Bool.Decides.{nat_tests}
 use Rattle.std.proofs.lemmas.List.{drop_all}
 use Rattle.bx_ucd.specs.Data.{Data}
-use Rattle.bx_index.specs.Paragraphs.{Paragraph, lengths, lengths_of, paragraphs}
-use Rattle.bx_index.specs.Positions.{paragraph_of, total}
+use Rattle.bx_text.specs.index.Paragraphs.{Paragraph, lengths, lengths_of, paragraphs, paragraph_of, total}
 use Rattle.bx_view.specs.declared.moves.Logical.{Logical}
 use Rattle.bx_view.specs.declared.moves.Logical.TheVariants.{Back, Forward}
 use Rattle.bx_view.specs.Laws.{IsGreatestBefore, IsLeastBehind, WordsGoOn}
-use Rattle.bx_view.specs.Standing.{body_at, count, paragraph_at, start_at}
+use Rattle.bx_view.specs.Numbers.{body_at, count, paragraph_at, start_at}
 use Rattle.bx_view.specs.Words.{body_words, step_word, text_stops}
 use Rattle.bx_view.proofs.Numbers.{bytes-append, bytes-length, falls-at, parts-at, start-is}
 use Rattle.bx_view.proofs.Parts.{bytes, text-bytes, text-parts}
@@ -60,16 +59,16 @@ bare-last [] p h = h
 bare-last (q ∷ []) p h = h
 bare-last (q ∷ r ∷ ps) p h = bare-last (r ∷ ps) p h
 
-module _ (says : Data) (text : List ℕ) (utf8 : IsUtf8 text) where
-  last-ends : (n : ℕ) → n < count says text → n + 1 ≡ count says text → start_at says text n + length (body_at says text n) ≡ length text
+module _ (ucd : Data) (text : List ℕ) (utf8 : IsUtf8 text) where
+  last-ends : (n : ℕ) → n < count ucd text → n + 1 ≡ count ucd text → start_at ucd text n + length (body_at ucd text n) ≡ length text
   last-ends n within last =
-      let all = paragraphs says text in
-      let p = paragraph_at says text n in
+      let all = paragraphs ucd text in
+      let p = paragraph_at ucd text n in
       let none : drop (n + 1) all ≡ [] = drop_all (n + 1) all (omega (arith, last)) in
-      let parts : all ≡ take n all ++ p ∷ [] = parts-at says text n within ∙ ap (λ ps. take n all ++ p ∷ ps) none in
-      let bare = bare-last (take n all) p (subst LastIsBare parts (last-bare says (chars text))) in
+      let parts : all ≡ take n all ++ p ∷ [] = parts-at ucd text n within ∙ ap (λ ps. take n all ++ p ∷ ps) none in
+      let bare = bare-last (take n all) p (subst LastIsBare parts (last-bare ucd (chars text))) in
       let whole : text ≡ bytes (take n all) ++ ((p.body ++ p.separator) ++ []) =
-      sym (text-bytes says text utf8) ∙ ap bytes parts ∙ bytes-append (take n all) (p ∷ []) in
+      sym (text-bytes ucd text utf8) ∙ ap bytes parts ∙ bytes-append (take n all) (p ∷ []) in
       omega (
         arith,
         ap length whole,
@@ -78,81 +77,81 @@ module _ (says : Data) (text : List ℕ) (utf8 : IsUtf8 text) where
         length-append p.body p.separator,
         ap length bare,
         bytes-length (take n all),
-        start-is says text n,
+        start-is ucd text n,
       )
 
   module _ (place : ℕ) where
     abbrev n : ℕ
-    n = paragraph_of (lengths says text) place
+    n = paragraph_of (lengths ucd text) place
 
     abbrev start : ℕ
-    start = start_at says text n
+    start = start_at ucd text n
 
     abbrev body : List ℕ
-    body = body_at says text n
+    body = body_at ucd text n
 
     order : start ≤ place
-    order = (falls-at says text place n utf8 refl).order
+    order = (falls-at ucd text place n utf8 refl).order
 
-    within : n < count says text
-    within = (falls-at says text place n utf8 refl).within
+    within : n < count ucd text
+    within = (falls-at ucd text place n utf8 refl).within
 
-    on-here : place - start < length body → place < step_word says text Forward place
+    on-here : place - start < length body → place < step_word ucd text Forward place
     on-here h =
-        let far = found-past (place - start) (length body) h (body_words says body) in
-        omega (arith, far, order, forward-here says text utf8 place n refl h)
+        let far = found-past (place - start) (length body) h (body_words ucd body) in
+        omega (arith, far, order, forward-here ucd text utf8 place n refl h)
 
-    on-next : length body ≤ place - start → n + 1 < count says text → place < step_word says text Forward place
+    on-next : length body ≤ place - start → n + 1 < count ucd text → place < step_word ucd text Forward place
     on-next h more =
-        let past = next-past says text utf8 place n refl more in omega (arith, past, forward-next says text utf8 place n refl h more)
+        let past = next-past ucd text utf8 place n refl more in omega (arith, past, forward-next ucd text utf8 place n refl h more)
 
-    forward : place < length text → place < step_word says text Forward place
+    forward : place < length text → place < step_word ucd text Forward place
     forward h = ⊎_elim (λ here. on-here here)
         (λ past. ⊎_elim (λ more. on-next past more)
-        (λ last. let close : n + 1 ≡ count says text = omega (arith, last, within) in absurd (omega (arith, last-ends n within close, past, h, order)))
-        (cases_lt (n + 1) (count says text))) (cases_lt (place - start) (length body))
+        (λ last. let close : n + 1 ≡ count ucd text = omega (arith, last, within) in absurd (omega (arith, last-ends n within close, past, h, order)))
+        (cases_lt (n + 1) (count ucd text))) (cases_lt (place - start) (length body))
 
-    back-at : (k : ℕ) → n ≡ k → 0 < place → place ≤ start → step_word says text Back place < place
-    back-at zero e h first = let none : start ≡ 0 = ap (start_at says text) e in absurd (omega (arith, none, h, first))
+    back-at : (k : ℕ) → n ≡ k → 0 < place → place ≤ start → step_word ucd text Back place < place
+    back-at zero e h first = let none : start ≡ 0 = ap (start_at ucd text) e in absurd (omega (arith, none, h, first))
     back-at (suc m) e h first =
         let more : n ≡ m + 1 = omega (arith, e) in
-        let below = begins-before says text utf8 place n refl first m more in
-        let near = found-before (place - start_at says text m) (omega (arith, below)) (reverse (body_words says (body_at says text m))) in
-        omega (arith, near, below, back-above says text utf8 place n refl first m more)
+        let below = begins-before ucd text utf8 place n refl first m more in
+        let near = found-before (place - start_at ucd text m) (omega (arith, below)) (reverse (body_words ucd (body_at ucd text m))) in
+        omega (arith, near, below, back-above ucd text utf8 place n refl first m more)
 
-    back : 0 < place → step_word says text Back place < place
+    back : 0 < place → step_word ucd text Back place < place
     back h = ⊎_elim
         (λ past.
-        let near = found-before (place - start) (omega (arith, past)) (reverse (body_words says body)) in
-        omega (arith, near, order, back-here says text utf8 place n refl past))
+        let near = found-before (place - start) (omega (arith, past)) (reverse (body_words ucd body)) in
+        omega (arith, near, order, back-here ucd text utf8 place n refl past))
         (λ first. back-at n refl h first) (cases_lt start place)
 
-  stops : (way : Logical) → Ascends (text_stops says way text)
-  stops way = stops-ascend says way 0 (paragraphs says text) (text-parts says text utf8).utf8
+  stops : (way : Logical) → Ascends (text_stops ucd way text)
+  stops way = stops-ascend ucd way 0 (paragraphs ucd text) (text-parts ucd text utf8).utf8
 
-  next-stop : (place : ℕ) → place < length text → IsLeastBehind (text_stops says Forward text) place (step_word says text Forward place)
+  next-stop : (place : ℕ) → place < length text → IsLeastBehind (text_stops ucd Forward text) place (step_word ucd text Forward place)
   next-stop place h =
-      let os = text_stops says Forward text in
+      let os = text_stops ucd Forward text in
       let (n, found) = found-if-past place (find (nat_lt place) os) (forward place h) in
       subst (IsLeastBehind os place) (sym (ap (λ x. unwrap_or x place) found)) (first-is-least place os (stops Forward) n found)
 
-  previous-stop : (place : ℕ) → 0 < place → IsGreatestBefore (text_stops says Back text) place (step_word says text Back place)
+  previous-stop : (place : ℕ) → 0 < place → IsGreatestBefore (text_stops ucd Back text) place (step_word ucd text Back place)
   previous-stop place h =
-      let os = text_stops says Back text in
+      let os = text_stops ucd Back text in
       let (n, found) = found-if-ahead place (find (λ p. nat_lt p place) (reverse os)) (back place h) in
       subst (IsGreatestBefore os place) (sym (ap (λ x. unwrap_or x place) found)) (last-is-greatest place os (stops Back) n found)
 
-  stays-at-end : (place : ℕ) → length text ≤ place → step_word says text Forward place ≡ place
+  stays-at-end : (place : ℕ) → length text ≤ place → step_word ucd text Forward place ≡ place
   stays-at-end place h =
-      let ps = paragraphs says text in
-      let all : total (map lengths_of ps) ≡ length text = sym (bytes-length ps) ∙ ap length (text-bytes says text utf8) in
-      let upto = from-upto says Forward 0 ps (text-parts says text utf8).utf8 in
+      let ps = paragraphs ucd text in
+      let all : total (map lengths_of ps) ≡ length text = sym (bytes-length ps) ∙ ap length (text-bytes ucd text utf8) in
+      let upto = from-upto ucd Forward 0 ps (text-parts ucd text utf8).utf8 in
       let none = within-weaker (λ o. o ≤ 0 + total (map lengths_of ps)) (λ o. nat_lt place o ≡ false)
-      (λ o below. let upper : o ≤ place = omega (arith, below, all, h) in grind (arith, nat_tests)) (text_stops says Forward text) upto in
-      ap (λ x. unwrap_or x place) (none-found (nat_lt place) (text_stops says Forward text) none)
+      (λ o below. let upper : o ≤ place = omega (arith, below, all, h) in grind (arith, nat_tests)) (text_stops ucd Forward text) upto in
+      ap (λ x. unwrap_or x place) (none-found (nat_lt place) (text_stops ucd Forward text) none)
 
-  stays-at-start : step_word says text Back 0 ≡ 0
-  stays-at-start = none-below-0 (reverse (text_stops says Back text))
+  stays-at-start : step_word ucd text Back 0 ≡ 0
+  stays-at-start = none-below-0 (reverse (text_stops ucd Back text))
 
-  pub words-go-on : WordsGoOn says text (step_word says text)
+  pub words-go-on : WordsGoOn ucd text (step_word ucd text)
   words-go-on = record { forward = next-stop; back = previous-stop; at_end = stays-at-end; at_start = stays-at-start }

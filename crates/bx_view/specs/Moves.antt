@@ -7,8 +7,6 @@ use Rattle.bx_paragraph.specs.BodyRows.{last_of, last_offset}
 use Rattle.bx_paragraph.specs.Slots.{beside, entry, or_else, reading_end, reading_start, reads_on}
 use Rattle.bx_view.specs.declared.moves.Logical.{Logical}
 use Rattle.bx_view.specs.declared.moves.Logical.TheVariants.{Back, Forward}
-use Rattle.bx_view.specs.declared.moves.Move.{Move}
-use Rattle.bx_view.specs.declared.moves.Move.TheVariants as moves
 use Rattle.bx_view.specs.declared.moves.Vertical.{Vertical}
 use Rattle.bx_view.specs.declared.moves.Vertical.TheVariants.{Up, Down}
 use Rattle.bx_view.specs.TextRows.{TextRow, cell_of, first, places, row_at, row_of}
@@ -103,23 +101,4 @@ word_way false = Back
 
 -- WordRight and WordLeft: WordForward toward the side that the place's paragraph is read toward, else WordBack
 abbrev pub word_towards : Data → List ℕ → List TextRow → Visual → ℕ → ℕ
-word_towards says text rows side place = step_word says text (word_way (reads_on side (row_at rows (row_of rows place)).row)) place
-
--- the place to which a move leads, in the rows of a text; `says` is what the tables say
-abbrev pub moved : Data → List ℕ → ℕ → List TextRow → Move → ℕ → ℕ
-moved says text w rows (moves.Logical way) place = step_logical rows way place
-moved says text w rows (moves.Visual side) place = step_visual w rows side place
-moved says text w rows (moves.Rows way n) place = rows_away w rows way n (cell_of w rows place) place
-moved says text w rows (moves.RowsIn way n column) place = rows_away w rows way n column place
-moved says text w rows moves.RowHome place = row_home rows place
-moved says text w rows moves.RowEnd place = row_end rows place
-moved says text w rows (moves.Word way) place = step_word says text way place
-moved says text w rows (moves.WordTowards side) place = word_towards says text rows side place
-moved says text w rows moves.TextStart place = 0
-moved says text w rows moves.TextEnd place = length text
-
--- the moves to an end of the row, which lead to a place from any offset
-abbrev pub is_to_row_end : Move → Bool
-is_to_row_end moves.RowHome = true
-is_to_row_end moves.RowEnd = true
-is_to_row_end _ = false
+word_towards ucd text rows side place = step_word ucd text (word_way (reads_on side (row_at rows (row_of rows place)).row)) place

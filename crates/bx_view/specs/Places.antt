@@ -1,9 +1,10 @@
--- The places of a text, from its paragraphs and clusters alone: without window, direction and rows. `says` is what the tables
+-- The places of a text, from its paragraphs and clusters alone: without window, direction and rows. `ucd` is what the tables
 -- say, a text its bytes.
-use Rattle.std.specs.Prelude.{ℕ, ◌+◌, true, List, [], ◌∷◌, ◌++◌, length, flat_map, Contains}
+use Rattle.std.specs.Prelude.{ℕ, true, List, [], ◌∷◌, ◌++◌, flat_map, Contains}
 use Rattle.bx_ucd.specs.Data.{Data}
 use Rattle.unicode_segmentation.specs.Grapheme.{graphemes}
-use Rattle.bx_index.specs.Paragraphs.{Paragraph, paragraphs}
+use Rattle.bx_text.specs.index.Paragraphs.{Paragraph, paragraphs}
+use Rattle.bx_view.specs.Numbers.{boundaries}
 
 -- bytes as one piece; no piece, if there are none
 abbrev pub one_piece : List ℕ → List (List ℕ)
@@ -16,17 +17,12 @@ pieces_of p = graphemes true p.body ++ one_piece p.separator
 
 -- a text in pieces
 abbrev pub pieces : Data → List ℕ → List (List ℕ)
-pieces says text = flat_map pieces_of (paragraphs says text)
-
--- the start of each piece and the end of the last; the first begins at the offset `start`
-abbrev pub boundaries : ℕ → List (List ℕ) → List ℕ
-boundaries start [] = start ∷ []
-boundaries start (p ∷ ps) = start ∷ boundaries (start + length p) ps
+pieces ucd text = flat_map pieces_of (paragraphs ucd text)
 
 -- the places of a text: the boundaries of its clusters and its separators
 abbrev pub text_places : Data → List ℕ → List ℕ
-text_places says text = boundaries 0 (pieces says text)
+text_places ucd text = boundaries 0 (pieces ucd text)
 
 -- an offset is a place of the text, in any window
 abbrev pub IsTextPlace : Data → List ℕ → ℕ → Type 0
-IsTextPlace says text offset = Contains (text_places says text) offset
+IsTextPlace ucd text offset = Contains (text_places ucd text) offset

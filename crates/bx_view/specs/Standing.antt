@@ -1,49 +1,33 @@
--- A paragraph of a text by its number, and the numbers of its rows in the text, all from 0. `says` is what the tables say, `w`
+-- A paragraph of a text by its number, and the numbers of its rows in the text, all from 0. `ucd` is what the tables say, `w`
 -- the window's columns.
-use Rattle.std.specs.Prelude.{◌≡◌, ℕ, ◌+◌, ◌<◌, ◌≤◌, List, [], length, take, slice_index_or, slice_range}
+use Rattle.std.specs.Prelude.{◌≡◌, ℕ, ◌+◌, ◌<◌, ◌≤◌, List, length, take, slice_range}
 use Rattle.bx_ucd.specs.Data.{Data}
-use Rattle.bx_terms.specs.declared.base.Base.{Base}
-use Rattle.bx_text.specs.Edits.{IsRange}
-use Rattle.bx_index.specs.Paragraphs.{Paragraph, bare, lengths, paragraphs}
-use Rattle.bx_index.specs.Positions.{total}
+use Rattle.bx_common.specs.declared.base.Base.{Base}
+use Rattle.bx_text.specs.Changes.{IsRange}
+use Rattle.bx_text.specs.index.Paragraphs.{paragraphs}
 use Rattle.bx_paragraph.specs.BodyRows.{BodyRow, body_rows}
 use Rattle.bx_view.specs.TextRows.{rows_from}
-
--- the number of paragraphs of a text
-abbrev pub count : Data → List ℕ → ℕ
-count says text = length (paragraphs says text)
-
--- paragraph `number`; an empty one if there is none
-abbrev pub paragraph_at : Data → List ℕ → ℕ → Paragraph
-paragraph_at says text number = slice_index_or (paragraphs says text) number (bare [])
-
--- the body of paragraph `number`
-abbrev pub body_at : Data → List ℕ → ℕ → List ℕ
-body_at says text number = (paragraph_at says text number).body
-
--- the offset at which the body of paragraph `number` begins
-abbrev pub start_at : Data → List ℕ → ℕ → ℕ
-start_at says text number = total (take number (lengths says text))
+use Rattle.bx_view.specs.Numbers.{body_at, count, start_at}
 
 -- the body of paragraph `number` is the text's bytes from `a` to `b`
-pub record IsSpan (says : Data) (text : List ℕ) (number a b : ℕ) : Type 0 where
-  pub there : number < count says text
-  pub start : a ≡ start_at says text number
-  pub body : slice_range text a b ≡ body_at says text number
+pub record IsSpan (ucd : Data) (text : List ℕ) (number a b : ℕ) : Type 0 where
+  pub there : number < count ucd text
+  pub start : a ≡ start_at ucd text number
+  pub body : slice_range text a b ≡ body_at ucd text number
   pub range : IsRange text a b
   pub order : a ≤ b
   pub within : b ≤ length text
 
 -- the rows of paragraph `number`
 abbrev pub rows_in : Data → Base → ℕ → List ℕ → ℕ → List BodyRow
-rows_in says base w text number = body_rows says base w (body_at says text number)
+rows_in ucd base w text number = body_rows ucd base w (body_at ucd text number)
 
 -- the number of rows of the paragraphs before paragraph `number`
 abbrev pub rows_ahead : Data → Base → ℕ → List ℕ → ℕ → ℕ
-rows_ahead says base w text number = length (rows_from says base w 0 (take number (paragraphs says text)))
+rows_ahead ucd base w text number = length (rows_from ucd base w 0 (take number (paragraphs ucd text)))
 
 -- row `k` of paragraph `number` is row `n` of the text
-pub record IsRow (says : Data) (base : Base) (w : ℕ) (text : List ℕ) (number k n : ℕ) : Type 0 where
-  pub paragraph : number < count says text
-  pub row : k < length (rows_in says base w text number)
-  pub is : n ≡ rows_ahead says base w text number + k
+pub record IsRow (ucd : Data) (base : Base) (w : ℕ) (text : List ℕ) (number k n : ℕ) : Type 0 where
+  pub paragraph : number < count ucd text
+  pub row : k < length (rows_in ucd base w text number)
+  pub is : n ≡ rows_ahead ucd base w text number + k

@@ -1,10 +1,9 @@
--- The rows of a whole text in a window of `w` columns, numbered from 0. Offsets count bytes of the text. `says` is what the
+-- The rows of a whole text in a window of `w` columns, numbered from 0. Offsets count bytes of the text. `ucd` is what the
 -- tables say.
 use Rattle.std.specs.Prelude.{ℕ, ◌+◌, ◌-◌, List, [], ◌∷◌, ◌++◌, map, flat_map, slice_index_or, Contains}
 use Rattle.bx_ucd.specs.Data.{Data}
-use Rattle.bx_terms.specs.declared.base.Base.{Base}
-use Rattle.bx_index.specs.Paragraphs.{Paragraph, paragraphs, lengths_of}
-use Rattle.bx_index.specs.Positions.{bytes_of}
+use Rattle.bx_common.specs.declared.base.Base.{Base}
+use Rattle.bx_text.specs.index.Paragraphs.{Paragraph, paragraphs, lengths_of, bytes_of}
 use Rattle.bx_rows.specs.RowPicture.{Glyph}
 use Rattle.bx_paragraph.specs.BodyRows.{BodyRow, body_rows, first_of, falls_in, no_row, offsets_of, row_glyphs}
 use Rattle.bx_paragraph.specs.Slots.{column_of, slot_offsets}
@@ -20,13 +19,13 @@ text_row start r = record { start = start; row = r }
 
 -- the rows of paragraphs, of which the first begins at the offset `start`
 abbrev pub rows_from : Data → Base → ℕ → ℕ → List Paragraph → List TextRow
-rows_from says base w start [] = []
-rows_from says base w start (p ∷ ps) =
-    map (text_row start) (body_rows says base w p.body) ++ rows_from says base w (start + bytes_of (lengths_of p)) ps
+rows_from ucd base w start [] = []
+rows_from ucd base w start (p ∷ ps) =
+    map (text_row start) (body_rows ucd base w p.body) ++ rows_from ucd base w (start + bytes_of (lengths_of p)) ps
 
 -- the rows of a text
 abbrev pub text_rows : Data → Base → ℕ → List ℕ → List TextRow
-text_rows says base w text = rows_from says base w 0 (paragraphs says text)
+text_rows ucd base w text = rows_from ucd base w 0 (paragraphs ucd text)
 
 -- the offset at which a row begins
 abbrev pub first : TextRow → ℕ
@@ -71,4 +70,4 @@ cell_of w rows place = let r = row_at rows (row_of rows place) in column_of w r.
 
 -- the glyphs of a row from left to right
 abbrev pub text_row_glyphs : Data → ℕ → TextRow → List Glyph
-text_row_glyphs says w r = row_glyphs says w r.row
+text_row_glyphs ucd w r = row_glyphs ucd w r.row

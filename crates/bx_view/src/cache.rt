@@ -1,14 +1,13 @@
 //! The paragraphs that a view caches.
 ghost use Rattle.std.specs.Prelude.{◌≡◌, ◌≤◌, ◌<◌, ◌+◌, ◌⊎◌, ◌↔◌, ℕ, List, [], true, IfOk, IfSome, IsTrue, MatchOption, OnOk, length, slice_range};
 ghost use Rattle.std.specs.List.{splice};
-ghost use Rattle.bx_terms.specs.Sizes.{is_side};
-ghost use Rattle.bx_text.specs.Edits.{IsRange};
+ghost use Rattle.bx_common.specs.Characters.{is_side};
+ghost use Rattle.bx_text.specs.Changes.{IsRange};
 ghost use Rattle.bx_view.specs.Caching.{AreCached, FitsLimit, HasBody, Caches, IsCached, cached_bytes, most_cached};
 
-use crate::error::ViewError;
-use crate::text_span::TextSpan;
+use crate::span::TextSpan;
+use bx_common::{Base, OutOfMemory};
 use bx_paragraph::ParagraphLayout;
-use bx_terms::Base;
 use bx_text::Text;
 use bx_ucd::BidiData;
 use std::alloc::{AllocError, Global};
@@ -93,7 +92,7 @@ fn drop_oldest<D: BidiData>(cache: &mut Vec<ParagraphLayout>, tables: &D, base: 
     ensures room { length cache.new.items < most_cached }
     ensures bytes { cached_bytes cache.new.items ≤ cached_bytes cache.old.items }
 {
-    // used by the contract alone
+    // Only the contract names the tables and the base direction.
     let _ = tables;
     let _ = base;
     if cache.len() >= MOST_CACHED {
@@ -152,14 +151,14 @@ pub(crate) fn lay_out_in<D: BidiData>(
     tables: &D,
     base: Base,
     w: u16,
-) -> Result<(), ViewError>
+) -> Result<(), OutOfMemory>
     requires cache { AreCached (D.data tables.now) base cache.old.items }
     requires within { i < length cache.old.items }
     requires side { is_side w ≡ true }
     ensures cache { AreCached (D.data tables.now) base cache.new.items }
     ensures body { OnOk result ((body : List ℕ) → HasBody body cache.old.items i → Caches body w cache.new.items i) }
 {
-    // used by the contract alone
+    // Only the contract names the base direction.
     let _ = base;
     if cache[i].width() != w {
         cache[i].set_width(tables, w)?;
@@ -178,7 +177,7 @@ pub(crate) fn edit_in<D: BidiData>(
     new: &str,
     tables: &D,
     base: Base,
-) -> Result<bool, ViewError>
+) -> Result<bool, OutOfMemory>
     requires cache { AreCached (D.data tables.now) base cache.old.items }
     requires within { i < length cache.old.items }
     requires order { range.start ≤ range.end }
@@ -187,7 +186,7 @@ pub(crate) fn edit_in<D: BidiData>(
     ensures body { IfOk result (λ did. did ≡ true → (body : List ℕ) → (w : ℕ) → Caches body w cache.old.items i
         → Caches (splice body range.start range.end new.now) w cache.new.items i) }
 {
-    // used by the contract alone
+    // Only the contract names the base direction.
     let _ = base;
     let body = cache[i].body();
     if !body.is_char_boundary(range.start) || !body.is_char_boundary(range.end) {

@@ -2,26 +2,27 @@
 ghost use Rattle.std.specs.Prelude.{◌≡◌, ◌≤◌, ◌+◌, ◌==◌, ◌||◌, IfOk, IfSome, chars, length, nat_lt};
 ghost use Rattle.std.specs.List.{list_any};
 ghost use Rattle.bx_paragraph.specs.Layout.{IsLayoutBy, rows_by as rows_of_body};
-ghost use Rattle.bx_index.specs.Paragraphs.{is_separator};
+ghost use Rattle.bx_text.specs.index.Paragraphs.{is_separator};
 ghost use Rattle.bx_text.specs.Edits.{splice};
 ghost use Rattle.bx_view.specs.BodyPlaces.{place_in_body};
 ghost use Rattle.bx_view.specs.FoundRow.{rows_by};
 ghost use Rattle.bx_view.specs.Caching as caching;
 ghost use Rattle.bx_view.specs.Moves.{place_from};
 ghost use Rattle.bx_view.specs.Places.{IsTextPlace};
-ghost use Rattle.bx_view.specs.Source.{IsViewBy, Keeps, bytes};
+ghost use Rattle.bx_view.specs.TextRef.{IsViewBy, Keeps, bytes};
 
 use crate::cache::{edit_in, find_in, lay_out_in};
-use crate::error::ViewError;
 use crate::placed::first_from;
-use crate::source::Source;
 use crate::span::paragraph_under;
+use crate::text_ref::TextRef;
 use crate::view::View;
-use bx_index::separates;
+use bx_common::OutOfMemory;
 use bx_paragraph::{LentRow, ParagraphLayout};
+use bx_text::separates;
 use bx_ucd::BidiData;
 
-/// A range of bytes in the body of a cached paragraph, from the offset `start` up to `stop`.
+/// A range of bytes in the body of a cached paragraph, from the offset `start` up to `stop`. It is no plain range, since its offsets
+/// mean nothing without the paragraph.
 #[derive(Clone, Copy)]
 pub struct CachedRange {
     // the paragraph's index among the cached ones
@@ -50,7 +51,7 @@ fn place_in_body<D: BidiData>(
     paragraph: &ParagraphLayout,
     offset: usize,
     tables: &D,
-) -> Result<usize, ViewError>
+) -> Result<usize, OutOfMemory>
     requires data { IsLayoutBy (D.data tables.now) paragraph.now }
     ensures place { IfOk result (λ o. o ≡ place_in_body (rows_of_body (D.data tables.now) paragraph.now) offset) }
     ensures within { IfOk result (λ o. o ≤ length paragraph.now.body) }
@@ -70,6 +71,7 @@ fn place_in_body<D: BidiData>(
     if row + 1 < rows {
         return Ok(paragraph.first(row + 1));
     }
+    // The proof compares the place, so it has a name.
     let last = lent.last()?;
     Ok(last)
 }
@@ -81,11 +83,11 @@ impl View {
     /// other than the text's first, where a CR before it and an LF may join into one separator.
     pub fn edit<D: BidiData>(
         &mut self,
-        source: &Source<'_, D>,
+        source: &TextRef<'_, D>,
         start: usize,
         stop: usize,
         new: &str,
-    ) -> Result<Option<usize>, ViewError>
+    ) -> Result<Option<usize>, OutOfMemory>
         requires data { IsViewBy source.now self.old }
         ensures keeps { Keeps source.now self.old self.new }
         ensures place { IfOk result (λ found. IfSome found (λ o. o ≡ place_from
@@ -121,7 +123,7 @@ impl View {
     /// is not cached or the range exceeds it. Allocates nothing.
     pub fn cached_range<D: BidiData>(
         &mut self,
-        source: &Source<'_, D>,
+        source: &TextRef<'_, D>,
         start: usize,
         stop: usize,
     ) -> Option<CachedRange>
@@ -147,7 +149,7 @@ impl View {
         range: CachedRange,
         new: &str,
         tables: &D,
-    ) -> Result<(), ViewError>
+    ) -> Result<(), OutOfMemory>
         requires data { caching.IsViewBy (D.data tables.now) self.old }
         ensures keeps { caching.Keeps (D.data tables.now) self.old self.new }
     {

@@ -2,14 +2,14 @@
 ghost use Rattle.std.specs.Prelude.{◌≡◌, ◌-◌, ◌<◌, ◌≤◌, ◌∷◌, IfOk, drop, length, min, true};
 ghost use Rattle.std.specs.Str.{IsCharBoundary};
 ghost use Rattle.unicode_segmentation.specs.Grapheme.{graphemes};
-ghost use Rattle.bx_view.specs.Going.{place_of, unit_place};
-ghost use Rattle.bx_view.specs.Places.{IsTextPlace, boundaries};
-ghost use Rattle.bx_view.specs.Source.{IsViewBy, Keeps, bytes, count};
+ghost use Rattle.bx_view.specs.Numbers.{boundaries, place_of, unit_place};
+ghost use Rattle.bx_view.specs.Places.{IsTextPlace};
+ghost use Rattle.bx_view.specs.TextRef.{IsViewBy, Keeps, bytes, count};
 
-use crate::error::ViewError;
-use crate::source::Source;
 use crate::span::span_of;
+use crate::text_ref::TextRef;
 use crate::view::View;
+use bx_common::OutOfMemory;
 use bx_ucd::BidiData;
 use unicode_segmentation::UnicodeSegmentation;
 
@@ -34,7 +34,7 @@ fn unit_start(body: &str, number: usize) -> usize
 {
     let mut at = 0;
     let mut left = number;
-    'units: while left > 0 && at < body.len() {
+    while left > 0 && at < body.len() {
         at = unit_end(body, at);
         left -= 1;
     }
@@ -42,7 +42,7 @@ fn unit_start(body: &str, number: usize) -> usize
 }
 
 /// The number, from 0, of a paragraph by its number from 1, where 0 means 1; the last one, if there are fewer.
-fn paragraph_number<D: BidiData>(source: &Source<'_, D>, paragraph: usize) -> usize
+fn paragraph_number<D: BidiData>(source: &TextRef<'_, D>, paragraph: usize) -> usize
     ensures number { result ≡ min (paragraph - 1) (count source.now - 1) }
     ensures there { result < count source.now }
 {
@@ -55,10 +55,10 @@ impl View {
     /// paragraph too large it is in the last one, for a unit too large it is the paragraph's end.
     pub fn place_of<D: BidiData>(
         &mut self,
-        source: &Source<'_, D>,
+        source: &TextRef<'_, D>,
         paragraph: usize,
         unit: usize,
-    ) -> Result<usize, ViewError>
+    ) -> Result<usize, OutOfMemory>
         requires data { IsViewBy source.now self.old }
         ensures keeps { Keeps source.now self.old self.new }
         ensures place { IfOk result (λ o. o ≡ place_of (D.data source.now.tables.now) (bytes source.now) paragraph unit) }

@@ -1,18 +1,30 @@
-//! Rows of the text.
+//! Rows of the text, and the handles by which a view finds them.
 ghost use Rattle.std.specs.Prelude.{◌≡◌};
 ghost use Rattle.bx_view.specs.Placed.{columns, placed};
-ghost use Rattle.bx_view.specs.Source.{IsOfText, OfRow, Stands};
+ghost use Rattle.bx_view.specs.TextRef.{IsOfText, OfRow, Stands};
 ghost use Rattle.bx_view.specs.TextRows.{first};
 
-use crate::row_at::RowAt;
-use crate::source::Source;
+use crate::text_ref::TextRef;
 use crate::view::View;
 use bx_paragraph::LentRow;
 use bx_ucd::BidiData;
 
+/// A row of a text, found by a view. It is valid until that view searches for another row.
+#[derive(Clone, Copy)]
+pub struct RowAt {
+    /// The number of the row's paragraph, from 0.
+    pub paragraph: usize,
+    /// The offset, in bytes of the text, at which that paragraph's body begins.
+    pub start: usize,
+    /// The row's number in the paragraph, from 0.
+    pub row: usize,
+    /// The index of the cached paragraph.
+    pub cached: usize,
+}
+
 impl View {
     /// Lends a row with its paragraph and tables.
-    pub fn row<'t, D: BidiData>(&self, source: &Source<'t, D>, at: RowAt) -> LentRow<'_, 't, D>
+    pub fn row<'t, D: BidiData>(&self, source: &TextRef<'t, D>, at: RowAt) -> LentRow<'_, 't, D>
         requires row { Stands source.now self.now at }
         ensures start { result.start ≡ at.start }
         ensures columns { columns result ≡ self.now.w }
@@ -31,7 +43,7 @@ impl View {
     }
 
     /// The offset at which a row begins, in bytes of the text.
-    pub fn first_in<D: BidiData>(&self, source: &Source<'_, D>, at: RowAt) -> usize
+    pub fn first_in<D: BidiData>(&self, source: &TextRef<'_, D>, at: RowAt) -> usize
         requires row { Stands source.now self.now at }
         ensures { OfRow source.now self.now at (λ r. result ≡ first r) }
     {

@@ -1,6 +1,18 @@
 //! The cursor's moves.
 
+mod by_rows;
+mod cursor;
+mod placed;
+mod pointing;
+mod row_ends;
+mod text_order;
+mod visual;
+mod word_moves;
+mod words;
+
 use bx_paragraph::Visual;
+pub use cursor::moved;
+pub use pointing::pointed_at;
 
 /// A direction in text order.
 #[derive(Clone, Copy)]

@@ -1,24 +1,24 @@
 //! The first place at or after an offset, and the last one at or before it.
 ghost use Rattle.std.specs.Prelude.{◌≡◌, true, IfOk, OnOk};
 ghost use Rattle.std.specs.Str.{IsCharBoundary};
-ghost use Rattle.bx_terms.specs.Sizes.{is_side};
+ghost use Rattle.bx_common.specs.Characters.{is_side};
 ghost use Rattle.bx_view.specs.Moves.{place_at, place_from};
 ghost use Rattle.bx_view.specs.Places.{IsTextPlace};
-ghost use Rattle.bx_view.specs.Source.{IsViewBy, Keeps, bytes, rows};
+ghost use Rattle.bx_view.specs.TextRef.{IsViewBy, Keeps, bytes, rows};
 
-use crate::error::ViewError;
 use crate::placed::{first_place_from, last_place, last_place_at};
-use crate::source::Source;
+use crate::text_ref::TextRef;
 use crate::view::View;
+use bx_common::OutOfMemory;
 use bx_ucd::BidiData;
 
 impl View {
     /// The first place at or after an offset; the text's last place, if there is none.
     pub fn place_from<D: BidiData>(
         &mut self,
-        source: &Source<'_, D>,
+        source: &TextRef<'_, D>,
         offset: usize,
-    ) -> Result<usize, ViewError>
+    ) -> Result<usize, OutOfMemory>
         requires data { IsViewBy source.now self.old }
         ensures keeps { Keeps source.now self.old self.new }
         ensures place { IfOk result (λ o. o ≡ place_from (rows source.now self.old) offset) }
@@ -31,6 +31,7 @@ impl View {
             return Ok(place);
         }
         let Some(next) = self.next_row(source, at)? else {
+            // The proof compares the place, so it has a name.
             let last = last_place(&self.row(source, at))?;
             return Ok(last);
         };
@@ -40,9 +41,9 @@ impl View {
     /// The place of an offset: the last place at or before it.
     pub fn place_at<D: BidiData>(
         &mut self,
-        source: &Source<'_, D>,
+        source: &TextRef<'_, D>,
         offset: usize,
-    ) -> Result<usize, ViewError>
+    ) -> Result<usize, OutOfMemory>
         requires data { IsViewBy source.now self.old }
         ensures keeps { Keeps source.now self.old self.new }
         ensures place { IfOk result (λ o. o ≡ place_at (rows source.now self.old) offset) }

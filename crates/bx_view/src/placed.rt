@@ -5,7 +5,7 @@ ghost use Rattle.bx_view.specs.Moves.{place_in};
 ghost use Rattle.bx_view.specs.Placed.{placed};
 ghost use Rattle.bx_view.specs.TextRows.{places_of};
 
-use crate::error::ViewError;
+use bx_common::OutOfMemory;
 use bx_paragraph::LentRow;
 use bx_ucd::BidiData;
 
@@ -35,7 +35,7 @@ pub fn place_of<D: BidiData>(row: &LentRow<'_, '_, D>, offset: Option<usize>) ->
 }
 
 /// The last place of the row.
-pub fn last_place<D: BidiData>(row: &LentRow<'_, '_, D>) -> Result<usize, ViewError>
+pub fn last_place<D: BidiData>(row: &LentRow<'_, '_, D>) -> Result<usize, OutOfMemory>
     ensures { IfOk result (λ o. o ≡ row.now.start + last_of (placed row.now).row) }
 {
     let offset = row.last()?;
@@ -46,7 +46,7 @@ pub fn last_place<D: BidiData>(row: &LentRow<'_, '_, D>) -> Result<usize, ViewEr
 pub(crate) fn first_place_from<D: BidiData>(
     row: &LentRow<'_, '_, D>,
     offset: usize,
-) -> Result<Option<usize>, ViewError>
+) -> Result<Option<usize>, OutOfMemory>
     requires { row.now.start ≤ offset }
     ensures { IfOk result (λ o. o ≡ find (nat_le offset) (places_of (placed row.now))) }
 {
@@ -59,7 +59,7 @@ pub(crate) fn first_place_from<D: BidiData>(
 pub(crate) fn last_place_at<D: BidiData>(
     row: &LentRow<'_, '_, D>,
     offset: usize,
-) -> Result<Option<usize>, ViewError>
+) -> Result<Option<usize>, OutOfMemory>
     requires { row.now.start ≤ offset }
     ensures { IfOk result (λ o. o ≡ find (λ p. nat_le p offset) (reverse (places_of (placed row.now)))) }
 {

@@ -1,15 +1,14 @@
 //! The position of a place in its row and its paragraph.
 ghost use Rattle.std.specs.Prelude.{◌≡◌, ◌≤◌, IfOk};
-ghost use Rattle.bx_index.specs.Paragraphs.{lengths};
-ghost use Rattle.bx_index.specs.Positions.{paragraph_of};
+ghost use Rattle.bx_text.specs.index.Paragraphs.{lengths, paragraph_of};
 ghost use Rattle.bx_view.specs.Position.{IsPosition};
-ghost use Rattle.bx_view.specs.Source.{IsViewBy, Keeps, StandsOn, bytes, rows};
+ghost use Rattle.bx_view.specs.TextRef.{IsViewBy, Keeps, StandsOn, bytes, rows};
 ghost use Rattle.bx_view.specs.TextRows.{cell_of, row_of};
 
-use crate::error::ViewError;
-use crate::row_at::RowAt;
-use crate::source::Source;
+use crate::in_row::RowAt;
+use crate::text_ref::TextRef;
 use crate::view::View;
+use bx_common::OutOfMemory;
 use bx_ucd::BidiData;
 
 /// The position of a place. All fields count from 1.
@@ -27,16 +26,16 @@ impl View {
     /// The position of a place in its row, `at`.
     pub(crate) fn position<D: BidiData>(
         &self,
-        source: &Source<'_, D>,
+        source: &TextRef<'_, D>,
         at: RowAt,
         place: usize,
-    ) -> Result<Position, ViewError>
+    ) -> Result<Position, OutOfMemory>
         requires row { StandsOn source.now self.now at (row_of (rows source.now self.now) place) }
         requires paragraph { at.paragraph ≡ paragraph_of (lengths (D.data source.now.tables.now) (bytes source.now)) place }
         requires order { at.start ≤ place }
         ensures { IfOk result (IsPosition (D.data source.now.tables.now) self.now.w (bytes source.now) (rows source.now self.now) place) }
     {
-        // proof only: the number of paragraphs is within its limit
+        // `count` promises that the number of paragraphs is a `usize`.
         let _count = source.index.count();
         let row = self.row(source, at);
         let standing = row.standing(place - at.start)?;
@@ -50,9 +49,9 @@ impl View {
     /// The column, from 1, of the cell of a place.
     pub fn cell_of<D: BidiData>(
         &mut self,
-        source: &Source<'_, D>,
+        source: &TextRef<'_, D>,
         place: usize,
-    ) -> Result<u16, ViewError>
+    ) -> Result<u16, OutOfMemory>
         requires data { IsViewBy source.now self.old }
         ensures keeps { Keeps source.now self.old self.new }
         ensures cell { IfOk result (λ column. column ≡ cell_of self.old.w (rows source.now self.old) place) }

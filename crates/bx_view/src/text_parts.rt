@@ -1,12 +1,13 @@
 //! The units of a row that begin in a part of the text.
 ghost use Rattle.std.specs.Prelude.{◌≡◌, ◌&&◌, nat_lt, filter, IfOk};
-ghost use Rattle.bx_view.specs.Source.{OfRow, Stands};
-ghost use Rattle.bx_view.specs.TextParts.{is_in, slots_in};
+ghost use Rattle.bx_view.specs.TextRef.{OfRow, Stands};
+ghost use Rattle.bx_view.specs.TextParts.{slots_in};
+ghost use Rattle.bx_view.specs.Top.{is_in};
 
-use crate::error::ViewError;
-use crate::row_at::RowAt;
-use crate::source::Source;
+use crate::in_row::RowAt;
+use crate::text_ref::TextRef;
 use crate::view::View;
+use bx_common::OutOfMemory;
 use bx_paragraph::Slot;
 use bx_ucd::BidiData;
 
@@ -23,10 +24,10 @@ impl View {
     /// right. If the row's paragraph lies outside the part, nothing is computed.
     pub fn slots_in<D: BidiData>(
         &self,
-        source: &Source<'_, D>,
+        source: &TextRef<'_, D>,
         at: RowAt,
         part: (usize, usize),
-    ) -> Result<Vec<Slot>, ViewError>
+    ) -> Result<Vec<Slot>, OutOfMemory>
         requires row { Stands source.now self.now at }
         ensures { OfRow source.now self.now at (λ r. IfOk result (λ v. v.items ≡ slots_in self.now.w part r)) }
     {

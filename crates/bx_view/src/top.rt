@@ -1,15 +1,15 @@
 //! The top visible row, and a place among the visible rows.
 ghost use Rattle.std.specs.Prelude.{◌≡◌, ℕ, ◌+◌, ◌<◌, ◌≤◌, IfOk};
 ghost use Rattle.bx_view.specs.Position.{IsPosition};
-ghost use Rattle.bx_view.specs.Source.{BeginsAt, IsViewBy, Keeps, Stands, StandsOn, bytes, rows};
+ghost use Rattle.bx_view.specs.TextRef.{BeginsAt, IsViewBy, Keeps, Stands, StandsOn, bytes, rows};
 ghost use Rattle.bx_view.specs.TextRows.{row_of};
 ghost use Rattle.bx_view.specs.Top.{nearest_top};
 
-use crate::error::ViewError;
+use crate::in_row::RowAt;
 use crate::position::Position;
-use crate::row_at::RowAt;
-use crate::source::Source;
+use crate::text_ref::TextRef;
 use crate::view::View;
+use bx_common::OutOfMemory;
 use bx_ucd::BidiData;
 
 /// A place among the visible rows.
@@ -28,11 +28,11 @@ impl View {
     /// of rows from it down to `at`.
     fn top_above<D: BidiData>(
         &mut self,
-        source: &Source<'_, D>,
+        source: &TextRef<'_, D>,
         at: RowAt,
         old: usize,
         t: usize,
-    ) -> Result<(RowAt, usize), ViewError>
+    ) -> Result<(RowAt, usize), OutOfMemory>
         requires row { Stands source.now self.old at }
         requires some { 0 < t }
         ensures keeps { Keeps source.now self.old self.new }
@@ -62,11 +62,11 @@ impl View {
     /// make the place's row visible.
     pub fn locate<D: BidiData>(
         &mut self,
-        source: &Source<'_, D>,
+        source: &TextRef<'_, D>,
         top: usize,
         place: usize,
         t: usize,
-    ) -> Result<Located, ViewError>
+    ) -> Result<Located, OutOfMemory>
         requires data { IsViewBy source.now self.old }
         requires some { 0 < t }
         ensures keeps { Keeps source.now self.old self.new }

@@ -1,22 +1,19 @@
 //! The view of a text in a width.
 ghost use Rattle.std.specs.Prelude.{◌≡◌, ℕ, ◌+◌, ◌-◌, ◌^◌, ◌<◌, ◌≤◌, [], true, IfOk, IfSome};
-ghost use Rattle.bx_terms.specs.Sizes.{is_side};
-ghost use Rattle.bx_index.specs.Paragraphs.{lengths};
-ghost use Rattle.bx_index.specs.Positions.{paragraph_of};
+ghost use Rattle.bx_common.specs.Characters.{is_side};
+ghost use Rattle.bx_text.specs.index.Paragraphs.{lengths, paragraph_of};
 ghost use Rattle.bx_view.specs.FoundRow.{IsSameAtEnd};
 ghost use Rattle.bx_view.specs.Caching.{Caches};
-ghost use Rattle.bx_view.specs.Source.{IsAlong, IsBefore, IsNext, IsOfText, IsSpan, IsViewBy, Keeps, Stands, StandsOn, body_at, bytes, rows};
+ghost use Rattle.bx_view.specs.TextRef.{IsAlong, IsBefore, IsNext, IsOfText, IsSpan, IsViewBy, Keeps, Stands, StandsOn, body_at, bytes, rows};
 ghost use Rattle.bx_view.specs.TextRows.{row_of};
 
 use crate::cache::{add, cache_limit, find_in, lay_out_in};
-use crate::error::ViewError;
-use crate::row_at::RowAt;
-use crate::source::Source;
-use crate::span::{current_span, paragraph_under};
-use crate::text_span::TextSpan;
-use bx_index::ParagraphWalk;
+use crate::in_row::RowAt;
+use crate::span::{TextSpan, current_span, paragraph_under};
+use crate::text_ref::TextRef;
+use bx_common::{Base, OutOfMemory};
 use bx_paragraph::ParagraphLayout;
-use bx_terms::{Base, OutOfMemory};
+use bx_text::ParagraphWalk;
 use bx_ucd::BidiData;
 use std::alloc::Global;
 use std::marker::Model;
@@ -36,7 +33,7 @@ pub struct View {
 
 impl Model for View {
     ghost use Rattle.std.specs.Prelude.{◌≡◌, true};
-    ghost use Rattle.bx_terms.specs.Sizes.{is_side};
+    ghost use Rattle.bx_common.specs.Characters.{is_side};
     ghost use Rattle.bx_view.specs.Caching.{ViewState};
 
     ghost Value = { ViewState };
@@ -113,9 +110,9 @@ impl View {
     /// cached.
     pub fn find<D: BidiData>(
         &mut self,
-        source: &Source<'_, D>,
+        source: &TextRef<'_, D>,
         span: TextSpan,
-    ) -> Result<usize, ViewError>
+    ) -> Result<usize, OutOfMemory>
         requires data { IsViewBy source.now self.old }
         requires span { IsSpan source.now span }
         ensures keeps { Keeps source.now self.old self.new }
@@ -139,7 +136,7 @@ impl View {
     /// The cached paragraph at index `cached`, which has the body of the text's paragraph `number`, from 0.
     pub fn paragraph<D: BidiData>(
         &self,
-        source: &Source<'_, D>,
+        source: &TextRef<'_, D>,
         number: usize,
         cached: usize,
     ) -> &ParagraphLayout
@@ -147,7 +144,7 @@ impl View {
         requires cached { Caches (body_at source.now number) self.now.w self.now.cache cached }
         ensures { IsOfText source.now self.now number result.now }
     {
-        // used by the contract alone
+        // Only the contract names the text and the paragraph's number.
         let _ = source;
         let _ = number;
         &self.cache[cached]
@@ -156,7 +153,7 @@ impl View {
     /// The row that an offset falls in, in its paragraph, whose body is cached at index `cached`.
     fn row_in<D: BidiData>(
         &self,
-        source: &Source<'_, D>,
+        source: &TextRef<'_, D>,
         span: TextSpan,
         cached: usize,
         offset: usize,
@@ -182,9 +179,9 @@ impl View {
     /// The row that an offset of the text falls in.
     pub fn row_at<D: BidiData>(
         &mut self,
-        source: &Source<'_, D>,
+        source: &TextRef<'_, D>,
         offset: usize,
-    ) -> Result<RowAt, ViewError>
+    ) -> Result<RowAt, OutOfMemory>
         requires data { IsViewBy source.now self.old }
         ensures keeps { Keeps source.now self.old self.new }
         ensures row { IfOk result (λ at. StandsOn source.now self.new at (row_of (rows source.now self.new) offset)) }
@@ -197,11 +194,15 @@ impl View {
     }
 
     /// A walk over the text's paragraphs, at the one of a row.
-    pub fn walk_from<'a, D: BidiData>(&self, source: &Source<'a, D>, at: RowAt) -> ParagraphWalk<'a>
+    pub fn walk_from<'a, D: BidiData>(
+        &self,
+        source: &TextRef<'a, D>,
+        at: RowAt,
+    ) -> ParagraphWalk<'a>
         requires row { Stands source.now self.now at }
         ensures { IsAlong source.now result at }
     {
-        // used by the contract alone
+        // Only the contract names the view.
         let _ = self;
         source.index.walk_at(at.paragraph, at.start)
     }
@@ -209,9 +210,9 @@ impl View {
     /// The row after `at`, if there is one.
     pub fn next_row<D: BidiData>(
         &mut self,
-        source: &Source<'_, D>,
+        source: &TextRef<'_, D>,
         at: RowAt,
-    ) -> Result<Option<RowAt>, ViewError>
+    ) -> Result<Option<RowAt>, OutOfMemory>
         requires row { Stands source.now self.old at }
         ensures keeps { Keeps source.now self.old self.new }
         ensures next { (n : ℕ) → StandsOn source.now self.old at n → IfOk result (IsNext source.now self.new n) }
@@ -222,17 +223,16 @@ impl View {
             return Ok(Some(below(at)));
         }
         let mut walk = self.walk_from(source, at);
-        let next = self.next_row_along(source, &mut walk, at)?;
-        Ok(next)
+        self.next_row_along(source, &mut walk, at)
     }
 
     /// Like `next_row`, but advances `walk`, which is at the paragraph of `at`.
     pub fn next_row_along<D: BidiData>(
         &mut self,
-        source: &Source<'_, D>,
+        source: &TextRef<'_, D>,
         walk: &mut ParagraphWalk<'_>,
         at: RowAt,
-    ) -> Result<Option<RowAt>, ViewError>
+    ) -> Result<Option<RowAt>, OutOfMemory>
         requires row { Stands source.now self.old at }
         requires along { IsAlong source.now walk.old at }
         ensures keeps { Keeps source.now self.old self.new }
@@ -260,9 +260,9 @@ impl View {
     /// The row before `at`, if there is one.
     pub fn row_before<D: BidiData>(
         &mut self,
-        source: &Source<'_, D>,
+        source: &TextRef<'_, D>,
         at: RowAt,
-    ) -> Result<Option<RowAt>, ViewError>
+    ) -> Result<Option<RowAt>, OutOfMemory>
         requires row { Stands source.now self.old at }
         ensures keeps { Keeps source.now self.old self.new }
         ensures before { (n : ℕ) → StandsOn source.now self.old at n → IfOk result (IsBefore source.now self.new n) }
@@ -272,17 +272,16 @@ impl View {
             return Ok(Some(above(at)));
         }
         let mut walk = self.walk_from(source, at);
-        let before = self.row_before_along(source, &mut walk, at)?;
-        Ok(before)
+        self.row_before_along(source, &mut walk, at)
     }
 
     /// Like `row_before`, for many steps in turn: `walk`, which is at the paragraph of `at`, goes along.
     pub fn row_before_along<D: BidiData>(
         &mut self,
-        source: &Source<'_, D>,
+        source: &TextRef<'_, D>,
         walk: &mut ParagraphWalk<'_>,
         at: RowAt,
-    ) -> Result<Option<RowAt>, ViewError>
+    ) -> Result<Option<RowAt>, OutOfMemory>
         requires row { Stands source.now self.old at }
         requires along { IsAlong source.now walk.old at }
         ensures keeps { Keeps source.now self.old self.new }
@@ -310,10 +309,10 @@ impl View {
     /// The row that an offset of the text falls in. In the paragraph of `at`, which is found already, it needs no search.
     pub(crate) fn row_near<D: BidiData>(
         &mut self,
-        source: &Source<'_, D>,
+        source: &TextRef<'_, D>,
         at: RowAt,
         offset: usize,
-    ) -> Result<RowAt, ViewError>
+    ) -> Result<RowAt, OutOfMemory>
         requires row { Stands source.now self.old at }
         ensures keeps { Keeps source.now self.old self.new }
         ensures row { IfOk result (λ at. StandsOn source.now self.new at (row_of (rows source.now self.new) offset)) }

@@ -3,10 +3,11 @@ use Rattle.std.proofs.Common.{◌≡◌, ℕ, List, [], ◌∷◌, ◌++◌, ref
 use Rattle.std.specs.Prelude.{codes}
 use Rattle.unicode_segmentation.proofs.Computing.{unicode_segmentation}
 use Rattle.unicode_width.proofs.Computing.{unicode_width}
-use Rattle.bx_resolve.specs.TestTables.{small}
+use Rattle.bx_ucd.specs.SmallTables.{small}
 use Rattle.bx_view.specs.declared.moves.Move.TheVariants.{Rows, RowsIn}
 use Rattle.bx_view.specs.declared.moves.Vertical.TheVariants.{Up, Down}
-use Rattle.bx_view.specs.Moves.{moved, rows_away, row_end, vertical}
+use Rattle.bx_view.specs.Moves.{rows_away, row_end, vertical}
+use Rattle.bx_view.specs.Moved.{moved}
 use Rattle.bx_view.specs.TextRows.{TextRow, cell_of}
 use Rattle.bx_view.proofs.Computed.{rows, walk}
 

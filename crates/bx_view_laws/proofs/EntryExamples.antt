@@ -3,7 +3,7 @@ use Rattle.std.proofs.Common.{◌≡◌, ◌⊎◌, ℕ, zero, suc, ◌<◌, fal
 use Rattle.std.specs.Prelude.{codes, Contains}
 use Rattle.unicode_segmentation.proofs.Computing.{unicode_segmentation}
 use Rattle.unicode_width.proofs.Computing.{unicode_width}
-use Rattle.bx_paragraph.specs.declared.slot.Slot.{Slot}
+use Rattle.bx_paragraph.specs.declared.slots.Slot.{Slot}
 use Rattle.bx_paragraph.specs.Slots.{covers, row_slots, slot}
 use Rattle.bx_view.specs.declared.moves.Vertical.TheVariants.{Down}
 use Rattle.bx_view_laws.specs.Entry.{Covers, IsNearest, RowsGoOn}

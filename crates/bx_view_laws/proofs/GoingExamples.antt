@@ -3,8 +3,8 @@ use Rattle.std.proofs.Common.{◌≡◌, ℕ, List, [], ◌∷◌, ◌++◌, map
 use Rattle.std.specs.Prelude.{codes}
 use Rattle.unicode_segmentation.proofs.Computing.{unicode_segmentation}
 use Rattle.unicode_width.proofs.Computing.{unicode_width}
-use Rattle.bx_resolve.specs.TestTables.{small}
-use Rattle.bx_view.specs.Going.{place_of}
+use Rattle.bx_ucd.specs.SmallTables.{small}
+use Rattle.bx_view.specs.Numbers.{place_of}
 
 -- lines of two letters, three, none and one
 abbrev four_lines : List ℕ

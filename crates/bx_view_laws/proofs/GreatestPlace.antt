@@ -9,7 +9,7 @@ use Rattle.std.proofs.lemmas.List.{reverse-append}
 use Rattle.std.proofs.lemmas.List.Elements.{All-cons, All-contains, All-nil, All-weaker}
 use Rattle.std.proofs.lemmas.List.Folds.{find-append}
 use Rattle.bx_ucd.specs.Data.{Data}
-use Rattle.bx_terms.specs.declared.base.Base.{Base}
+use Rattle.bx_common.specs.declared.base.Base.{Base}
 use Rattle.bx_view_laws.specs.Laws.{IsGreatestPlace}
 use Rattle.bx_view.specs.Moves.{place_at}
 use Rattle.bx_view.specs.TextRows.{places, text_rows}
@@ -57,17 +57,17 @@ module _ (offset : ℕ) where
   is-greatest os None begin is = absurd (omega (arith, All-contains (λ p. offset < p) os 0 is begin))
   is-greatest os (Some q) begin is = (is.1, is.2)
 
-pub greatest-place : (says : Data) (base : Base) (w : ℕ) → 1 ≤ w → (text : List ℕ) → IsUtf8 text → (offset : ℕ)
-    → IsGreatestPlace says text offset (place_at (text_rows says base w text) offset)
-greatest-place says base w some text utf8 offset =
-    let os : List ℕ = places (text_rows says base w text) in
-    let place : ℕ = place_at (text_rows says base w text) offset in
-    let rise : Rises 0 os (length text + 1) = places-rise says base w some text utf8 in
+pub greatest-place : (ucd : Data) (base : Base) (w : ℕ) → 1 ≤ w → (text : List ℕ) → IsUtf8 text → (offset : ℕ)
+    → IsGreatestPlace ucd text offset (place_at (text_rows ucd base w text) offset)
+greatest-place ucd base w some text utf8 offset =
+    let os : List ℕ = places (text_rows ucd base w text) in
+    let place : ℕ = place_at (text_rows ucd base w text) offset in
+    let rise : Rises 0 os (length text + 1) = places-rise ucd base w some text utf8 in
     let is : (place ≤ offset) × All (λ p. p ≤ offset → p ≤ place) os =
-    is-greatest offset os (find (at-most offset) (reverse os)) (begin-is-place says base w some text utf8)
+    is-greatest offset os (find (at-most offset) (reverse os)) (begin-is-place ucd base w some text utf8)
     (found-greatest offset 0 os (length text + 1) rise) in
     record {
-      is_place = (text-places-kept says base w some text utf8).at offset;
+      is_place = (text-places-kept ucd base w some text utf8).at offset;
       not_after = is.0;
-      greatest = λ p c. All-contains (λ p. p ≤ offset → p ≤ place) os p is.1 (place-in-window says base w some text utf8 p c);
+      greatest = λ p c. All-contains (λ p. p ≤ offset → p ≤ place) os p is.1 (place-in-window ucd base w some text utf8 p c);
     }

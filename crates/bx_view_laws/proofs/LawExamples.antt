@@ -7,17 +7,18 @@ use Rattle.std.proofs.lemmas.Option.{get_or_from_slice_get}
 use Rattle.bx_ucd.specs.Data.{Data}
 use Rattle.unicode_segmentation.proofs.Computing.{unicode_segmentation}
 use Rattle.unicode_width.proofs.Computing.{unicode_width}
-use Rattle.bx_terms.specs.Sizes.{is_side}
+use Rattle.bx_common.specs.Characters.{is_side}
 use Rattle.bx_ucd.specs.declared.data.Side.{Side}
-use Rattle.bx_resolve.specs.TestTables.{small}
-use Rattle.bx_terms.specs.declared.base.Base.{Base}
+use Rattle.bx_ucd.specs.SmallTables.{small}
+use Rattle.bx_common.specs.declared.base.Base.{Base}
 use Rattle.bx_view.specs.declared.moves.Logical.{Logical}
 use Rattle.bx_view.specs.declared.moves.Logical.TheVariants.{Back, Forward}
 use Rattle.bx_view.specs.declared.moves.Move.{Move}
-use Rattle.bx_view.specs.Cells.{HasCells, HasOneSlot, times}
-use Rattle.bx_view.specs.Laws.{FindsLeastPlace, IsGreatestBefore, IsLeastBehind, IsShownFrom, MovesKeep, MovesLeast, PlacesGoOn, SpansText, WordsGoOn}
+use Rattle.bx_view.specs.Cells.{HasOneSlot, times}
+use Rattle.bx_view.specs.Laws.{HasCells, FindsLeastPlace, IsGreatestBefore, IsLeastBehind, IsShownFrom, MovesKeep, MovesLeast, PlacesGoOn}
+use Rattle.bx_view.specs.Laws.{SpansText, WordsGoOn}
 use Rattle.bx_view_laws.specs.Laws.{InEachWindow}
-use Rattle.bx_view.specs.Moves.{moved}
+use Rattle.bx_view.specs.Moved.{moved}
 use Rattle.bx_view.specs.Places.{IsTextPlace, text_places}
 use Rattle.bx_view.specs.TextRows.{TextRow, places, row_at, row_of, slots, text_rows}
 use Rattle.bx_view.specs.Top.{follow}
@@ -42,7 +43,7 @@ rows_of_letter bracket base w = text_rows (with_brackets bracket) base w (codes 
 -- ---- places
 
 abbrev ArePlaces : Type 0
-ArePlaces = InEachWindow (λ says text w rows. places rows ≡ text_places says text)
+ArePlaces = InEachWindow (λ ucd text w rows. places rows ≡ text_places ucd text)
 
 -- the places of `ab`
 places_of_ab : ArePlaces → (bracket : ℕ → Option (Side × ℕ)) (base : Base) (w : ℕ) → is_side w ≡ true
@@ -75,8 +76,8 @@ from_0_to_1 (x ∷ y ∷ z ∷ xs) rise first last =
     absurd (omega (arith, count, get_or_from_slice_get all (length all - 1) 1 0 last, above_number all (length all - 1) rise (omega (arith, count))))
 
 -- a text of one byte has the places 0 and 1, whatever separates
-two_places : ((says : Data) (text : List ℕ) → IsUtf8 text → SpansText says text) → (says : Data) → text_places says (codes "a") ≡ 0 ∷ 1 ∷ []
-two_places law says = let s = law says (codes "a") one_letter in from_0_to_1 (text_places says (codes "a")) s.rise s.first s.last
+two_places : ((ucd : Data) (text : List ℕ) → IsUtf8 text → SpansText ucd text) → (ucd : Data) → text_places ucd (codes "a") ≡ 0 ∷ 1 ∷ []
+two_places law ucd = let s = law ucd (codes "a") one_letter in from_0_to_1 (text_places ucd (codes "a")) s.rise s.first s.last
 
 -- ---- moves
 
@@ -90,7 +91,7 @@ abbrev letter_moved : (ℕ → Option (Side × ℕ)) → Base → ℕ → Move �
 letter_moved bracket base w m = moved (with_brackets bracket) (codes "a") w (rows_of_letter bracket base w) m 0
 
 -- each move from the start of `a` leads to its start or its end
-moves_in_a : InEachWindow (λ says text w rows. MovesKeep says text w rows (IsTextPlace says text)) → (bracket : ℕ → Option (Side × ℕ)) (base : Base) (w : ℕ) (m : Move)
+moves_in_a : InEachWindow (λ ucd text w rows. MovesKeep ucd text w rows (IsTextPlace ucd text)) → (bracket : ℕ → Option (Side × ℕ)) (base : Base) (w : ℕ) (m : Move)
     → is_side w ≡ true → (letter_moved bracket base w m ≡ 0) ⊎ (letter_moved bracket base w m ≡ 1)
 unfolding unicode_segmentation unicode_width
 moves_in_a law bracket base w m side =
@@ -216,22 +217,22 @@ one_slot_at : (bracket : ℕ → Option (Side × ℕ)) (base : Base) (w : ℕ) �
 one_slot_at bracket base w e cells = cells.one 1 (subst (λ xs. Contains xs 1) (sym e) (1, omega arith, refl))
 
 -- the end of `a` has one slot in its row, in every window (that it is a place of the rows is the law of places)
-one_slot_of_end : ArePlaces → InEachWindow (λ says text w rows. HasCells says w rows) → (bracket : ℕ → Option (Side × ℕ)) (base : Base) (w : ℕ)
+one_slot_of_end : ArePlaces → InEachWindow (λ ucd text w rows. HasCells ucd w rows) → (bracket : ℕ → Option (Side × ℕ)) (base : Base) (w : ℕ)
     → is_side w ≡ true → let rows = rows_of_letter bracket base w in times 1 (slots w (row_at rows (row_of rows 1))) ≡ 1
 one_slot_of_end are law bracket base w side =
     let one = one_slot_at bracket base w (places_of_a are bracket base w side) (law (with_brackets bracket) base w (codes "a") side one_letter) in one.once
 
 -- ---- the top
 
-module _ (law : InEachWindow (λ says text w rows. MovesLeast rows)) (says : Data) (base : Base) (w : ℕ) (text : List ℕ)
+module _ (law : InEachWindow (λ ucd text w rows. MovesLeast rows)) (ucd : Data) (base : Base) (w : ℕ) (text : List ℕ)
     (side : is_side w ≡ true) (valid : IsUtf8 text) where
   abbrev rows : List TextRow
-  rows = text_rows says base w text
+  rows = text_rows ucd base w text
 
   -- if one row is visible, it is the place's row
   one_row_shown : (top place : ℕ) → row_of rows (follow rows top place 1) ≡ row_of rows place
   one_row_shown top place =
-      let least = law says base w text side valid in
+      let least = law ucd base w text side valid in
       let shown = least.shows top place 1 (omega arith) in
       let above = shown.0 in
       let below = shown.1 in omega (arith, above, below)
@@ -239,5 +240,5 @@ module _ (law : InEachWindow (λ says text w rows. MovesLeast rows)) (says : Dat
   -- a top from which the place's row is shown stays
   shown_top_stays : (top place t : ℕ) → 0 < t → IsShownFrom rows place t (row_of rows top) → row_of rows (follow rows top place t) ≡ row_of rows top
   shown_top_stays top place t some shown =
-      let least = law says base w text side valid in
+      let least = law ucd base w text side valid in
       let near = least.nearest top place t (row_of rows top) some shown in omega (arith, near)

@@ -2,7 +2,7 @@
 use Rattle.std.proofs.Common.{◌≡◌, ℕ, List, [], ◌∷◌, refl}
 use Rattle.std.specs.Prelude.{encode_utf8_all}
 use Rattle.unicode_segmentation.proofs.Computing.{unicode_segmentation}
-use Rattle.bx_resolve.specs.TestTables.{small}
+use Rattle.bx_ucd.specs.SmallTables.{small}
 use Rattle.bx_view.specs.Places.{text_places}
 
 abbrev of : List ℕ → List ℕ

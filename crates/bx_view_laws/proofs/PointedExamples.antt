@@ -3,10 +3,9 @@ use Rattle.std.proofs.Common.{◌≡◌, ℕ, List, [], ◌∷◌, ◌++◌, ref
 use Rattle.std.specs.Prelude.{codes}
 use Rattle.unicode_segmentation.proofs.Computing.{unicode_segmentation}
 use Rattle.unicode_width.proofs.Computing.{unicode_width}
-use Rattle.bx_terms.specs.declared.base.Base.TheVariants.{Rtl}
-use Rattle.bx_view.specs.Pointing.{pointed_at}
+use Rattle.bx_common.specs.declared.base.Base.TheVariants.{Rtl}
+use Rattle.bx_view.specs.Top.{pointed_at, follow}
 use Rattle.bx_view.specs.TextRows.{TextRow, cell_of}
-use Rattle.bx_view.specs.Top.{follow}
 use Rattle.bx_view.proofs.Computed.{rows, rows_under}
 
 abbrev alef : ℕ

@@ -7,23 +7,23 @@ use Rattle.std.proofs.lemmas.Bool.Decides.{nat_tests}
 use Rattle.std.proofs.lemmas.List.{get_or-map, length-map}
 use Rattle.std.proofs.lemmas.List.Elements.{All-contains, Contains-append_left, Contains-append_right}
 use Rattle.bx_ucd.specs.Data.{Data}
-use Rattle.bx_terms.specs.declared.base.Base.{Base}
-use Rattle.bx_cells.specs.declared.unit.Face.TheVariants.{Tab}
-use Rattle.bx_cells.specs.declared.unit.Unit.{Unit}
+use Rattle.bx_common.specs.declared.base.Base.{Base}
+use Rattle.bx_rows.specs.declared.cells.unit.Face.TheVariants.{Tab}
+use Rattle.bx_rows.specs.declared.cells.unit.Unit.{Unit}
 use Rattle.bx_rows.specs.RowPicture.{columns_used, unit_columns}
-use Rattle.bx_rows.specs.VisualOrder.{visual}
+use Rattle.bx_rows.specs.RowLevels.{visual}
 use Rattle.bx_rows.proofs.NumbersBelow.{below_if_visual}
 use Rattle.bx_rows.proofs.PictureLaws.{columns_of_glyphs}
 use Rattle.bx_rows.proofs.PictureSums.{columns-length}
-use Rattle.bx_index.specs.Paragraphs.{paragraphs}
-use Rattle.bx_paragraph.specs.declared.slot.Slot.{Slot}
+use Rattle.bx_text.specs.index.Paragraphs.{paragraphs}
+use Rattle.bx_paragraph.specs.declared.slots.Slot.{Slot}
 use Rattle.bx_paragraph.specs.BodyRows.{offsets_of}
 use Rattle.bx_paragraph.specs.Slots.{column_in, column_of, covers, end_column, end_slot, extent_of, left_column, row_slots, side_by_side, slot, slot_offsets, unit_slots}
 use Rattle.bx_paragraph.proofs.OnceEach.{once-contains, once-summed}
 use Rattle.bx_paragraph.proofs.RowSlots.{columns-in-order, extent-is}
 use Rattle.bx_view.specs.Cells.{IsUnitCell, glyphs_of, times}
 use Rattle.bx_view.specs.Moves.{entry_in}
-use Rattle.bx_view.specs.Pointing.{pointed_at, pointed_row}
+use Rattle.bx_view.specs.Top.{pointed_at, pointed_row}
 use Rattle.bx_view.specs.TextRows.{IsPlace, TextRow, no_text_row, places_of, row_at, row_of, text_rows}
 use Rattle.bx_view.proofs.CellColumns.{cell-inside, extents-total, extents-wide, left-by, left_of, total}
 use Rattle.bx_view.proofs.GlyphCells.{HasFaces, either-slot, found, padded-columns, rows-faced, sums, unmoved}
@@ -58,7 +58,7 @@ taken w r column place s entry among covered =
 
 -- ---- a row
 
-module _ (says : Data) (w : ℕ) (r : TextRow) (levels : HasLevels r.row) (faces : HasFaces says w r.row) (some : HasColumns w r.row) (fits : Fits w r.row) where
+module _ (ucd : Data) (w : ℕ) (r : TextRow) (levels : HasLevels r.row) (faces : HasFaces ucd w r.row) (some : HasColumns w r.row) (fits : Fits w r.row) where
   abbrev used : ℕ
   used = columns_used w r.row.units
 
@@ -93,16 +93,16 @@ module _ (says : Data) (w : ℕ) (r : TextRow) (levels : HasLevels r.row) (faces
 
   -- ---- a unit that is shown
 
-  module _ (place column stop : ℕ) (shows : ShowsUnit says w r place column stop) where
-    abbrev cell : IsUnitCell says w r place column
+  module _ (place column stop : ℕ) (shows : ShowsUnit ucd w r place column stop) where
+    abbrev cell : IsUnitCell ucd w r place column
     cell = shows.cell
 
     abbrev own : Slot
     own = slot (extent cell.number).0 (left_column w r.row + total (map extent cell.before)) (extent cell.number).1
 
-    glyphs-are : (k : ℕ) → Contains order k → columns_of_glyphs (glyphs_of says w r.row k) ≡ (extent k).1
+    glyphs-are : (k : ℕ) → Contains order k → columns_of_glyphs (glyphs_of ucd w r.row k) ≡ (extent k).1
     glyphs-are k among =
-        All-contains (λ j. columns_of_glyphs (glyphs_of says w r.row j) ≡ (extent j).1) order k (sums says w r levels faces) among
+        All-contains (λ j. columns_of_glyphs (glyphs_of ucd w r.row j) ≡ (extent j).1) order k (sums ucd w r levels faces) among
 
     own-number : Contains order cell.number
     own-number =
@@ -114,13 +114,13 @@ module _ (says : Data) (w : ℕ) (r : TextRow) (levels : HasLevels r.row) (faces
         subst (λ ks. Contains (side_by_side (left_column w r.row) (map extent ks)) own) (sym cell.order)
         (side-has extent (left_column w r.row) cell.before cell.number cell.behind)
 
-    before-total : columns_of_glyphs (flat_map (glyphs_of says w r.row) cell.before) ≡ total (map extent cell.before)
-    before-total = glyphs-total extent (glyphs_of says w r.row) cell.before
+    before-total : columns_of_glyphs (flat_map (glyphs_of ucd w r.row) cell.before) ≡ total (map extent cell.before)
+    before-total = glyphs-total extent (glyphs_of ucd w r.row) cell.before
         (λ k among. glyphs-are k (subst (λ ks. Contains ks k) (sym cell.order) (Contains-append_left cell.before (cell.number ∷ cell.behind) k among)))
 
     pub own-column : own.column ≡ column
     own-column =
-        let before = flat_map (glyphs_of says w r.row) cell.before in
+        let before = flat_map (glyphs_of ucd w r.row) cell.before in
         let padded = padded-columns n (w - used) before in
         sym (cell.column_is ∙ padded ∙ ap (λ m. left_column w r.row + m) before-total)
 
@@ -180,18 +180,18 @@ module _ (says : Data) (w : ℕ) (r : TextRow) (levels : HasLevels r.row) (faces
 
 -- ---- of a text
 
-module _ (says : Data) (base : Base) (w : ℕ) (side : 1 ≤ w) (text : List ℕ) (utf8 : IsUtf8 text) where
+module _ (ucd : Data) (base : Base) (w : ℕ) (side : 1 ≤ w) (text : List ℕ) (utf8 : IsUtf8 text) where
   abbrev rows : List TextRow
-  rows = text_rows says base w text
+  rows = text_rows ucd base w text
 
   -- a place of row `k` falls in it
   pub falls-in-own : (k place : ℕ) → k < length rows → Contains (places_of (row_at rows k)) place → (row_of rows place ≡ k) × IsPlace rows place
   falls-in-own k place within among =
       let is : IsPlace rows place = in-places rows k no_text_row within place among in
-      let one = one-slot says base w side text utf8 place is in
+      let one = one-slot ucd base w side text utf8 place is in
       let own = row_of rows place in
       let counted : 0 < times place (places_of (row_at rows k)) = counted-contains (places_of (row_at rows k)) place among in
-      let same = same-times says base w side text utf8 place k within in
+      let same = same-times ucd base w side text utf8 place k within in
       let row : own ≡ k = ⊎_elim
       (λ less. let none = one.elsewhere k within (λ e. omega (arith, e, less)) in absurd (omega (arith, none, same, counted)))
       (λ from. ⊎_elim
@@ -207,36 +207,36 @@ module _ (says : Data) (base : Base) (w : ℕ) (side : 1 ≤ w) (text : List ℕ
       → IsEntry w (row_at rows k) column (pointed_at w rows top (picture_row rows top k) column)
   point-enters top k column low within some inside =
       subst (λ m. IsEntry w (row_at rows k) column (unwrap_or (entry_in w (row_at rows m) column) 0)) (sym (row-pointed top k low within))
-      (entered says base w side text utf8 column 0 k some inside within)
+      (entered ucd base w side text utf8 column 0 k some inside within)
 
   module _ (k : ℕ) (within : k < length rows) where
     abbrev r : TextRow
     r = row_at rows k
 
     leveled : HasLevels r.row
-    leveled = rows-leveled says base w text k no_text_row within
+    leveled = rows-leveled ucd base w text k no_text_row within
 
-    faced : HasFaces says w r.row
-    faced = rows-faced says base w text utf8 k no_text_row within
+    faced : HasFaces ucd w r.row
+    faced = rows-faced ucd base w text utf8 k no_text_row within
 
     columned : HasColumns w r.row
-    columned = rows-columned says base w text utf8 k no_text_row within
+    columned = rows-columned ucd base w text utf8 k no_text_row within
 
     fitting : Fits w r.row
-    fitting = fitting-from says base w 0 (paragraphs says text) k no_text_row within
+    fitting = fitting-from ucd base w 0 (paragraphs ucd text) k no_text_row within
 
     -- a unit that is shown
-    unit-leads : (top place column stop c : ℕ) → row_of rows top ≤ k → ShowsUnit says w r place column stop → column ≤ c → c < stop
+    unit-leads : (top place column stop c : ℕ) → row_of rows top ≤ k → ShowsUnit ucd w r place column stop → column ≤ c → c < stop
         → LeadsTo w rows top k c place column
     unit-leads top place column stop c low shows from upto =
-        let s = own says w r leveled faced columned fitting place column stop shows in
-        let among = own-among says w r leveled faced columned fitting place column stop shows in
-        let at = own-column says w r leveled faced columned fitting place column stop shows in
-        let ends = own-stop says w r leveled faced columned fitting place column stop shows in
-        let is = own-place says w r leveled faced columned fitting place column stop shows in
-        let past = stop-inside says w r leveled faced columned fitting place column stop shows in
-        let first = column-some says w r leveled faced columned fitting place column stop shows in
-        let all = unit-among says w r leveled faced columned fitting s among in
+        let s = own ucd w r leveled faced columned fitting place column stop shows in
+        let among = own-among ucd w r leveled faced columned fitting place column stop shows in
+        let at = own-column ucd w r leveled faced columned fitting place column stop shows in
+        let ends = own-stop ucd w r leveled faced columned fitting place column stop shows in
+        let is = own-place ucd w r leveled faced columned fitting place column stop shows in
+        let past = stop-inside ucd w r leveled faced columned fitting place column stop shows in
+        let first = column-some ucd w r leveled faced columned fitting place column stop shows in
+        let all = unit-among ucd w r leveled faced columned fitting s among in
         let entry = point-enters top k c low within (omega (arith, first, from)) (omega (arith, upto, past)) in
         let offset : Contains (offsets_of r.row) s.offset = once-contains w r.row leveled s.offset (
           all.0,
@@ -244,7 +244,7 @@ module _ (says : Data) (base : Base) (w : ℕ) (side : 1 ≤ w) (text : List ℕ
           get_or-map (λ (t : Slot). t.offset) (row_slots w r.row) all.0 s s.offset all.1 ∙ ap (λ (t : Slot). t.offset) all.2,
         ) in
         let own-row = falls-in-own k place within (subst (Contains (places_of r)) is (contains-moved r.start (offsets_of r.row) s.offset offset)) in
-        let one = one-slot says base w side text utf8 place own-row.1 in
+        let one = one-slot ucd base w side text utf8 place own-row.1 in
         let once : times place (map (λ o. r.start + o) (slot_offsets w r.row)) ≡ 1 = subst (λ m. times place (map (λ o. (row_at rows m).start + o) (slot_offsets w (row_at rows m).row)) ≡ 1) own-row.0 one.once in
         let few : times (r.start + s.offset) (map (λ o. r.start + o) (slot_offsets w r.row)) ≤ 1 =
         subst (λ p. times p (map (λ o. r.start + o) (slot_offsets w r.row)) ≤ 1) (sym is) (omega (arith, once)) in
@@ -270,14 +270,14 @@ module _ (says : Data) (base : Base) (w : ℕ) (side : 1 ≤ w) (text : List ℕ
         let is : r.start + f.one.offset ≡ place = omega (arith, f.offset_is, at.0) in
         let column = column_of w r.row offset in
         let entry = point-enters top k column low within some inside in
-        own-cell says w r leveled faced columned fitting (pointed_at w rows top (picture_row rows top k) column) place f.one f.among is
+        own-cell ucd w r leveled faced columned fitting (pointed_at w rows top (picture_row rows top k) column) place f.one f.among is
         (subst (λ c. IsEntry w r c (pointed_at w rows top (picture_row rows top k) column)) f.column_is entry)
 
-  pub units-are-taken : UnitsAreTaken says w rows
+  pub units-are-taken : UnitsAreTaken ucd w rows
   units-are-taken top k place column stop c low within shows from upto = unit-leads k within top place column stop c low shows from upto
 
   pub own-cells-stay : OwnCellsStay w rows
   own-cells-stay top place is low =
-      let one = one-slot says base w side text utf8 place is in
-      let inside = cell-inside says base w text place side utf8 in
-      cell-stays (row_of rows place) one.row top place low (in-own-row says base w side text utf8 place is) inside.0 inside.1
+      let one = one-slot ucd base w side text utf8 place is in
+      let inside = cell-inside ucd base w text place side utf8 in
+      cell-stays (row_of rows place) one.row top place low (in-own-row ucd base w side text utf8 place is) inside.0 inside.1

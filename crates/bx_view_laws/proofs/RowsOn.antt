@@ -4,11 +4,11 @@ use Rattle.std.proofs.Common.{IsUtf8, refl, sym, ap, subst, ◌∙◌, arith, eq
 use Rattle.std.specs.Prelude.{All, MatchOption}
 use Rattle.std.proofs.lemmas.List.{length-map}
 use Rattle.bx_ucd.specs.Data.{Data}
-use Rattle.bx_terms.specs.declared.base.Base.{Base}
+use Rattle.bx_common.specs.declared.base.Base.{Base}
 use Rattle.bx_rows.specs.RowPicture.{columns_used, unit_columns}
-use Rattle.bx_rows.specs.VisualOrder.{visual}
+use Rattle.bx_rows.specs.RowLevels.{visual}
 use Rattle.bx_rows.proofs.NumbersBelow.{below_if_visual}
-use Rattle.bx_index.specs.Paragraphs.{paragraphs}
+use Rattle.bx_text.specs.index.Paragraphs.{paragraphs}
 use Rattle.bx_paragraph.specs.BodyRows.{BodyRow}
 use Rattle.bx_paragraph.specs.Slots.{covers, end_slot, entry, extent_of, left_column, row_slots}
 use Rattle.bx_paragraph.proofs.RowSlots.{columns-in-order}
@@ -55,20 +55,20 @@ away-within : (way : Vertical) (count n k : ℕ) → k < count → row_away coun
 away-within Up count n k h = omega (arith, h)
 away-within Down count n k h = omega (arith, h)
 
-module _ (says : Data) (base : Base) (w : ℕ) (side : 1 ≤ w) (text : List ℕ) (utf8 : IsUtf8 text) where
+module _ (ucd : Data) (base : Base) (w : ℕ) (side : 1 ≤ w) (text : List ℕ) (utf8 : IsUtf8 text) where
   abbrev rows : List TextRow
-  rows = text_rows says base w text
+  rows = text_rows ucd base w text
 
   some-row : 0 < length rows
-  some-row = omega (arith, text-rank says base w side text utf8 0, rank-few 0 (map first rows), length-map rows first)
+  some-row = omega (arith, text-rank ucd base w side text utf8 0, rank-few 0 (map first rows), length-map rows first)
 
   pub entered : (column place k : ℕ) → 1 ≤ column → column ≤ w → k < length rows
       → IsEntry w (row_at rows k) column (unwrap_or (entry_in w (row_at rows k) column) place)
   entered column place k some inside h =
       let r = row_at rows k in
-      let is = row-entered says base w side text utf8 k h column in
-      entry-at w r column place (entry w r.row column) (rows-leveled says base w text k no_text_row h)
-      (fitting-from says base w 0 (paragraphs says text) k no_text_row h) some inside refl (has-some _ (entry_in w r column) is)
+      let is = row-entered ucd base w side text utf8 k h column in
+      entry-at w r column place (entry w r.row column) (rows-leveled ucd base w text k no_text_row h)
+      (fitting-from ucd base w 0 (paragraphs ucd text) k no_text_row h) some inside refl (has-some _ (entry_in w r column) is)
 
   enters : (way : Vertical) (n column place k : ℕ) → 1 ≤ column → column ≤ w → k ≡ row_away (length rows) way n (row_of rows place)
       → k ≢ row_of rows place → IsEntry w (row_at rows k) column (rows_away w rows way n column place)
@@ -86,4 +86,4 @@ module _ (says : Data) (base : Base) (w : ℕ) (side : 1 ≤ w) (text : List ℕ
       ap (λ t. elim t [ true ↦ place | false ↦ unwrap_or (entry_in w (row_at rows k) column) place ]) (eq-eqb k (row_of rows place) e)
 
   pub rows-go-on : RowsGoOn w rows
-  rows-go-on = record { own = λ place. cell-inside says base w text place side utf8; enters = enters; stays = stays }
+  rows-go-on = record { own = λ place. cell-inside ucd base w text place side utf8; enters = enters; stays = stays }

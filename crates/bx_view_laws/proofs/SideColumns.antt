@@ -9,7 +9,7 @@ use Rattle.std.proofs.lemmas.List.Elements.{All-cons, All-nil, All-weaker, Conta
 use Rattle.std.proofs.lemmas.List.Sums.{sum_by-append, sum_by-cons}
 use Rattle.bx_rows.specs.RowPicture.{Glyph}
 use Rattle.bx_rows.proofs.PictureLaws.{columns_of_glyphs}
-use Rattle.bx_paragraph.specs.declared.slot.Slot.{Slot}
+use Rattle.bx_paragraph.specs.declared.slots.Slot.{Slot}
 use Rattle.bx_paragraph.specs.Slots.{column_in, side_by_side, slot}
 use Rattle.bx_view.specs.Cells.{times}
 use Rattle.bx_view.proofs.CellColumns.{Wide, end_of, left_of, total}

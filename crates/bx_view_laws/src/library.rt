@@ -2,32 +2,33 @@
 //! library. The editor does not run them: it goes from row to row by `RowAt`, and asks `locate` once for each picture.
 ghost use Rattle.std.specs.Prelude.{◌≡◌, ℕ, ◌+◌, ◌^◌, ◌<◌, ◌≤◌, true, All, IfOk, IsUtf8, length, map, option_map, slice_get, slice_range};
 ghost use Rattle.std.specs.Str.{IsCharBoundary};
-ghost use Rattle.bx_terms.specs.Sizes.{is_side};
-ghost use Rattle.bx_terms.specs.declared.base.Base.{Base};
-ghost use Rattle.bx_text.specs.Edits.{IsRange, largest_text};
-ghost use Rattle.bx_index.specs.Paragraphs.{lengths};
+ghost use Rattle.bx_common.specs.Characters.{is_side};
+ghost use Rattle.bx_common.specs.declared.base.Base.{Base};
+ghost use Rattle.bx_text.specs.Edits.{largest_text};
+ghost use Rattle.bx_text.specs.Changes.{IsRange};
+ghost use Rattle.bx_text.specs.index.Paragraphs.{lengths};
 ghost use Rattle.bx_rows.specs.RowStarts.{row_starts};
 ghost use Rattle.bx_view.specs.Places.{IsTextPlace};
-ghost use Rattle.bx_view.specs.Source.{IsViewBy, Keeps, body_at, bytes, count, rows, start_at};
+ghost use Rattle.bx_view.specs.TextRef.{IsViewBy, Keeps, body_at, bytes, count, rows, start_at};
 ghost use Rattle.bx_view.specs.Standing.{rows_ahead};
 ghost use Rattle.bx_view.specs.TextRows.{first, row_at, row_of, slots};
 ghost use Rattle.bx_view.specs.Top.{follow};
 
-use bx_index::ParagraphWalk;
+use bx_common::OutOfMemory;
 use bx_paragraph::Slot;
 use bx_rows::{RowStart, row_starts};
-use bx_terms::OutOfMemory;
+use bx_text::ParagraphWalk;
 use bx_ucd::BidiData;
-use bx_view::{Source, View, ViewError, current_span};
+use bx_view::{TextRef, View, current_span};
 use std::alloc::{AllocError, Global};
 
 /// The row starts of the walk's current paragraph in a window of `w` columns, as offsets of its body.
 fn starts_in<D: BidiData>(
     alloc: Global,
-    source: &Source<'_, D>,
+    source: &TextRef<'_, D>,
     walk: &ParagraphWalk<'_>,
     w: u16,
-) -> Result<Vec<RowStart>, ViewError>
+) -> Result<Vec<RowStart>, OutOfMemory>
     requires walk { walk.now.paragraphs ≡ lengths (D.data source.now.tables.now) (bytes source.now) }
     requires number { walk.now.number < count source.now }
     ensures { IfOk result (λ v. v.items ≡ row_starts (D.data source.now.tables.now) w (body_at source.now walk.now.number)) }
@@ -36,6 +37,7 @@ fn starts_in<D: BidiData>(
     let Ok(body) = source.text.copy_range(span.start, span.stop) else {
         return Err(OutOfMemory);
     };
+    // The proof compares the row starts, so they have a name.
     let starts = row_starts(alloc, body.as_str(), source.tables, w)?;
     Ok(starts)
 }
@@ -43,10 +45,10 @@ fn starts_in<D: BidiData>(
 /// The number of rows of the paragraphs before paragraph `number`, from 0, in a window of `w` columns.
 fn rows_before<D: BidiData>(
     alloc: Global,
-    source: &Source<'_, D>,
+    source: &TextRef<'_, D>,
     w: u16,
     number: usize,
-) -> Result<usize, ViewError>
+) -> Result<usize, OutOfMemory>
     requires side { is_side w ≡ true }
     requires number { number ≤ count source.now }
     ensures { IfOk result (λ n. (base : Base) → n ≡ rows_ahead (D.data source.now.tables.now) base w (bytes source.now) number) }
@@ -79,11 +81,12 @@ fn in_text(alloc: Global, start: usize, slots: &[Slot]) -> Result<Vec<usize>, Al
 pub fn row_count<D: BidiData>(
     alloc: Global,
     view: &View,
-    source: &Source<'_, D>,
-) -> Result<usize, ViewError>
+    source: &TextRef<'_, D>,
+) -> Result<usize, OutOfMemory>
     ensures { IfOk result (λ n. n ≡ length (rows source.now view.now)) }
 {
     let count = source.index.count();
+    // The proof compares the number, so it has a name.
     let rows = rows_before(alloc, source, view.width(), count)?;
     Ok(rows)
 }
@@ -92,9 +95,9 @@ pub fn row_count<D: BidiData>(
 pub fn row_of<D: BidiData>(
     alloc: Global,
     view: &mut View,
-    source: &Source<'_, D>,
+    source: &TextRef<'_, D>,
     offset: usize,
-) -> Result<usize, ViewError>
+) -> Result<usize, OutOfMemory>
     requires data { IsViewBy source.now view.old }
     ensures keeps { Keeps source.now view.old view.new }
     ensures row { IfOk result (λ n. n ≡ row_of (rows source.now view.old) offset) }
@@ -109,9 +112,9 @@ pub fn row_of<D: BidiData>(
 pub fn first<D: BidiData>(
     alloc: Global,
     view: &View,
-    source: &Source<'_, D>,
+    source: &TextRef<'_, D>,
     row: usize,
-) -> Result<Option<usize>, ViewError>
+) -> Result<Option<usize>, OutOfMemory>
     ensures { IfOk result (λ o. o ≡ option_map first (slice_get (rows source.now view.now) row)) }
 {
     let w = view.width();
@@ -135,9 +138,9 @@ pub fn first<D: BidiData>(
 /// The places of the row that a place falls in, in visual order from left to right.
 pub fn slots<D: BidiData>(
     view: &mut View,
-    source: &Source<'_, D>,
+    source: &TextRef<'_, D>,
     place: usize,
-) -> Result<Vec<usize>, ViewError>
+) -> Result<Vec<usize>, OutOfMemory>
     requires data { IsViewBy source.now view.old }
     ensures keeps { Keeps source.now view.old view.new }
     ensures slots { IfOk result (λ v. v.items
@@ -146,19 +149,18 @@ pub fn slots<D: BidiData>(
     let at = view.row_at(source, place)?;
     let row = view.row(source, at);
     let slots = row.slots()?;
-    let offsets = in_text(*slots.allocator(), row.start, &slots)?;
-    Ok(offsets)
+    Ok(in_text(*slots.allocator(), row.start, &slots)?)
 }
 
 /// The offset of the top row after scrolling `t` visible rows, from the row of the offset `top`, by the fewest rows that
 /// make the row of `place` visible.
 pub fn follow<D: BidiData>(
     view: &mut View,
-    source: &Source<'_, D>,
+    source: &TextRef<'_, D>,
     top: usize,
     place: usize,
     t: usize,
-) -> Result<usize, ViewError>
+) -> Result<usize, OutOfMemory>
     requires data { IsViewBy source.now view.old }
     requires some { 0 < t }
     ensures keeps { Keeps source.now view.old view.new }

@@ -10,18 +10,19 @@ use Rattle.bx_grid.specs.Picture.{PictureState, IsIdle, Shows}
 use Rattle.bx_grid.specs.Terminal.{Terminal, reads}
 use Rattle.bx_ucd.specs.Data.{Data}
 use Rattle.bx_editor.specs.Editor.{Editor}
-use Rattle.bx_asking.specs.declared.question.Ask.{Ask}
-use Rattle.bx_asking.specs.declared.question.Ask.TheVariants as asks
-use Rattle.bx_editor.specs.declared.seek.Seek.{Seek}
-use Rattle.bx_editor.specs.declared.seek.Seek.TheVariants.{Off, Begun, Typed, WithBegun, WithTyped, Replacing}
-use Rattle.bx_editor.specs.Pasting.{paste_ended}
+use Rattle.bx_editor.specs.declared.questions.answers.Prompt.{Prompt}
+use Rattle.bx_editor.specs.declared.questions.answers.Prompt.TheVariants as asks
+use Rattle.bx_editor.specs.declared.search_state.SearchState.{SearchState}
+use Rattle.bx_editor.specs.declared.search_state.SearchState.TheVariants.{Off, Begun, Typed, WithBegun, WithTyped, Replacing}
+use Rattle.bx_editor.specs.Putting.{paste_ended}
 use Rattle.bx_editor.specs.Replay.{after_passed_quit, after_passed_save}
 use Rattle.bx_editor.specs.Replay as replay
-use Rattle.bx_session.specs.Session.{Session, after_all_replayed, at_opening, at_replay_end, after_replay, after_replayed_key, after_spending, key_of_byte, session_after_key, session_after_replayed}
-use Rattle.bx_session.specs.Session.{scrolled, session_replayed_on, session_scrolled}
+use Rattle.bx_session.specs.Session.{Session, at_opening, after_spending, key_of_byte, session_after_key, scrolled, clipboard_if}
+use Rattle.bx_session.specs.Replaying.{after_all_replayed, at_replay_end, after_replay, after_replayed_key, session_after_replayed}
+use Rattle.bx_session.specs.Replaying.{session_replayed_on, session_scrolled}
 use Rattle.bx_session.specs.Painting.{QueuesPicture}
 use Rattle.bx_session.specs.Laws.{keys_from, after_journal, after_replaying}
-use Rattle.bx_session.specs.Beginning.{Beginning, IsBegun, after_going_to, changed_if, clipboard_if, at_offset, unpainted_at, begun}
+use Rattle.bx_session.specs.Beginning.{Beginning, IsBegun, after_going_to, changed_if, at_offset, unpainted_at, begun}
 use Rattle.bx_session.proofs.Input.{keys_of_input}
 use Rattle.bx_session.proofs.KeySizes.{ended_goes_on}
 use Rattle.bx_session.proofs.Pictures.{picture_height, picture_width}
@@ -101,7 +102,7 @@ passed_stays t s e height width = record {
       (ap (λ h. (t.height == h) && (t.width == s.editor.width)) (sym height) ∙ ap (λ w. (t.height == e.height) && (t.width == w)) (sym width) ∙ on);
 }
 
-quit_stays : (d : Data) (t : Terminal) (ask : Ask) (seek : Seek) (s : Session) → StaysKnown t s (session_after_replayed d ask seek s Quit)
+quit_stays : (d : Data) (t : Terminal) (ask : Prompt) (seek : SearchState) (s : Session) → StaysKnown t s (session_after_replayed d ask seek s Quit)
 quit_stays d t asks.Off Off s =
     let size = (ended_goes_on d s.editor).1 in passed_stays t s (after_passed_quit (paste_ended d s.editor)) size.0 size.1
 quit_stays d t asks.Off Begun s = key_stays d t s Quit
@@ -113,7 +114,7 @@ quit_stays d t asks.Line seek s = key_stays d t s Quit
 quit_stays d t asks.Name seek s = key_stays d t s Quit
 quit_stays d t asks.Code seek s = key_stays d t s Quit
 
-replayed_stays : (d : Data) (t : Terminal) (ask : Ask) (seek : Seek) (s : Session) (key : Key) → StaysKnown t s (session_after_replayed d ask seek s key)
+replayed_stays : (d : Data) (t : Terminal) (ask : Prompt) (seek : SearchState) (s : Session) (key : Key) → StaysKnown t s (session_after_replayed d ask seek s key)
 replayed_stays d t ask seek s =
     let size = (ended_goes_on d s.editor).1 in
     each-session d ask seek s (λ key new. StaysKnown t s new) (passed_stays t s (after_passed_save (paste_ended d s.editor)) size.0 size.1)

@@ -9,15 +9,15 @@ use Rattle.bx_grid.specs.Picture.{is_size}
 use Rattle.bx_keys.specs.declared.key.Key.{Key}
 use Rattle.bx_keys.specs.Keys.{key_after, rest_after}
 use Rattle.bx_keys.specs.Waiting.{head_of}
-use Rattle.bx_store.specs.Stores.{greatest}
+use Rattle.bx_store.specs.Faults.{greatest}
 use Rattle.bx_store.specs.declared.faults.Faults.{Faults}
 use Rattle.bx_store.specs.declared.store.StoreFault.{StoreFault}
 use Rattle.bx_ucd.specs.Data.{Data}
 use Rattle.bx_view.specs.Top.{follow}
 use Rattle.bx_editor.specs.Editor.{Editor, rows, text_height, with_top}
-use Rattle.bx_session.specs.declared.error.Refused.TheVariants as refused
-use Rattle.bx_session.specs.Session.{Session, key_of_byte, after_spending, session_after_any, unpainted_after_byte, painted_after, is_painted, after_byte, scrolled}
-use Rattle.bx_session.specs.Saving.{StoreState, StoreAfter, is_save_key, is_save_byte, text_to_save}
+use Rattle.bx_session.specs.declared.status.Refused.TheVariants as refused
+use Rattle.bx_session.specs.Session.{Session, key_of_byte, after_spending, session_after_any, unpainted_after_byte, painted_after}
+use Rattle.bx_session.specs.Session.{is_painted, after_byte, scrolled, StoreState, StoreAfter, is_save_key, is_save_byte, text_to_save}
 use Rattle.bx_session.specs.Laws.{keys_from}
 use Rattle.bx_session.proofs.Input.{keys_of_input}
 use Rattle.bx_session.proofs.Replayed.{rest_from, keys_from_both}
@@ -25,12 +25,11 @@ use Rattle.bx_world.specs.declared.step.Step.{Step}
 use Rattle.bx_world.specs.declared.step.Step.TheVariants.{Byte, Window, Told, Send, Read}
 use Rattle.bx_world.specs.declared.step.StepFault.{StepFault}
 use Rattle.bx_world.specs.declared.step.StepFault.TheVariants as faults
-use Rattle.bx_world.specs.World.{World, after_window, after_send, after_read, with_failed_screen}
-use Rattle.bx_world.specs.Steps.{StepsTo, PlaysTo, AfterByteStep, AfterToldStep, AfterWindowStep, AfterSendStep, AfterReadStep}
+use Rattle.bx_world.specs.World.{World, after_window, after_send, after_read, with_failed_screen, StepsTo, PlaysTo, AfterByteStep}
+use Rattle.bx_world.specs.World.{AfterToldStep, AfterWindowStep, AfterSendStep, AfterReadStep, is_ok}
 use Rattle.bx_world.specs.Events.{Event, Input, Telling, after_input, after_event, after_events, after_save_of, stored_after, stored_after_all, failed_saves}
-use Rattle.bx_world.specs.Answers.{is_ok}
 use Rattle.bx_world.specs.Events.{input_of, keys_of, HasKeysOfAll, is_applied, Brings, BringsByte, AreEventsFrom, owed_after, owed_by, painted_if}
-use Rattle.bx_world.specs.Headline.{Follows}
+use Rattle.bx_world.specs.Following.{Follows}
 use Rattle.bx_world.proofs.Ended.{after_both, has_input}
 use Rattle.bx_world.proofs.Keys.{spent}
 use Rattle.bx_world.proofs.Schedules.{byte_owes}

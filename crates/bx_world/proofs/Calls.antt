@@ -2,32 +2,33 @@
 use Rattle.std.proofs.Common.{◌≡◌, ℕ, zero, suc, Bool, true, false, List, [], ◌∷◌, ◌++◌, take, drop, length, Option, Some, None, Result, Ok, Err}
 use Rattle.std.proofs.Common.{refl, sym, ap, subst, ◌∙◌, if◌then◌else◌}
 use Rattle.std.specs.Prelude.{IfSome, IsSome, OnOk, OnErr, ◌&&◌, ◌==◌, ◌≢◌, option_map}
-use Rattle.bx_terms.specs.declared.base.Base.{Base}
+use Rattle.bx_common.specs.declared.base.Base.{Base}
 use Rattle.bx_keys.specs.Keys.{rest_after}
 use Rattle.bx_keys.specs.Waiting.{head_of}
 use Rattle.bx_grid.specs.declared.error.GridError.TheVariants as grid
 use Rattle.bx_grid.specs.Picture.{PictureState}
-use Rattle.bx_grid.specs.Terminal.{Terminal, reads, after_resize}
+use Rattle.bx_grid.specs.Terminal.{Terminal, reads, after_resize, unknown_terminal}
 use Rattle.bx_store.specs.declared.store.StoreFault.{StoreFault}
 use Rattle.bx_ucd.specs.Data.{Data}
 use Rattle.bx_editor.specs.Editor.{Editor}
 use Rattle.bx_editor.specs.Picture.{StandsOnItsCell}
-use Rattle.bx_session.specs.declared.error.Refused.{Refused}
-use Rattle.bx_session.specs.declared.error.Refused.TheVariants as refused
+use Rattle.bx_session.specs.declared.status.Refused.{Refused}
+use Rattle.bx_session.specs.declared.status.Refused.TheVariants as refused
 use Rattle.bx_session.specs.declared.status.Status.{Status}
-use Rattle.bx_session.specs.Session.{Session, SessionState, at_opening, after_spending, after_byte, owing_after_byte, is_painted, unpainted_after_byte}
+use Rattle.bx_session.specs.Session.{Session, at_opening, after_spending, after_byte, owing_after_byte, is_painted, unpainted_after_byte}
 use Rattle.bx_session.specs.Session.{painted_after, key_of_byte, needs_painting, owing_after_told, after_sending, with_clipboard}
-use Rattle.bx_session.specs.Saving.{StoreState, StoreAfter, Feeds, ToldBy, is_save_byte, text_to_save}
+use Rattle.bx_session.specs.Session.{StoreState, StoreAfter, is_save_byte, text_to_save}
+use Rattle.bx_session.specs.Feeding.{SessionState, Feeds, ToldBy}
 use Rattle.bx_session.specs.Painting.{QueuesPicture, FeedPaints, ToldPaints}
 use Rattle.bx_session.proofs.Quiet.{quiet_byte, quiet_shows}
 use Rattle.bx_session.proofs.Shown.{always_shows, no_need}
 use Rattle.bx_session.proofs.Tops.{clipboard_unseen}
 use Rattle.bx_world.specs.declared.step.StepFault.{StepFault}
 use Rattle.bx_world.specs.declared.step.StepFault.TheVariants as faults
-use Rattle.bx_world.specs.Answers.{answer_of, is_applied, mark_after}
-use Rattle.bx_world.specs.Steps.{AfterByteStep, AfterToldStep, AfterReadStep}
+use Rattle.bx_world.specs.Answers.{answer_of, mark_after}
+use Rattle.bx_world.specs.World.{is_applied, AfterByteStep, AfterToldStep, AfterReadStep, World, with_byte, with_told_size, told_after_key}
+use Rattle.bx_world.specs.World.{is_window, after_send}
 use Rattle.bx_world.specs.declared.world.World.TheInside.{Inside}
-use Rattle.bx_world.specs.World.{World, unknown_terminal, with_byte, with_told_size, told_after_key, is_window, after_send}
 use Rattle.bx_world.specs.Showing.{CursorStands, IsInStep}
 use Rattle.bx_world.proofs.Keys.{spent, byte_keeps, byte_pending, both, same_number}
 use Rattle.bx_world.proofs.Steps.{opened, kept, painted, resized, sent, received, failed}
@@ -45,10 +46,10 @@ value_of w = record {
 
 -- ---- opening
 
-pub opened_is : {D : Type 0} (says : D → Data) (s : SessionState D) (tables : D) (text : List ℕ) (height width : ℕ) (base : Base) (line : List ℕ)
-    (screen : Option Terminal) → s ≡ record { tables = tables; session = at_opening (says tables) text height width base }
-    → QueuesPicture (says tables) [] None s.session → line ≡ [] → screen ≡ Some (unknown_terminal height width)
-    → IsInStep (says s.tables) (record {
+pub opened_is : {D : Type 0} (ucd : D → Data) (s : SessionState D) (tables : D) (text : List ℕ) (height width : ℕ) (base : Base) (line : List ℕ)
+    (screen : Option Terminal) → s ≡ record { tables = tables; session = at_opening (ucd tables) text height width base }
+    → QueuesPicture (ucd tables) [] None s.session → line ≡ [] → screen ≡ Some (unknown_terminal height width)
+    → IsInStep (ucd s.tables) (record {
       session = s.session;
       line = line;
       height = height;
@@ -56,9 +57,9 @@ pub opened_is : {D : Type 0} (says : D → Data) (s : SessionState D) (tables : 
       screen = screen;
       told = true;
     })
-opened_is {D} says s tables text height width base line screen is queued empty shown =
+opened_is {D} ucd s tables text height width base line screen is queued empty shown =
     let same : s.tables ≡ tables = ap (λ (x : SessionState D). x.tables) is in
-    rw (empty, shown) (opened (says s.tables) s.session height width (subst (λ t. QueuesPicture (says t) [] None s.session) (sym same) queued)
+    rw (empty, shown) (opened (ucd s.tables) s.session height width (subst (λ t. QueuesPicture (ucd t) [] None s.session) (sym same) queued)
     (ap (λ (x : SessionState D). x.session.editor.height) is, ap (λ (x : SessionState D). x.session.editor.width) is))
 
 -- ---- a clipboard
@@ -82,12 +83,12 @@ clipboard_in_step d w was = record {
 }
 
 -- a session with a clipboard is in step as before
-pub clipboard_call : {D : Type 0} (says : D → Data) (old new : SessionState D) (w : World) → w.session ≡ old.session
-    → new ≡ record old { session = with_clipboard old.session } → IsInStep (says old.tables) w
-    → IsInStep (says new.tables) (record w { session = new.session })
-clipboard_call {D} says old new w same is was =
-    subst (λ (x : SessionState D). IsInStep (says x.tables) (record w { session = x.session })) (sym is)
-    (subst (λ (s : Session). IsInStep (says old.tables) (record w { session = with_clipboard s })) same (clipboard_in_step (says old.tables) w was))
+pub clipboard_call : {D : Type 0} (ucd : D → Data) (old new : SessionState D) (w : World) → w.session ≡ old.session
+    → new ≡ record old { session = with_clipboard old.session } → IsInStep (ucd old.tables) w
+    → IsInStep (ucd new.tables) (record w { session = new.session })
+clipboard_call {D} ucd old new w same is was =
+    subst (λ (x : SessionState D). IsInStep (ucd x.tables) (record w { session = x.session })) (sym is)
+    (subst (λ (s : Session). IsInStep (ucd old.tables) (record w { session = with_clipboard s })) same (clipboard_in_step (ucd old.tables) w was))
 
 -- ---- a byte
 
@@ -155,13 +156,13 @@ byte_in_step d w new store store' b (Err refused.Edit) was feeds paints = rw fee
 byte_in_step d w new store store' b (Err refused.Paint) was feeds paints = rw feeds.2.0 (owing_in_step d feeds.0 w b was)
 byte_in_step d w new store store' b (Err refused.Size) was feeds paints = absurd feeds.2
 
-pub byte_call : {D : Type 0} (says : D → Data) (tables tables' : D) (w : World) (new : Session) (store store' : StoreState) (b : ℕ)
+pub byte_call : {D : Type 0} (ucd : D → Data) (tables tables' : D) (w : World) (new : Session) (store store' : StoreState) (b : ℕ)
     (answer : Result Status Refused) (told : Bool) → tables' ≡ tables → told ≡ mark_after w.told (told_after_key w (key_of_byte w.session b)) answer
-    → IsInStep (says tables) w → Feeds (says tables) w.session store b answer new store'
-    → (is_painted w.session b ≡ true → OnOk answer (FeedPaints (says tables) w.session b new))
-    → IsInStep (says tables') (record w { session = new; told = told })
-byte_call says tables tables' w new store store' b answer told same is was feeds paints =
-    rw (same, is) (byte_in_step (says tables) w new store store' b answer was feeds paints)
+    → IsInStep (ucd tables) w → Feeds (ucd tables) w.session store b answer new store'
+    → (is_painted w.session b ≡ true → OnOk answer (FeedPaints (ucd tables) w.session b new))
+    → IsInStep (ucd tables') (record w { session = new; told = told })
+byte_call ucd tables tables' w new store store' b answer told same is was feeds paints =
+    rw (same, is) (byte_in_step (ucd tables) w new store store' b answer was feeds paints)
 
 byte_answer : (d : Data) (w : World) (new : Session) (store store' : StoreState) (b : ℕ) (answer : Result Status Refused)
     → Feeds d w.session store b answer new store'
@@ -199,12 +200,12 @@ told_in_step d w new height width (Err refused.Paint) was told paints =
     (λ owed. absurd (cc owed)) (λ on. tt) (λ on. window_fits w height width on))
 told_in_step d w new height width (Err refused.Size) was told paints = rw told.1 was
 
-pub told_call : {D : Type 0} (says : D → Data) (tables tables' : D) (w : World) (new : Session) (height width : ℕ) (answer : Result (Unit {0}) Refused)
-    (told : Bool) → tables' ≡ tables → told ≡ mark_after w.told (is_window w height width) answer → IsInStep (says tables) w
-    → ToldBy (says tables) w.session height width answer new → OnOk answer (ToldPaints (says tables) w.session new)
-    → IsInStep (says tables') (record w { session = new; told = told })
-told_call says tables tables' w new height width answer told same is was by paints =
-    rw (same, is) (told_in_step (says tables) w new height width answer was by paints)
+pub told_call : {D : Type 0} (ucd : D → Data) (tables tables' : D) (w : World) (new : Session) (height width : ℕ) (answer : Result (Unit {0}) Refused)
+    (told : Bool) → tables' ≡ tables → told ≡ mark_after w.told (is_window w height width) answer → IsInStep (ucd tables) w
+    → ToldBy (ucd tables) w.session height width answer new → OnOk answer (ToldPaints (ucd tables) w.session new)
+    → IsInStep (ucd tables') (record w { session = new; told = told })
+told_call ucd tables tables' w new height width answer told same is was by paints =
+    rw (same, is) (told_in_step (ucd tables) w new height width answer was by paints)
 
 told_answer : (d : Data) (w : World) (new : Session) (height width : ℕ) (answer : Result (Unit {0}) Refused) → ToldBy d w.session height width answer new
     → AfterToldStep d w height width (answer_of answer) (record w { session = new; told = mark_after w.told (is_window w height width) answer })
@@ -254,10 +255,10 @@ is_sent {D} tables s new count part pending same first is =
     is ∙ ap (λ left. record { tables = tables; session = record s { pending = left } })
     (rw (first, same) (drop_taken count s.pending))
 
-pub send_call : {D : Type 0} (says : D → Data) (tables : D) (w : World) (new : SessionState D) (count : ℕ) (line : List ℕ)
+pub send_call : {D : Type 0} (ucd : D → Data) (tables : D) (w : World) (new : SessionState D) (count : ℕ) (line : List ℕ)
     → new ≡ record { tables = tables; session = after_sending w.session count } → line ≡ w.line ++ take count w.session.pending
-    → IsInStep (says tables) w → IsInStep (says new.tables) (record w { session = new.session; line = line })
-send_call {D} says tables w new count line is behind was = rw (is, behind) (sent (says tables) w count was)
+    → IsInStep (ucd tables) w → IsInStep (ucd new.tables) (record w { session = new.session; line = line })
+send_call {D} ucd tables w new count line is behind was = rw (is, behind) (sent (ucd tables) w count was)
 
 pub send_steps : {D : Type 0} (tables : D) (w : World) (new : SessionState D) (count : ℕ) (line : List ℕ)
     → new ≡ record { tables = tables; session = after_sending w.session count } → line ≡ w.line ++ take count w.session.pending

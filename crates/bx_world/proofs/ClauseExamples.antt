@@ -5,28 +5,30 @@ use Rattle.std.specs.Fmt.{digits}
 use Rattle.std.proofs.lemmas.List.{append-nil}
 use Rattle.unicode_segmentation.proofs.Computing.{unicode_segmentation}
 use Rattle.unicode_width.proofs.Computing.{unicode_width}
-use Rattle.bx_terms.specs.declared.base.Base.TheVariants.{Auto}
+use Rattle.bx_common.specs.declared.base.Base.TheVariants.{Auto}
 use Rattle.bx_keys.specs.declared.key.Key.{Key}
 use Rattle.bx_keys.specs.declared.key.Key.TheVariants.{Insert, Save}
-use Rattle.bx_keys.specs.Keys.{decoding, keys_from}
+use Rattle.bx_keys.specs.Keys.{decoding}
+use Rattle.bx_keys.specs.Waiting.{keys_from}
 use Rattle.bx_grid.specs.Picture.{Shows}
-use Rattle.bx_grid.specs.Terminal.{Terminal}
+use Rattle.bx_grid.specs.Terminal.{Terminal, unknown_terminal}
 use Rattle.bx_view.specs.TextRows.{cell_of}
-use Rattle.bx_store.specs.Stores.{greatest, no_faults}
+use Rattle.bx_store.specs.Stores.{no_faults}
+use Rattle.bx_store.specs.Faults.{greatest}
 use Rattle.bx_store.specs.declared.store.StoreFault.{StoreFault}
 use Rattle.bx_editor.specs.Editor.{Editor, at_start, rows}
 use Rattle.bx_editor.specs.Picture.{picture}
 use Rattle.bx_editor.proofs.Computed.{tables, ascii_columns}
-use Rattle.bx_session.specs.Saving.{StoreState}
-use Rattle.bx_session.specs.Session.{Session, needs_painting}
+use Rattle.bx_session.specs.Session.{StoreState, Session, needs_painting}
 use Rattle.bx_session.proofs.Computed.{start}
 use Rattle.bx_world.specs.declared.step.Step.TheVariants.{Byte, Send, Read}
 use Rattle.bx_world.specs.Events.{Event, AreEvents, AreEventsFrom, Input, after_events, after_save_of, failed_saves, input_of, keys_of, stored_after_all}
-use Rattle.bx_world.specs.Headline.{Follows, HeadlineFromOpening}
+use Rattle.bx_world.specs.Headline.{HeadlineFromOpening}
+use Rattle.bx_world.specs.Following.{Follows}
 use Rattle.bx_world.specs.Reading.{PlaysReading, SeesPromised}
 use Rattle.bx_world.specs.Runs.{begins_at}
-use Rattle.bx_world.specs.Showing.{picture_of}
-use Rattle.bx_world.specs.World.{World, after_send, around, unknown_terminal, unread}
+use Rattle.bx_world.specs.Showing.{picture_of, unread}
+use Rattle.bx_world.specs.World.{World, after_send, around}
 use Rattle.bx_world.proofs.Woven.{ok}
 
 -- ---- the events of one byte

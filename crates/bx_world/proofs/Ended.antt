@@ -8,7 +8,7 @@ use Rattle.bx_editor.specs.Editor.{Editor}
 use Rattle.bx_world.specs.declared.step.Step.{Step}
 use Rattle.bx_world.specs.declared.step.Step.TheVariants.{Byte, Window, Told, Send, Read}
 use Rattle.bx_world.specs.declared.step.StepFault.{StepFault}
-use Rattle.bx_world.specs.Answers.{is_ok}
+use Rattle.bx_world.specs.World.{is_ok}
 use Rattle.bx_world.specs.Events.{Event, Input, Telling, after_event, after_events, input_of, byte_of, bytes_of_schedule, Brings, BringsByte, AreEventsFrom, owed_after}
 
 pub after_both : (d : Data) (e : Editor) (first others : List Event) → after_events d e (first ++ others) ≡ after_events d (after_events d e first) others

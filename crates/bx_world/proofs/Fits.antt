@@ -7,16 +7,14 @@ use Rattle.bx_store.specs.declared.store.StoreFault.{StoreFault}
 use Rattle.bx_ucd.specs.Data.{Data}
 use Rattle.bx_editor.specs.Editor.{Editor}
 use Rattle.bx_editor.specs.Keys.{after_key}
-use Rattle.bx_session.specs.declared.error.Refused.TheVariants as refused
-use Rattle.bx_session.specs.Saving.{StoreState}
-use Rattle.bx_session.specs.Session.{Session, key_of_byte, after_byte, is_painted, owing_after_byte}
+use Rattle.bx_session.specs.declared.status.Refused.TheVariants as refused
+use Rattle.bx_session.specs.Session.{StoreState, Session, key_of_byte, after_byte, is_painted, owing_after_byte}
 use Rattle.bx_session.proofs.KeySizes.{SameSize}
 use Rattle.bx_world.specs.declared.step.Step.{Step}
 use Rattle.bx_world.specs.declared.step.Step.TheVariants.{Byte, Window, Told, Send, Read}
 use Rattle.bx_world.specs.declared.step.StepFault.{StepFault}
 use Rattle.bx_world.specs.declared.step.StepFault.TheVariants as faults
-use Rattle.bx_world.specs.World.{World, told_after, with_byte}
-use Rattle.bx_world.specs.Steps.{AfterByteStep, AfterSendStep, AfterReadStep, StepsTo, PlaysTo}
+use Rattle.bx_world.specs.World.{World, told_after, with_byte, AfterByteStep, AfterSendStep, AfterReadStep, StepsTo, PlaysTo}
 use Rattle.bx_world.specs.Events.{after_input, painted_if}
 use Rattle.bx_world.specs.Runs.{Schedule}
 use Rattle.bx_grid.specs.declared.error.GridError.TheVariants as grid

@@ -4,8 +4,8 @@ use Rattle.std.specs.Prelude.{codes}
 use Rattle.std.specs.Fmt.{digits}
 use Rattle.unicode_segmentation.proofs.Computing.{unicode_segmentation}
 use Rattle.unicode_width.proofs.Computing.{unicode_width}
-use Rattle.bx_terms.specs.declared.base.Base.TheVariants.{Auto}
-use Rattle.bx_grid.specs.Terminal.{Terminal, reads}
+use Rattle.bx_common.specs.declared.base.Base.TheVariants.{Auto}
+use Rattle.bx_grid.specs.Terminal.{Terminal, reads, unknown_terminal}
 use Rattle.bx_store.specs.declared.store.StoreFault.{StoreFault}
 use Rattle.bx_editor.specs.Editor.{Editor}
 use Rattle.bx_editor.specs.Picture.{picture}
@@ -13,16 +13,14 @@ use Rattle.bx_editor.proofs.Computed.{tables, ascii_columns}
 use Rattle.bx_session.specs.declared.status.Status.TheVariants.{Running}
 use Rattle.bx_session.specs.Beginning.{Beginning, IsBegun, begun, unpainted_at}
 use Rattle.bx_session.specs.Running.{ByteAnswer, Turn, HasRun}
-use Rattle.bx_session.specs.Saving.{StoreState}
-use Rattle.bx_session.specs.Session.{Session, after_byte}
+use Rattle.bx_session.specs.Session.{StoreState, Session, after_byte}
 use Rattle.bx_session.proofs.Computed.{start}
 use Rattle.bx_session.proofs.Turns.{started}
 use Rattle.bx_world.specs.declared.step.Step.TheVariants.{Byte, Send, Read}
 use Rattle.bx_world.specs.Events.{after_events}
 use Rattle.bx_world.specs.Laws.{BeginsWithKeys, HeadlineInChangingWindows, HeadlineOfRuns, RunsArePlays, TurnsArePlays}
 use Rattle.bx_world.specs.Runs.{IsAmong, Schedule, RunsInWindow, begins_at, steps_of_run, steps_of_turns}
-use Rattle.bx_world.specs.Steps.{PlaysTo, is_last_accepted}
-use Rattle.bx_world.specs.World.{World, after_read, after_send, unknown_terminal, with_byte}
+use Rattle.bx_world.specs.World.{PlaysTo, is_last_accepted, World, after_read, after_send, with_byte}
 use Rattle.bx_world.proofs.Woven.{ok}
 
 -- ---- where a run begins

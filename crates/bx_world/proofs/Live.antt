@@ -4,14 +4,13 @@ use Rattle.std.specs.Prelude.{IsSome, option_map}
 use Rattle.bx_grid.specs.declared.error.GridError.TheVariants as grid
 use Rattle.bx_grid.specs.Terminal.{Terminal}
 use Rattle.bx_ucd.specs.Data.{Data}
-use Rattle.bx_session.specs.declared.error.Refused.TheVariants as refused
-use Rattle.bx_session.specs.Saving.{StoreState}
+use Rattle.bx_session.specs.declared.status.Refused.TheVariants as refused
+use Rattle.bx_session.specs.Session.{StoreState}
 use Rattle.bx_world.specs.declared.step.Step.{Step}
 use Rattle.bx_world.specs.declared.step.Step.TheVariants.{Byte, Window, Told, Send, Read}
 use Rattle.bx_world.specs.declared.step.StepFault.{StepFault}
 use Rattle.bx_world.specs.declared.step.StepFault.TheVariants as faults
-use Rattle.bx_world.specs.World.{World}
-use Rattle.bx_world.specs.Steps.{StepsTo, PlaysTo, HasMemory, has_memory}
+use Rattle.bx_world.specs.World.{World, StepsTo, PlaysTo, HasMemory, has_memory}
 use Rattle.bx_world.proofs.Woven.{live_map}
 
 -- a step that left the screen as it was

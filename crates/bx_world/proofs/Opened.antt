@@ -5,15 +5,12 @@ use Rattle.bx_grid.specs.Picture.{Shows}
 use Rattle.bx_ucd.specs.Data.{Data}
 use Rattle.bx_editor.specs.Editor.{Editor}
 use Rattle.bx_editor.specs.Picture.{StandsOnItsCell, picture}
-use Rattle.bx_terms.specs.declared.base.Base.{Base}
-use Rattle.bx_session.specs.Beginning.{clipboard_if}
-use Rattle.bx_session.specs.Saving.{StoreState}
-use Rattle.bx_session.specs.Session.{Session, at_opening, before_painting}
+use Rattle.bx_common.specs.declared.base.Base.{Base}
+use Rattle.bx_session.specs.Session.{clipboard_if, Session, at_opening, before_painting, StoreState}
 use Rattle.bx_session.proofs.Replayed.{rest_from}
 use Rattle.bx_world.specs.declared.step.Step.{Step}
 use Rattle.bx_world.specs.declared.step.StepFault.{StepFault}
-use Rattle.bx_world.specs.World.{World}
-use Rattle.bx_world.specs.Steps.{PlaysTo, is_last_accepted}
+use Rattle.bx_world.specs.World.{World, PlaysTo, is_last_accepted}
 use Rattle.bx_world.specs.Showing.{IsInStep}
 use Rattle.bx_world.specs.Events.{Event, AreEventsFrom}
 use Rattle.bx_world.specs.Headline.{Headline, HeadlineFromOpening}
@@ -67,8 +64,8 @@ headline_of d old new store store' all played was text height width base clipboa
     (ap (λ (w : World). w.session.painting_owed) is ∙ opened.owed) (subst (λ (w : World). IsSome w.screen) (sym is) refl) in
     (found.0, subst (λ (e : Editor). Headline d e [] store all new store' found.0) (ap (λ (w : World). w.session.editor) is ∙ opened.editor) found.1)
 
-pub headline : {D : Type 0} (says : D → Data) (tables tables' : D) (old new : World) (store store' : StoreState)
-    (all : List (Step × Result (Unit {0}) StepFault)) → tables' ≡ tables → PlaysTo (says tables) old store all new store' → IsInStep (says tables') new
-    → HeadlineFromOpening (says tables) old store all new store'
-headline {D} says tables tables' old new store store' all same played was =
-    headline_of (says tables) old new store store' all played (subst (λ (t : D). IsInStep (says t) new) same was)
+pub headline : {D : Type 0} (ucd : D → Data) (tables tables' : D) (old new : World) (store store' : StoreState)
+    (all : List (Step × Result (Unit {0}) StepFault)) → tables' ≡ tables → PlaysTo (ucd tables) old store all new store' → IsInStep (ucd tables') new
+    → HeadlineFromOpening (ucd tables) old store all new store'
+headline {D} ucd tables tables' old new store store' all same played was =
+    headline_of (ucd tables) old new store store' all played (subst (λ (t : D). IsInStep (ucd t) new) same was)

@@ -11,16 +11,14 @@ use Rattle.bx_grid.specs.Terminal.{Terminal, reads}
 use Rattle.bx_ucd.specs.Data.{Data}
 use Rattle.bx_editor.specs.Editor.{Editor}
 use Rattle.bx_editor.specs.Picture.{picture}
-use Rattle.bx_session.specs.Session.{Session, key_of_byte}
-use Rattle.bx_session.specs.Saving.{StoreState}
+use Rattle.bx_session.specs.Session.{Session, key_of_byte, StoreState}
 use Rattle.bx_session.specs.Running.{ByteAnswer, FeedsAll, Turn, TakesTurns, written_in}
 use Rattle.bx_session.specs.Beginning.{Beginning, begun}
 use Rattle.bx_world.specs.declared.step.Step.{Step}
 use Rattle.bx_world.specs.declared.step.Step.TheVariants.{Byte, Window, Told, Send, Read}
 use Rattle.bx_world.specs.declared.step.StepFault.{StepFault}
 use Rattle.bx_world.specs.Answers.{answer_of, mark_after}
-use Rattle.bx_world.specs.World.{World, told_after_key, after_send, after_read}
-use Rattle.bx_world.specs.Steps.{PlaysTo, StepsTo, accepted_after, is_last_accepted}
+use Rattle.bx_world.specs.World.{World, told_after_key, after_send, after_read, PlaysTo, StepsTo, accepted_after, is_last_accepted}
 use Rattle.bx_world.specs.Showing.{IsInStep}
 use Rattle.bx_world.specs.Events.{after_events}
 use Rattle.bx_world.specs.Runs.{Schedule, steps_of_turn, steps_of_turns, steps_of_run, begins_at, RunsInWindow}

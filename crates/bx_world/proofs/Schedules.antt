@@ -12,17 +12,15 @@ use Rattle.bx_store.specs.declared.store.StoreFault.{StoreFault}
 use Rattle.bx_ucd.specs.Data.{Data}
 use Rattle.bx_editor.specs.Picture.{picture}
 use Rattle.bx_keys.specs.declared.key.Key.{Key}
-use Rattle.bx_session.specs.Session.{Session, after_byte, after_spending, is_painted, key_of_byte, needs_painting, painted_after, session_after_any}
-use Rattle.bx_session.specs.Session.{unpainted_after_byte}
+use Rattle.bx_session.specs.Session.{Session, after_byte, after_spending, is_painted, key_of_byte, needs_painting, painted_after}
+use Rattle.bx_session.specs.Session.{session_after_any, unpainted_after_byte, StoreState}
 use Rattle.bx_session.proofs.Shown.{no_need}
-use Rattle.bx_session.specs.Saving.{StoreState}
 use Rattle.bx_world.specs.declared.step.Step.{Step}
 use Rattle.bx_world.specs.declared.step.Step.TheVariants.{Byte, Window, Told, Send, Read}
 use Rattle.bx_world.specs.declared.step.StepFault.{StepFault}
 use Rattle.bx_world.specs.declared.step.StepFault.TheVariants as faults
-use Rattle.bx_world.specs.World.{World}
-use Rattle.bx_world.specs.Steps.{StepsTo, PlaysTo, AfterByteStep, AfterToldStep}
-use Rattle.bx_world.specs.Steps.{AfterWindowStep, AfterSendStep, AfterReadStep, accepted_after, is_last_accepted}
+use Rattle.bx_world.specs.World.{World, StepsTo, PlaysTo, AfterByteStep, AfterToldStep, AfterWindowStep, AfterSendStep, AfterReadStep}
+use Rattle.bx_world.specs.World.{accepted_after, is_last_accepted}
 use Rattle.bx_world.specs.Showing.{AfterAll, IsInStep, WillShow, ShowsWhenRead}
 use Rattle.bx_world.proofs.Keys.{spent}
 
@@ -148,25 +146,25 @@ pub record Played (d : Data) (old : World) (store : StoreState) (steps : List St
   pub same_length : length (take count steps) ≡ length answers
   pub plays : PlaysTo d old store (zip (take count steps) answers) new store'
 
-pub one_played : {D : Type 0} (says : D → Data) (tables tables' : D) (old mid new : World) (store mid_store store' : StoreState) (steps : List Step) (count : ℕ)
+pub one_played : {D : Type 0} (ucd : D → Data) (tables tables' : D) (old mid new : World) (store mid_store store' : StoreState) (steps : List Step) (count : ℕ)
     (step : Step) (answers answers' : List (Result (Unit {0}) StepFault)) (answer : Result (Unit {0}) StepFault) → tables' ≡ tables
-    → Played (says tables) old store steps count mid mid_store answers → take (count + 1) steps ≡ take count steps ++ step ∷ []
-    → StepsTo (says tables') mid mid_store step answer new store' → answers' ≡ answers ++ answer ∷ []
-    → Played (says tables) old store steps (count + 1) new store' answers'
-one_played {D} says tables tables' old mid new store mid_store store' steps count step answers answers' answer same was more steps_to pushed =
+    → Played (ucd tables) old store steps count mid mid_store answers → take (count + 1) steps ≡ take count steps ++ step ∷ []
+    → StepsTo (ucd tables') mid mid_store step answer new store' → answers' ≡ answers ++ answer ∷ []
+    → Played (ucd tables) old store steps (count + 1) new store' answers'
+one_played {D} ucd tables tables' old mid new store mid_store store' steps count step answers answers' answer same was more steps_to pushed =
     let all : zip (take (count + 1) steps) answers' ≡ zip (take count steps) answers ++ (step, answer) ∷ [] =
     ap (λ xs. zip xs answers') more ∙ ap (λ ys. zip (take count steps ++ step ∷ []) ys) pushed
     ∙ zip_push (take count steps) answers step answer was.same_length in
-    let now : StepsTo (says tables) mid mid_store step answer new store' =
-    subst (λ (t : D). StepsTo (says t) mid mid_store step answer new store') same steps_to in record {
+    let now : StepsTo (ucd tables) mid mid_store step answer new store' =
+    subst (λ (t : D). StepsTo (ucd t) mid mid_store step answer new store') same steps_to in record {
       same_length = ap length more ∙ length-append (take count steps) (step ∷ []) ∙ ap (λ n. n + 1) was.same_length
           ∙ sym (length-append answers (answer ∷ [])) ∙ sym (ap length pushed);
-      plays = subst (λ x. PlaysTo (says tables) old store x new store') (sym all)
-          (plays_more (says tables) old mid new store mid_store store' (zip (take count steps) answers) step answer was.plays now);
+      plays = subst (λ x. PlaysTo (ucd tables) old store x new store') (sym all)
+          (plays_more (ucd tables) old mid new store mid_store store' (zip (take count steps) answers) step answer was.plays now);
     }
 
-pub schedule_shows : {D : Type 0} (says : D → Data) (tables tables' : D) (old new : World) (store store' : StoreState)
-    (all : List (Step × Result (Unit {0}) StepFault)) → tables' ≡ tables → PlaysTo (says tables) old store all new store' → IsInStep (says tables') new
-    → ShowsWhenRead (is_last_accepted (not old.session.painting_owed) all) (says tables') new
-schedule_shows {D} says tables tables' old new store store' all same played was =
-    shows_when_read (says tables') old new store store' all (subst (λ (t : D). PlaysTo (says t) old store all new store') (sym same) played) was
+pub schedule_shows : {D : Type 0} (ucd : D → Data) (tables tables' : D) (old new : World) (store store' : StoreState)
+    (all : List (Step × Result (Unit {0}) StepFault)) → tables' ≡ tables → PlaysTo (ucd tables) old store all new store' → IsInStep (ucd tables') new
+    → ShowsWhenRead (is_last_accepted (not old.session.painting_owed) all) (ucd tables') new
+schedule_shows {D} ucd tables tables' old new store store' all same played was =
+    shows_when_read (ucd tables') old new store store' all (subst (λ (t : D). PlaysTo (ucd t) old store all new store') (sym same) played) was

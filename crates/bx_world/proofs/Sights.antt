@@ -10,19 +10,18 @@ use Rattle.bx_grid.specs.Terminal.{Terminal, reads}
 use Rattle.bx_grid.proofs.Reading.{reads-append}
 use Rattle.bx_store.specs.declared.store.StoreFault.{StoreFault}
 use Rattle.bx_ucd.specs.Data.{Data}
-use Rattle.bx_session.specs.declared.error.Refused.TheVariants as refused
-use Rattle.bx_session.specs.Session.{Session, after_byte, clip_after, is_painted, key_of_byte, painted_after, painting, scrolled, then_clip, unpainted_after_byte}
-use Rattle.bx_session.specs.Session.{unpainted_after_told}
+use Rattle.bx_session.specs.declared.status.Refused.TheVariants as refused
+use Rattle.bx_session.specs.Session.{Session, after_byte, clip_after, is_painted, key_of_byte, painted_after, painting, scrolled}
+use Rattle.bx_session.specs.Session.{then_clip, unpainted_after_byte, unpainted_after_told, StoreState}
 use Rattle.bx_session.specs.Session as sessions
 use Rattle.bx_session.proofs.Pictures.{then_clip_after}
-use Rattle.bx_session.specs.Saving.{StoreState}
 use Rattle.bx_world.specs.declared.step.Step.{Step}
 use Rattle.bx_world.specs.declared.step.Step.TheVariants.{Byte, Window, Told, Send, Read}
 use Rattle.bx_world.specs.declared.step.StepFault.{StepFault}
 use Rattle.bx_world.specs.declared.step.StepFault.TheVariants as faults
-use Rattle.bx_world.specs.World.{World, unread, after_send}
-use Rattle.bx_world.specs.Steps.{StepsTo, PlaysTo, AfterByteStep, AfterToldStep, AfterWindowStep, AfterSendStep, AfterReadStep}
-use Rattle.bx_world.specs.Showing.{picture_of, IsInStep}
+use Rattle.bx_world.specs.World.{World, after_send, StepsTo, PlaysTo, AfterByteStep, AfterToldStep, AfterWindowStep, AfterSendStep}
+use Rattle.bx_world.specs.World.{AfterReadStep}
+use Rattle.bx_world.specs.Showing.{unread, picture_of, IsInStep}
 use Rattle.bx_world.specs.Reading.{read_at, PlaysReading, is_change, is_window_changed, SeesPromised}
 use Rattle.bx_world.proofs.Keys.{spent, byte_pending}
 use Rattle.bx_world.proofs.Schedules.{will_show}

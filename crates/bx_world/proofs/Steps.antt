@@ -3,7 +3,7 @@ use Rattle.std.proofs.Common.{◌≡◌, ℕ, Bool, true, List, [], ◌++◌, ta
 use Rattle.std.specs.Prelude.{IfSome, option_map}
 use Rattle.std.proofs.lemmas.List.{append_assoc, take-append-drop}
 use Rattle.bx_grid.specs.Picture.{PictureState, IsIdle, Shows}
-use Rattle.bx_grid.specs.Terminal.{Terminal, reads, after_resize}
+use Rattle.bx_grid.specs.Terminal.{Terminal, reads, after_resize, unknown_terminal}
 use Rattle.bx_grid.proofs.Reading.{reads-append}
 use Rattle.bx_ucd.specs.Data.{Data}
 use Rattle.bx_editor.specs.Picture.{picture}
@@ -11,8 +11,8 @@ use Rattle.bx_session.specs.Session.{Session}
 use Rattle.bx_session.specs.Laws.{ShowsState}
 use Rattle.bx_session.specs.Painting.{Paints, QueuesPicture, Updates}
 use Rattle.bx_session.proofs.Pictures.{picture_height, picture_width}
-use Rattle.bx_world.specs.World.{World, unread, unknown_terminal, around, after_window, after_send, after_read, with_failed_screen}
-use Rattle.bx_world.specs.Showing.{picture_of, AfterAll, CursorStands, NoRunInSequence, HasSize, FitsWindow, IsInStep}
+use Rattle.bx_world.specs.World.{World, around, after_window, after_send, after_read, with_failed_screen}
+use Rattle.bx_world.specs.Showing.{unread, picture_of, AfterAll, CursorStands, NoRunInSequence, HasSize, FitsWindow, IsInStep}
 use Rattle.bx_world.proofs.Terminals.{reads_size, reads_no_run, reads_alike, idle_as}
 
 -- a session after a step, beside the window's mark

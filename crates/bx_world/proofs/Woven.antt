@@ -8,10 +8,10 @@ use Rattle.bx_grid.specs.declared.error.GridError.TheVariants as grid
 use Rattle.bx_grid.specs.Picture.{is_size}
 use Rattle.bx_grid.specs.Terminal.{Terminal}
 use Rattle.bx_ucd.specs.Data.{Data}
-use Rattle.bx_session.specs.declared.error.Refused.{Refused}
+use Rattle.bx_session.specs.declared.status.Refused.{Refused}
 use Rattle.bx_session.specs.declared.status.Status.{Status}
-use Rattle.bx_session.specs.Session.{Session, key_of_byte, is_painted, after_sending}
-use Rattle.bx_session.specs.Saving.{StoreState, Feeds}
+use Rattle.bx_session.specs.Session.{Session, key_of_byte, is_painted, after_sending, StoreState}
+use Rattle.bx_session.specs.Feeding.{Feeds}
 use Rattle.bx_session.specs.Painting.{FeedPaints}
 use Rattle.bx_session.specs.Running.{ByteAnswer, FeedsAll, Turn, TakesTurns, InTurns}
 use Rattle.bx_world.specs.declared.step.Step.{Step}
@@ -19,8 +19,8 @@ use Rattle.bx_world.specs.declared.step.Step.TheVariants.{Byte, Window, Told, Se
 use Rattle.bx_world.specs.declared.step.StepFault.{StepFault}
 use Rattle.bx_world.specs.declared.step.StepFault.TheVariants as faults
 use Rattle.bx_world.specs.Answers.{answer_of, mark_after}
-use Rattle.bx_world.specs.World.{World, told_after_key, after_window, after_send, after_read}
-use Rattle.bx_world.specs.Steps.{StepsTo, PlaysTo, AfterWindowStep, AfterSendStep, AfterReadStep}
+use Rattle.bx_world.specs.World.{World, told_after_key, after_window, after_send, after_read, StepsTo, PlaysTo, AfterWindowStep}
+use Rattle.bx_world.specs.World.{AfterSendStep, AfterReadStep}
 use Rattle.bx_world.specs.Showing.{IsInStep}
 use Rattle.bx_world.specs.Runs.{Schedule, steps_of_turns, steps_of_run, is_outside, outside_answer}
 use Rattle.bx_world.proofs.Calls.{byte_steps, byte_in_step}

@@ -1,7 +1,7 @@
 -- The answer of a step, and the world's flag `told` after it, from the session's answer.
-use Rattle.std.specs.Prelude.{Bool, true, false, Result, Ok, Err}
-use Rattle.bx_session.specs.declared.error.Refused.{Refused}
-use Rattle.bx_session.specs.declared.error.Refused.TheVariants as refused
+use Rattle.std.specs.Prelude.{Bool, Result, Ok, Err}
+use Rattle.bx_session.specs.declared.status.Refused.{Refused}
+use Rattle.bx_session.specs.declared.status.Refused.TheVariants as refused
 use Rattle.bx_world.specs.declared.step.StepFault.{StepFault}
 use Rattle.bx_world.specs.declared.step.StepFault.TheVariants as faults
 
@@ -9,16 +9,6 @@ use Rattle.bx_world.specs.declared.step.StepFault.TheVariants as faults
 abbrev pub answer_of : {A : Type 0} → Result A Refused → Result (Unit {0}) StepFault
 answer_of (Ok _) = Ok tt
 answer_of (Err fault) = Err (faults.Session fault)
-
--- the step was accepted
-abbrev pub is_ok : {A : Type 0} → Result A StepFault → Bool
-is_ok (Ok _) = true
-is_ok (Err fault) = false
-
--- whether a byte's key was applied: unless there was no memory to apply it; a key whose painting was refused is applied
-abbrev pub is_applied : {A : Type 0} → Result A StepFault → Bool
-is_applied (Err (faults.Session refused.Edit)) = false
-is_applied _ = true
 
 -- the flag `told` after a call, which is `before` before it and `after` if the call is accepted: a refused call leaves it
 -- unchanged, unless only its painting was refused

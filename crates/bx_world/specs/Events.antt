@@ -5,21 +5,20 @@ use Rattle.std.specs.Prelude.{option_to_list, Result, Ok, Err, if◌then◌else�
 use Rattle.bx_keys.specs.declared.key.Key.{Key}
 use Rattle.bx_keys.specs.Keys.{decoding}
 use Rattle.bx_grid.specs.Picture.{is_size}
-use Rattle.bx_store.specs.Stores.{with_fault}
+use Rattle.bx_store.specs.Faults.{with_fault}
 use Rattle.bx_store.specs.declared.store.StoreFault.{StoreFault}
 use Rattle.bx_ucd.specs.Data.{Data}
 use Rattle.bx_editor.specs.Editor.{Editor, with_size, with_top}
 use Rattle.bx_editor.specs.Keys.{after_key}
 use Rattle.bx_editor.specs.Picture.{next_top}
-use Rattle.bx_session.specs.declared.error.Refused.TheVariants as refused
-use Rattle.bx_session.specs.Saving.{StoreState, with_text, is_save_key, text_to_save}
-use Rattle.bx_session.specs.Session.{needs_painting}
+use Rattle.bx_session.specs.declared.status.Refused.TheVariants as refused
+use Rattle.bx_session.specs.Session.{StoreState, with_text, is_save_key, text_to_save, needs_painting}
 use Rattle.bx_world.specs.declared.step.Step.{Step}
 use Rattle.bx_world.specs.declared.step.Step.TheVariants.{Byte, Window, Told, Send, Read}
 use Rattle.bx_world.specs.declared.step.StepFault.{StepFault}
 use Rattle.bx_world.specs.declared.step.StepFault.TheVariants as faults
-use Rattle.bx_world.specs.Answers.{is_ok}
-pub use Rattle.bx_world.specs.Answers.{is_applied}
+use Rattle.bx_world.specs.World.{is_ok}
+pub use Rattle.bx_world.specs.World.{is_applied}
 
 -- what a schedule's step does to the editor
 pub data Event : Type 0 where
@@ -93,10 +92,7 @@ keys_of (Telling height width painted ∷ more) = keys_of more
 -- the byte of input of a step, if it is one, and those of a schedule
 abbrev pub byte_of : Step → List ℕ
 byte_of (Byte b) = b ∷ []
-byte_of (Told height width) = []
-byte_of (Window height width) = []
-byte_of (Send count) = []
-byte_of (Read count) = []
+byte_of _ = []
 
 abbrev pub bytes_of_schedule : {A : Type 0} → List (Step × Result A StepFault) → List ℕ
 bytes_of_schedule [] = []
@@ -126,9 +122,7 @@ owed_by owed _ = owed
 abbrev pub owed_after : {A : Type 0} → Bool → Step → Result A StepFault → Bool
 owed_after owed (Byte b) answer = owed_by owed answer
 owed_after owed (Told height width) answer = owed_by owed answer
-owed_after owed (Window height width) answer = owed
-owed_after owed (Send count) answer = owed
-owed_after owed (Read count) answer = owed
+owed_after owed _ answer = owed
 
 -- The events of a byte, given whether the session has ended, and whether a painting is owed before: none after the end. The picture is
 -- painted if the byte is accepted, and its key may change the picture or a painting was owed.
@@ -143,9 +137,7 @@ abbrev pub Brings : {A : Type 0} → Bool → Editor → Step → Result A StepF
 Brings owed e (Byte b) answer events = BringsByte e.ended owed e b answer events
 Brings owed e (Told height width) answer events =
     events ≡ (if is_size height width then Telling height width (is_ok answer) ∷ [] else [])
-Brings owed e (Window height width) answer events = events ≡ []
-Brings owed e (Send count) answer events = events ≡ []
-Brings owed e (Read count) answer events = events ≡ []
+Brings owed e _ answer events = events ≡ []
 
 -- the events of a schedule, step by step; `owed`: a painting is owed before it
 abbrev pub AreEventsFrom : {A : Type 0} → Data → Bool → Editor → List (Step × Result A StepFault) → List Event → Type 0

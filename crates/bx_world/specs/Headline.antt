@@ -1,35 +1,18 @@
 -- The headline of the proofs: what a schedule makes of a file, from the keys typed to the text, the store, and the picture seen.
 -- `d` is Unicode's data.
 use Rattle.std.specs.Prelude.{◌≡◌, ℕ, ◌+◌, ◌<◌, Bool, true, false, List, [], Result, IfSome, IsSome}
-use Rattle.bx_terms.specs.declared.base.Base.{Base}
-use Rattle.bx_keys.specs.Keys.{keys_from}
+use Rattle.bx_common.specs.declared.base.Base.{Base}
 use Rattle.bx_grid.specs.Picture.{Shows}
-use Rattle.bx_store.specs.Stores.{greatest}
+use Rattle.bx_store.specs.Faults.{greatest}
 use Rattle.bx_ucd.specs.Data.{Data}
 use Rattle.bx_editor.specs.Editor.{Editor}
 use Rattle.bx_editor.specs.Picture.{StandsOnItsCell, picture}
-use Rattle.bx_session.specs.Beginning.{clipboard_if}
-use Rattle.bx_session.specs.Session.{at_opening, before_painting}
-use Rattle.bx_session.specs.Saving.{StoreState}
+use Rattle.bx_session.specs.Session.{clipboard_if, at_opening, before_painting, StoreState}
 use Rattle.bx_world.specs.declared.step.Step.{Step}
 use Rattle.bx_world.specs.declared.step.StepFault.{StepFault}
-use Rattle.bx_world.specs.World.{World, around}
-use Rattle.bx_world.specs.Steps.{HasMemory, is_last_accepted}
-use Rattle.bx_world.specs.Events.{Event, AreEvents, AreEventsFrom, input_of, keys_of, HasBytesUntilEnd, HasKeysOfAll}
+use Rattle.bx_world.specs.World.{World, around, HasMemory, is_last_accepted}
+use Rattle.bx_world.specs.Events.{Event, AreEvents, HasBytesUntilEnd, HasKeysOfAll}
 use Rattle.bx_world.specs.Events.{after_events, stored_after_all, failed_saves}
-
--- the effect of a schedule's events on a world
-pub record Follows {A : Type 0} (d : Data) (old : World) (store : StoreState) (schedule : List (Step × Result A StepFault)) (new : World)
-    (store' : StoreState) (events : List Event) : Type 0 where
-  pub events_are : AreEventsFrom d old.session.painting_owed old.session.editor schedule events
-  pub input : HasBytesUntilEnd schedule events new.session.editor
-  -- the keys of the input after the bytes of an unfinished key; without such bytes, the keys of the input as a whole
-  pub keys : keys_of events ≡ keys_from old.session.rest (input_of events)
-  pub as_whole : old.session.rest ≡ [] → HasKeysOfAll [] events
-  pub editor : new.session.editor ≡ after_events d old.session.editor events
-  pub stored : store' ≡ stored_after_all d old.session.editor store events
-  -- the store counts each failed save, up to the largest u64
-  pub failures : store'.faults.count < greatest → store'.faults.count ≡ store.faults.count + failed_saves events
 
 -- The headline, for a session's first editor state and the bytes of a journal, if any. The events are the bytes up to the
 -- session's end and the told sizes, each with its answer. The journal's keys and then the events' are the keys that the input

@@ -6,16 +6,15 @@ use Rattle.bx_keys.specs.Keys.{decoding}
 use Rattle.bx_grid.specs.Picture.{IsIdle, Shows}
 use Rattle.bx_grid.specs.Terminal.{Terminal, reads}
 use Rattle.bx_ucd.specs.Data.{Data}
-use Rattle.bx_editor.specs.Pasting.{paste_ended}
+use Rattle.bx_editor.specs.Putting.{paste_ended}
 use Rattle.bx_editor.specs.Replay.{at_replay_end}
 use Rattle.bx_editor.specs.Picture.{picture}
-use Rattle.bx_session.specs.Session.{Session, after_all_replayed, scrolled}
-use Rattle.bx_session.specs.Saving.{StoreState}
+use Rattle.bx_session.specs.Session.{Session, scrolled, StoreState}
+use Rattle.bx_session.specs.Replaying.{after_all_replayed}
 use Rattle.bx_session.specs.Running.{ByteAnswer, Turn, TakesTurn, HasRun}
 use Rattle.bx_session.specs.Beginning.{Beginning, IsBegun, at_offset, unpainted_at, begun}
 use Rattle.bx_world.specs.declared.step.Step.TheVariants.{Read}
-use Rattle.bx_world.specs.World.{World}
-use Rattle.bx_world.specs.Steps.{PlaysTo, is_last_accepted}
+use Rattle.bx_world.specs.World.{World, PlaysTo, is_last_accepted}
 use Rattle.bx_world.specs.Showing.{IsInStep}
 use Rattle.bx_world.specs.Events.{after_events}
 use Rattle.bx_world.specs.Runs.{Schedule, steps_of_turn, steps_of_run, IsAmong, RunsInWindow}

@@ -1,5 +1,4 @@
 pub mod World
-pub mod Steps
 pub mod Showing
 pub mod Answers
 pub mod Events
@@ -7,3 +6,4 @@ pub mod Headline
 pub mod Reading
 pub mod Runs
 pub mod Laws
+pub mod Following

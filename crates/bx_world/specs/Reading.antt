@@ -3,13 +3,12 @@
 use Rattle.std.specs.Prelude.{◌≡◌, ℕ, Bool, true, false, ◌||◌, List, [], ◌∷◌, ◌++◌, length, take, Result, IfSome}
 use Rattle.bx_grid.specs.Picture.{Shows}
 use Rattle.bx_ucd.specs.Data.{Data}
-use Rattle.bx_session.specs.Saving.{StoreState}
+use Rattle.bx_session.specs.Session.{StoreState}
 use Rattle.bx_world.specs.declared.step.Step.{Step}
 use Rattle.bx_world.specs.declared.step.Step.TheVariants.{Byte, Window, Told, Send, Read}
 use Rattle.bx_world.specs.declared.step.StepFault.{StepFault}
-use Rattle.bx_world.specs.World.{World, unread}
-use Rattle.bx_world.specs.Steps.{StepsTo, is_ok}
-use Rattle.bx_world.specs.Showing.{picture_of}
+use Rattle.bx_world.specs.World.{World, StepsTo, is_ok}
+use Rattle.bx_world.specs.Showing.{unread, picture_of}
 
 -- the bytes that the terminal reads in a step
 abbrev pub read_at : World → Step → List ℕ

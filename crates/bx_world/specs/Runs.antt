@@ -6,8 +6,7 @@ use Rattle.bx_grid.specs.Terminal.{Terminal}
 use Rattle.bx_grid.specs.declared.error.GridError.TheVariants as grid
 use Rattle.bx_ucd.specs.Data.{Data}
 use Rattle.bx_editor.specs.Picture.{picture}
-use Rattle.bx_session.specs.Session.{Session}
-use Rattle.bx_session.specs.Saving.{StoreState}
+use Rattle.bx_session.specs.Session.{Session, StoreState}
 use Rattle.bx_session.specs.Running.{ByteAnswer, Turn, InTurns}
 use Rattle.bx_session.specs.Beginning.{Beginning}
 use Rattle.bx_world.specs.declared.step.Step.{Step}
@@ -15,8 +14,7 @@ use Rattle.bx_world.specs.declared.step.Step.TheVariants.{Byte, Window, Told, Se
 use Rattle.bx_world.specs.declared.step.StepFault.{StepFault}
 use Rattle.bx_world.specs.declared.step.StepFault.TheVariants as faults
 use Rattle.bx_world.specs.Answers.{answer_of}
-use Rattle.bx_world.specs.World.{World}
-use Rattle.bx_world.specs.Steps.{PlaysTo, is_last_accepted}
+use Rattle.bx_world.specs.World.{World, PlaysTo, is_last_accepted}
 use Rattle.bx_world.specs.Events.{Event, after_events}
 use Rattle.bx_world.specs.Headline.{Headline}
 

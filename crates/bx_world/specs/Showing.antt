@@ -1,6 +1,6 @@
 -- The picture that a world's terminal shows, and will show once it has read all bytes in transit. `d` is Unicode's data, `w` a
 -- world, `s` its session, `e` an editor, `t` a terminal.
-use Rattle.std.specs.Prelude.{◌≡◌, ℕ, Bool, true, false, List, [], ◌∷◌, ◌==◌, IfSome, Option, Some, None}
+use Rattle.std.specs.Prelude.{◌≡◌, ℕ, Bool, true, false, List, [], ◌∷◌, ◌==◌, IfSome, Option, Some, None, ◌++◌}
 use Rattle.bx_grid.specs.Picture.{PictureState, IsIdle, Shows}
 use Rattle.bx_grid.specs.Terminal.{Terminal, reads}
 use Rattle.bx_ucd.specs.Data.{Data}
@@ -8,12 +8,21 @@ use Rattle.bx_editor.specs.Editor.{Editor}
 use Rattle.bx_editor.specs.Picture.{StandsOnItsCell, picture}
 use Rattle.bx_session.specs.Session.{Session}
 use Rattle.bx_session.specs.Painting.{ShowsState}
-use Rattle.bx_world.specs.World.{World, unread}
+use Rattle.bx_world.specs.World.{World}
 use Rattle.bx_terminal.specs.Screens.{IfShown}
 
 -- the picture of the state: the rows that the rules give for the text, and the cursor's cell
 abbrev pub picture_of : Data → Session → PictureState
 picture_of d s = picture d s.editor s.editor.top
+
+-- the value of a `World` (`src/world.rt`): a world and the tables of its session
+pub record WorldState (D : Type 0) : Type 0 where
+  pub tables : D
+  pub world : World
+
+-- the bytes that the terminal has not read yet: in transit, then pending in the session
+abbrev pub unread : World → List ℕ
+unread w = w.line ++ w.session.pending
 
 -- a property of the terminal, unless it has failed, once it has read the line and the pending bytes
 abbrev pub AfterAll : World → (Terminal → Type 0) → Type 0

@@ -2,12 +2,13 @@
 
 ghost use Rattle.std.specs.Prelude.{◌≡◌, ◌≤◌, ℕ, List, [], Bool, IfOk, OnErr, length, not, vec_capacity};
 ghost use Rattle.std.specs.List.{zip};
-ghost use Rattle.bx_session.specs.Saving.{store_state};
+ghost use Rattle.bx_session.specs.Session.{store_state};
 ghost use Rattle.bx_world.specs.Events.{Event};
-ghost use Rattle.bx_world.specs.Headline.{Follows, HeadlineFromOpening};
+ghost use Rattle.bx_world.specs.Headline.{HeadlineFromOpening};
+ghost use Rattle.bx_world.specs.Following.{Follows};
 ghost use Rattle.bx_world.specs.Reading.{PlaysReading, SeesPromised};
 ghost use Rattle.bx_world.specs.Showing.{ShowsWhenRead, StaysWhole, WillShow};
-ghost use Rattle.bx_world.specs.Steps.{PlaysTo, is_last_accepted};
+ghost use Rattle.bx_world.specs.World.{PlaysTo, is_last_accepted};
 
 use crate::step::{Step, StepFault};
 use crate::world::World;

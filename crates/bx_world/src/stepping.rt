@@ -1,15 +1,13 @@
-//! One step of the world: a byte, a size of the window or told to the session, a send to the line, a read from it.
+//! One step of a world, which is a session, the line to its terminal, the window and the terminal. A step is a byte of input, a size that
+//! the window gets or the session is told, a send to the line, or a read from it.
 
 ghost use Rattle.std.specs.Prelude.{◌≡◌, ◌≢◌, ◌≤◌, ◌++◌, ◌==◌, ◌&&◌, [], true, false, Option, IsSome, OnErr, OnOk, drop, length, option_map, take};
 ghost use Rattle.bx_grid.specs.Terminal.{reads};
-ghost use Rattle.bx_session.specs.Saving.{StoreAfter, is_save_byte, store_state, text_to_save};
-ghost use Rattle.bx_session.specs.Session.{key_of_byte};
+ghost use Rattle.bx_session.specs.Session.{StoreAfter, is_save_byte, key_of_byte, store_state, text_to_save};
 ghost use Rattle.bx_store.specs.declared.store.StoreFault.{StoreFault};
-ghost use Rattle.bx_world.specs.Answers.{is_applied};
+ghost use Rattle.bx_world.specs.World.{AfterByteStep, AfterReadStep, AfterSendStep, AfterToldStep, AfterWindowStep, StepsTo, is_applied, told_after};
 ghost use Rattle.bx_world.specs.Answers as answers;
 ghost use Rattle.bx_world.specs.Showing.{StaysWhole, WillShow};
-ghost use Rattle.bx_world.specs.Steps.{AfterByteStep, AfterReadStep, AfterSendStep, AfterToldStep, AfterWindowStep, StepsTo};
-ghost use Rattle.bx_world.specs.World.{told_after};
 
 use crate::step::{Step, StepFault};
 use crate::world::World;
@@ -143,7 +141,7 @@ impl<D: BidiData + Drop> World<D> {
         ensures tables { self.new.tables ≡ self.old.tables }
     {
         let told = is_window(self.height, self.width, height, width);
-        let answer = self.session.told(height, width);
+        let answer = self.session.set_window_size(height, width);
         mark_after(&mut self.told, told, &answer);
         answer_of(answer)
     }

@@ -1,18 +1,17 @@
 //! The world's state, and what can be read of it.
 
 ghost use Rattle.std.specs.Prelude.{◌≡◌, ◌≤◌, ◌↔◌, true, false, IfErr, IfOk, IsTrue, IsUtf8, OnOk, length};
-ghost use Rattle.bx_terms.specs.Sizes.{largest_text};
+ghost use Rattle.bx_common.specs.Characters.{largest_text};
 ghost use Rattle.bx_grid.specs.Picture.{is_size};
 ghost use Rattle.bx_terminal.specs.Screens.{IfShown};
-ghost use Rattle.bx_editor.specs.Opening.{Causes};
-ghost use Rattle.bx_world.specs.Showing.{IsShownOn};
+ghost use Rattle.bx_editor.specs.Editor.{Causes};
+ghost use Rattle.bx_world.specs.Showing.{IsInStep, IsShownOn, StaysWhole, WillShow, picture_of};
 ghost use Rattle.bx_session.specs.Session.{at_opening, with_clipboard};
-ghost use Rattle.bx_world.specs.Showing.{IsInStep, StaysWhole, WillShow, picture_of};
 ghost use Rattle.bx_world.specs.World.{around};
 
+use bx_common::Base;
 use bx_session::{OpenError, Session};
 use bx_terminal::Screen;
-use bx_terms::Base;
 use bx_ucd::BidiData;
 use std::alloc::Global;
 use std::marker::Model;
@@ -35,8 +34,7 @@ pub struct World<D: BidiData + Drop> {
 }
 
 impl<D: BidiData + Drop> Model for World<D> {
-    ghost use Rattle.bx_world.specs.Showing.{IsInStep};
-    ghost use Rattle.bx_world.specs.World.{WorldState};
+    ghost use Rattle.bx_world.specs.Showing.{IsInStep, WorldState};
 
     ghost Value = { WorldState D };
 

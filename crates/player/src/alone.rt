@@ -1,4 +1,4 @@
-//! A scene played in a session without a world.
+//! A scene in the mode `alone`: a session takes its steps, without the window, the line and the terminal that a world has.
 
 use crate::answers::{Answers, letter_of_refusal};
 use crate::looks::Seen;
@@ -20,7 +20,8 @@ pub struct Alone<D: BidiData + Drop> {
     pub may_fail: bool,
 }
 
-/// The letter for the answer to a byte.
+/// The letter for the answer to a byte, one of those that the head of `main.rt` lists. `has_failed`: the store ran out of memory in a
+/// Save.
 fn letter_of_byte(answer: Result<Status, Refused>, has_failed: bool) -> char {
     match answer {
         Ok(_) if has_failed => 'f',
@@ -63,7 +64,7 @@ impl<D: BidiData + Drop> Alone<D> {
     fn take(&mut self, step: Step, answers: &mut Answers) -> Result<(), AllocError> {
         let letter = match step {
             Step::Byte(byte) => self.type_byte(byte),
-            Step::Told(height, width) => match self.session.told(height, width) {
+            Step::Told(height, width) => match self.session.set_window_size(height, width) {
                 Ok(()) => 'o',
                 Err(refused) => letter_of_refusal(refused),
             },
@@ -71,8 +72,7 @@ impl<D: BidiData + Drop> Alone<D> {
             // a scene of this mode has no such steps
             Step::Window(_, _) | Step::Read(_) => '?',
         };
-        answers.letters.push(letter)?;
-        Ok(())
+        answers.letters.push(letter)
     }
 
     /// Replays a byte of a journal, and notes the answer.
@@ -81,8 +81,7 @@ impl<D: BidiData + Drop> Alone<D> {
             Ok(()) => 'o',
             Err(refused) => letter_of_refusal(refused),
         };
-        answers.letters.push(letter)?;
-        Ok(())
+        answers.letters.push(letter)
     }
 
     /// Ends a replay, and notes an answer only where that is refused.

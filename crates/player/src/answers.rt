@@ -1,4 +1,5 @@
-//! The answers of a scene, in buffers allocated before its world.
+//! What a scene answers, noted while its steps are taken. The buffers are allocated before the scene's world, so that no note takes
+//! memory while the world runs.
 
 use bx_grid::GridError;
 use bx_session::{Refused, Session};
@@ -51,8 +52,7 @@ pub fn add_text(line: &mut String, text: &[u8], file: &[u8]) -> Result<(), Alloc
 
 /// Appends 1 for true, 0 for false.
 pub fn add_flag(line: &mut String, flag: bool) -> Result<(), AllocError> {
-    line.push(if flag { '1' } else { '0' })?;
-    Ok(())
+    line.push(if flag { '1' } else { '0' })
 }
 
 /// The letter of a session's refusal.
@@ -91,7 +91,7 @@ impl Answers {
         })
     }
 
-    /// Clears the notes and keeps the buffers.
+    /// Clears the notes for the next scene and keeps the buffers.
     pub fn clear(&mut self) {
         self.letters.clear();
         self.plain.clear();

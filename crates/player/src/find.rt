@@ -1,10 +1,10 @@
 //! Where a query stands in a text.
 
 use crate::lent::Lent;
+use bx_common::Base;
 use bx_document::{Document, DocumentError};
 use bx_find::{Query, Reading};
 use bx_rows::char_count;
-use bx_terms::Base;
 use bx_ucd::Tables;
 use player_lines::{WordFault, add_blank, add_number, bytes_of, count_of, field};
 use std::alloc::Global;

@@ -2,7 +2,7 @@
 
 use crate::answers::{add_flag, add_text};
 use crate::scene::Look;
-use bx_session::{Aim, Ask, Seek, Session};
+use bx_session::{Prompt, SearchPurpose, SearchState, Session};
 use bx_store::{MemoryStore, Store};
 use bx_ucd::BidiData;
 use player_lines::{add_bytes, add_number};
@@ -18,32 +18,32 @@ pub struct Seen<'a, D: BidiData + Drop> {
 }
 
 /// The word for a search.
-fn word_of_search(seek: Seek) -> &'static str {
+fn word_of_search(seek: SearchState) -> &'static str {
     match seek {
-        Seek::Off => "off",
-        Seek::Begun => "begun",
-        Seek::Typed => "typed",
-        Seek::WithBegun => "with-begun",
-        Seek::WithTyped => "with-typed",
-        Seek::Replacing => "replacing",
+        SearchState::Off => "off",
+        SearchState::Begun => "begun",
+        SearchState::Typed => "typed",
+        SearchState::WithBegun => "with-begun",
+        SearchState::WithTyped => "with-typed",
+        SearchState::Replacing => "replacing",
     }
 }
 
 /// The word for what a search is for.
-fn word_of_aim(aim: Aim) -> &'static str {
+fn word_of_aim(aim: SearchPurpose) -> &'static str {
     match aim {
-        Aim::Find => "find",
-        Aim::Replace => "replace",
+        SearchPurpose::Find => "find",
+        SearchPurpose::Replace => "replace",
     }
 }
 
 /// The word for a question.
-fn word_of_question(ask: Ask) -> &'static str {
+fn word_of_question(ask: Prompt) -> &'static str {
     match ask {
-        Ask::Off => "off",
-        Ask::Line => "line",
-        Ask::Name => "name",
-        Ask::Code => "code",
+        Prompt::Off => "off",
+        Prompt::Line => "line",
+        Prompt::Name => "name",
+        Prompt::Code => "code",
     }
 }
 
@@ -51,10 +51,7 @@ fn word_of_question(ask: Ask) -> &'static str {
 fn add_mark(looks: &mut String, mark: Option<usize>) -> Result<(), AllocError> {
     match mark {
         Some(place) => add_number(looks, place),
-        None => {
-            looks.push('-')?;
-            Ok(())
-        }
+        None => looks.push('-'),
     }
 }
 
@@ -67,10 +64,10 @@ impl<D: BidiData + Drop> Seen<'_, D> {
             Look::Mark => add_mark(looks, session.mark()),
             Look::Held => add_bytes(looks, session.held().as_bytes()),
             Look::Query => add_bytes(looks, session.query().as_bytes()),
-            Look::Seek => looks.push_str(word_of_search(session.seek())),
-            Look::Aim => looks.push_str(word_of_aim(session.aim())),
-            Look::Other => add_bytes(looks, session.other().as_bytes()),
-            Look::Ask => looks.push_str(word_of_question(session.ask())),
+            Look::SearchState => looks.push_str(word_of_search(session.seek())),
+            Look::SearchPurpose => looks.push_str(word_of_aim(session.aim())),
+            Look::Other => add_bytes(looks, session.replacement().as_bytes()),
+            Look::Prompt => looks.push_str(word_of_question(session.ask())),
             Look::Answer => add_bytes(looks, session.answer().as_bytes()),
             Look::Changed => add_flag(looks, session.changed()),
             Look::Ended => add_flag(looks, session.ended()),

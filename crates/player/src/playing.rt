@@ -146,10 +146,7 @@ fn note_text_at_end(
     let steps = scene.steps(alloc)?;
     match stage_of(alloc, scene, tables)? {
         Ok(mut stage) => stage.text_behind(first_steps(&steps, count), &scene.file, answers),
-        Err(_) => {
-            answers.text.push('?')?;
-            Ok(())
-        }
+        Err(_) => answers.text.push('?'),
     }
 }
 

@@ -1,7 +1,7 @@
-//! A scene, parsed from a line.
+//! Parses a scene: a line of input that has a text, a window and steps. The head of `main.rt` describes its fields.
 
+use bx_common::Base;
 use bx_store::MemoryStore;
-use bx_terms::Base;
 use bx_world::Step;
 use player_lines::{WordFault, byte_of, bytes_of, call_of, count_of, side_of, two_of};
 use std::alloc::{AllocError, Global};
@@ -31,13 +31,13 @@ pub enum Look<'a> {
     /// The text that is sought.
     Query,
     /// How far a search is.
-    Seek,
+    SearchState,
     /// What the search is for.
-    Aim,
+    SearchPurpose,
     /// The text that replaces matches.
     Other,
     /// Which question is asked.
-    Ask,
+    Prompt,
     /// The answer to it so far.
     Answer,
     /// Whether there are changes that are not saved.
@@ -105,17 +105,17 @@ fn rows_of(word: &str) -> Result<Look<'_>, WordFault> {
     Ok(Look::Rows { line, column, rows })
 }
 
-/// Parses a word that looks.
+/// Parses a word of STEPS that only looks, such as `place`: it takes no step, and the line of answers says what it finds.
 pub fn look_of(word: &str) -> Result<Look<'_>, WordFault> {
     match word {
         "place" => Ok(Look::Place),
         "mark" => Ok(Look::Mark),
         "held" => Ok(Look::Held),
         "query" => Ok(Look::Query),
-        "seek" => Ok(Look::Seek),
-        "aim" => Ok(Look::Aim),
+        "seek" => Ok(Look::SearchState),
+        "aim" => Ok(Look::SearchPurpose),
         "other" => Ok(Look::Other),
-        "ask" => Ok(Look::Ask),
+        "ask" => Ok(Look::Prompt),
         "answer" => Ok(Look::Answer),
         "changed" => Ok(Look::Changed),
         "ended" => Ok(Look::Ended),

@@ -1,4 +1,4 @@
-//! A scene played in a world.
+//! A scene in the modes `step`, `play` and `both`: a world takes its steps, with the window, the line and the terminal.
 
 use crate::answers::{Answers, add_flag, letter_of};
 use crate::looks::Seen;

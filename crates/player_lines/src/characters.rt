@@ -1,12 +1,11 @@
 //! Characters given by their codes, and what is found for a paragraph of them: levels, the order in one row, clusters.
 ghost use Rattle.std.specs.Prelude.{All, IfOk};
-ghost use Rattle.bx_cells.specs.Units.{StandsIn};
+ghost use Rattle.bx_rows.specs.cells.UnitFacts.{StandsIn};
 
 use crate::words::{WordFault, count_of, field};
 use crate::writing::{add_blank, add_none};
-use bx_cells::{Face, Unit};
-use bx_resolve::{Levels, levels};
-use bx_rows::visual;
+use bx_levels::{Levels, levels};
+use bx_rows::{Face, Unit, visual};
 use bx_rows_laws::row_levels;
 use bx_ucd::{BidiData, Class, Tables};
 use std::alloc::{AllocError, Global};
@@ -44,10 +43,7 @@ fn add_level(line: &mut String, level: Option<u8>) -> Result<(), AllocError> {
     add_blank(line)?;
     match level {
         Some(level) => write!(line, "{level}"),
-        None => {
-            line.push('x')?;
-            Ok(())
-        }
+        None => line.push('x'),
     }
 }
 
@@ -148,7 +144,7 @@ pub fn order_line(alloc: Global, tables: &Tables, fields: &[&str]) -> Result<Str
 pub fn clusters_line(alloc: Global, tables: &Tables, fields: &[&str]) -> Result<String, WordFault> {
     let body = text_of(alloc, field(fields, 0)?)?;
     let mut line = String::from_str(alloc, "÷")?;
-    for unit in &bx_cells::units(alloc, body.as_str(), tables, COLUMNS)? {
+    for unit in &bx_rows::units(alloc, body.as_str(), tables, COLUMNS)? {
         let cluster = body.as_str().get(unit.start..unit.stop).unwrap_or("");
         for (number, c) in cluster.chars().enumerate() {
             let (sign, code) = (if number > 0 { " ×" } else { "" }, c as u32);

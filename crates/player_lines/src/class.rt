@@ -2,7 +2,7 @@
 
 use crate::characters::character_of;
 use crate::words::{WordFault, field};
-use bx_asking::class_name;
+use bx_ucd::class::class_name;
 use bx_ucd::{BidiData, Form, Joining, Side, Tables};
 use std::alloc::{AllocError, Global};
 

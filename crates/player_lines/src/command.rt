@@ -1,9 +1,8 @@
 //! The editor's command line.
 
 use crate::words::WordFault;
-use bx_cli::UnicodePaths;
-use bx_command::Options;
-use bx_terms::Base;
+use bx_command::{Options, UnicodePaths};
+use bx_common::Base;
 use std::alloc::{AllocError, Global};
 
 /// Appends an option's value, if it is given.

@@ -1,18 +1,16 @@
 //! A row of a text in a window.
 ghost use Rattle.std.specs.Prelude.{All};
-ghost use Rattle.bx_cells.specs.Units.{StandsIn};
+ghost use Rattle.bx_rows.specs.cells.UnitFacts.{StandsIn};
 ghost use Rattle.bx_paragraph.specs.Layout.{IsLayoutBy};
 
 use crate::words::{WordFault, bytes_of, count_of, field, side_of};
 use crate::writing::{add_blank, add_bytes, add_none};
-use bx_cells::{Unit, units};
-use bx_index::Index;
+use bx_common::{Base, is_side};
+use bx_levels::{Levels, levels};
 use bx_paragraph::{LentRow, ParagraphLayout};
-use bx_resolve::{Levels, levels};
-use bx_rows::visual;
+use bx_rows::{Unit, units, visual};
 use bx_rows_laws::{row_levels, wrap};
-use bx_terms::{Base, is_side};
-use bx_text::Text;
+use bx_text::{Index, Text};
 use bx_ucd::{BidiData, Tables};
 use std::alloc::Global;
 

@@ -1,10 +1,11 @@
-//! The picture of the rows in a scene.
+//! Makes a picture of the rows that a line of `player` gives by `rows=`: a scene compares it with the terminal, and `paint` paints it.
+//! The head of its `main.rt` describes the notation.
 
 ghost use Rattle.std.specs.Prelude.{IsTrue};
-ghost use Rattle.bx_grid.specs.Picture.{IsWithin};
+ghost use Rattle.bx_grid.specs.Grid.{IsWithin};
 
+use bx_common::{OutOfMemory, is_glyph, run_width};
 use bx_grid::{Cell, Grid, GridError, Picture};
-use bx_terms::{OutOfMemory, is_glyph, run_width};
 use std::alloc::Global;
 
 /// Errors of building a picture from rows.

@@ -1,6 +1,6 @@
 //! Parsers for the words of a line.
 
-use bx_terms::{OutOfMemory, UnknownBase};
+use bx_common::{OutOfMemory, UnknownBase};
 use bx_text::TextError;
 use std::alloc::{AllocError, AllocFailed, Global};
 

@@ -47,6 +47,7 @@ impl BidiData for Counting {
     }
 
     fn mirror(&self, c: char) -> Option<char> {
+        // No character is mirrored here.
         let _ = c;
         None
     }
@@ -56,6 +57,7 @@ impl BidiData for Counting {
     }
 
     fn form(&self, c: char, form: Form) -> Option<char> {
+        // No letter has a form here.
         let _ = (c, form);
         None
     }

@@ -1,14 +1,13 @@
 //! An edit asks for the classes of the text that it touches, not of the whole text.
 
 ghost use Rattle.std.specs.Prelude.{◌≡◌, ℕ, List, Some, IsUtf8};
-ghost use Rattle.bx_index.specs.Paragraphs.{lengths};
-ghost use Rattle.bx_text.specs.Edits.{IsChange};
+ghost use Rattle.bx_text.specs.index.Paragraphs.{lengths};
+ghost use Rattle.bx_text.specs.Changes.{IsChange};
 
 use crate::counting::Counting;
+use bx_common::Base;
 use bx_document::Document;
-use bx_index::Index;
-use bx_terms::Base;
-use bx_text::{Change, Text};
+use bx_text::{Change, Index, Text};
 use bx_ucd::BidiData;
 use bx_view::Move;
 use std::alloc::{AllocError, Global};
@@ -62,7 +61,7 @@ fn follow<D: BidiData>(index: &mut Index, text: &Text, tables: &D, change: &Chan
     requires room { index.old.room ≡ Some change.now.added }
     ensures { index.new.paragraphs ≡ lengths (D.data tables.now) text.now.edited.text }
 {
-    // the contract of `len` tells the proofs that the text is UTF-8
+    // `len` promises that the text is UTF-8.
     let _utf8 = text.len();
     index.edited(text, tables, change);
 }
@@ -73,7 +72,7 @@ fn paragraphs_and_questions(alloc: Global, offset: usize) -> Result<(usize, u32)
     let mut text = Text::open(alloc, thousand(alloc, "abcd")?)?;
     let mut index = Index::build(alloc, &text, &tables)?;
     tables.questions();
-    // the contract of `len` tells the proofs that the text is UTF-8
+    // `len` promises that the text is UTF-8.
     let _utf8 = text.len();
     index.ready(2)?;
     let change = text.insert(offset, "x\n", offset, offset)?;

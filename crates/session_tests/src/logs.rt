@@ -1,7 +1,7 @@
 //! The log of a run over a device in memory.
 
+use bx_common::Base;
 use bx_session::{Action, MemoryDevice, Session, run_device};
-use bx_terms::Base;
 use bx_ucd::sample_tables;
 use std::alloc::{AllocError, Global};
 use std::fmt::Write;

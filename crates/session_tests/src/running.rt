@@ -1,9 +1,9 @@
 //! Runs over readers, writers and stores, some of which fail.
 
 use crate::faulty::{Letters, Narrow, Refusal};
+use bx_common::Base;
 use bx_session::{End, RunFault, Session, run};
 use bx_store::{MemoryStore, Store};
-use bx_terms::Base;
 use bx_ucd::{Tables, sample_tables};
 use std::alloc::Global;
 use std::test::Fail;

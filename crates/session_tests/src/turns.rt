@@ -1,8 +1,8 @@
 //! The bytes flushed before each read of a run.
 
+use bx_common::Base;
 use bx_session::{Session, run};
 use bx_store::MemoryStore;
-use bx_terms::Base;
 use bx_ucd::sample_tables;
 use std::cell::Cell;
 use std::io::{self, Read, Write};

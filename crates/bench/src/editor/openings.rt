@@ -39,6 +39,5 @@ pub(crate) fn run<R: CpuClock + AllocGlobal>(
         traffic.sent = traffic.sent.wrapping_add(sent);
         time = time.saturating_add(taken);
     }
-    let outcome = outcome_of(rt.alloc(), name, text.len(), traffic, time, wanted.times)?;
-    Ok(outcome)
+    Ok(outcome_of(rt.alloc(), name, text.len(), traffic, time, wanted.times)?)
 }

@@ -52,6 +52,5 @@ pub(crate) fn run<R: CpuClock + AllocGlobal>(
     let text = wanted.script.text(rt.alloc(), wanted.bytes)?;
     let length = text.len();
     let (traffic, time) = measure(rt, files, task, wanted, text)?;
-    let outcome = outcome_of(rt.alloc(), name, length, traffic, time, wanted.times)?;
-    Ok(outcome)
+    Ok(outcome_of(rt.alloc(), name, length, traffic, time, wanted.times)?)
 }

@@ -75,13 +75,12 @@ impl TableFiles {
             joining: bytes.joining.as_slice(),
             characters: bytes.characters.as_slice(),
         });
-        let tables = Tables::read(
+        Ok(Tables::read(
             alloc,
             &self.classes,
             &self.brackets,
             &self.mirroring,
             joining,
-        )?;
-        Ok(tables)
+        )?)
     }
 }

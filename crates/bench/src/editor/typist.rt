@@ -3,8 +3,8 @@
 use crate::editor::Traffic;
 use crate::editor::counting_store::CountingStore;
 use anyhow::{Result, bail};
+use bx_common::Base;
 use bx_session::Session;
-use bx_terms::Base;
 use bx_ucd::Tables;
 
 /// The rows of the window.

@@ -1,5 +1,6 @@
 use Rattle.std.proofs.Common.{◌≡◌, ◌*◌, ◌∙◌, ap, sym, length, ℕ}
-use Rattle.bx_grid.specs.Picture.{PictureState, IsPicture}
+use Rattle.bx_grid.specs.Picture.{PictureState}
+use Rattle.bx_grid.specs.Grid.{IsPicture}
 use Rattle.bx_grid.proofs.Shared.{share, differ}
 use Rattle.bx_grid.proofs.Whole.{rows_whole}
 use Rattle.bx_grid.specs.Glyphs.{AreWhole}

@@ -7,8 +7,8 @@ use crate::live::Live;
 use crate::sequence::{first_sequence, text_len};
 use crate::text::text_before_escape;
 use crate::token::ESCAPE;
+use bx_common::are_printable;
 use bx_grid::Command;
-use bx_terms::are_printable;
 use std::alloc::AllocError;
 
 impl Live {

@@ -1,6 +1,6 @@
 use Rattle.std.proofs.Common.{length, ap, arith}
 use Rattle.bx_text.specs.declared.change.Change.{Change}
-use Rattle.bx_index.proofs.Followed.{room_for_bytes}
+use Rattle.bx_text.proofs.index_lemmas.Followed.{room_for_bytes}
 use Rattle.bench.proofs.paragraphs.clear.Goals as goal
 
 pub edited-requires-clause-room : goal.edited-requires-clause-room

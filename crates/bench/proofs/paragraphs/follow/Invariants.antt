@@ -1,6 +1,6 @@
 -- The index describes the text.
 use Rattle.std.proofs.Common.{◌≡◌}
-use Rattle.bx_index.specs.Paragraphs.{lengths}
+use Rattle.bx_text.specs.index.Paragraphs.{lengths}
 use Rattle.bench.proofs.paragraphs.follow.Given as goal
 
 abbrev pub invariant-loop : goal.invariant-loop

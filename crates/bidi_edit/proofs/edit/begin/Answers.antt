@@ -5,9 +5,9 @@ use Rattle.bidi_edit.proofs.edit.begin.Goals as goal
 
 pub returns-clause-session : goal.returns-clause-session
 returns-clause-session g c =
-    let says : g.row.D.Denot → Data = g.D.BidiData.data in
+    let ucd : g.row.D.Denot → Data = g.D.BidiData.data in
     let old = c.args.session.now in
     let mid = c.replay.new.session in
     c.in_ok-paint.ensures.ok
-    ∙ ap (λ (t : g.row.D.Denot). with_painting (says t) mid.session) c.replay.ensures.tables
-    ∙ ap (with_painting (says old.tables)) c.in_ok-replay.ensures.replays
+    ∙ ap (λ (t : g.row.D.Denot). with_painting (ucd t) mid.session) c.replay.ensures.tables
+    ∙ ap (with_painting (ucd old.tables)) c.in_ok-replay.ensures.replays

@@ -2,6 +2,6 @@ use Rattle.std.proofs.Common.{◌≤◌, length, take}
 use Rattle.std.specs.Io.KnownBytes.{Appends}
 use Rattle.bx_bytes.proofs.writing.write_all.Given as goal
 
-abbrev pub invariant-writes : goal.invariant-writes
-invariant-writes g l =
+abbrev pub invariant-loop : goal.invariant-loop
+invariant-loop g l =
     (l.written ≤ length l.fn.bytes) × Appends (g.W.Write.contents l.fn.writer) (g.W.Write.contents l.writer) (take l.written l.fn.bytes)

@@ -1,8 +1,15 @@
-use Rattle.std.proofs.Common.{subst}
-use Rattle.clap.specs.Words.{app_of}
+use Rattle.std.proofs.Common.{◌≡◌, ◌∙◌, ap, subst, List}
+use Rattle.clap.specs.Words.{App, HasMatchesOf, Text, app_of, is_simple, matches_of}
+use Rattle.clap.specs.declared.parser.matches.ArgMatches.{ArgMatches}
+use Rattle.bx_command.specs.shared.Arguments.{rows_in}
+use Rattle.bx_command.specs.shared.Rules.{DirectionWords}
+use Rattle.bx_command.specs.Command.{editor_app}
 use Rattle.bx_command.specs.Options.{AreOptionsIn}
-use Rattle.bx_command.proofs.ByWords.{by_words}
 use Rattle.bx_command.proofs.words.command_line.Goals as goal
+
+by_words : (app : App) (directions : DirectionWords) (words : List Text) (matches : ArgMatches) → app ≡ editor_app directions → HasMatchesOf app words matches
+    → rows_in matches ≡ matches_of (editor_app directions) words
+by_words app directions words matches is has = (has (ap is_simple is)).0 ∙ ap (λ a. matches_of a words) is
 
 pub returns-in-Some : goal.returns-in-Some
 returns-in-Some g c =

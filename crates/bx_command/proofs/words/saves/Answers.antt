@@ -1,7 +1,7 @@
 use Rattle.std.proofs.Common.{ap, ◌∙◌}
 use Rattle.std.proofs.lemmas.Result.{IfOk-weaker}
-use Rattle.bx_cli.specs.Rules.{bound}
-use Rattle.bx_cli.proofs.Commands.{requiring_is_bound}
+use Rattle.bx_command.specs.shared.Rules.{bound}
+use Rattle.bx_command.proofs.shared_lemmas.Commands.{requiring_is_bound}
 use Rattle.bx_command.proofs.words.saves.Goals as goal
 
 pub returns : goal.returns

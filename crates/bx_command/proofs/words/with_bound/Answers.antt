@@ -1,6 +1,6 @@
 use Rattle.std.proofs.Common.{refl}
 use Rattle.std.proofs.lemmas.Result.{IfOk-weaker}
-use Rattle.bx_cli.proofs.Commands.{one_more}
+use Rattle.bx_command.proofs.shared_lemmas.Commands.{one_more}
 use Rattle.bx_command.proofs.words.with_bound.Goals as goal
 
 pub returns : goal.returns

@@ -26,19 +26,19 @@ overflow_add-result g c =
 pub returns-clause-line : goal.returns-clause-line
 returns-clause-line g c =
     let s = c.args.source.now in
-    let says = g.D.BidiData.data s.tables.now in
+    let ucd = g.D.BidiData.data s.tables.now in
     let text = s.text.now.edited.text in
     let ls = s.index.now.paragraphs in
-    line_of_span says text ls s.utf8 s.indexed c.args.offset _ c.span-start.result (c.span-start.result.1 + c.separator.result) refl
-    (span_of_walk says text ls s.utf8 s.indexed c.args.offset c.walk_at_offset-walk.result c.span-start.result c.walk_at_offset-walk.ensures
+    line_of_span ucd text ls s.utf8 s.indexed c.args.offset _ c.span-start.result (c.span-start.result.1 + c.separator.result) refl
+    (span_of_walk ucd text ls s.utf8 s.indexed c.args.offset c.walk_at_offset-walk.result c.span-start.result c.walk_at_offset-walk.ensures
     c.span-start.ensures) (reached g ((goal.at.returns-clause-line g c).After-separator))
 
 pub returns-clause-range : goal.returns-clause-range
 returns-clause-range g c =
     let s = c.args.source.now in
-    let says = g.D.BidiData.data s.tables.now in
+    let ucd = g.D.BidiData.data s.tables.now in
     let text = s.text.now.edited.text in
     let ls = s.index.now.paragraphs in
-    line_range says text ls s.utf8 s.indexed c.args.offset _ c.span-start.result (c.span-start.result.1 + c.separator.result) refl
-    (span_of_walk says text ls s.utf8 s.indexed c.args.offset c.walk_at_offset-walk.result c.span-start.result c.walk_at_offset-walk.ensures
+    line_range ucd text ls s.utf8 s.indexed c.args.offset _ c.span-start.result (c.span-start.result.1 + c.separator.result) refl
+    (span_of_walk ucd text ls s.utf8 s.indexed c.args.offset c.walk_at_offset-walk.result c.span-start.result c.walk_at_offset-walk.ensures
     c.span-start.ensures) (reached g ((goal.at.returns-clause-range g c).After-separator)) c.requires.bounds

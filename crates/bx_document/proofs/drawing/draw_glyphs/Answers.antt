@@ -1,7 +1,7 @@
 use Rattle.std.proofs.Common.{◌≡◌, ◌+◌, ◌-◌, ◌*◌, ◌≤◌, ◌++◌, ◌∙◌, ap, arith, length, refl, replicate, subst, sym, take, take_all}
-use Rattle.bx_terms.specs.Glyphs.{run_width}
-use Rattle.bx_grid.specs.Columns.{blank, paste, run_columns}
-use Rattle.bx_grid.specs.Picture.{GridState, HasRoom}
+use Rattle.bx_common.specs.Glyphs.{run_width}
+use Rattle.bx_grid.specs.Columns.{blank, run_columns}
+use Rattle.bx_grid.specs.Grid.{paste, GridState, HasRoom}
 use Rattle.bx_document.proofs.PutOn.{all_put, some_put}
 use Rattle.bx_document.proofs.RowGlyphs.{columns_in, glyphs_columns, is_next, length-glyphs, next_put, room, within}
 use Rattle.bx_document.proofs.drawing.draw_glyphs.Goals as goal

@@ -5,5 +5,5 @@ use Rattle.bx_document.proofs.first_separator.after_part.Goals as goal
 
 pub returns : goal.returns
 returns g c = λ rest.
-    c.chars.invariant.same rest
-    ∙ ap (λ cs. crlf_from (g.D.BidiData.data c.args.tables.now) c.chars.seen (cs ++ rest)) (no-chars c.chars.left.now c.in_default.ensures)
+    c.loop-c.invariant.same rest
+    ∙ ap (λ cs. crlf_from (g.D.BidiData.data c.args.tables.now) c.loop-c.seen (cs ++ rest)) (no-chars c.loop-c.left.now c.in_default.ensures)

@@ -1,7 +1,7 @@
 use Rattle.std.proofs.Common.{◌≡◌, ◌≤◌, ◌∙◌, List, ap, length, map, subst, sym, take}
 use Rattle.bx_rows.specs.declared.drawn.Drawn.{Drawn}
 use Rattle.bx_rows.specs.Shown.{glyph_of}
-use Rattle.bx_document.specs.QueryRow.{fitting}
+use Rattle.bx_document.specs.Drawing.{fitting}
 use Rattle.bx_document.proofs.Fitting.{length-glyph-row, row-of}
 use Rattle.bx_document.proofs.RowGlyphs.{columns_in}
 use Rattle.bx_document.proofs.query_row.glyph_row.Goals as goal

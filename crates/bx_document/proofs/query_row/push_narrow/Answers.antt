@@ -1,7 +1,7 @@
 use Rattle.std.proofs.Common.{[], All, ap, sym, subst, ◌∙◌}
 use Rattle.std.proofs.lemmas.List.Elements.{All-append, All-cons, All-nil}
-use Rattle.bx_terms.specs.Glyphs.{is_one_glyph, run_width}
-use Rattle.bx_document.specs.QueryRow.{IsWellDrawn}
+use Rattle.bx_common.specs.Glyphs.{is_one_glyph, run_width}
+use Rattle.bx_document.specs.Narrow.{IsWellDrawn}
 use Rattle.bx_document.proofs.query_row.push_narrow.Goals as goal
 
 pub returns-clause-glyphs : goal.returns-clause-glyphs

@@ -3,7 +3,7 @@ use Rattle.std.proofs.lemmas.Iterator.{YieldsList-from_chars}
 use Rattle.std.proofs.lemmas.Iterator.Consumers.{YieldsList-turn, YieldsList-end}
 use Rattle.std.proofs.lemmas.List.{length_push}
 use Rattle.bx_rows.specs.Shown.{glyph_of}
-use Rattle.bx_document.specs.QueryRow.{typed_glyph}
+use Rattle.bx_document.specs.Drawing.{typed_glyph}
 use Rattle.bx_document.proofs.TypedGlyphs.{narrow-there, typed-more}
 use Rattle.bx_document.proofs.query_row.push_typed.Goals as goal
 

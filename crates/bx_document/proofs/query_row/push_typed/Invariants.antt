@@ -2,7 +2,8 @@
 use Rattle.std.proofs.Common.{◌≡◌, ◌++◌, map, chars, length, take}
 use Rattle.std.specs.Prelude.{All}
 use Rattle.bx_rows.specs.Shown.{glyph_of}
-use Rattle.bx_document.specs.QueryRow.{IsWellDrawn, typed_glyph}
+use Rattle.bx_document.specs.Drawing.{typed_glyph}
+use Rattle.bx_document.specs.Narrow.{IsWellDrawn}
 use Rattle.bx_document.proofs.query_row.push_typed.Given as goal
 
 abbrev pub invariant-loop-c : goal.invariant-loop-c

@@ -1,6 +1,6 @@
 use Rattle.std.proofs.Common.{◌≡◌, true}
 use Rattle.std.specs.Cow.{cow_str_bytes}
-use Rattle.bx_terms.specs.Glyphs.{is_one_glyph, run_width}
+use Rattle.bx_common.specs.Glyphs.{is_one_glyph, run_width}
 use Rattle.bx_rows.specs.declared.drawn.Drawn.{Drawn}
 use Rattle.bx_document.proofs.QueryGlyphs.{all-of-both, text-then-query}
 use Rattle.bx_document.proofs.query_row.text_and_query.Goals as goal

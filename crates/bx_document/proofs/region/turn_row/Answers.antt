@@ -1,6 +1,6 @@
 use Rattle.std.proofs.Common.{◌∙◌, ap, subst, sym}
 use Rattle.std.specs.Prelude.{All}
-use Rattle.bx_document.specs.Drawing.{with_rows}
+use Rattle.bx_document.specs.Shown.{with_rows}
 use Rattle.bx_document.specs.RegionSlots.{IsSpan, row_in}
 use Rattle.bx_document.proofs.RegionRow.{row-laid, row-spans}
 use Rattle.bx_document.proofs.region.turn_row.Goals as goal

@@ -21,11 +21,11 @@ returns-in-Some-clause-order g c =
 pub returns-clause-place : goal.returns-clause-place
 returns-clause-place g c =
     let s = c.args.source.now in
-    let says = g.D.BidiData.data s.tables.now in
+    let ucd = g.D.BidiData.data s.tables.now in
     let range = c.args.range in
     let new = splice s.text.now.edited.text range.start range.end c.args.new.now in
     c.in_ok-place-2.ensures.place
-    ∙ ap (λ rows. place_from rows (range.start + length c.args.new.now)) (rows-kept says c.args.view.now c.edit.new.self new c.edit.ensures.keeps)
+    ∙ ap (λ rows. place_from rows (range.start + length c.args.new.now)) (rows-kept ucd c.args.view.now c.edit.new.self new c.edit.ensures.keeps)
 
 pub returns-clause-order : goal.returns-clause-order
 returns-clause-order g c =

@@ -1,4 +1,7 @@
-use Rattle.std.proofs.Common.{arith, refl, string_bytes}
+use Rattle.std.proofs.Common.{ℕ, ◌-◌, List, arith, refl, string_bytes, ap, ap₂, ◌∙◌}
+use Rattle.bx_text.specs.Text.{TextState}
+use Rattle.bx_view.specs.FoundRow.{rows_by}
+use Rattle.bx_view.specs.Moves.{place_at}
 use Rattle.bx_document.proofs.PlaceAfter.{splice_short}
 use Rattle.bx_document.proofs.PlaceBehind.{last_found}
 use Rattle.bx_document.proofs.touched.place_at_inside.Goals as goal
@@ -8,10 +11,13 @@ overflow_add-result g c =
     let s = c.args.source.now in
     let text = s.text.now.edited.text in
     let range = c.args.range in
+    let copy = ap (λ (t : TextState). t.edited.text) c.of-copy.ensures.text ∙ c.in_ok-text.ensures.text in
     let is = last_found (g.D.BidiData.data s.tables.now) c.args.view.now text range.start range.end c.args.new.now
     c.in_ok-place.ensures.side s.utf8 c.requires.range c.utf8.new (string_bytes c.in_ok-first.characters) c.in_ok-first.first
     c.args.offset _ c.in_ok-place.place c.requires.behind c.requires.inside c.in_ok-first.ensures.start
-    c.in_ok-first.ensures.text refl c.in_ok-place.ensures.place in
+    c.in_ok-first.ensures.text refl
+    (c.in_ok-place.ensures.place ∙ ap₂ (λ t (b : List ℕ). place_at (rows_by (g.D.BidiData.data t) c.args.view.now b) (c.args.offset - c.in_ok-first.first))
+    c.of-copy.ensures.tables copy) in
     omega (arith, is.boundary.0, splice_short text range.start range.end c.args.new.now c.requires.range c.requires.fits)
 
 pub returns-clause-place : goal.returns-clause-place
@@ -19,17 +25,23 @@ returns-clause-place g c =
     let s = c.args.source.now in
     let text = s.text.now.edited.text in
     let range = c.args.range in
+    let copy = ap (λ (t : TextState). t.edited.text) c.of-copy.ensures.text ∙ c.in_ok-text.ensures.text in
     (last_found (g.D.BidiData.data s.tables.now) c.args.view.now text range.start range.end c.args.new.now
     c.in_ok-place.ensures.side s.utf8 c.requires.range c.utf8.new (string_bytes c.in_ok-first.characters) c.in_ok-first.first
     c.args.offset _ c.in_ok-place.place c.requires.behind c.requires.inside c.in_ok-first.ensures.start
-    c.in_ok-first.ensures.text refl c.in_ok-place.ensures.place).place
+    c.in_ok-first.ensures.text refl
+    (c.in_ok-place.ensures.place ∙ ap₂ (λ t (b : List ℕ). place_at (rows_by (g.D.BidiData.data t) c.args.view.now b) (c.args.offset - c.in_ok-first.first))
+    c.of-copy.ensures.tables copy)).place
 
 pub returns-clause-text_place : goal.returns-clause-text_place
 returns-clause-text_place g c =
     let s = c.args.source.now in
     let text = s.text.now.edited.text in
     let range = c.args.range in
+    let copy = ap (λ (t : TextState). t.edited.text) c.of-copy.ensures.text ∙ c.in_ok-text.ensures.text in
     (last_found (g.D.BidiData.data s.tables.now) c.args.view.now text range.start range.end c.args.new.now
     c.in_ok-place.ensures.side s.utf8 c.requires.range c.utf8.new (string_bytes c.in_ok-first.characters) c.in_ok-first.first
     c.args.offset _ c.in_ok-place.place c.requires.behind c.requires.inside c.in_ok-first.ensures.start
-    c.in_ok-first.ensures.text refl c.in_ok-place.ensures.place).text_place
+    c.in_ok-first.ensures.text refl
+    (c.in_ok-place.ensures.place ∙ ap₂ (λ t (b : List ℕ). place_at (rows_by (g.D.BidiData.data t) c.args.view.now b) (c.args.offset - c.in_ok-first.first))
+    c.of-copy.ensures.tables copy)).text_place

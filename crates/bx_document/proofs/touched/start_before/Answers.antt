@@ -1,5 +1,5 @@
 use Rattle.std.proofs.Common.{ap, ◌∙◌}
-use Rattle.bx_index.specs.Positions.{paragraph_of}
+use Rattle.bx_text.specs.index.Paragraphs.{paragraph_of}
 use Rattle.bx_document.proofs.TouchedSpan.{start_range, start_of_span}
 use Rattle.bx_document.proofs.touched.start_before.Goals as goal
 

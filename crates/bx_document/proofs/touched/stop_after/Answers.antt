@@ -1,5 +1,5 @@
 use Rattle.std.proofs.Common.{◌≡◌, ◌+◌, subst, sym, arith}
-use Rattle.bx_text.specs.Edits.{IsRange}
+use Rattle.bx_text.specs.Changes.{IsRange}
 use Rattle.bx_document.specs.Touched.{touched_stop}
 use Rattle.bx_document.proofs.TouchedSpan.{stop_inside, stop_of_walk, stop_range}
 use Rattle.bx_document.proofs.touched.stop_after.Goals as goal

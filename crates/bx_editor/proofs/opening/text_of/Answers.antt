@@ -1,6 +1,6 @@
 use Rattle.std.proofs.Common.{◌≡◌, ℕ, List, sym, subst}
 use Rattle.std.specs.Str.{IsValidUpTo}
-use Rattle.bx_editor.specs.Opening.{IsLongestUtf8}
+use Rattle.bx_editor.specs.Editor.{IsLongestUtf8}
 use Rattle.bx_editor.proofs.opening.text_of.Goals as goal
 
 longest : (read bytes : List ℕ) (front count : ℕ) → read ≡ bytes → count ≡ front → IsValidUpTo read front → IsLongestUtf8 bytes count

@@ -1,5 +1,5 @@
 use Rattle.std.proofs.Common.{◌∙◌, ap}
-use Rattle.bx_terms.specs.Characters.{are_ascii_printable}
+use Rattle.bx_common.specs.Characters.{are_ascii_printable}
 use Rattle.bx_editor.proofs.StatusRow.{status-printable}
 use Rattle.bx_editor.proofs.status.status_line.Goals as goal
 

@@ -10,12 +10,12 @@ use Rattle.bx_find.proofs.backward.last_in.Goals as goal
 -- the prefix is empty, and what follows is past the bound, in this piece and behind it
 pub returns-then-len-eq0-clause-found : goal.returns-then-len-eq0-clause-found
 returns-then-len-eq0-clause-found g c cs =
-    let says = g.D.BidiData.data c.args.sought.now.tables.now in
+    let ucd = g.D.BidiData.data c.args.sought.now.tables.now in
     let none : length c.loop-c.prefix ≡ 0 = sym c.len.ensures ∙ c.if-len-eq0.true in
     let past : c.args.latest.now.before ≤ c.loop-c.at = omega (arith, c.if-at-latest.true, c.loop-c.invariant.before) in
-    let left = none_left says c.args.sought.now.reading c.args.sought.now.query.now c.args.latest.now.before c.loop-c.at c.loop-c.latest.found c.loop-c.prefix
+    let left = none_left ucd c.args.sought.now.reading c.args.sought.now.query.now c.args.latest.now.before c.loop-c.at c.loop-c.latest.found c.loop-c.prefix
     (chars c.loop-c.rest.now ++ cs) none past in
-    let behind = none_left says c.args.sought.now.reading c.args.sought.now.query.now c.args.latest.now.before (c.args.start + length c.args.piece.now) c.loop-c.latest.found c.loop-c.prefix cs none
+    let behind = none_left ucd c.args.sought.now.reading c.args.sought.now.query.now c.args.latest.now.before (c.args.start + length c.args.piece.now) c.loop-c.latest.found c.loop-c.prefix cs none
     (omega (arith, past, c.loop-c.invariant.bytes)) in
     c.loop-c.invariant.found cs ∙ left ∙ sym behind
 

@@ -5,15 +5,15 @@ use Rattle.bx_find.proofs.letters.simple_letters.Goals as goal
 
 pub returns-then-not-is_passed_over : goal.returns-then-not-is_passed_over
 returns-then-not-is_passed_over g c =
-    let says = g.D.BidiData.data c.args.tables.now in
+    let ucd = g.D.BidiData.data c.args.tables.now in
     c.push.ensures.items
     ∙ ap₂ (λ (ls : List ℕ) l. ls ++ l ∷ []) c.new-letters.ensures c.simple_letter.ensures
-    ∙ sym (simple says c.args.reading c.args.c c.requires
+    ∙ sym (simple ucd c.args.reading c.args.c c.requires
     ∙ ap (λ passed. if passed then [] else simple_letter c.args.reading c.args.c ∷ []) (sym c.is_passed_over.ensures ∙ c.if-not-is_passed_over.true))
 
 pub returns-else-not-is_passed_over : goal.returns-else-not-is_passed_over
 returns-else-not-is_passed_over g c =
-    let says = g.D.BidiData.data c.args.tables.now in
+    let ucd = g.D.BidiData.data c.args.tables.now in
     c.new-letters.ensures
-    ∙ sym (simple says c.args.reading c.args.c c.requires
+    ∙ sym (simple ucd c.args.reading c.args.c c.requires
     ∙ ap (λ passed. if passed then [] else simple_letter c.args.reading c.args.c ∷ []) (sym c.is_passed_over.ensures ∙ c.if-not-is_passed_over.false))

@@ -18,21 +18,21 @@ push_part-requires g c =
 
 pub loop-part-preserved : goal.loop-part-preserved
 loop-part-preserved g c =
-    let says = g.D.BidiData.data c.args.tables.now in
+    let ucd = g.D.BidiData.data c.args.tables.now in
     let parts = c.decomposition-part-items.result.now in
-    let behind = letters_of_parts says (drop (c.loop-part.part-index + 1) parts) in
+    let behind = letters_of_parts ucd (drop (c.loop-part.part-index + 1) parts) in
     let next = next_of parts c.loop-part.part-index c.part-item.result c.loop-part-test.true c.part-item.is in
     ap (λ (ls : List ℕ). ls ++ behind) c.push_part.ensures
-    ∙ append_assoc c.loop-part.letters.items (letters_of_parts says (c.part-item.result ∷ [])) behind
+    ∙ append_assoc c.loop-part.letters.items (letters_of_parts ucd (c.part-item.result ∷ [])) behind
     ∙ ap (λ (ls : List ℕ). c.loop-part.letters.items ++ ls)
-    (sym (ap (letters_of_parts says) next ∙ parts_more says c.part-item.result (drop (c.loop-part.part-index + 1) parts)))
+    (sym (ap (letters_of_parts ucd) next ∙ parts_more ucd c.part-item.result (drop (c.loop-part.part-index + 1) parts)))
     ∙ c.loop-part.invariant
 
 pub returns : goal.returns
 returns g c =
-    let says = g.D.BidiData.data c.args.tables.now in
+    let ucd = g.D.BidiData.data c.args.tables.now in
     let parts = c.decomposition-part-items.result.now in
     let none : drop c.loop-part.part-index parts ≡ [] = drop_all c.loop-part.part-index parts c.loop-part-test.false in
     sym (append-nil c.loop-part.letters.items)
-    ∙ ap (λ (cs : List ℕ). c.loop-part.letters.items ++ letters_of_parts says cs) (sym none) ∙ c.loop-part.invariant
-    ∙ ap (letters_of_parts says) c.decomposition-part-items.ensures.value ∙ sym (by_parts says c.args.c)
+    ∙ ap (λ (cs : List ℕ). c.loop-part.letters.items ++ letters_of_parts ucd cs) (sym none) ∙ c.loop-part.invariant
+    ∙ ap (letters_of_parts ucd) c.decomposition-part-items.ensures.value ∙ sym (by_parts ucd c.args.c)

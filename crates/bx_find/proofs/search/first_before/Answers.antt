@@ -1,7 +1,7 @@
 use Rattle.std.proofs.Common.{ℕ, List, ◌≡◌, ◌≤◌, ◌+◌, ◌∙◌, length, chars, drop, ap, sym, arith}
 use Rattle.std.specs.Prelude.{Option, Some, slice_get}
 use Rattle.std.proofs.lemmas.Str.{IsCharBoundary-start}
-use Rattle.bx_find.specs.Matches.{first_before}
+use Rattle.bx_find.specs.Parts.{first_before}
 use Rattle.bx_find.specs.Prefix.{to_come}
 use Rattle.bx_find.proofs.Fronts.{front_of, front_ends}
 use Rattle.bx_find.proofs.Offsets.{if_below, below_yes, below_no, before_by_first, none_first, piece_read, none_behind, none_to_come}
@@ -11,37 +11,37 @@ use Rattle.bx_find.proofs.search.first_before.Goals.{Then-found-x}
 
 pub loop-at-init : goal.loop-at-init
 loop-at-init g c =
-    let says = g.D.BidiData.data c.args.tables.now in
+    let ucd = g.D.BidiData.data c.args.tables.now in
     let text = g.H.Haystack.text c.args.haystack.now in
     record {
       bounds = IsCharBoundary-start text c.len-len.ensures.utf8;
       fewer = c.empty_prefix-prefix.ensures.shorter;
-      first = before_by_first says c.args.reading c.args.query.now text c.args.x
-          ∙ ap (λ (os : List (Option ℕ)). if_below c.args.x (slice_get (to_come says c.args.reading c.args.query.now os 0 (chars text)) 0))
+      first = before_by_first ucd c.args.reading c.args.query.now text c.args.x
+          ∙ ap (λ (os : List (Option ℕ)). if_below c.args.x (slice_get (to_come ucd c.args.reading c.args.query.now os 0 (chars text)) 0))
           (sym c.empty_prefix-prefix.ensures.empty);
     }
 
 -- the prefix is empty, and what follows is past the bound
 pub returns-then-len-eq0-clause-found : goal.returns-then-len-eq0-clause-found
 returns-then-len-eq0-clause-found g c =
-    let says = g.D.BidiData.data c.args.tables.now in
+    let ucd = g.D.BidiData.data c.args.tables.now in
     let text = g.H.Haystack.text c.args.haystack.now in
     let none : length c.loop-at.prefix ≡ 0 = sym c.len.ensures ∙ c.if-len-eq0.true in
     sym (c.loop-at.invariant.first
-    ∙ none_first says c.args.reading c.args.query.now c.args.x c.loop-at.at c.loop-at.prefix (chars (drop c.loop-at.at text)) none c.if-at-x.true)
+    ∙ none_first ucd c.args.reading c.args.query.now c.args.x c.loop-at.at c.loop-at.prefix (chars (drop c.loop-at.at text)) none c.if-at-x.true)
 
 found : (g : _) (c : Then-found-x g)
     → Some c.in-Some.found
     ≡ first_before (g.D.BidiData.data c.args.tables.now) c.args.reading c.args.query.now (g.H.Haystack.text c.args.haystack.now) c.args.x
 found g c =
-    let says = g.D.BidiData.data c.args.tables.now in
+    let ucd = g.D.BidiData.data c.args.tables.now in
     let text = g.H.Haystack.text c.args.haystack.now in
     let piece = c.upto-piece.result.now in
     let behind = chars (drop (c.loop-at.at + length piece) text) in
     let front = front_of text c.piece_at.result.now piece c.loop-at.at c.piece_at.ensures.bytes c.upto-piece.ensures.front in
     let read = piece_read text piece c.loop-at.at c.upto-piece.utf8 front in
     sym (c.loop-at.invariant.first
-    ∙ ap (λ (cs : List ℕ). if_below c.args.x (slice_get (to_come says c.args.reading c.args.query.now c.loop-at.prefix c.loop-at.at cs) 0)) read
+    ∙ ap (λ (cs : List ℕ). if_below c.args.x (slice_get (to_come ucd c.args.reading c.args.query.now c.loop-at.prefix c.loop-at.at cs) 0)) read
     ∙ ap (if_below c.args.x) (c.in-Some.ensures.found behind) ∙ below_yes c.args.x c.in-Some.found c.if-found-x.true)
 
 pub returns-then-found-x-clause-found : goal.returns-then-found-x-clause-found
@@ -54,19 +54,19 @@ returns-then-found-x-clause-boundary g c =
 
 pub returns-else-found-x-clause-found : goal.returns-else-found-x-clause-found
 returns-else-found-x-clause-found g c =
-    let says = g.D.BidiData.data c.args.tables.now in
+    let ucd = g.D.BidiData.data c.args.tables.now in
     let text = g.H.Haystack.text c.args.haystack.now in
     let piece = c.upto-piece.result.now in
     let behind = chars (drop (c.loop-at.at + length piece) text) in
     let front = front_of text c.piece_at.result.now piece c.loop-at.at c.piece_at.ensures.bytes c.upto-piece.ensures.front in
     let read = piece_read text piece c.loop-at.at c.upto-piece.utf8 front in
     sym (c.loop-at.invariant.first
-    ∙ ap (λ (cs : List ℕ). if_below c.args.x (slice_get (to_come says c.args.reading c.args.query.now c.loop-at.prefix c.loop-at.at cs) 0)) read
+    ∙ ap (λ (cs : List ℕ). if_below c.args.x (slice_get (to_come ucd c.args.reading c.args.query.now c.loop-at.prefix c.loop-at.at cs) 0)) read
     ∙ ap (if_below c.args.x) (c.in-Some.ensures.found behind) ∙ below_no c.args.x c.in-Some.found c.if-found-x.false)
 
 pub loop-at-preserved : goal.loop-at-preserved
 loop-at-preserved g c =
-    let says = g.D.BidiData.data c.args.tables.now in
+    let ucd = g.D.BidiData.data c.args.tables.now in
     let text = g.H.Haystack.text c.args.haystack.now in
     let piece = c.upto-piece.result.now in
     let behind = chars (drop (c.loop-at.at + length piece) text) in
@@ -76,17 +76,17 @@ loop-at-preserved g c =
       bounds = front_ends text piece c.loop-at.at c.len-len.ensures.utf8 c.loop-at.invariant.bounds c.upto-piece.utf8 front;
       fewer = c.in_default.ensures.fewer;
       first = c.loop-at.invariant.first
-          ∙ ap (λ (cs : List ℕ). if_below c.args.x (slice_get (to_come says c.args.reading c.args.query.now c.loop-at.prefix c.loop-at.at cs) 0)) read
+          ∙ ap (λ (cs : List ℕ). if_below c.args.x (slice_get (to_come ucd c.args.reading c.args.query.now c.loop-at.prefix c.loop-at.at cs) 0)) read
           ∙ ap (λ (os : List ℕ). if_below c.args.x (slice_get os 0)) (c.in_default.ensures.found behind);
     }
 
 pub returns-clause-found : goal.returns-clause-found
 returns-clause-found g c =
-    let says = g.D.BidiData.data c.args.tables.now in
+    let ucd = g.D.BidiData.data c.args.tables.now in
     let text = g.H.Haystack.text c.args.haystack.now in
     let past : length text ≤ c.loop-at.at = omega (arith, c.loop-at-test.false, c.len-len.ensures.value) in
     sym (c.loop-at.invariant.first
-    ∙ ap (λ (cs : List ℕ). if_below c.args.x (slice_get (to_come says c.args.reading c.args.query.now c.loop-at.prefix c.loop-at.at cs) 0))
+    ∙ ap (λ (cs : List ℕ). if_below c.args.x (slice_get (to_come ucd c.args.reading c.args.query.now c.loop-at.prefix c.loop-at.at cs) 0))
     (none_behind text c.loop-at.at past)
     ∙ ap (λ (os : List ℕ). if_below c.args.x (slice_get os 0))
-    (none_to_come says c.args.reading c.args.query.now c.loop-at.prefix c.loop-at.at c.loop-at.invariant.fewer))
+    (none_to_come ucd c.args.reading c.args.query.now c.loop-at.prefix c.loop-at.at c.loop-at.invariant.fewer))

@@ -2,7 +2,7 @@
 use Rattle.std.proofs.Common.{◌≡◌, ◌<◌, ◌-◌, chars, drop, length, IsCharBoundary}
 use Rattle.std.specs.Prelude.{slice_get}
 use Rattle.bx_find.specs.Prefix.{to_come}
-use Rattle.bx_find.specs.Matches.{first_before}
+use Rattle.bx_find.specs.Parts.{first_before}
 use Rattle.bx_find.proofs.Offsets.{if_below}
 use Rattle.bx_find.proofs.search.first_before.Given as goal
 

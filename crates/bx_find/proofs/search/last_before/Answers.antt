@@ -10,25 +10,25 @@ use Rattle.bx_find.proofs.search.last_before.Goals.{Then-len-eq0, After-loop-at}
 
 pub loop-at-init : goal.loop-at-init
 loop-at-init g c =
-    let says = g.D.BidiData.data c.args.tables.now in
+    let ucd = g.D.BidiData.data c.args.tables.now in
     let text = g.H.Haystack.text c.args.haystack.now in
     record {
       bounds = IsCharBoundary-start text c.len-len.ensures.utf8;
       fewer = c.empty_prefix-prefix.ensures.shorter;
       before = refl;
-      last = from_start says c.args.reading c.args.query.now text c.args.x
-          ∙ ap (λ (os : List (Option ℕ)). last_below c.args.x None (to_come says c.args.reading c.args.query.now os 0 (chars text))) (sym c.empty_prefix-prefix.ensures.empty);
+      last = from_start ucd c.args.reading c.args.query.now text c.args.x
+          ∙ ap (λ (os : List (Option ℕ)). last_below c.args.x None (to_come ucd c.args.reading c.args.query.now os 0 (chars text))) (sym c.empty_prefix-prefix.ensures.empty);
     }
 
 pub loop-at-preserved : goal.loop-at-preserved
 loop-at-preserved g c =
-    let says = g.D.BidiData.data c.args.tables.now in
+    let ucd = g.D.BidiData.data c.args.tables.now in
     let text = g.H.Haystack.text c.args.haystack.now in
     let piece = c.piece_at-piece.result.now in
     let next = c.loop-at.at + length piece in
     let behind = chars (drop next text) in
     let read = piece_read text piece c.loop-at.at c.piece_at-piece.utf8 c.piece_at-piece.ensures.bytes in
-    let come = to_come says c.args.reading c.args.query.now in
+    let come = to_come ucd c.args.reading c.args.query.now in
     let before = c.loop-at.invariant.before in
     record {
       bounds = c.piece_at-piece.ensures.next;
@@ -46,11 +46,11 @@ none : (g : _) (c : Then-len-eq0 g)
     → c.loop-at.latest.found
     ≡ last_before (g.D.BidiData.data c.args.tables.now) c.args.reading c.args.query.now (g.H.Haystack.text c.args.haystack.now) c.args.x
 none g c =
-    let says = g.D.BidiData.data c.args.tables.now in
+    let ucd = g.D.BidiData.data c.args.tables.now in
     let text = g.H.Haystack.text c.args.haystack.now in
     let none : length c.loop-at.prefix ≡ 0 = sym c.len.ensures ∙ c.if-len-eq0.true in
     sym (c.loop-at.invariant.last
-    ∙ none_left says c.args.reading c.args.query.now c.args.x c.loop-at.at c.loop-at.latest.found c.loop-at.prefix (chars (drop c.loop-at.at text)) none
+    ∙ none_left ucd c.args.reading c.args.query.now c.args.x c.loop-at.at c.loop-at.latest.found c.loop-at.prefix (chars (drop c.loop-at.at text)) none
     c.if-at-x.true)
 
 pub returns-then-len-eq0-clause-found : goal.returns-then-len-eq0-clause-found
@@ -65,14 +65,14 @@ found : (g : _) (c : After-loop-at g)
     → c.loop-at.latest.found
     ≡ last_before (g.D.BidiData.data c.args.tables.now) c.args.reading c.args.query.now (g.H.Haystack.text c.args.haystack.now) c.args.x
 found g c =
-    let says = g.D.BidiData.data c.args.tables.now in
+    let ucd = g.D.BidiData.data c.args.tables.now in
     let text = g.H.Haystack.text c.args.haystack.now in
     let past : length text ≤ c.loop-at.at = omega (arith, c.loop-at-test.false, c.len-len.ensures.value) in
     sym (c.loop-at.invariant.last
-    ∙ ap (λ (cs : List ℕ). last_below c.args.x c.loop-at.latest.found (to_come says c.args.reading c.args.query.now c.loop-at.prefix c.loop-at.at cs))
+    ∙ ap (λ (cs : List ℕ). last_below c.args.x c.loop-at.latest.found (to_come ucd c.args.reading c.args.query.now c.loop-at.prefix c.loop-at.at cs))
     (none_behind text c.loop-at.at past)
     ∙ ap (last_below c.args.x c.loop-at.latest.found)
-    (none_to_come says c.args.reading c.args.query.now c.loop-at.prefix c.loop-at.at c.loop-at.invariant.fewer))
+    (none_to_come ucd c.args.reading c.args.query.now c.loop-at.prefix c.loop-at.at c.loop-at.invariant.fewer))
 
 pub returns-clause-found : goal.returns-clause-found
 returns-clause-found g c = found g ((goal.at.returns-clause-found g c).After-loop-at)

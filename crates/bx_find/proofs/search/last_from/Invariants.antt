@@ -1,7 +1,8 @@
 -- The last is the last of those to come, or the one so far.
 use Rattle.std.proofs.Common.{◌≡◌, ◌<◌, ◌-◌, chars, drop, length, IsCharBoundary}
 use Rattle.bx_find.specs.Prefix.{to_come}
-use Rattle.bx_find.specs.Matches.{last_below, last_from}
+use Rattle.bx_find.specs.Matches.{last_below}
+use Rattle.bx_find.specs.Parts.{last_from}
 use Rattle.bx_find.proofs.search.last_from.Given as goal
 
 abbrev pub invariant-loop-at : goal.invariant-loop-at

@@ -1,5 +1,5 @@
 use Rattle.std.proofs.Common.{ℕ, List, ◌≡◌, ◌+◌, ◌++◌, ◌∙◌, length, ap₂, arith}
-use Rattle.bx_find.specs.Spans.{behind_letters}
+use Rattle.bx_find.specs.Matches.{behind_letters}
 use Rattle.bx_find.proofs.ReadOn.{no_chars}
 use Rattle.bx_find.proofs.spans.end_in.Goals as goal
 

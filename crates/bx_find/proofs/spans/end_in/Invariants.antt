@@ -2,7 +2,7 @@
 use Rattle.std.proofs.Common.{◌≡◌, ◌+◌, ◌++◌, ℕ, List, chars, length}
 use denote.Text.{Utf8}
 use denote.Shadow.{shadow}
-use Rattle.bx_find.specs.Spans.{behind_letters}
+use Rattle.bx_find.specs.Matches.{behind_letters}
 use Rattle.bx_find.proofs.spans.end_in.Given as goal
 
 abbrev pub invariant-loop-c : goal.invariant-loop-c

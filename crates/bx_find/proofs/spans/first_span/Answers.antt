@@ -1,5 +1,5 @@
 use Rattle.std.proofs.Common.{ℕ, ◌∷◌, ◌∙◌, ap, sym, arith}
-use Rattle.bx_find.specs.Spans.{spans_from}
+use Rattle.bx_find.specs.Matches.{spans_from}
 use Rattle.bx_find.proofs.SpansOf.{span_found, none_found}
 use Rattle.bx_find.proofs.spans.first_span.Goals as goal
 
@@ -15,11 +15,11 @@ returns-in-None-clause-spans g c =
 
 pub returns-in-Some-clause-spans : goal.returns-in-Some-clause-spans
 returns-in-Some-clause-spans g c =
-    let says = g.D.BidiData.data c.args.tables.now in
+    let ucd = g.D.BidiData.data c.args.tables.now in
     let text = g.H.Haystack.text c.args.haystack.now in
-    let next = (span_found says c.args.reading c.args.query.now text c.first_match.ensures.utf8 c.args.x c.in-Some.at c.in-Some.ensures.found).1 in
+    let next = (span_found ucd c.args.reading c.args.query.now text c.first_match.ensures.utf8 c.args.x c.in-Some.at c.in-Some.ensures.found).1 in
     next.1
-    ∙ ap (λ (end : ℕ). (c.in-Some.at, end) ∷ spans_from says c.args.reading c.args.query.now text end) (sym c.match_end.ensures.value)
+    ∙ ap (λ (end : ℕ). (c.in-Some.at, end) ∷ spans_from ucd c.args.reading c.args.query.now text end) (sym c.match_end.ensures.value)
 
 pub returns-in-Some-clause-bounds : goal.returns-in-Some-clause-bounds
 returns-in-Some-clause-bounds g c = (

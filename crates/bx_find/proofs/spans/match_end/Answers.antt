@@ -1,5 +1,5 @@
 use Rattle.std.proofs.Common.{ℕ, List, ◌≡◌, ◌≤◌, ◌+◌, ◌∙◌, length, chars, drop, ap, sym, subst, arith, IsCharBoundary}
-use Rattle.bx_find.specs.Spans.{match_end, behind_letters}
+use Rattle.bx_find.specs.Matches.{match_end, behind_letters}
 use Rattle.bx_find.proofs.Offsets.{piece_read, none_behind}
 use Rattle.bx_find.proofs.SpansOf.{ends_with, not_before, end_bound}
 use Rattle.bx_find.proofs.spans.match_end.Goals as goal
@@ -8,13 +8,13 @@ use Rattle.bx_find.proofs.spans.match_end.Goals.{In-Some}
 end : (g : _) (c : In-Some g)
     → match_end (g.D.BidiData.data c.args.tables.now) c.args.reading c.args.query.now (g.H.Haystack.text c.args.haystack.now) c.args.at ≡ c.in-Some.end
 end g c =
-    let says = g.D.BidiData.data c.args.tables.now in
+    let ucd = g.D.BidiData.data c.args.tables.now in
     let text = g.H.Haystack.text c.args.haystack.now in
     let piece = c.piece_at-piece.result.now in
     let behind = chars (drop (c.loop-next.next + length piece) text) in
     let read = piece_read text piece c.loop-next.next c.piece_at-piece.utf8 c.piece_at-piece.ensures.bytes in
     c.loop-next.invariant.end
-    ∙ ap (λ (cs : List ℕ). behind_letters says c.args.reading c.loop-next.left c.loop-next.next cs) read
+    ∙ ap (λ (cs : List ℕ). behind_letters ucd c.args.reading c.loop-next.left c.loop-next.next cs) read
     ∙ c.in-Some.ensures behind
 
 pub returns-in-Some-clause-value : goal.returns-in-Some-clause-value
@@ -37,7 +37,7 @@ returns-in-Some-clause-order g c =
 
 pub loop-next-preserved : goal.loop-next-preserved
 loop-next-preserved g c =
-    let says = g.D.BidiData.data c.args.tables.now in
+    let ucd = g.D.BidiData.data c.args.tables.now in
     let text = g.H.Haystack.text c.args.haystack.now in
     let piece = c.piece_at-piece.result.now in
     let behind = chars (drop (c.loop-next.next + length piece) text) in
@@ -46,15 +46,15 @@ loop-next-preserved g c =
       bounds = c.piece_at-piece.ensures.next;
       order = omega (arith, c.loop-next.invariant.order);
       end = c.loop-next.invariant.end
-          ∙ ap (λ (cs : List ℕ). behind_letters says c.args.reading c.loop-next.left c.loop-next.next cs) read
+          ∙ ap (λ (cs : List ℕ). behind_letters ucd c.args.reading c.loop-next.left c.loop-next.next cs) read
           ∙ c.in_default.ensures behind;
     }
 
 pub returns-clause-value : goal.returns-clause-value
 returns-clause-value g c =
-    let says = g.D.BidiData.data c.args.tables.now in
+    let ucd = g.D.BidiData.data c.args.tables.now in
     let text = g.H.Haystack.text c.args.haystack.now in
     let past : length text ≤ c.loop-next.next = omega (arith, c.loop-next-test.false, c.len-len.ensures.value) in
     sym (c.loop-next.invariant.end
-    ∙ ap (λ (cs : List ℕ). behind_letters says c.args.reading c.loop-next.left c.loop-next.next cs) (none_behind text c.loop-next.next past)
-    ∙ ends_with says c.args.reading c.loop-next.left c.loop-next.next)
+    ∙ ap (λ (cs : List ℕ). behind_letters ucd c.args.reading c.loop-next.left c.loop-next.next cs) (none_behind text c.loop-next.next past)
+    ∙ ends_with ucd c.args.reading c.loop-next.left c.loop-next.next)

@@ -1,6 +1,6 @@
 -- The match ends where the rest of the text says that it ends.
 use Rattle.std.proofs.Common.{◌≡◌, ◌≤◌, ◌-◌, chars, drop, length, IsCharBoundary}
-use Rattle.bx_find.specs.Spans.{match_end, behind_letters}
+use Rattle.bx_find.specs.Matches.{match_end, behind_letters}
 use Rattle.bx_find.proofs.spans.match_end.Given as goal
 
 abbrev pub invariant-loop-next : goal.invariant-loop-next

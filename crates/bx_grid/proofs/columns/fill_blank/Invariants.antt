@@ -1,5 +1,6 @@
 use Rattle.std.proofs.Common.{◌≡◌, replicate, ◌-◌}
-use Rattle.bx_grid.specs.Columns.{blank, paste}
+use Rattle.bx_grid.specs.Columns.{blank}
+use Rattle.bx_grid.specs.Grid.{paste}
 use Rattle.bx_grid.specs.Seen.{all_seen}
 use Rattle.bx_grid.proofs.columns.fill_blank.Given as goal
 

@@ -1,6 +1,7 @@
 use Rattle.std.proofs.Common.{ap, sym, List, ℕ, arith, ◌≤◌, length, subst}
 use Rattle.std.proofs.lemmas.List.{length-map}
 use Rattle.bx_grid.specs.Columns as spec
+use Rattle.bx_grid.specs.Grid.{AreSameAround}
 use Rattle.bx_grid.specs.Seen.{seen, all_seen}
 use Rattle.bx_grid.specs.declared.column.Column.TheVariants.{Glyph}
 use Rattle.bx_grid.proofs.Puts.{glyph_put, length-glyph}
@@ -19,5 +20,5 @@ returns-in_err-from_str-clause-err c =
     let old = all_seen c.args.columns.now in
     let some = spec.glyph_columns_from c.args.glyph.text.now c.args.glyph.width c.args.glyph.negative 0 c.loop-offset.offset in
     let few : length some ≤ c.args.glyph.width = omega (arith, length-glyph c.args.glyph.text.now c.args.glyph.width 0 c.loop-offset.offset c.args.glyph.negative) in
-    err_always _ _ (subst (λ (cs : List spec.Col). spec.AreSameAround c.args.from c.args.glyph.width old cs) (sym c.loop-offset.invariant)
+    err_always _ _ (subst (λ (cs : List spec.Col). AreSameAround c.args.from c.args.glyph.width old cs) (sym c.loop-offset.invariant)
     (paste_around old some c.args.from c.args.glyph.width few (omega (arith, length-map c.args.columns.now seen))))

@@ -1,5 +1,6 @@
 use Rattle.std.proofs.Common.{◌≡◌}
-use Rattle.bx_grid.specs.Columns.{paste, glyph_columns_from}
+use Rattle.bx_grid.specs.Columns.{glyph_columns_from}
+use Rattle.bx_grid.specs.Grid.{paste}
 use Rattle.bx_grid.specs.Seen.{all_seen}
 use Rattle.bx_grid.proofs.columns.put_glyph.Given as goal
 

@@ -1,7 +1,8 @@
 use Rattle.std.proofs.Common.{sym, ap, ◌∙◌, arith}
 use Rattle.std.proofs.lemmas.List.{length-map}
 use Rattle.std.proofs.lemmas.Result.{on_ok_weaker}
-use Rattle.bx_grid.specs.Columns.{Glyph, paste}
+use Rattle.bx_grid.specs.Columns.{Glyph}
+use Rattle.bx_grid.specs.Grid.{paste}
 use Rattle.bx_grid.specs.Seen.{seen, all_seen}
 use Rattle.bx_grid.proofs.Grids.{set_seen}
 use Rattle.bx_grid.proofs.Puts.{narrow_columns}

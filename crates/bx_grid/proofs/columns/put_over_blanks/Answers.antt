@@ -1,6 +1,7 @@
 use Rattle.std.proofs.Common.{◌≡◌, ◌+◌, ◌-◌, ap, arith, replicate, ◌∙◌}
 use Rattle.std.proofs.lemmas.Result.{on_err_weaker}
-use Rattle.bx_grid.specs.Columns.{blank, paste}
+use Rattle.bx_grid.specs.Columns.{blank}
+use Rattle.bx_grid.specs.Grid.{paste}
 use Rattle.bx_grid.specs.Seen.{all_seen}
 use Rattle.bx_grid.proofs.Pasted.{blanked_back}
 use Rattle.bx_grid.proofs.columns.put_over_blanks.Goals as goal

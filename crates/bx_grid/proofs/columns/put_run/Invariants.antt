@@ -1,5 +1,6 @@
 use Rattle.std.proofs.Common.{◌≡◌, take}
-use Rattle.bx_grid.specs.Columns.{paste, plain_columns}
+use Rattle.bx_grid.specs.Columns.{plain_columns}
+use Rattle.bx_grid.specs.Grid.{paste}
 use Rattle.bx_grid.specs.Seen.{all_seen}
 use Rattle.bx_grid.proofs.columns.put_run.Given as goal
 

@@ -1,6 +1,7 @@
 use Rattle.std.proofs.Common.{◌+◌, ◌≤◌, List, length, take, subst, sym, arith}
 use Rattle.std.proofs.lemmas.List.{length-map, length-take-le}
 use Rattle.bx_grid.specs.Columns as spec
+use Rattle.bx_grid.specs.Grid.{AreSameAround}
 use Rattle.bx_grid.specs.Seen.{seen, all_seen}
 use Rattle.bx_grid.proofs.Copied.{copied_over}
 use Rattle.bx_grid.proofs.Pasted.{paste_around, err_always}
@@ -28,5 +29,5 @@ returns-in_err-columns-clause-err c =
       length-map (take c.loop-next.next others) seen,
       length-take-le c.loop-next.next others (omega (arith, c.loop-next-test.true)),
     ) in
-    err_always _ _ (subst (λ (cs : List spec.Col). spec.AreSameAround c.args.from (length others) old cs) (sym c.loop-next.invariant.1)
+    err_always _ _ (subst (λ (cs : List spec.Col). AreSameAround c.args.from (length others) old cs) (sym c.loop-next.invariant.1)
     (paste_around old some c.args.from (length others) few (omega (arith, c.requires.inside, length-map c.args.columns.now seen))))

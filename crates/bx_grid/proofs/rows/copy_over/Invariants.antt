@@ -1,5 +1,5 @@
 use Rattle.std.proofs.Common.{◌≡◌, ◌≤◌, ◌-◌, length, take}
-use Rattle.bx_grid.specs.Columns.{paste}
+use Rattle.bx_grid.specs.Grid.{paste}
 use Rattle.bx_grid.specs.Seen.{all_seen}
 use Rattle.bx_grid.proofs.rows.copy_over.Given as goal
 

@@ -1,5 +1,6 @@
 use Rattle.std.proofs.Common.{◌≡◌, ◌+◌, ◌≤◌, List, length, take}
-use Rattle.bx_grid.specs.Columns.{Col, paste}
+use Rattle.bx_grid.specs.Columns.{Col}
+use Rattle.bx_grid.specs.Grid.{paste}
 use Rattle.bx_grid.specs.Seen.{all_seen}
 use Rattle.bx_grid.proofs.rows.copy_short.Given as goal
 

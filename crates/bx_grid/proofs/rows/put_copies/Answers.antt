@@ -1,7 +1,8 @@
 use Rattle.std.proofs.Common.{◌≡◌, ◌+◌, ◌-◌, ap, arith, length, replicate, ◌∙◌}
 use Rattle.std.proofs.lemmas.List.{length-replicate}
 use Rattle.std.proofs.lemmas.Result.{on_err_weaker}
-use Rattle.bx_grid.specs.Columns.{blank, paste}
+use Rattle.bx_grid.specs.Columns.{blank}
+use Rattle.bx_grid.specs.Grid.{paste}
 use Rattle.bx_grid.specs.Seen.{all_seen}
 use Rattle.bx_grid.proofs.Pasted.{pasted_around}
 use Rattle.bx_grid.proofs.rows.put_copies.Goals as goal

@@ -1,7 +1,7 @@
 use Rattle.std.proofs.Common.{◌∙◌, ◌++◌, ◌≤◌, ap, arith, drop, length, map, sym, take_all}
 use Rattle.std.proofs.lemmas.List.{append-nil, drop_all, length-map}
 use Rattle.bx_grid.specs.Seen.{seen, all_seen}
-use Rattle.bx_grid.specs.Turned.{turned}
+use Rattle.bx_grid.specs.Columns.{turned}
 use Rattle.bx_grid.proofs.TurnedWhole.{turned-more}
 use Rattle.bx_grid.proofs.turning.turn_all.Goals as goal
 

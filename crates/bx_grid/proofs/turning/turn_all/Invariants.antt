@@ -1,6 +1,6 @@
 use Rattle.std.proofs.Common.{◌≡◌, ◌++◌, drop, map, take}
 use Rattle.bx_grid.specs.Seen.{all_seen}
-use Rattle.bx_grid.specs.Turned.{turned}
+use Rattle.bx_grid.specs.Columns.{turned}
 use Rattle.bx_grid.proofs.turning.turn_all.Given as goal
 
 abbrev pub invariant-loop-column : goal.invariant-loop-column

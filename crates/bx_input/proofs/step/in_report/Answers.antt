@@ -7,16 +7,16 @@ use Rattle.bx_input.proofs.step.in_report.Goals as goal
 
 pub returns-in-Waits : goal.returns-in-Waits
 returns-in-Waits c =
-    let says = c.in-Waits.ensures in
-    let goes = goes_on c.args.erases_by_delete c.args.numbers.now c.args.is_open c.args.byte says.0 in (
-      ap (λ ns. Outside (begun_report ns) c.args.is_open) says.1 ∙ sym (ap (λ (s : Step). s.state) goes),
+    let ucd = c.in-Waits.ensures in
+    let goes = goes_on c.args.erases_by_delete c.args.numbers.now c.args.is_open c.args.byte ucd.0 in (
+      ap (λ ns. Outside (begun_report ns) c.args.is_open) ucd.1 ∙ sym (ap (λ (s : Step). s.state) goes),
       c.nothing.ensures ∙ sym (ap (λ (s : Step). s.output) goes),
     )
 
 pub returns-in-Becomes : goal.returns-in-Becomes
 returns-in-Becomes c =
-    let says = c.in-Becomes.ensures in
-    let goes = ends c.args.erases_by_delete c.args.numbers.now c.args.is_open c.args.byte (bytes_of c.in-Becomes.output) says.0 says.1 in
+    let ucd = c.in-Becomes.ensures in
+    let goes = ends c.args.erases_by_delete c.args.numbers.now c.args.is_open c.args.byte (bytes_of c.in-Becomes.output) ucd.0 ucd.1 in
     (sym (ap (λ (s : Step). s.state) goes), sym (ap (λ (s : Step). s.output) goes))
 
 pub returns-in-Breaks : goal.returns-in-Breaks

@@ -1,7 +1,7 @@
 use Rattle.std.proofs.Common.{◌≡◌, ◌∙◌, true, chars, sym, subst, rules}
 use Rattle.std.specs.Str.{IsUtf8}
 use Rattle.std.proofs.lemmas.Str.{IsCharBoundary-start}
-use Rattle.bx_resolve.specs.Edited.{HasNoFormatting}
+use Rattle.bx_levels.specs.resolve.Edited.{HasNoFormatting}
 use Rattle.bx_paragraph.specs.BodyEdits.{changed}
 use Rattle.bx_paragraph.proofs.Edits.{levels-follow, plain-if, stays-plain, whole-count}
 use Rattle.bx_paragraph.proofs.edited.edit_levels.Goals as goal

@@ -12,28 +12,28 @@ use Rattle.bx_paragraph.proofs.edited_rows.edited_starts.Goals as goal
 
 pub push_rest-requires-clause-room : goal.push_rest-requires-clause-room
 push_rest-requires-clause-room g c =
-    let says = g.D.BidiData.data c.args.tables.now in
+    let ucd = g.D.BidiData.data c.args.tables.now in
     let e = c.args.edit.now in
     let row = c.in-Some.row in
     let body_is : IsUtf8 e.body.now = search rules in
     let inserted_is : IsUtf8 e.inserted.now = search rules in
-    let kept = changed-kept e c.requires.edit says row body_is inserted_is (side-some e.w c.requires.side) c.requires.starts c.in-Some.ensures in
-    room-left says e.w (changed e) e.starts.now row (changed-utf8 e c.requires.edit body_is inserted_is) (changed-short e c.requires.edit c.requires.short) kept
+    let kept = changed-kept e c.requires.edit ucd row body_is inserted_is (side-some e.w c.requires.side) c.requires.starts c.in-Some.ensures in
+    room-left ucd e.w (changed e) e.starts.now row (changed-utf8 e c.requires.edit body_is inserted_is) (changed-short e c.requires.edit c.requires.short) kept
 
 pub returns-then-is_char_boundary : goal.returns-then-is_char_boundary
 returns-then-is_char_boundary g c =
-    let says = g.D.BidiData.data c.args.tables.now in
+    let ucd = g.D.BidiData.data c.args.tables.now in
     let e = c.args.edit.now in
     let row = c.in-Some.row in
     let starts = e.starts.now in
     let first = get_or starts row origin in
     let body_is : IsUtf8 e.body.now = search rules in
     let inserted_is : IsUtf8 e.inserted.now = search rules in
-    let kept = changed-kept e c.requires.edit says row body_is inserted_is (side-some e.w c.requires.side) c.requires.starts c.in-Some.ensures in
+    let kept = changed-kept e c.requires.edit ucd row body_is inserted_is (side-some e.w c.requires.side) c.requires.starts c.in-Some.ensures in
     let front : c.extend_from_slice.new.self.items ≡ take row starts = search rules in
-    let rest = row_starts says e.w (drop first.offset (changed e)) in
+    let rest = row_starts ucd e.w (drop first.offset (changed e)) in
     c.in_ok-push_rest.ensures ∙ ap (λ xs. xs ++ map (behind first) rest) front
-    ∙ rows-joined says e.w (changed e) starts rest row (changed-utf8 e c.requires.edit body_is inserted_is) kept refl
+    ∙ rows-joined ucd e.w (changed e) starts rest row (changed-utf8 e c.requires.edit body_is inserted_is) kept refl
 
 pub push_rest-requires-2-clause-first : goal.push_rest-requires-2-clause-first
 push_rest-requires-2-clause-first g c =

@@ -1,6 +1,6 @@
 -- The slots so far, and those of the units after, are all; the columns after have room.
 use Rattle.std.proofs.Common.{◌≡◌, ◌+◌, ◌≤◌, ◌++◌, drop, map}
-use Rattle.bx_terms.specs.Sizes.{largest_side}
+use Rattle.bx_common.specs.Characters.{largest_side}
 use Rattle.bx_paragraph.specs.OrderedColumns.{ordered_columns}
 use Rattle.bx_paragraph.specs.Slots.{extent_of, side_by_side}
 use Rattle.bx_paragraph.proofs.slots.push_units.Given as goal

@@ -1,6 +1,6 @@
 -- The offset reached.
 use Rattle.std.proofs.Common.{◌≤◌, ◌-◌, length}
-use Rattle.bx_resolve.specs.Body.{IsOffset}
+use Rattle.bx_levels.specs.resolve.Body.{IsOffset}
 use Rattle.bx_paragraph.proofs.strong.first_strong.Given as goal
 
 abbrev pub invariant-loop-c : goal.invariant-loop-c

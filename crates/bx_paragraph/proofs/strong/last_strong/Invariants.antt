@@ -1,6 +1,6 @@
 -- The offset reached, and the last strong character before it.
 use Rattle.std.proofs.Common.{IfSome, ◌≤◌, ◌-◌, length}
-use Rattle.bx_resolve.specs.Body.{IsOffset}
+use Rattle.bx_levels.specs.resolve.Body.{IsOffset}
 use Rattle.bx_paragraph.specs.Cuts.{IsStrongIn}
 use Rattle.bx_paragraph.proofs.strong.last_strong.Given as goal
 

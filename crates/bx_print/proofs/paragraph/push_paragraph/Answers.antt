@@ -1,20 +1,20 @@
 use Rattle.std.proofs.Common.{◌≡◌, ◌++◌, ◌∙◌, OnOk, ap, subst}
 use Rattle.bx_print.specs.BodyLines.{body_lines}
 use Rattle.bx_view.proofs.Numbers.{paragraph-span}
-use Rattle.bx_view.specs.Standing.{body_at}
+use Rattle.bx_view.specs.Numbers.{body_at}
 use Rattle.bx_print.proofs.paragraph.push_paragraph.Goals as goal
 
 pub returns-clause-lines : goal.returns-clause-lines
 returns-clause-lines g c =
-    let says = g.D.BidiData.data c.args.source.now.tables.now in
+    let ucd = g.D.BidiData.data c.args.source.now.tables.now in
     let text = c.args.source.now.text.now.edited.text in
     let l = c.in_ok-layout.layout in
     let style = c.args.style in
-    let lines = body_lines says style.marks in
+    let lines = body_lines ucd style.marks in
     let laid = c.in_ok-layout.ensures in
-    let span = paragraph-span says text c.args.source.now.index.now.paragraphs c.args.number c.span-start.result.0 c.span-start.result.1 c.args.source.now.utf8
+    let span = paragraph-span ucd text c.args.source.now.index.now.paragraphs c.args.number c.span-start.result.0 c.span-start.result.1 c.args.source.now.utf8
     c.requires.number c.args.source.now.indexed c.span-start.ensures in
-    let same : lines l.base l.w l.body ≡ lines style.base style.columns (body_at says text c.args.number) =
+    let same : lines l.base l.w l.body ≡ lines style.base style.columns (body_at ucd text c.args.number) =
     ap (λ b. lines b l.w l.body) laid.base ∙ ap (λ w. lines style.base w l.body) laid.w
     ∙ ap (lines style.base style.columns) (laid.body ∙ c.in_ok-body.ensures.bytes ∙ span.body) in
     subst (λ bs. OnOk c.push_rows.result (c.push_rows.new.page.items ≡ c.args.page.now.items ++ bs)) same c.push_rows.ensures.lines

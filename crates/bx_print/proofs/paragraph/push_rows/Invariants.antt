@@ -6,6 +6,6 @@ use Rattle.bx_print.proofs.paragraph.push_rows.Given as goal
 
 abbrev pub invariant-loop-row : goal.invariant-loop-row
 invariant-loop-row g l =
-    let says = g.D.BidiData.data l.tables in
+    let ucd = g.D.BidiData.data l.tables in
     l.page.items ≡ l.fn.page.items
-    ++ flat_map (body_line says l.marks l.layout.w) (take l.row (rows_by says l.layout))
+    ++ flat_map (body_line ucd l.marks l.layout.w) (take l.row (rows_by ucd l.layout))

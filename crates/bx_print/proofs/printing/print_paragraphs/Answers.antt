@@ -1,6 +1,6 @@
 use Rattle.std.proofs.Common.{◌<◌, ◌≤◌, [], ◌++◌, ap, sym, subst, length, arith}
 use Rattle.std.specs.Io.KnownBytes.{Appends}
-use Rattle.bx_index.specs.Paragraphs.{bare, paragraphs}
+use Rattle.bx_text.specs.index.Paragraphs.{bare, paragraphs}
 use Rattle.bx_view.proofs.Numbers.{lengths-count}
 use Rattle.bx_bytes.specs.Writing.{WritesFront}
 use Rattle.bx_print.proofs.PageParts.{lines_of, page-is}
@@ -9,75 +9,75 @@ use Rattle.bx_print.proofs.printing.print_paragraphs.Goals as goal
 
 pub push_paragraph-requires : goal.push_paragraph-requires
 push_paragraph-requires g c =
-    let says = g.D.BidiData.data c.args.source.now.tables.now in
-    let all = lengths-count says c.args.source.now.text.now.edited.text in
+    let ucd = g.D.BidiData.data c.args.source.now.tables.now in
+    let all = lengths-count ucd c.args.source.now.text.now.edited.text in
     omega (arith, c.count-count.ensures.some, c.count-count.ensures.count, ap length c.args.source.now.indexed, all)
 
 pub returns-in_err-send_full-clause-front : goal.returns-in_err-send_full-clause-front
 returns-in_err-send_full-clause-front g c =
-    let says = g.D.BidiData.data c.args.source.now.tables.now in
+    let ucd = g.D.BidiData.data c.args.source.now.tables.now in
     let text = c.args.source.now.text.now.edited.text in
     let style = c.args.style in
-    let lines = lines_of says style.marks style.base style.columns in
+    let lines = lines_of ucd style.marks style.base style.columns in
     let h = c.loop-number.invariant in
     let s = c.in_err-send_full.ensures.sent in
-    subst (λ bs. WritesFront bs (g.W.Write.contents c.args.writer.now) (g.W.Write.contents c.send_full.new.writer)) (sym (page-is says style.marks style.base style.columns text))
-    (front-sent lines (paragraphs says text) _ _ _ _ h.0 h.1 _ (s.0, s.1, s.2))
+    subst (λ bs. WritesFront bs (g.W.Write.contents c.args.writer.now) (g.W.Write.contents c.send_full.new.writer)) (sym (page-is ucd style.marks style.base style.columns text))
+    (front-sent lines (paragraphs ucd text) _ _ _ _ h.0 h.1 _ (s.0, s.1, s.2))
 
 pub returns-in_err-push_paragraph-2-clause-front : goal.returns-in_err-push_paragraph-2-clause-front
 returns-in_err-push_paragraph-2-clause-front g c =
-    let says = g.D.BidiData.data c.args.source.now.tables.now in
+    let ucd = g.D.BidiData.data c.args.source.now.tables.now in
     let text = c.args.source.now.text.now.edited.text in
     let style = c.args.style in
-    let lines = lines_of says style.marks style.base style.columns in
+    let lines = lines_of ucd style.marks style.base style.columns in
     let h = c.loop-number.invariant in
     let s = c.in_ok-send_full.ensures.sent in
-    subst (λ bs. WritesFront bs (g.W.Write.contents c.args.writer.now) (g.W.Write.contents c.send_full.new.writer)) (sym (page-is says style.marks style.base style.columns text))
-    (none-sent lines (paragraphs says text) _ _ _ _ (h.0 ++ s.0)
-    (some-sent lines (paragraphs says text) _ _ _ _ h.0 h.1 _ c.send_full.new.pending.items s.0 s.1 s.2 s.3))
+    subst (λ bs. WritesFront bs (g.W.Write.contents c.args.writer.now) (g.W.Write.contents c.send_full.new.writer)) (sym (page-is ucd style.marks style.base style.columns text))
+    (none-sent lines (paragraphs ucd text) _ _ _ _ (h.0 ++ s.0)
+    (some-sent lines (paragraphs ucd text) _ _ _ _ h.0 h.1 _ c.send_full.new.pending.items s.0 s.1 s.2 s.3))
 
 pub loop-number-preserved : goal.loop-number-preserved
 loop-number-preserved g c =
-    let says = g.D.BidiData.data c.args.source.now.tables.now in
+    let ucd = g.D.BidiData.data c.args.source.now.tables.now in
     let text = c.args.source.now.text.now.edited.text in
     let style = c.args.style in
-    let lines = lines_of says style.marks style.base style.columns in
+    let lines = lines_of ucd style.marks style.base style.columns in
     let h = c.loop-number.invariant in
     let s = c.in_ok-send_full.ensures.sent in
-    let within : c.loop-number.number < length (paragraphs says text) =
-    omega (arith, c.loop-number-test.true, c.count-count.ensures.count, ap length c.args.source.now.indexed, lengths-count says text) in (
+    let within : c.loop-number.number < length (paragraphs ucd text) =
+    omega (arith, c.loop-number-test.true, c.count-count.ensures.count, ap length c.args.source.now.indexed, lengths-count ucd text) in (
       h.0 ++ s.0,
-      more-sent lines (paragraphs says text) _ _ _ _ (h.0 ++ s.0)
-          (some-sent lines (paragraphs says text) _ _ _ _ h.0 h.1 _ c.send_full.new.pending.items s.0 s.1 s.2 s.3) (bare []) _ within
+      more-sent lines (paragraphs ucd text) _ _ _ _ (h.0 ++ s.0)
+          (some-sent lines (paragraphs ucd text) _ _ _ _ h.0 h.1 _ c.send_full.new.pending.items s.0 s.1 s.2 s.3) (bare []) _ within
           c.in_ok-push_paragraph-2.ensures.lines,
     )
 
 pub returns-clause-page : goal.returns-clause-page
 returns-clause-page g c =
-    let says = g.D.BidiData.data c.args.source.now.tables.now in
+    let ucd = g.D.BidiData.data c.args.source.now.tables.now in
     let text = c.args.source.now.text.now.edited.text in
     let style = c.args.style in
-    let lines = lines_of says style.marks style.base style.columns in
+    let lines = lines_of ucd style.marks style.base style.columns in
     let h = c.loop-number.invariant in
     let old = g.W.Write.contents c.args.writer.now in
     let new = g.W.Write.contents c.finish.new.writer in
-    let last : length (paragraphs says text) ≤ c.loop-number.number =
-    omega (arith, c.loop-number-test.false, c.count-count.ensures.count, ap length c.args.source.now.indexed, lengths-count says text) in
+    let last : length (paragraphs ucd text) ≤ c.loop-number.number =
+    omega (arith, c.loop-number-test.false, c.count-count.ensures.count, ap length c.args.source.now.indexed, lengths-count ucd text) in
     then-ok c.finish.result _ _
-    (λ all. subst (λ bs. Appends old new bs) (sym (page-is says style.marks style.base style.columns text))
-    (all-sent lines (paragraphs says text) _ _ _ _ h.0 h.1 new last
+    (λ all. subst (λ bs. Appends old new bs) (sym (page-is ucd style.marks style.base style.columns text))
+    (all-sent lines (paragraphs ucd text) _ _ _ _ h.0 h.1 new last
     (subst (λ bs. Appends (g.W.Write.contents c.loop-number.writer) new bs) c.deref.ensures.value all)))
     c.finish.ensures.all
 
 pub returns-clause-front : goal.returns-clause-front
 returns-clause-front g c =
-    let says = g.D.BidiData.data c.args.source.now.tables.now in
+    let ucd = g.D.BidiData.data c.args.source.now.tables.now in
     let text = c.args.source.now.text.now.edited.text in
     let style = c.args.style in
-    let lines = lines_of says style.marks style.base style.columns in
+    let lines = lines_of ucd style.marks style.base style.columns in
     let h = c.loop-number.invariant in
     let old = g.W.Write.contents c.args.writer.now in
     let new = g.W.Write.contents c.finish.new.writer in
-    subst (λ bs. WritesFront bs old new) (sym (page-is says style.marks style.base style.columns text))
-    (front-sent lines (paragraphs says text) _ _ _ _ h.0 h.1 new
+    subst (λ bs. WritesFront bs old new) (sym (page-is ucd style.marks style.base style.columns text))
+    (front-sent lines (paragraphs ucd text) _ _ _ _ h.0 h.1 new
     (subst (λ bs. WritesFront bs (g.W.Write.contents c.loop-number.writer) new) c.deref.ensures.value c.finish.ensures.front))

@@ -1,7 +1,7 @@
 use Rattle.std.proofs.Common.{◌≡◌, ap, subst, sym, ◌∙◌}
 use Rattle.bx_ucd.specs.declared.tables.Tables.{Tables}
-use Rattle.bx_session.specs.Session.{SessionState}
-use Rattle.bx_recovery.proofs.TablesData.{says}
+use Rattle.bx_session.specs.Feeding.{SessionState}
+use Rattle.bx_recovery.proofs.TablesData.{ucd}
 use Rattle.bx_recovery.proofs.Causes.{can_open, ran_out}
 use Rattle.bx_recovery.proofs.Opened.{bytes_or_none, opened_is}
 use Rattle.bx_recovery.specs.Beginnings.{AreOfFiles, beginning_of, offset_of}
@@ -11,7 +11,7 @@ use Rattle.bx_recovery.proofs.opening.open.Goals as goal
 pub returns-clause-tables : goal.returns-clause-tables
 returns-clause-tables c =
     let b = c.args.beginning in
-    let are : AreOfFiles (says c.in_ok-tables.tables) b.unicode = record {
+    let are : AreOfFiles (ucd c.in_ok-tables.tables) b.unicode = record {
       accepted = c.in_ok-tables.ensures.accepted;
       classes_are = c.in_ok-tables.ensures.classes;
       brackets_are = c.in_ok-tables.ensures.brackets;
@@ -21,13 +21,13 @@ returns-clause-tables c =
     } in
     let stays = ap (λ (s : SessionState Tables). s.tables) c.in_ok-session.ensures.ok in
     let kept = ap (λ (s : SessionState Tables). s.tables) c.in_ok-prepare.ensures.ok ∙ stays in
-    subst (λ (t : Tables). AreOfFiles (says t) b.unicode) (sym kept) are
+    subst (λ (t : Tables). AreOfFiles (ucd t) b.unicode) (sym kept) are
 
 pub returns-clause-opens : goal.returns-clause-opens
 returns-clause-opens c =
     let b = c.args.beginning in
     let text_is = bytes_or_none b.text c.new.result c.unwrap_or-text.result c.new.ensures.items c.unwrap_or-text.ensures in
-    opened_is says c.in_ok-tables.tables c.in_ok-session.session c.prepare.new.session _ (beginning_of b) c.offset_of-start.result
+    opened_is ucd c.in_ok-tables.tables c.in_ok-session.session c.prepare.new.session _ (beginning_of b) c.offset_of-start.result
     c.in_ok-session.ensures.ok c.in_ok-session.ensures.paints text_is
     (c.offset_of-start.ensures ∙ ap (λ text. offset_of text b.line) (c.as_slice.ensures.value ∙ text_is))
     c.in_ok-prepare.ensures.ok

@@ -1,5 +1,5 @@
 use Rattle.std.proofs.Common.{◌≡◌, take}
-use Rattle.bx_session.specs.Session.{after_replaying}
+use Rattle.bx_session.specs.Replaying.{after_replaying}
 use Rattle.bx_recovery.proofs.replaying.replay.Given as goal
 
 abbrev pub invariant-loop-byte : goal.invariant-loop-byte

@@ -1,5 +1,5 @@
 use Rattle.std.proofs.Common.{◌≡◌, ◌≤◌, drop, take}
-use Rattle.bx_session.specs.Session.{after_replaying}
+use Rattle.bx_session.specs.Replaying.{after_replaying}
 use Rattle.bx_recovery.proofs.Replays.{HasMet}
 use Rattle.bx_recovery.proofs.replaying.replay_beside.Given as goal
 

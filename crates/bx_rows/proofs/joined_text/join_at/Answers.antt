@@ -1,5 +1,5 @@
 use Rattle.std.proofs.Common.{◌++◌, ◌∙◌, List, ℕ, encode_utf8, ap, sym}
-use Rattle.bx_cells.specs.Faces.{face}
+use Rattle.bx_rows.specs.cells.Units.{face}
 use Rattle.bx_rows.specs.RowPicture.{is_own}
 use Rattle.bx_rows.specs.Shown.{glyph_of}
 use Rattle.bx_rows.proofs.Leveled.{joined_if_none, joined_if_own, joined_if_other}

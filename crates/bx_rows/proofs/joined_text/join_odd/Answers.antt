@@ -4,10 +4,10 @@ use Rattle.std.proofs.Math.Seq.{take-length}
 use Rattle.std.proofs.lemmas.Str.{IsUtf8-drop, IsUtf8-past_char}
 use Rattle.bx_ucd.specs.declared.joining.Form.{Form}
 use Rattle.bx_ucd.specs.declared.joining.Form.TheVariants.{Isolated}
-use Rattle.bx_joining.specs.Joining.{body_forms}
-use Rattle.bx_joining.specs.Places.{StandsAt}
-use Rattle.bx_joining.proofs.StandOn.{counted_within, stand_on}
-use Rattle.bx_joining.proofs.TextForms.{no_chars}
+use Rattle.bx_rows.specs.joining.Joining.{body_forms}
+use Rattle.bx_rows.specs.joining.Places.{StandsAt}
+use Rattle.bx_rows.proofs.joining_lemmas.StandOn.{counted_within, stand_on}
+use Rattle.bx_rows.proofs.joining_lemmas.TextForms.{no_chars}
 use Rattle.bx_rows.specs.PlainRows.{joined_glyph}
 use Rattle.bx_rows.specs.Shown.{glyph_of}
 use Rattle.bx_rows.proofs.JoinedLetters.{all-joined, given, given-at, letters-alone, letters-are, letters-on, none-left}
@@ -45,7 +45,7 @@ overflow_add-number g c =
 pub loop-i-preserved : goal.loop-i-preserved
 loop-i-preserved g c =
     let lines = c.args.lines.now in
-    let says = g.D.BidiData.data lines.tables.now in
+    let ucd = g.D.BidiData.data lines.tables.now in
     let start = c.args.start in
     let body = lines.body.now in
     let each = lines.levels.now.each.items in
@@ -60,12 +60,12 @@ loop-i-preserved g c =
     let u : IsUtf8 body = lines.utf8 in
     let next = stand_on body rest behind c.loop-i.offset number letter u c.loop-i.invariant.stands read.0 in
     let within : i < length levels = omega (arith, c.loop-i-test.true, c.loop-i.invariant.count, c.requires.count) in
-    let at = given-at says body each start.chars i letter letters levels (chars behind) within (sym c.loop-i.invariant.left ∙ read.2) in
-    let x : ℕ × (ℕ × Form) = (get_or levels i 0, (letter, get_or (body_forms says body each) (start.chars + i) Isolated)) in
-    let form : get_or (body_forms says c.place-first.result.body.text.now c.place-first.result.body.each.now) number Isolated
-    ≡ get_or (body_forms says body each) (start.chars + i) Isolated =
-    ap₂ (λ (t : List ℕ) ls. get_or (body_forms says t ls) number Isolated) c.place-first.ensures.text c.place-first.ensures.each
-    ∙ ap (λ n. get_or (body_forms says body each) n Isolated) c.loop-i.invariant.number in
+    let at = given-at ucd body each start.chars i letter letters levels (chars behind) within (sym c.loop-i.invariant.left ∙ read.2) in
+    let x : ℕ × (ℕ × Form) = (get_or levels i 0, (letter, get_or (body_forms ucd body each) (start.chars + i) Isolated)) in
+    let form : get_or (body_forms ucd c.place-first.result.body.text.now c.place-first.result.body.each.now) number Isolated
+    ≡ get_or (body_forms ucd body each) (start.chars + i) Isolated =
+    ap₂ (λ (t : List ℕ) ls. get_or (body_forms ucd t ls) number Isolated) c.place-first.ensures.text c.place-first.ensures.each
+    ∙ ap (λ n. get_or (body_forms ucd body each) n Isolated) c.loop-i.invariant.number in
     record {
       text = IsUtf8-past_char rest behind letter c.loop-i.invariant.text read.0;
       count = length-set c.loop-i.glyphs i c.join_at.new.drawn ∙ c.loop-i.invariant.count;
@@ -73,11 +73,11 @@ loop-i-preserved g c =
       number = omega (arith, c.loop-i.invariant.number);
       left = letters-on letters (chars rest) (chars behind) i letter c.loop-i.invariant.left read.2;
       same =
-          turn (joined_glyph says lines.w) (map glyph_of c.args.glyphs.now) (given says body each start.chars letters levels)
+          turn (joined_glyph ucd lines.w) (map glyph_of c.args.glyphs.now) (given ucd body each start.chars letters levels)
           c.loop-i.glyphs i c.index-glyphs-i.result c.join_at.new.drawn x (omega arith) at.within c.loop-i.invariant.same
           (c.in_ok-join_at.ensures
-          ∙ ap (λ f. joined_glyph says lines.w (glyph_of (get_or c.loop-i.glyphs i c.index-glyphs-i.result)) (get_or levels i 0, (letter, f))) form
-          ∙ ap (joined_glyph says lines.w (glyph_of (get_or c.loop-i.glyphs i c.index-glyphs-i.result))) (sym at.is));
+          ∙ ap (λ f. joined_glyph ucd lines.w (glyph_of (get_or c.loop-i.glyphs i c.index-glyphs-i.result)) (get_or levels i 0, (letter, f))) form
+          ∙ ap (joined_glyph ucd lines.w (glyph_of (get_or c.loop-i.glyphs i c.index-glyphs-i.result))) (sym at.is));
     }
 
 pub returns-in_default-clause-joined : goal.returns-in_default-clause-joined

@@ -2,7 +2,7 @@
 use Rattle.std.proofs.Common.{◌≡◌, ◌+◌, length, map, take, drop, chars}
 use denote.Text.{Utf8}
 use denote.Shadow.{shadow}
-use Rattle.bx_joining.specs.Places.{StandsAt}
+use Rattle.bx_rows.specs.joining.Places.{StandsAt}
 use Rattle.bx_rows.specs.PlainRows.{joined_glyph}
 use Rattle.bx_rows.specs.Shown.{glyph_of}
 use Rattle.bx_rows.proofs.JoinedLetters.{given}
@@ -12,7 +12,7 @@ use Rattle.bx_rows.proofs.joined_text.join_odd.Given as goal
 abbrev pub invariant-loop-i : goal.invariant-loop-i
 invariant-loop-i g l =
     let lines = l.lines in
-    let says = g.D.BidiData.data lines.tables.now in
+    let ucd = g.D.BidiData.data lines.tables.now in
     let start = l.fn.start in
     let body = lines.body.now in
     let letters = chars (drop start.offset body) in
@@ -22,6 +22,6 @@ invariant-loop-i g l =
       stands : StandsAt body l.rest l.offset l.number;
       number : l.number ≡ start.chars + l.i;
       left : chars l.rest ≡ drop l.i letters;
-      same : map glyph_of l.glyphs ≡ changed (joined_glyph says lines.w) (map glyph_of l.initial.glyphs)
-          (take l.i (given says body lines.levels.now.each.items start.chars letters l.levels));
+      same : map glyph_of l.glyphs ≡ changed (joined_glyph ucd lines.w) (map glyph_of l.initial.glyphs)
+          (take l.i (given ucd body lines.levels.now.each.items start.chars letters l.levels));
     }

@@ -6,8 +6,8 @@ use denote.Shadow.{shadow}
 use Rattle.bx_rows.specs.LevelReads.{levels_from, unit_from}
 use Rattle.bx_rows.proofs.level_read.read_unit.Given as goal
 
-abbrev pub invariant-chars : goal.invariant-chars
-invariant-chars g l = record {
+abbrev pub invariant-loop-c : goal.invariant-loop-c
+invariant-loop-c g l = record {
   text : shadow (Utf8 l.rest);
   within : l.first ≤ length l.found.items;
   levels : (more counts : List ℕ)
@@ -17,5 +17,5 @@ invariant-chars g l = record {
       (zip (map (g.D.BidiData.data l.tables).class (chars l.rest ++ more)) l.left);
 }
 
-abbrev pub decreases-chars : goal.decreases-chars
-decreases-chars g l = length l.rest
+abbrev pub decreases-loop-c : goal.decreases-loop-c
+decreases-loop-c g l = length l.rest

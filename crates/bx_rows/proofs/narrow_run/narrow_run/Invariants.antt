@@ -6,8 +6,8 @@ use Rattle.bx_rows.specs.NarrowRuns.{IsNarrowRun, IsRunIn}
 use Rattle.bx_rows.proofs.NarrowSteps.{HasOpen}
 use Rattle.bx_rows.proofs.narrow_run.narrow_run.Given as goal
 
-abbrev pub invariant-chars : goal.invariant-chars
-invariant-chars g l = record {
+abbrev pub invariant-loop-c : goal.invariant-loop-c
+invariant-loop-c g l = record {
   text : shadow (Utf8 l.rest);
   cluster : HasOpen (g.D.BidiData.data l.tables) l.body l.run.stop l.is_break l.rest;
   within : length l.rest ≤ length l.body;
@@ -16,5 +16,5 @@ invariant-chars g l = record {
   units : (w : ℕ) → IsNarrowRun (g.D.BidiData.data l.tables) w l.body l.at l.run;
 }
 
-abbrev pub decreases-chars : goal.decreases-chars
-decreases-chars g l = length l.rest
+abbrev pub decreases-loop-c : goal.decreases-loop-c
+decreases-loop-c g l = length l.rest

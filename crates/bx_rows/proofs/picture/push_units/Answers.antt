@@ -1,6 +1,6 @@
 use Rattle.std.proofs.Common.{◌≡◌, ◌<◌, [], All, length, get_or, refl, ◌∙◌, ap, append-nil, map, subst, sym}
 use Rattle.std.specs.Str.{IsCharBoundary}
-use Rattle.bx_cells.specs.Units.{StandsIn}
+use Rattle.bx_rows.specs.cells.UnitFacts.{StandsIn}
 use Rattle.bx_rows.specs.declared.start_search.RowStart.{RowStart}
 use Rattle.bx_rows.specs.RowPicture.{unit_glyphs}
 use Rattle.bx_rows.specs.Shown.{glyph_of}

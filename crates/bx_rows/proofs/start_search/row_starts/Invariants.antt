@@ -1,7 +1,7 @@
 -- The starts so far and the current row determine the starts of the whole body.
 use Rattle.std.proofs.Common.{◌-◌, length}
 use Rattle.std.specs.Str.{IsCharBoundary}
-use Rattle.bx_cells.specs.Units.{units_from}
+use Rattle.bx_rows.specs.cells.UnitFacts.{units_from}
 use Rattle.bx_rows.specs.RowScan.{IsInOrder, IsRead}
 use Rattle.bx_rows.proofs.start_search.row_starts.Given as goal
 

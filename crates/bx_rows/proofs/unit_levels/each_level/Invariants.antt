@@ -2,7 +2,7 @@
 use Rattle.std.proofs.Common.{◌≡◌, ◌≤◌, map, length, drop}
 use Rattle.std.specs.Prelude.{flat_map}
 use Rattle.std.specs.List.{zip}
-use Rattle.bx_cells.specs.Units.{unit_chars}
+use Rattle.bx_rows.specs.cells.Units.{unit_chars}
 use Rattle.bx_rows.specs.LevelReads.{levels_from}
 use Rattle.bx_rows.specs.RowLevels.{row_levels}
 use Rattle.bx_rows.proofs.unit_levels.each_level.Given as goal

@@ -1,5 +1,5 @@
 use Rattle.std.proofs.Common.{◌≡◌, ◌≤◌, drop, length}
-use Rattle.bx_rows.specs.VisualOrder.{highest}
+use Rattle.bx_rows.specs.RowLevels.{highest}
 use Rattle.bx_rows.proofs.visual_order.highest.Given as goal
 
 abbrev pub invariant-loop-i : goal.invariant-loop-i

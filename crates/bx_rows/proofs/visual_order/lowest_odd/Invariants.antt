@@ -1,6 +1,6 @@
 use Rattle.std.proofs.Common.{◌≡◌, ◌≤◌, drop, length}
 use Rattle.std.specs.Prelude.{unwrap_or}
-use Rattle.bx_rows.specs.VisualOrder.{lowest_odd}
+use Rattle.bx_rows.specs.RowLevels.{lowest_odd}
 use Rattle.bx_rows.proofs.visual_order.lowest_odd.Given as goal
 
 abbrev pub invariant-loop-i : goal.invariant-loop-i

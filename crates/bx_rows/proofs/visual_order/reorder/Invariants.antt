@@ -1,6 +1,6 @@
 use Rattle.std.proofs.Common.{◌≡◌, ◌<◌, get_or, length}
 use Rattle.std.specs.List.{enumerate_from}
-use Rattle.bx_rows.specs.VisualOrder.{highest, lowest_odd, reversals_from}
+use Rattle.bx_rows.specs.RowLevels.{highest, lowest_odd, reversals_from}
 use Rattle.bx_rows.proofs.ReversedItems.{IsAtLevel}
 use Rattle.bx_rows.proofs.visual_order.reorder.Given as goal
 

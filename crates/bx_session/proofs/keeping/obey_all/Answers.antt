@@ -17,16 +17,16 @@ returns-then-ended-clause-bytes g c =
 
 pub loop-byte-preserved : goal.loop-byte-preserved
 loop-byte-preserved g c =
-    let says : g.row.D.Denot → Data = g.D.BidiData.data in
+    let ucd : g.row.D.Denot → Data = g.D.BidiData.data in
     let h = c.loop-byte.invariant.0 in
     let stay = c.loop-byte.invariant.1 in
     let running = sym c.ended.ensures ∙ c.if-ended.false in (
       (
         _,
-        fed_more says c.args.session.now.tables c.loop-byte.session.tables c.args.session.now.session c.loop-byte.session.session c.obey.new.session.session
+        fed_more ucd c.args.session.now.tables c.loop-byte.session.tables c.args.session.now.session c.loop-byte.session.session c.obey.new.session.session
             _ _ _ c.args.bytes.now c.loop-byte.byte-index _ c.obey.result h.0 h.1 stay running c.obey.ensures.after_byte
             c.obey.ensures.paints (take_more c.args.bytes.now c.loop-byte.byte-index 0 c.loop-byte-test.true),
-        obeyed_more_bytes g.V.Device.did g.V.Device.obeyed g.V.Device.stored says c.args.session.now.tables c.loop-byte.session.tables c.args.device.now
+        obeyed_more_bytes g.V.Device.did g.V.Device.obeyed g.V.Device.stored ucd c.args.session.now.tables c.loop-byte.session.tables c.args.device.now
             c.loop-byte.device c.obey.new.self c.args.session.now.session c.loop-byte.session.session c.obey.new.session.session h.0 _ c.obey.result h.2
             stay running c.obey.ensures.obeyed c.obey.ensures.after_byte c.obey.ensures.paints,
       ),

@@ -32,13 +32,13 @@ returns-then-count-eq0-clause-logged g c =
 
 pub returns-in_err-send-2-clause-logged : goal.returns-in_err-send-2-clause-logged
 returns-in_err-send-2-clause-logged g c =
-    let says : g.row.D.Denot → Data = g.D.BidiData.data in
+    let ucd : g.row.D.Denot → Data = g.D.BidiData.data in
     let device = g.V.Device in
     let fed = c.keep_and_obey.ensures.bytes in
     let sent = c.in_err-send-2.ensures.sent in
     let bytes : List ℕ = take c.in-Ok.count c.read.new.buffer in
     let count = length-take-le c.in-Ok.count c.read.new.buffer c.in-Ok.ensures.bound in
-    let turn : InTurn device.did device.obeyed device.stored says c.args.session.now.tables c.reads.session.tables c.reads.session.session
+    let turn : InTurn device.did device.obeyed device.stored ucd c.args.session.now.tables c.reads.session.tables c.reads.session.session
     c.keep_and_obey.new.session.session c.send-in-reads.new.session.session c.reads.device c.keep_and_obey.new.device c.send-in-reads.new.device fed.0 fed.1
     sent.0 bytes fed.2 sent.1 = record {
       stay = c.reads.invariant.3;
@@ -58,18 +58,18 @@ returns-in_err-send-2-clause-logged g c =
     } in
     let is : c.from_residual-in_err-send-2.result ≡ Err WriteFault = search rules in
     as_write_fault _ _ _ _ _ _ _ _ _ _ is
-    (turn_failed device.did device.obeyed device.stored says c.args.session.now.tables c.reads.session.tables _ _ _ _ _ _ _ _ _ _ _ _ _ _ _
+    (turn_failed device.did device.obeyed device.stored ucd c.args.session.now.tables c.reads.session.tables _ _ _ _ _ _ _ _ _ _ _ _ _ _ _
     c.reads.invariant.0 turn sent.4)
 
 pub reads-preserved : goal.reads-preserved
 reads-preserved g c =
-    let says : g.row.D.Denot → Data = g.D.BidiData.data in
+    let ucd : g.row.D.Denot → Data = g.D.BidiData.data in
     let device = g.V.Device in
     let fed = c.keep_and_obey.ensures.bytes in
     let sent = c.in_ok-send-2.ensures.sent in
     let bytes : List ℕ = take c.in-Ok.count c.read.new.buffer in
     let count = length-take-le c.in-Ok.count c.read.new.buffer c.in-Ok.ensures.bound in
-    let turn : InTurn device.did device.obeyed device.stored says c.args.session.now.tables c.reads.session.tables c.reads.session.session
+    let turn : InTurn device.did device.obeyed device.stored ucd c.args.session.now.tables c.reads.session.tables c.reads.session.session
     c.keep_and_obey.new.session.session c.send-in-reads.new.session.session c.reads.device c.keep_and_obey.new.device c.send-in-reads.new.device fed.0 fed.1
     sent.0 bytes fed.2 sent.1 = record {
       stay = c.reads.invariant.3;
@@ -87,7 +87,7 @@ reads-preserved g c =
       sends_taken = sent.3;
       sends_stored = c.send-in-reads.ensures.stored;
     } in
-    let after = turn_sent device.did device.obeyed device.stored says c.args.session.now.tables c.reads.session.tables _ _ _ _ _ _ _ _ _ _ _ _ _ _ _
+    let after = turn_sent device.did device.obeyed device.stored ucd c.args.session.now.tables c.reads.session.tables _ _ _ _ _ _ _ _ _ _ _ _ _ _ _
     c.reads.invariant.0 turn sent.4 in (
       after.0,
       after.1 ∙ ap (λ n. n + 1) c.reads.invariant.1,

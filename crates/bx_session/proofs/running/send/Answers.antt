@@ -1,7 +1,7 @@
 use Rattle.std.proofs.Common.{ap, inl, inr, length, take, refl, [], ◌∷◌, ◌∙◌}
 use Rattle.bx_session.specs.declared.action.Action.TheVariants.{Write, WriteFailed, Flush, FlushFailed}
 use Rattle.bx_session.specs.Log.{Calls, sending}
-use Rattle.bx_session.specs.Session.{SessionState}
+use Rattle.bx_session.specs.Feeding.{SessionState}
 use Rattle.bx_session.proofs.Steps.{sent_part, sent_then}
 use Rattle.bx_session.proofs.Turns.{sent_whole, took}
 use Rattle.bx_session.proofs.running.send.Goals as goal

@@ -1,6 +1,7 @@
 use Rattle.std.proofs.Common.{◌≡◌, ◌+◌, length, arith, refl, ap, replicate, ◌∙◌}
 use Rattle.std.proofs.lemmas.List.{length-map}
-use Rattle.bx_grid.specs.Columns.{Unknown, paste}
+use Rattle.bx_grid.specs.Columns.{Unknown}
+use Rattle.bx_grid.specs.Grid.{paste}
 use Rattle.bx_grid.specs.declared.column.Column.TheVariants as column
 use Rattle.bx_grid.specs.Seen.{seen, all_seen}
 use Rattle.bx_grid.proofs.Puts.{filled_more}

@@ -1,5 +1,6 @@
 use Rattle.std.proofs.Common.{◌≡◌, replicate}
-use Rattle.bx_grid.specs.Columns.{Unknown, paste}
+use Rattle.bx_grid.specs.Columns.{Unknown}
+use Rattle.bx_grid.specs.Grid.{paste}
 use Rattle.bx_grid.specs.Seen.{all_seen}
 use Rattle.bx_terminal.proofs.columns.fill_unknown.Given as goal
 

@@ -1,5 +1,5 @@
 use Rattle.std.proofs.Common.{◌≡◌, length, take, drop, subst, sym}
-use Rattle.bx_pieces.specs.Bytes.{AreWithin, bytes_in}
+use Rattle.bx_text.specs.pieces.Bytes.{AreWithin, bytes_in}
 use Rattle.bx_text.proofs.Compared.{are_within, same_bytes}
 use Rattle.bx_text.proofs.buffers.has_in.Goals as goal
 

@@ -1,6 +1,6 @@
 use Rattle.std.proofs.Common.{◌≡◌, ℕ, ◌+◌, ◌-◌, ◌≤◌, ◌∙◌, List, length, take, drop, refl, sym, ap, subst, arith}
 use Rattle.std.specs.Str.{IsUtf8, IsCharBoundary}
-use Rattle.bx_pieces.specs.Pieces.{rest_of}
+use Rattle.bx_text.specs.pieces.Pieces.{rest_of}
 use Rattle.bx_text.specs.Buffers.{Buffers, piece_bytes, bytes_of}
 use Rattle.bx_text.proofs.Bytes.{length-bytes_of}
 use Rattle.bx_text.proofs.Held.{holds, held_none, bounds_text, bounds_buffer, bounds_end, is_rest}

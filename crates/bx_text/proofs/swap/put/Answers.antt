@@ -1,7 +1,7 @@
 use Rattle.std.proofs.Common.{length, ap, arith}
 use Rattle.std.specs.Prelude.{string_len}
-use Rattle.bx_pieces.specs.Pieces.{total}
-use Rattle.bx_pieces.proofs.Cuts.{total_cut}
+use Rattle.bx_text.specs.pieces.Pieces.{total}
+use Rattle.bx_text.proofs.pieces_lemmas.Cuts.{total_cut}
 use Rattle.bx_text.proofs.Bytes.{IsAddressable-back}
 use Rattle.bx_text.proofs.Pushed.{total_with_added}
 use Rattle.bx_text.proofs.swap.put.Goals as goal

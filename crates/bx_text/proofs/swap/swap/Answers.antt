@@ -1,6 +1,6 @@
 use Rattle.std.proofs.Common.{ap, arith}
-use Rattle.bx_pieces.proofs.Cuts.{total_append, total_cut}
-use Rattle.bx_pieces.specs.Pieces.{total}
+use Rattle.bx_text.proofs.pieces_lemmas.Cuts.{total_append, total_cut}
+use Rattle.bx_text.specs.pieces.Pieces.{total}
 use Rattle.bx_text.proofs.Bytes.{IsAddressable-back}
 use Rattle.bx_text.proofs.swap.swap.Goals as goal
 

@@ -1,7 +1,7 @@
 use Rattle.std.proofs.Common.{◌≡◌, ◌+◌, ◌-◌, Some, refl, ap, sym, subst, ◌∙◌, map, reverse, take, arith}
 use Rattle.std.specs.List.{reduce}
 use Rattle.bx_text.specs.Steps.{step_change}
-use Rattle.bx_text.specs.Times.{merged}
+use Rattle.bx_text.specs.Edits.{merged}
 use Rattle.bx_text.proofs.MergedSteps.{IsSoFar, all_merged, first_so_far, next_so_far, small_after, none_left, none_wanted, one_merged, first_merged}
 use Rattle.bx_text.proofs.turns.change_of_last.Goals as goal
 use Rattle.bx_text.proofs.turns.change_of_last.Goals.{After-change-whole}

@@ -1,6 +1,6 @@
 use Rattle.std.proofs.Common.{◌∙◌, true, ap, sym, arith}
 use Rattle.unicode_segmentation.specs.Grapheme.{graphemes}
-use Rattle.bx_cells.proofs.Rest.{cluster-grows, past-all}
+use Rattle.bx_rows.proofs.cells_lemmas.Rest.{cluster-grows, past-all}
 use Rattle.bx_view.proofs.UnitSteps.{next-bound}
 use Rattle.bx_view.proofs.going.unit_end.Goals as goal
 

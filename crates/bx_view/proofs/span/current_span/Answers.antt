@@ -6,8 +6,8 @@ use Rattle.bx_view.proofs.span.current_span.Goals as goal
 pub returns-clause-is : goal.returns-clause-is
 returns-clause-is g c =
     let s = c.args.source.now in
-    let says = g.D.BidiData.data s.tables.now in
+    let ucd = g.D.BidiData.data s.tables.now in
     let text = s.text.now.edited.text in
-    subst (λ n. IsSpan says text n c.span-start.result.0 c.span-start.result.1) (sym c.number.ensures.number)
-    (paragraph-span says text c.args.walk.now.paragraphs c.args.walk.now.number c.span-start.result.0 c.span-start.result.1 s.utf8 c.requires.number
+    subst (λ n. IsSpan ucd text n c.span-start.result.0 c.span-start.result.1) (sym c.number.ensures.number)
+    (paragraph-span ucd text c.args.walk.now.paragraphs c.args.walk.now.number c.span-start.result.0 c.span-start.result.1 s.utf8 c.requires.number
     c.requires.walk c.span-start.ensures)

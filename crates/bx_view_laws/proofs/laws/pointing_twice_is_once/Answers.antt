@@ -3,4 +3,4 @@ use Rattle.bx_paragraph.proofs.Starts.{side-some}
 use Rattle.bx_view_laws.proofs.laws.pointing_twice_is_once.Goals as goal
 
 pub returns : goal.returns
-returns c = λ says base w text side utf8 t some. top-stays says base w (side-some w side) text utf8 t some
+returns c = λ ucd base w text side utf8 t some. top-stays ucd base w (side-some w side) text utf8 t some

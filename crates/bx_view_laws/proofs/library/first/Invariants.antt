@@ -1,18 +1,18 @@
 -- The row is `left` rows past the start of the walk's current paragraph.
 use Rattle.std.proofs.Common.{◌≡◌, ◌+◌, ◌-◌, ◌<◌}
-use Rattle.bx_index.specs.Paragraphs.{lengths}
-use Rattle.bx_view.specs.Source.{bytes, count}
+use Rattle.bx_text.specs.index.Paragraphs.{lengths}
+use Rattle.bx_view.specs.TextRef.{bytes, count}
 use Rattle.bx_view.specs.Standing.{rows_ahead}
 use Rattle.bx_view_laws.proofs.library.first.Given as goal
 
 abbrev pub invariant-loop-done : goal.invariant-loop-done
 invariant-loop-done g l =
-    let says = g.D.BidiData.data l.source.tables.now in
+    let ucd = g.D.BidiData.data l.source.tables.now in
     let text = bytes l.source in
     record {
-      paragraphs : l.walk.paragraphs ≡ lengths says text;
+      paragraphs : l.walk.paragraphs ≡ lengths ucd text;
       number : l.done < count l.source → l.walk.number ≡ l.done;
-      ahead : l.left + rows_ahead says l.fn.view.base l.w text l.done ≡ l.fn.row;
+      ahead : l.left + rows_ahead ucd l.fn.view.base l.w text l.done ≡ l.fn.row;
     }
 
 abbrev pub decreases-loop-done : goal.decreases-loop-done

@@ -1,5 +1,5 @@
 use Rattle.std.proofs.Common.{◌∙◌, ap, subst, sym}
-use Rattle.bx_terms.specs.Sizes.{is_side}
+use Rattle.bx_common.specs.Characters.{is_side}
 use Rattle.bx_view.specs.TextRows.{first, row_at, row_of}
 use Rattle.bx_view.specs.FoundRow.{rows_by}
 use Rattle.bx_view.specs.Places.{IsTextPlace}
@@ -12,22 +12,22 @@ use Rattle.bx_view_laws.proofs.library.follow.Goals as goal
 
 pub returns-clause-top : goal.returns-clause-top
 returns-clause-top g c =
-    let says = g.D.BidiData.data c.args.source.now.tables.now in
+    let ucd = g.D.BidiData.data c.args.source.now.tables.now in
     let text = c.args.source.now.text.now.edited.text in
     let old = c.args.view.now in
-    let all = rows_by says old text in
+    let all = rows_by ucd old text in
     c.first_in.ensures _ c.in_ok-located.ensures.top
     ∙ ap (λ rs. first (row_at rs (nearest_top (row_of all c.args.top) (row_of all c.args.place) c.args.t)))
-    (rows-kept says old c.locate.new.self text c.locate.ensures.keeps)
+    (rows-kept ucd old c.locate.new.self text c.locate.ensures.keeps)
 
 pub returns-clause-text_place : goal.returns-clause-text_place
 returns-clause-text_place g c =
-    let says = g.D.BidiData.data c.args.source.now.tables.now in
+    let ucd = g.D.BidiData.data c.args.source.now.tables.now in
     let text = c.args.source.now.text.now.edited.text in
     let old = c.args.view.now in
     let some = side-some old.w (sym (ap is_side c.locate.ensures.keeps.w) ∙ c.in_ok-located.ensures.top.side) in
-    let led = (text-places-kept says old.base old.w some text c.args.source.now.utf8).top c.args.top c.args.place c.args.t c.requires.some in
-    subst (IsTextPlace says text) (sym (returns-clause-top g c)) led
+    let led = (text-places-kept ucd old.base old.w some text c.args.source.now.utf8).top c.args.top c.args.place c.args.t c.requires.some in
+    subst (IsTextPlace ucd text) (sym (returns-clause-top g c)) led
 
 pub returns-clause-boundary : goal.returns-clause-boundary
 returns-clause-boundary g c =

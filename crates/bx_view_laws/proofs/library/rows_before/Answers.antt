@@ -1,7 +1,7 @@
 use Rattle.std.proofs.Common.{◌≡◌, ◌+◌, ◌<◌, ◌∙◌, ap, arith, length}
-use Rattle.bx_terms.specs.declared.base.Base.TheVariants.{Auto}
+use Rattle.bx_common.specs.declared.base.Base.TheVariants.{Auto}
 use Rattle.bx_rows.specs.RowStarts.{row_starts}
-use Rattle.bx_view.specs.Standing.{body_at, count}
+use Rattle.bx_view.specs.Numbers.{body_at, count}
 use Rattle.bx_view_laws.proofs.Counted.{ahead-more, few-ahead, walked-on}
 use Rattle.bx_view.proofs.Numbers.{lengths-count, some-paragraph}
 use Rattle.bx_paragraph.proofs.Starts.{side-some}
@@ -10,39 +10,39 @@ use Rattle.bx_view_laws.proofs.library.rows_before.Goals as goal
 pub walk_at-walk-requires-clause-inside : goal.walk_at-walk-requires-clause-inside
 walk_at-walk-requires-clause-inside g c =
     let s = c.args.source.now in
-    let says = g.D.BidiData.data s.tables.now in
+    let ucd = g.D.BidiData.data s.tables.now in
     let text = s.text.now.edited.text in
-    omega (arith, some-paragraph says text s.utf8, ap length s.indexed, lengths-count says text)
+    omega (arith, some-paragraph ucd text s.utf8, ap length s.indexed, lengths-count ucd text)
 
 pub overflow_add-ahead : goal.overflow_add-ahead
 overflow_add-ahead g c =
-    let says = g.D.BidiData.data c.args.source.now.tables.now in
+    let ucd = g.D.BidiData.data c.args.source.now.tables.now in
     let text = c.args.source.now.text.now.edited.text in
     let i = c.loop-done.invariant in
     let w = c.args.w in
     let some = side-some w c.requires.side in
-    let within : c.loop-done.done < count says text = omega (arith, c.loop-done-test.true, c.requires.number) in
-    let starts = c.in_ok-starts.ensures ∙ ap (λ k. row_starts says w (body_at says text k)) (i.number within) in
-    let more = ahead-more says Auto w some text c.args.source.now.utf8 c.loop-done.done c.loop-done.ahead c.in_ok-starts.starts.items
+    let within : c.loop-done.done < count ucd text = omega (arith, c.loop-done-test.true, c.requires.number) in
+    let starts = c.in_ok-starts.ensures ∙ ap (λ k. row_starts ucd w (body_at ucd text k)) (i.number within) in
+    let more = ahead-more ucd Auto w some text c.args.source.now.utf8 c.loop-done.done c.loop-done.ahead c.in_ok-starts.starts.items
     within starts (i.ahead Auto) in
     omega (
       arith,
       more,
-      few-ahead says Auto w some text c.args.source.now.utf8 (c.loop-done.done + 1),
+      few-ahead ucd Auto w some text c.args.source.now.utf8 (c.loop-done.done + 1),
       c.args.source.now.short,
       c.len-ahead.ensures,
     )
 
 pub loop-done-preserved : goal.loop-done-preserved
 loop-done-preserved g c =
-    let says = g.D.BidiData.data c.args.source.now.tables.now in
+    let ucd = g.D.BidiData.data c.args.source.now.tables.now in
     let text = c.args.source.now.text.now.edited.text in
     let i = c.loop-done.invariant in
     let w = c.args.w in
     let some = side-some w c.requires.side in
-    let within : c.loop-done.done < count says text = omega (arith, c.loop-done-test.true, c.requires.number) in
-    let starts = c.in_ok-starts.ensures ∙ ap (λ k. row_starts says w (body_at says text k)) (i.number within) in
-    let size : length c.loop-done.walk.paragraphs ≡ count says text = ap length i.paragraphs ∙ lengths-count says text in
+    let within : c.loop-done.done < count ucd text = omega (arith, c.loop-done-test.true, c.requires.number) in
+    let starts = c.in_ok-starts.ensures ∙ ap (λ k. row_starts ucd w (body_at ucd text k)) (i.number within) in
+    let size : length c.loop-done.walk.paragraphs ≡ count ucd text = ap length i.paragraphs ∙ lengths-count ucd text in
     record {
       paragraphs = c.to_next-more.ensures.paragraphs ∙ i.paragraphs;
       number = λ further. walked-on c.to_next-more.result c.loop-done.walk.number c.to_next-more.new.self.number c.loop-done.done
@@ -50,7 +50,7 @@ loop-done-preserved g c =
           (omega (arith, further, size));
       within = omega (arith, c.loop-done-test.true);
       ahead = λ base.
-          let more = ahead-more says base w some text c.args.source.now.utf8 c.loop-done.done c.loop-done.ahead c.in_ok-starts.starts.items
+          let more = ahead-more ucd base w some text c.args.source.now.utf8 c.loop-done.done c.loop-done.ahead c.in_ok-starts.starts.items
           within starts (i.ahead base) in
           omega (arith, more, c.len-ahead.ensures);
     }

@@ -1,20 +1,20 @@
 -- The count is the number of rows before the walk's current paragraph.
 use Rattle.std.proofs.Common.{◌≡◌, ◌-◌, ◌<◌, ◌≤◌}
-use Rattle.bx_terms.specs.declared.base.Base.{Base}
-use Rattle.bx_index.specs.Paragraphs.{lengths}
-use Rattle.bx_view.specs.Source.{bytes, count}
+use Rattle.bx_common.specs.declared.base.Base.{Base}
+use Rattle.bx_text.specs.index.Paragraphs.{lengths}
+use Rattle.bx_view.specs.TextRef.{bytes, count}
 use Rattle.bx_view.specs.Standing.{rows_ahead}
 use Rattle.bx_view_laws.proofs.library.rows_before.Given as goal
 
 abbrev pub invariant-loop-done : goal.invariant-loop-done
 invariant-loop-done g l =
-    let says = g.D.BidiData.data l.source.tables.now in
+    let ucd = g.D.BidiData.data l.source.tables.now in
     let text = bytes l.source in
     record {
-      paragraphs : l.walk.paragraphs ≡ lengths says text;
+      paragraphs : l.walk.paragraphs ≡ lengths ucd text;
       number : l.done < count l.source → l.walk.number ≡ l.done;
       within : l.done ≤ l.number;
-      ahead : (base : Base) → l.ahead ≡ rows_ahead says base l.w text l.done;
+      ahead : (base : Base) → l.ahead ≡ rows_ahead ucd base l.w text l.done;
     }
 
 abbrev pub decreases-loop-done : goal.decreases-loop-done

@@ -1,8 +1,8 @@
 -- The next unit lies in the body.
 use Rattle.std.proofs.Common.{List, All, subst, sym}
 use Rattle.std.proofs.lemmas.List.Elements.{All-push}
-use Rattle.bx_cells.specs.declared.unit.Unit.{Unit}
-use Rattle.bx_cells.specs.Units.{StandsIn}
+use Rattle.bx_rows.specs.declared.cells.unit.Unit.{Unit}
+use Rattle.bx_rows.specs.cells.UnitFacts.{StandsIn}
 use Rattle.player_lines.proofs.characters.character_units.Goals as goal
 
 pub loop-start-preserved : goal.loop-start-preserved

@@ -1,6 +1,6 @@
 -- The units so far lie in the body.
 use Rattle.std.proofs.Common.{All}
-use Rattle.bx_cells.specs.Units.{StandsIn}
+use Rattle.bx_rows.specs.cells.UnitFacts.{StandsIn}
 use Rattle.player_lines.proofs.characters.character_units.Given as goal
 
 abbrev pub invariant-loop-start : goal.invariant-loop-start

@@ -1,5 +1,5 @@
 use Rattle.std.proofs.Common.{arith}
-use Rattle.bx_index.proofs.Followed.{room_for_bytes}
+use Rattle.bx_text.proofs.index_lemmas.Followed.{room_for_bytes}
 use Rattle.session_tests.proofs.counts.follow.Goals as goal
 
 pub edited-requires-clause-room : goal.edited-requires-clause-room

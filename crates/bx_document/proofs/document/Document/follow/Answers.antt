@@ -11,11 +11,11 @@ returns-clause-top g c =
     let same = lent c.source-source.ensures.tables c.source-source.ensures.text c.self.view_is in
     let i = c.self.inside in
     let s = c.source-source.result in
-    let says = g.D.BidiData.data s.tables.now in
+    let ucd = g.D.BidiData.data s.tables.now in
     let text = s.text.now.edited.text in
     let located = c.in_ok-located.located in
     let told = c.in_ok-located.ensures in
     subst (λ s. c.first_in-first.result ≡ follow (rows (g.D.BidiData.data s.tables) s.document) c.args.top c.args.place c.args.count) same
-    (subst (λ n. c.first_in-first.result ≡ follow (rows_by says i.view text) c.args.top c.args.place n) c.from.ensures
-    (top-is says i.view c.locate.new.self text c.source-source.result.utf8 c.locate.ensures.keeps located.top c.args.top c.args.place c.from.result
+    (subst (λ n. c.first_in-first.result ≡ follow (rows_by ucd i.view text) c.args.top c.args.place n) c.from.ensures
+    (top-is ucd i.view c.locate.new.self text c.source-source.result.utf8 c.locate.ensures.keeps located.top c.args.top c.args.place c.from.result
     c.first_in-first.result located.above told.top (c.first_in-first.ensures _ told.top) told.above))

@@ -1,6 +1,7 @@
 use Rattle.std.proofs.Common.{◌≡◌, ◌==◌, ◌∙◌, Some, true, false, ap, get_or, slice_get, subst, arith}
-use Rattle.bx_index.specs.Positions.{separators, spans}
-use Rattle.bx_document.specs.FirstSeparator.{has_crlf_first}
+use Rattle.bx_text.specs.index.Paragraphs.{spans}
+use Rattle.bx_text.specs.index.Walk.{separators}
+use Rattle.bx_document.specs.Line.{has_crlf_first}
 use Rattle.bx_document.proofs.FirstSeparators.{of-piece, piece-there, some-lengths}
 use Rattle.bx_document.proofs.SameState.{lent}
 use Rattle.bx_document.proofs.document.Document.has_crlf_first.Goals as goal

@@ -1,7 +1,8 @@
 use Rattle.std.proofs.Common.{◌∙◌, [], ap, arith, sym, subst}
 use Rattle.std.proofs.lemmas.Str.{IsCharBoundary-start}
-use Rattle.bx_text.specs.Edits.{IsRange, splice}
-use Rattle.bx_document.specs.FirstSeparator.{has_crlf_first}
+use Rattle.bx_text.specs.Edits.{splice}
+use Rattle.bx_text.specs.Changes.{IsRange}
+use Rattle.bx_document.specs.Line.{has_crlf_first}
 use Rattle.bx_document.proofs.SeparatorsRead.{told}
 use Rattle.bx_document.proofs.SameState.{lent}
 use Rattle.bx_document.proofs.document.Document.has_crlf_first_without.Goals as goal
@@ -22,9 +23,9 @@ pub returns : goal.returns
 returns g c =
     let same = lent c.source-source.ensures.tables c.source-source.ensures.text c.self.view_is in
     let s = c.source-source.result in
-    let says = g.D.BidiData.data s.tables.now in
+    let ucd = g.D.BidiData.data s.tables.now in
     let range = subst (λ s. IsRange s.document.content.text c.args.start c.args.stop) (sym same) c.requires.range in
-    c.is_crlf.ensures says
-    ∙ told says s.text.now.edited.text c.args.start c.args.stop c.len-len.result c.after_range-before.result c.after_range.result
+    c.is_crlf.ensures ucd
+    ∙ told ucd s.text.now.edited.text c.args.start c.args.stop c.len-len.result c.after_range-before.result c.after_range.result
     c.len-len.ensures.utf8 range.start_bounds c.len-len.ensures.len c.after_range-before.ensures c.after_range.ensures
     ∙ ap (λ s. has_crlf_first (g.D.BidiData.data s.tables) (splice s.document.content.text c.args.start c.args.stop [])) same

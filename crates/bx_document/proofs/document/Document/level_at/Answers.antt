@@ -1,8 +1,8 @@
 use Rattle.std.proofs.Common.{◌∙◌, ap, chars, subst, sym}
 use Rattle.std.specs.Prelude.{slice_range}
-use Rattle.bx_text.specs.Edits.{IsRange}
-use Rattle.bx_index.specs.Positions.{paragraph_of}
-use Rattle.bx_resolve.specs.Levels.{levels_under}
+use Rattle.bx_text.specs.Changes.{IsRange}
+use Rattle.bx_text.specs.index.Paragraphs.{paragraph_of}
+use Rattle.bx_levels.specs.resolve.Levels.{levels_under}
 use Rattle.bx_view.specs.Places.{IsTextPlace}
 use Rattle.bx_view.proofs.Numbers.{IsUnder, paragraph-under}
 use Rattle.bx_document.specs.PlaceLevel.{place_level}
@@ -60,13 +60,13 @@ returns g c =
     let same = lent c.source-source.ensures.tables c.source-source.ensures.text c.self.view_is in
     let i = c.self.inside in
     let s = c.source-source.result in
-    let says = g.D.BidiData.data s.tables.now in
+    let ucd = g.D.BidiData.data s.tables.now in
     let u = under g ((goal.at.returns g c).After-span_at-start) in
     let body = c.as_str-body.ensures.value ∙ c.in_ok-copy.ensures
     ∙ ap (λ s. slice_range s.document.content.text c.span_at-start.result.1.0 c.span_at-start.result.1.1) (sym same) ∙ u.span.body in
-    let each = c.as_slice.ensures.value ∙ c.in_ok-levels.ensures.each ∙ ap (λ b. levels_under says b (chars c.as_str-body.result.now)) c.base.ensures in
+    let each = c.as_slice.ensures.value ∙ c.in_ok-levels.ensures.each ∙ ap (λ b. levels_under ucd b (chars c.as_str-body.result.now)) c.base.ensures in
     c.unit_level.ensures
-    ∙ level-is says s.text.now.edited.text c.source-source.result.utf8 c.args.place
+    ∙ level-is ucd s.text.now.edited.text c.source-source.result.utf8 c.args.place
     c.span_at-start.result.0 c.span_at-start.result.1.0 c.as_str-body.result.now
     (c.span_at-start.ensures.number ∙ ap (λ ls. paragraph_of ls c.args.place) s.indexed) u.span.start body
     i.view.base c.as_slice.result.now each

@@ -1,12 +1,12 @@
 -- The matches from the stop on are still to come.
 use Rattle.std.proofs.Common.{◌≡◌, ◌≤◌, ◌+◌, ◌-◌, ◌^◌, length, min}
-use Rattle.bx_find.specs.Spans.{spans_from}
-use Rattle.bx_text.specs.Edits.{IsRange}
+use Rattle.bx_find.specs.Matches.{spans_from}
+use Rattle.bx_text.specs.Changes.{IsRange}
 use Rattle.bx_document.specs.Swapped.{last_stop, swapped}
 use Rattle.bx_document.proofs.document.Document.measure.Given as goal
 
-abbrev pub invariant-matches : goal.invariant-matches
-invariant-matches g l = record {
+abbrev pub invariant-loop-at : goal.invariant-loop-at
+invariant-loop-at g l = record {
   range : IsRange l.self.document.content.text l.start l.measure.stop;
   enough : l.measure.count ≤ l.measure.stop;
   fits : l.measure.len ≤ 2 ^ 64 - 1;
@@ -22,5 +22,5 @@ invariant-matches g l = record {
       (spans_from (g.D.BidiData.data l.self.tables) l.reading l.query l.self.document.content.text l.start)));
 }
 
-abbrev pub decreases-matches : goal.decreases-matches
-decreases-matches g l = length l.self.document.content.text - l.measure.stop
+abbrev pub decreases-loop-at : goal.decreases-loop-at
+decreases-loop-at g l = length l.self.document.content.text - l.measure.stop

@@ -1,5 +1,5 @@
 use Rattle.std.proofs.Common.{◌+◌, ◌-◌, ◌++◌, ◌∙◌, length, slice_range, IsUtf8, refl, ap, arith, subst, sym}
-use Rattle.bx_text.specs.Edits.{IsRange}
+use Rattle.bx_text.specs.Changes.{IsRange}
 use Rattle.bx_document.proofs.ReplacedPlace.{between_bound, kept_range, replaced_place, replaced_text_place, whole_fits, whole_range}
 use Rattle.bx_document.proofs.SameState.{lent}
 use Rattle.bx_document.proofs.document.Document.place_after_both.Goals as goal

@@ -1,7 +1,9 @@
 use Rattle.std.proofs.Common.{◌≡◌, ◌∙◌, ◌++◌, true, slice_range, refl, subst, sym}
-use Rattle.bx_text.specs.Edits.{IsRange, fits_both}
+use Rattle.bx_text.specs.Edits.{fits_both}
+use Rattle.bx_text.specs.Changes.{IsRange}
 use Rattle.bx_view.specs.Places.{IsTextPlace}
-use Rattle.bx_document.specs.Document.{Document, place_after_wrap, wrapped_text}
+use Rattle.bx_document.specs.Document.{Document, place_after_wrap}
+use Rattle.bx_document.specs.Swapped.{wrapped_text}
 use Rattle.bx_document.proofs.WrappedPlace.{few, offset_inside, whole_fits, wrapped_place, wrapped_text_place}
 use Rattle.bx_document.proofs.SameState.{lent}
 use Rattle.bx_document.proofs.document.Document.place_after_wrap.Goals as goal

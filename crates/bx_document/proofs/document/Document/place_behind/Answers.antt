@@ -1,5 +1,6 @@
 use Rattle.std.proofs.Common.{◌≡◌, ◌+◌, ◌-◌, length, IsCharBoundary, arith, subst, sym}
-use Rattle.bx_text.specs.Edits.{IsRange, splice}
+use Rattle.bx_text.specs.Edits.{splice}
+use Rattle.bx_text.specs.Changes.{IsRange}
 use Rattle.bx_view.specs.Moves.{place_at}
 use Rattle.bx_view.specs.Places.{IsTextPlace}
 use Rattle.bx_document.specs.Document.{rows_of}

@@ -1,7 +1,8 @@
 use Rattle.std.proofs.Common.{rules, ◌≡◌, ◌+◌, ◌-◌, ◌∙◌, [], length, true, IsUtf8, arith, subst, sym, refl}
 use Rattle.std.proofs.lemmas.Bool.{leb-true}
 use Rattle.std.proofs.lemmas.Bool.Decides.{nat_tests}
-use Rattle.bx_text.specs.Edits.{IsRange, fits, largest_text, splice}
+use Rattle.bx_text.specs.Edits.{fits, largest_text, splice}
+use Rattle.bx_text.specs.Changes.{IsRange}
 use Rattle.bx_view.specs.Places.{IsTextPlace}
 use Rattle.bx_document.specs.Document.{place_after, replaced_text}
 use Rattle.bx_document.proofs.PlaceAfter.{splice_bytes}
@@ -51,9 +52,9 @@ pub exchange-requires-clause-fits : goal.exchange-requires-clause-fits
 exchange-requires-clause-fits g c =
     let now = c.args.self.now in
     let text = now.document.content.text in
-    let says = g.D.BidiData.data now.tables in
+    let ucd = g.D.BidiData.data now.tables in
     let utf8 : IsUtf8 text = subst (λ s. IsUtf8 s.document.content.text) c.self.view_is c.len.ensures.utf8 in
-    let bound = between_bound says text c.args.start c.args.stop c.in_ok-between.between utf8 c.requires.range c.in_ok-between.ensures.text_place in
+    let bound = between_bound ucd text c.args.start c.args.stop c.in_ok-between.between utf8 c.requires.range c.in_ok-between.ensures.text_place in
     let short : fits text c.args.start c.args.stop c.args.new.now ≡ true = first_of (search rules, grind (arith, nat_tests)) in
     let few = leb-true (length text - (c.args.stop - c.args.start) + length c.args.new.now) largest_text short in
     omega (arith, bound.0, few, splice_bytes text c.args.start c.args.stop [] c.requires.range)

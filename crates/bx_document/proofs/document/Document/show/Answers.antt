@@ -14,13 +14,13 @@ returns-clause-top g c =
     let same = lent c.source-source.ensures.tables c.source-source.ensures.text c.self.view_is in
     let i = c.self.inside in
     let s = c.source-source.result in
-    let says = g.D.BidiData.data s.tables.now in
+    let ucd = g.D.BidiData.data s.tables.now in
     let text = s.text.now.edited.text in
     let located = c.in_ok-located.located in
     let told = c.in_ok-located.ensures in
     subst (λ s. c.first_in-first.result ≡ follow (rows (g.D.BidiData.data s.tables) s.document) c.args.top c.args.place c.args.count) same
-    (subst (λ n. c.first_in-first.result ≡ follow (rows_by says i.view text) c.args.top c.args.place n) c.from.ensures
-    (top-is says i.view c.locate.new.self text c.source-source.result.utf8 c.locate.ensures.keeps located.top c.args.top c.args.place c.from.result
+    (subst (λ n. c.first_in-first.result ≡ follow (rows_by ucd i.view text) c.args.top c.args.place n) c.from.ensures
+    (top-is ucd i.view c.locate.new.self text c.source-source.result.utf8 c.locate.ensures.keeps located.top c.args.top c.args.place c.from.result
     c.first_in-first.result located.above told.top (c.first_in-first.ensures _ told.top) told.above))
 
 pub returns-clause-among : goal.returns-clause-among
@@ -28,13 +28,13 @@ returns-clause-among g c =
     let same = lent c.source-source.ensures.tables c.source-source.ensures.text c.self.view_is in
     let i = c.self.inside in
     let s = c.source-source.result in
-    let says = g.D.BidiData.data s.tables.now in
+    let ucd = g.D.BidiData.data s.tables.now in
     let text = s.text.now.edited.text in
     let located = c.in_ok-located.located in
     let told = c.in_ok-located.ensures in
     subst (λ s. IsAmong (rows (g.D.BidiData.data s.tables) s.document) c.first_in-first.result c.args.place c.args.count) same
     (subst (IsAmong _ c.first_in-first.result c.args.place) c.from.ensures
-    (among says i.view c.locate.new.self text c.source-source.result.utf8 c.locate.ensures.keeps located.top c.args.top c.args.place c.from.result
+    (among ucd i.view c.locate.new.self text c.source-source.result.utf8 c.locate.ensures.keeps located.top c.args.top c.args.place c.from.result
     c.first_in-first.result located.above told.top (c.first_in-first.ensures _ told.top) told.above told.few))
 
 pub returns-clause-drawn : goal.returns-clause-drawn
@@ -42,7 +42,7 @@ returns-clause-drawn g c =
     let same = lent c.source-source.ensures.tables c.source-source.ensures.text c.self.view_is in
     let i = c.self.inside in
     let s = c.source-source.result in
-    let says = g.D.BidiData.data s.tables.now in
+    let ucd = g.D.BidiData.data s.tables.now in
     let text = s.text.now.edited.text in
     let located = c.in_ok-located.located in
     let told = c.in_ok-located.ensures in
@@ -51,7 +51,7 @@ returns-clause-drawn g c =
     subst (λ s. c.draw_rows.new.grid ≡ record was {
       columns = shown_columns (g.D.BidiData.data s.tables) s.document first c.args.region c.args.count ++ drop (c.args.count * was.width) was.columns;
     }) same
-    (drawn-told says i.view c.locate.new.self text c.source-source.result.utf8 c.locate.ensures.keeps located.top c.args.top c.args.place c.from.result
+    (drawn-told ucd i.view c.locate.new.self text c.source-source.result.utf8 c.locate.ensures.keeps located.top c.args.top c.args.place c.from.result
     first located.above told.top (c.first_in-first.ensures _ told.top) told.above was c.draw_rows.new.grid c.args.region c.args.count
     (c.in_ok-draw_rows.ensures.drawn _ told.top))
 
@@ -60,12 +60,12 @@ returns-clause-row g c =
     let same = lent c.source-source.ensures.tables c.source-source.ensures.text c.self.view_is in
     let i = c.self.inside in
     let s = c.source-source.result in
-    let says = g.D.BidiData.data s.tables.now in
+    let ucd = g.D.BidiData.data s.tables.now in
     let text = s.text.now.edited.text in
     let located = c.in_ok-located.located in
     let told = c.in_ok-located.ensures in
     subst (λ s. located.above ≡ rows_above (g.D.BidiData.data s.tables) s.document c.first_in-first.result c.args.place) same
-    (above-is says i.view c.locate.new.self text c.source-source.result.utf8 c.locate.ensures.keeps located.top c.args.top c.args.place c.from.result
+    (above-is ucd i.view c.locate.new.self text c.source-source.result.utf8 c.locate.ensures.keeps located.top c.args.top c.args.place c.from.result
     c.first_in-first.result located.above told.top (c.first_in-first.ensures _ told.top) told.above)
 
 pub returns-clause-position : goal.returns-clause-position

@@ -1,8 +1,9 @@
 use Rattle.std.proofs.Common.{rules, ◌≡◌, ◌∙◌, true, arith, subst, sym, refl}
 use Rattle.std.proofs.lemmas.Bool.Decides.{nat_tests}
-use Rattle.bx_text.specs.Edits.{IsRange, fits_both}
+use Rattle.bx_text.specs.Edits.{fits_both}
+use Rattle.bx_text.specs.Changes.{IsRange}
 use Rattle.bx_view.specs.Places.{IsTextPlace}
-use Rattle.bx_document.specs.Document.{wrapped_text}
+use Rattle.bx_document.specs.Swapped.{wrapped_text}
 use Rattle.bx_document.proofs.PlacesKept.{keeps_wrapped}
 use Rattle.bx_document.proofs.SameState.{edited}
 use Rattle.bx_document.proofs.document.Document.wrap.Goals as goal

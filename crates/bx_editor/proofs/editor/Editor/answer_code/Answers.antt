@@ -1,10 +1,11 @@
 use Rattle.std.proofs.Common.{◌≡◌, ap, sym, ◌∙◌}
 use Rattle.std.specs.Prelude.{if◌then◌else◌}
 use Rattle.std.proofs.lemmas.Bool.{eq-eqb}
-use Rattle.bx_asking.specs.Answers.{lengthened}
-use Rattle.bx_asking.specs.Codes.{coded, is_code_letter}
+use Rattle.bx_editor.specs.questions.Answers.{lengthened}
+use Rattle.bx_editor.specs.questions.Names.{coded, is_code_letter}
 use Rattle.bx_editor.specs.Asking.{after_code, longest_code, with_answer, without_ask}
-use Rattle.bx_editor.specs.Editor.{Editor, EditorState, cleared}
+use Rattle.bx_editor.specs.Editor.{Editor, cleared}
+use Rattle.bx_editor.specs.Functions.{EditorState}
 use Rattle.bx_editor.proofs.QuestionLeft.{code-left}
 use Rattle.bx_editor.proofs.editor.Editor.answer_code.Goals as goal
 

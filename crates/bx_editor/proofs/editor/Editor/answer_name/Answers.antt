@@ -1,9 +1,10 @@
 use Rattle.std.proofs.Common.{◌≡◌, ap, Some, sym, subst, string_bytes, ◌∙◌}
-use Rattle.bx_asking.specs.Names.{closing, named}
-use Rattle.bx_asking.specs.declared.question.Ask.TheVariants.{Name}
+use Rattle.bx_editor.specs.questions.Names.{closing, named}
+use Rattle.bx_editor.specs.declared.questions.answers.Prompt.TheVariants.{Name}
 use Rattle.bx_editor.specs.Answers.{IsAnswer}
 use Rattle.bx_editor.specs.Asking.{after_name_letter, without_ask}
-use Rattle.bx_editor.specs.Editor.{Editor, EditorState, cleared}
+use Rattle.bx_editor.specs.Editor.{Editor, cleared}
+use Rattle.bx_editor.specs.Functions.{EditorState}
 use Rattle.bx_editor.proofs.AnswersKept.{answer-coded}
 use Rattle.bx_editor.proofs.QuestionLeft.{named-left}
 use Rattle.bx_editor.proofs.editor.Editor.answer_name.Goals as goal
@@ -26,5 +27,5 @@ invariant_of-self g c =
     let i = c.self.inside in
     let kept = c.self.invariant in
     let ask : i.ask ≡ Name =
-    ap (λ s. s.editor.ask) c.self.view_is ∙ ap (λ s. s.editor.ask) c.clear.ensures ∙ c.requires.ask in
+    ap (λ s. s.editor.ask) c.self.view_is ∙ ap (λ s. s.editor.ask) c.reset_after_key.ensures ∙ c.requires.ask in
     (kept.0, kept.1, kept.2, kept.3, kept.4, answer-coded _ (subst (λ a. IsAnswer a (string_bytes i.answer)) ask kept.5), kept.6, kept.7)

@@ -1,10 +1,11 @@
 use Rattle.std.proofs.Common.{ap, ◌∙◌}
 use Rattle.std.specs.Prelude.{None, Some}
 use Rattle.std.proofs.lemmas.Result.{on_ok_weaker}
-use Rattle.bx_editor.specs.Editor.{Editor, EditorState, cleared}
+use Rattle.bx_editor.specs.Editor.{Editor, cleared}
+use Rattle.bx_editor.specs.Functions.{EditorState}
 use Rattle.bx_editor.specs.Region.{line}
 use Rattle.bx_editor.specs.declared.message.Message.TheVariants.{NothingToCopy}
-use Rattle.bx_editor.specs.declared.soft.Soft.TheVariants.{Off}
+use Rattle.bx_editor.specs.declared.cursor.Soft.TheVariants.{Off}
 use Rattle.bx_editor.proofs.Copied.{line-copied, nothing-copied, region-copied}
 use Rattle.bx_editor.proofs.editor.Editor.copy.Goals as goal
 

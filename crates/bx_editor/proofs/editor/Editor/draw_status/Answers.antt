@@ -1,9 +1,10 @@
 use Rattle.std.proofs.Common.{◌≡◌, ◌++◌, List, string_bytes, subst, sym, ap, ◌∙◌}
 use Rattle.std.specs.Prelude.{IfOk}
 use Rattle.bx_rows.specs.RowPicture.{Glyph}
-use Rattle.bx_asking.specs.declared.question.Ask.{Ask}
-use Rattle.bx_asking.specs.declared.question.Ask.TheVariants as asks
-use Rattle.bx_editor.specs.Editor.{Editor, EditorState}
+use Rattle.bx_editor.specs.declared.questions.answers.Prompt.{Prompt}
+use Rattle.bx_editor.specs.declared.questions.answers.Prompt.TheVariants as asks
+use Rattle.bx_editor.specs.Editor.{Editor}
+use Rattle.bx_editor.specs.Functions.{EditorState}
 use Rattle.bx_editor.specs.Status.{glyph_row, letter_glyphs, prompt_glyphs, prompt_text, typed_glyphs}
 use Rattle.bx_editor.proofs.StatusRow.{question-glyphs}
 use Rattle.bx_editor.proofs.Viewed.{value}
@@ -13,7 +14,7 @@ pub returns-in-Off-clause-row : goal.returns-in-Off-clause-row
 returns-in-Off-clause-row g c =
     let now : EditorState g.row.D.Denot = c.args.self.now in
     let line = letter_glyphs (string_bytes c.args.line) in
-    subst (λ (a : Ask). IfOk c.draw_search.result
+    subst (λ (a : Prompt). IfOk c.draw_search.result
     (λ row. row.columns ≡ glyph_row now.editor.width (line ++ prompt_glyphs (g.D.BidiData.data now.tables) now.editor a)))
     (sym c.in-Off.is ∙ ap (λ (s : EditorState g.row.D.Denot). s.editor.ask) c.self.view_is)
     (subst (λ (s : EditorState g.row.D.Denot). IfOk c.draw_search.result

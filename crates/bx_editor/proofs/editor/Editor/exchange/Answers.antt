@@ -1,5 +1,6 @@
 use Rattle.std.proofs.Common.{rules, ◌+◌, ◌∙◌, ap}
-use Rattle.bx_editor.specs.Editor.{Editor, EditorState}
+use Rattle.bx_editor.specs.Editor.{Editor}
+use Rattle.bx_editor.specs.Functions.{EditorState}
 use Rattle.bx_editor.proofs.Exchanged.{exchanged-once}
 use Rattle.bx_editor.proofs.editor.Editor.exchange.Goals as goal
 

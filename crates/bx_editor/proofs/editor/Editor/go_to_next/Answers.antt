@@ -1,12 +1,13 @@
 use Rattle.std.proofs.Common.{◌≡◌, ◌∙◌, ap, chars, false, length, subst, sym}
 use Rattle.std.specs.Prelude.{◌==◌}
 use Rattle.bx_find.specs.Letters.{letters}
-use Rattle.bx_find.specs.declared.reading.Reading.TheVariants.{Wide}
-use Rattle.bx_editor.specs.declared.aim.Aim.TheVariants.{Find}
-use Rattle.bx_editor.specs.declared.seek.Seek.TheVariants.{Off}
-use Rattle.bx_editor.specs.Editor.{Editor, EditorState, cleared, rows}
+use Rattle.bx_find.specs.declared.letters.Reading.TheVariants.{Wide}
+use Rattle.bx_editor.specs.declared.search_state.SearchPurpose.TheVariants.{Find}
+use Rattle.bx_editor.specs.declared.search_state.SearchState.TheVariants.{Off}
+use Rattle.bx_editor.specs.Editor.{Editor, cleared, rows}
+use Rattle.bx_editor.specs.Functions.{EditorState}
 use Rattle.bx_editor.specs.Search.{forward, landed, next_or_start, sought}
-use Rattle.bx_editor.specs.Selecting.{unselected}
+use Rattle.bx_editor.specs.Region.{unselected}
 use Rattle.bx_editor.proofs.Sought.{find-next-sought, not-true}
 use Rattle.bx_editor.proofs.editor.Editor.go_to_next.Goals as goal
 
@@ -18,12 +19,12 @@ returns-clause-ok g c =
     let next = c.in_ok-next.ensures.next
     ∙ ap (λ (s : EditorState g.row.D.Denot). next_or_start (g.D.BidiData.data s.tables) s.editor) (sym view) in
     let some : (length (sought d now.editor) == 0) ≡ false = not-true _ (sym c.has_query.ensures ∙ c.if-not-has_query.false) in
-    let settled = subst (λ (s : EditorState g.row.D.Denot). (let says = g.D.BidiData.data s.tables in
+    let settled = subst (λ (s : EditorState g.row.D.Denot). (let ucd = g.D.BidiData.data s.tables in
     let x = s.editor in
     c.settle_at.new.self ≡ record {
       tables = s.tables;
       editor = landed (cleared x)
-          (forward says Wide (rows says x) x.content.text (next_or_start says x) (letters says Wide (chars x.query)));
+          (forward ucd Wide (rows ucd x) x.content.text (next_or_start ucd x) (letters ucd Wide (chars x.query)));
     })) view
     (simp (
       c.in_ok-landing.ensures.same,

@@ -1,6 +1,6 @@
 use Rattle.std.proofs.Common.{string_bytes, ap, ◌∙◌}
 use Rattle.std.proofs.lemmas.Str.{IsUtf8-encode, IsUtf8-string_bytes}
-use Rattle.bx_asking.specs.Answers.{lengthened}
+use Rattle.bx_editor.specs.questions.Answers.{lengthened}
 use Rattle.bx_editor.proofs.AnswersKept.{answer-longer}
 use Rattle.bx_editor.proofs.editor.Editor.lengthen.Goals as goal
 

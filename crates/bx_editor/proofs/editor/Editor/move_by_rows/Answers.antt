@@ -1,8 +1,9 @@
 use Rattle.std.proofs.Common.{◌∙◌, ap, ℕ, Some}
-use Rattle.bx_view.specs.Moves.{moved}
+use Rattle.bx_view.specs.Moved.{moved}
 use Rattle.bx_view.specs.declared.moves.Move.TheVariants.{RowsIn}
-use Rattle.bx_editor.specs.Editor.{EditorState, cleared, rows, with_place}
-use Rattle.bx_editor.specs.Selecting.{unselected}
+use Rattle.bx_editor.specs.Editor.{cleared, rows, with_place}
+use Rattle.bx_editor.specs.Functions.{EditorState}
+use Rattle.bx_editor.specs.Region.{unselected}
 use Rattle.bx_editor.proofs.editor.Editor.move_by_rows.Goals as goal
 
 pub returns-clause-ok : goal.returns-clause-ok

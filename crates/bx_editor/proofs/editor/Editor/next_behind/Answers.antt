@@ -2,7 +2,8 @@ use Rattle.std.proofs.Common.{◌≡◌, ◌+◌, ◌-◌, ◌∙◌, length, ap
 use Rattle.std.specs.Prelude.{Some, None}
 use Rattle.bx_text.specs.Edits.{splice}
 use Rattle.bx_view.specs.Moves.{place_at}
-use Rattle.bx_editor.specs.Editor.{EditorState, rows_of}
+use Rattle.bx_editor.specs.Editor.{rows_of}
+use Rattle.bx_editor.specs.Functions.{EditorState}
 use Rattle.bx_editor.specs.Search.{reading, sought}
 use Rattle.bx_editor.proofs.NextShown.{placed-behind}
 use Rattle.bx_editor.proofs.ShownMatch.{first-is}

@@ -1,7 +1,6 @@
 use Rattle.std.proofs.Common.{rules}
 use Rattle.bx_editor.proofs.AnswersKept.{empty-answer}
-use Rattle.bx_editor.proofs.Begin.{begin-is-place}
-use Rattle.bx_editor.proofs.Queries.{few-at-start}
+use Rattle.bx_editor.proofs.Begin.{begin-is-place, few-at-start}
 use Rattle.bx_editor.proofs.editor.Editor.open.Goals as goal
 
 pub invariant_of-result : goal.invariant_of-result

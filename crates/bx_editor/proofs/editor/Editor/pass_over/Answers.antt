@@ -1,15 +1,15 @@
 use Rattle.std.proofs.Common.{◌≡◌, ◌≤◌, ◌∙◌, true, ap, arith, chars, length, string_bytes, subst, sym, IfSome}
 use Rattle.std.specs.Prelude.{Some}
-use Rattle.bx_terms.specs.Sizes.{is_side}
+use Rattle.bx_common.specs.Characters.{is_side}
 use Rattle.bx_find.specs.Matches.{first_from}
 use Rattle.bx_document.specs.Document.{DocumentState}
 use Rattle.bx_view.specs.Places.{IsTextPlace}
 use Rattle.bx_editor.specs.Answers.{IsAnswer}
-use Rattle.bx_editor.specs.Editor.{EditorState}
+use Rattle.bx_editor.specs.Functions.{EditorState}
 use Rattle.bx_editor.specs.Origin.{BeganAt, StandsAt}
 use Rattle.bx_editor.specs.Replacing.{next_match}
 use Rattle.bx_editor.specs.Search.{reading}
-use Rattle.bx_editor.specs.declared.seek.Seek.TheVariants.{Replacing}
+use Rattle.bx_editor.specs.declared.search_state.SearchState.TheVariants.{Replacing}
 use Rattle.bx_editor.proofs.ShownMatch.{at-match, query-letters, passed-over}
 use Rattle.bx_editor.proofs.Viewed.{holds_with}
 use Rattle.bx_editor.proofs.editor.Editor.pass_over.Goals as goal

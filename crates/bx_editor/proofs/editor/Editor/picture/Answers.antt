@@ -1,14 +1,13 @@
 use Rattle.std.proofs.Common.{◌≡◌, ◌+◌, ◌-◌, ◌*◌, ◌≤◌, ◌∙◌, ◌++◌, List, IsUtf8, ap, ap₂, arith, replicate, string_bytes, subst, sym, take}
 use Rattle.std.specs.Prelude.{if◌then◌else◌}
 use Rattle.bx_grid.specs.Columns.{blank}
-use Rattle.bx_grid.specs.Picture.{GridState}
+use Rattle.bx_grid.specs.Grid.{GridState}
 use Rattle.bx_view.specs.Places.{IsTextPlace}
 use Rattle.bx_view.specs.Position.{IsPosition}
 use Rattle.bx_view.specs.TextRows.{TextRow, cell_of, row_of}
 use Rattle.bx_view.specs.Top.{follow, shown_rows}
-use Rattle.bx_document.specs.Drawing.{IsAmong, with_rows}
-use Rattle.bx_document.specs.Region.{region_rows}
-use Rattle.bx_document.specs.Shown.{shown_columns}
+use Rattle.bx_document.specs.Drawing.{IsAmong, region_rows}
+use Rattle.bx_document.specs.Shown.{with_rows, shown_columns}
 use Rattle.bx_document.specs.Document.{rows as document_rows}
 use Rattle.bx_ucd.specs.Data.{Data}
 use Rattle.bx_editor.specs.Editor.{Editor, rows, text_height}
@@ -24,8 +23,8 @@ pub put_status-requires-clause-position : goal.put_status-requires-clause-positi
 put_status-requires-clause-position g c =
     let i = c.self.inside in
     subst (λ t. (let s = value_with g.D.BidiData i t in
-    let says : Data = g.D.BidiData.data s.tables in
-    IsPosition says s.editor.width s.editor.content.text (rows says s.editor) s.editor.place c.in_ok-shown.shown.position))
+    let ucd : Data = g.D.BidiData.data s.tables in
+    IsPosition ucd s.editor.width s.editor.content.text (rows ucd s.editor) s.editor.place c.in_ok-shown.shown.position))
     (sym c.show.ensures.same) c.in_ok-shown.ensures.position
 
 pub returns-clause-top : goal.returns-clause-top

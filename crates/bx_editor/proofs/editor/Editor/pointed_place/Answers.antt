@@ -1,12 +1,16 @@
-use Rattle.std.proofs.Common.{◌≡◌, Bool, subst, sym}
-use Rattle.std.specs.Prelude.{IfOk, if◌then◌else◌}
+use Rattle.std.proofs.Common.{◌≡◌, ◌≤◌, ℕ, Bool, true, arith, subst, sym}
+use Rattle.std.specs.Prelude.{IfOk, if◌then◌else◌, nat_le}
+use Rattle.std.proofs.lemmas.Bool.Decides.{nat_tests}
 use Rattle.bx_ucd.specs.Data.{Data}
-use Rattle.bx_view.specs.Pointing.{pointed_at}
-use Rattle.bx_editor.specs.Editor.{Editor, EditorState, rows, text_height}
-use Rattle.bx_editor.specs.Pointing.{pointed_place}
-use Rattle.bx_editor.proofs.Pointed.{is-shown}
+use Rattle.bx_view.specs.Top.{pointed_at}
+use Rattle.bx_editor.specs.Editor.{Editor, rows, text_height}
+use Rattle.bx_editor.specs.Functions.{EditorState}
+use Rattle.bx_editor.specs.Effects.{pointed_place}
 use Rattle.bx_editor.proofs.Viewed.{value}
 use Rattle.bx_editor.proofs.editor.Editor.pointed_place.Goals as goal
+
+is-shown : (row count limit : ℕ) → count ≡ limit → row ≤ count → nat_le row limit ≡ true
+is-shown row count limit same few = grind (arith, nat_tests, same, few)
 
 pub returns-then-row-text_height-clause-place : goal.returns-then-row-text_height-clause-place
 returns-then-row-text_height-clause-place g c =

@@ -1,9 +1,10 @@
 use Rattle.std.proofs.Common.{◌≡◌, ℕ, List, None, Some, ap, sym, subst, string_bytes, ◌∙◌}
 use Rattle.std.specs.Prelude.{OnOk, Option, option_map}
 use Rattle.bx_ucd.specs.Data.{Data}
-use Rattle.bx_editor.specs.Editor.{Editor, EditorState}
+use Rattle.bx_editor.specs.Editor.{Editor}
+use Rattle.bx_editor.specs.Functions.{EditorState}
 use Rattle.bx_editor.specs.Keys.{after_user}
-use Rattle.bx_editor.specs.Pasting.{ended_with, paste_ended, with_pasted}
+use Rattle.bx_editor.specs.Putting.{ended_with, paste_ended, with_pasted}
 use Rattle.bx_editor.proofs.Pasted.{none-ended}
 use Rattle.bx_editor.proofs.Refused.{all-restored, with_document}
 use Rattle.bx_editor.proofs.Viewed.{holds_of, value}
@@ -20,9 +21,9 @@ returns-in-Err-clause-err g c =
     let i = c.self.inside in
     let taken : i.pasted ≡ Some c.in-Some.list = sym c.take.ensures.value ∙ c.in-Some.is in
     let with : List ℕ → Option (List ℕ) → EditorState g.row.D.Denot = λ runs pasted. (let s = with_document g.D.BidiData i c.self-2.inside c.restore.new.self in
-    record s { editor = record s.editor { runs = runs; pasted = pasted } }) in
+    record s { editor = record s.editor { undo_groups = runs; pasted = pasted } }) in
     ap (λ runs. with runs (Some (string_bytes c.in-Some.list))) c.in_ok-runs.ensures
-    ∙ ap (λ pasted. with i.past.runs.numbers (option_map string_bytes pasted)) (sym taken)
+    ∙ ap (λ pasted. with i.past.undo_groups.numbers (option_map string_bytes pasted)) (sym taken)
     ∙ all-restored g.D.BidiData i c.self-2.inside _ _ _ _ c.restore.ensures c.in_ok-document.ensures.text c.self-2.view_is c.in-Err.ensures.err
     c.in-Err.ensures.tables
     ∙ c.self.view_is
@@ -34,9 +35,9 @@ returns-in-Ok-clause-ok g c =
     let e : Editor = was.editor in
     let taken = sym c.take.ensures.value ∙ c.in-Some.is in
     c.in-Ok.ensures.ok
-    ∙ ap (λ list. after_user d None (with_pasted d e list) c.args.key) c.as_str.ensures.value
-    ∙ ap (λ pasted. after_user d None (ended_with d e (option_map string_bytes pasted)) c.args.key) (sym taken)
-    ∙ ap (λ (s : EditorState g.row.D.Denot). after_user (g.D.BidiData.data s.tables) None (paste_ended (g.D.BidiData.data s.tables) s.editor) c.args.key)
+    ∙ ap (λ list. after_user d c.args.fault (with_pasted d e list) c.args.key) c.as_str.ensures.value
+    ∙ ap (λ pasted. after_user d c.args.fault (ended_with d e (option_map string_bytes pasted)) c.args.key) (sym taken)
+    ∙ ap (λ (s : EditorState g.row.D.Denot). after_user (g.D.BidiData.data s.tables) c.args.fault (paste_ended (g.D.BidiData.data s.tables) s.editor) c.args.key)
     c.self.view_is
 
 pub returns-in_default-clause-ok : goal.returns-in_default-clause-ok
@@ -47,7 +48,7 @@ returns-in_default-clause-ok g c =
     let left : option_map string_bytes c.take.new.self ≡ None = ap (option_map string_bytes) c.take.ensures.after in
     let ended : EditorState g.row.D.Denot → EditorState g.row.D.Denot = λ s. record s { editor = paste_ended (g.D.BidiData.data s.tables) s.editor } in
     subst (λ (s : EditorState g.row.D.Denot). OnOk c.press_key.result
-    (c.press_key.new.self.editor ≡ after_user (g.D.BidiData.data s.tables) None s.editor c.args.key))
+    (c.press_key.new.self.editor ≡ after_user (g.D.BidiData.data s.tables) c.args.fault s.editor c.args.key))
     (ap (λ (x : Editor). (let s : EditorState g.row.D.Denot = record was { editor = x } in s))
     (none-ended (g.D.BidiData.data was.tables) was.editor (option_map string_bytes c.take.new.self) none left)
     ∙ ap ended c.self.view_is) c.press_key.ensures.ok

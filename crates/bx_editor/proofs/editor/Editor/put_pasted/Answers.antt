@@ -1,7 +1,8 @@
 use Rattle.std.proofs.Common.{rules, ◌≡◌, Bool, false, length, ap, ◌∙◌}
 use Rattle.std.specs.Prelude.{◌==◌}
 use Rattle.bx_ucd.specs.Data.{Data}
-use Rattle.bx_editor.specs.Editor.{Editor, EditorState, cleared}
+use Rattle.bx_editor.specs.Editor.{Editor, cleared}
+use Rattle.bx_editor.specs.Functions.{EditorState}
 use Rattle.bx_editor.specs.Putting.{put_in}
 use Rattle.bx_editor.proofs.Pasted.{pasted-in, settled}
 use Rattle.bx_editor.proofs.editor.Editor.put_pasted.Goals as goal

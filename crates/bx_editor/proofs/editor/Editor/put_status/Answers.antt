@@ -1,8 +1,9 @@
 use Rattle.std.proofs.Common.{◌≡◌, ◌+◌, ◌-◌, ◌∙◌, ◌++◌, ap, ap₂, arith, List, ℕ, string_bytes, sym}
 use Rattle.bx_ucd.specs.Data.{Data}
-use Rattle.bx_editor.specs.Editor.{Editor, EditorState}
-use Rattle.bx_editor.specs.Status.{glyph_row, letter_glyphs, message_part, paragraph_number, prompt_glyphs, status_line, status_text, unit_number}
-use Rattle.bx_editor.specs.Telling.{told_at_place}
+use Rattle.bx_editor.specs.Editor.{Editor}
+use Rattle.bx_editor.specs.Functions.{EditorState}
+use Rattle.bx_editor.specs.Status.{glyph_row, letter_glyphs, message_part, paragraph_number, prompt_glyphs, status_line, status_text}
+use Rattle.bx_editor.specs.Status.{unit_number, told_at_place}
 use Rattle.bx_editor.proofs.Shown.{some-status}
 use Rattle.bx_editor.proofs.editor.Editor.put_status.Goals as goal
 

@@ -1,6 +1,6 @@
 use Rattle.std.proofs.Common.{◌≡◌, ◌∙◌, ap, max, min, subst}
 use Rattle.std.specs.Prelude.{unwrap_or}
-use Rattle.bx_text.specs.Edits.{IsRange}
+use Rattle.bx_text.specs.Changes.{IsRange}
 use Rattle.bx_editor.proofs.Parts.{region_range}
 use Rattle.bx_editor.proofs.editor.Editor.region.Goals as goal
 

@@ -1,7 +1,7 @@
 use Rattle.std.proofs.Common.{◌≤◌, ◌∙◌, IsUtf8, ap, ap₂, arith, length, string_bytes, subst, sym}
-use Rattle.bx_find.specs.Spans.{spans_from}
+use Rattle.bx_find.specs.Matches.{spans_from}
 use Rattle.bx_document.specs.Swapped.{last_stop}
-use Rattle.bx_editor.specs.Editor.{EditorState}
+use Rattle.bx_editor.specs.Functions.{EditorState}
 use Rattle.bx_editor.specs.Search.{reading, sought}
 use Rattle.bx_editor.proofs.ShownMatch.{at-match, query-letters, room-for-all}
 use Rattle.bx_editor.proofs.editor.Editor.replace_all.Goals as goal

@@ -1,5 +1,6 @@
 use Rattle.std.proofs.Common.{◌≡◌, subst}
-use Rattle.bx_editor.specs.Editor.{EditorState, cleared}
+use Rattle.bx_editor.specs.Editor.{cleared}
+use Rattle.bx_editor.specs.Functions.{EditorState}
 use Rattle.bx_editor.specs.Search.{after_shortening}
 use Rattle.bx_editor.proofs.editor.Editor.shorten.Goals as goal
 

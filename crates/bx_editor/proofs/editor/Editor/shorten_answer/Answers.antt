@@ -1,7 +1,7 @@
 use Rattle.std.proofs.Common.{ap, length, chars, string_bytes, ◌∙◌, ◌≤◌, sym, subst}
 use Rattle.std.proofs.lemmas.Str.{IsUtf8-string_bytes}
 use Rattle.std.proofs.lemmas.Bool.{eqb-true}
-use Rattle.bx_asking.specs.Answers.{shortened}
+use Rattle.bx_editor.specs.questions.Answers.{shortened}
 use Rattle.bx_editor.proofs.AnswersKept.{answer-shorter, empty-name}
 use Rattle.bx_editor.proofs.editor.Editor.shorten_answer.Goals as goal
 

@@ -2,11 +2,12 @@ use Rattle.std.proofs.Common.{◌≡◌, ◌∙◌, IsUtf8, true, ap, ap₂, str
 use Rattle.std.specs.Prelude.{Some}
 use Rattle.bx_find.specs.Matches.{first_from}
 use Rattle.bx_view.proofs.TextPlaces.{place-between}
-use Rattle.bx_editor.specs.Editor.{EditorState, cleared}
-use Rattle.bx_editor.specs.Origin.{asks_other}
+use Rattle.bx_editor.specs.Editor.{cleared}
+use Rattle.bx_editor.specs.Functions.{EditorState}
+use Rattle.bx_editor.specs.Origin.{asks_replacement}
 use Rattle.bx_editor.specs.Replacing.{next_match, shown_at}
 use Rattle.bx_editor.specs.Search.{reading, sought}
-use Rattle.bx_editor.specs.declared.seek.Seek.TheVariants.{Replacing}
+use Rattle.bx_editor.specs.declared.search_state.SearchState.TheVariants.{Replacing}
 use Rattle.bx_editor.proofs.ShownMatch.{asked, asked-began, query-letters, shown}
 use Rattle.bx_editor.proofs.editor.Editor.show_match.Goals as goal
 
@@ -26,8 +27,8 @@ invariant_of-self g c =
     let query = string_bytes i.query in
     let at = c.in-Some-first_from.at in
     let kept = c.self.invariant in
-    let asks : asks_other i.cursor.seek ≡ true =
-    ap (λ (s : EditorState g.row.D.Denot). asks_other s.editor.seek) (c.self.view_is ∙ c.clear.ensures) ∙ c.requires.asked in
+    let asks : asks_replacement i.cursor.seek ≡ true =
+    ap (λ (s : EditorState g.row.D.Denot). asks_replacement s.editor.seek) (c.self.view_is ∙ c.reset_after_key.ensures) ∙ c.requires.asked in
     let found : Some at ≡ first_from d (reading i.aim) (query-letters d i.aim query text) text i.cursor.place =
     sym c.in-Some-first_from.is ∙ c.first_from.ensures.found
     ∙ ap₂ (λ r q. first_from d r q text i.cursor.place) c.reading_of-reading.ensures
@@ -51,7 +52,7 @@ returns-in-Some-first_from g c =
     let d = g.D.BidiData.data i.document.tables in
     let text = i.document.document.content.text in
     let at = c.in-Some-first_from.at in
-    let was = c.self.view_is ∙ c.clear.ensures in
+    let was = c.self.view_is ∙ c.reset_after_key.ensures in
     let found : Some at ≡ first_from d (reading i.aim) (query-letters d i.aim (string_bytes i.query) text) text i.cursor.place =
     sym c.in-Some-first_from.is ∙ c.first_from.ensures.found
     ∙ ap₂ (λ r q. first_from d r q text i.cursor.place) c.reading_of-reading.ensures

@@ -1,7 +1,7 @@
 use Rattle.std.proofs.Common.{◌≡◌, ◌↔◌, ◌∙◌, [], IsUtf8, ap, ap₂, chars, subst}
 use Rattle.std.specs.Prelude.{IfSome, IsNone}
 use Rattle.bx_find.specs.Letters.{letters}
-use Rattle.bx_editor.specs.Editor.{EditorState}
+use Rattle.bx_editor.specs.Functions.{EditorState}
 use Rattle.bx_editor.specs.Search.{reading, sought}
 use Rattle.bx_editor.proofs.ShownMatch.{shown-in, some-if, some-letters}
 use Rattle.bx_editor.proofs.editor.Editor.sought.Goals as goal

@@ -1,7 +1,7 @@
 use Rattle.std.proofs.Common.{◌≡◌, ◌≤◌, true, length, chars, string_bytes, IfSome, sym, ap, subst, ◌∙◌}
-use Rattle.bx_terms.specs.Sizes.{is_side}
+use Rattle.bx_common.specs.Characters.{is_side}
 use Rattle.bx_document.specs.Document.{DocumentState}
-use Rattle.bx_document.specs.History.{next_change}
+use Rattle.bx_document.specs.Past.{next_change}
 use Rattle.bx_view.specs.Places.{IsTextPlace}
 use Rattle.bx_editor.specs.Answers.{IsAnswer}
 use Rattle.bx_editor.specs.Origin.{BeganAt, StandsAt}

@@ -1,14 +1,14 @@
 use Rattle.std.proofs.Common.{rules, ◌≡◌, ◌≤◌, true, length, chars, string_bytes, IfSome, sym, ap, ap₂, subst, ◌∙◌}
 use Rattle.std.specs.Prelude.{None, Some}
-use Rattle.bx_terms.specs.Sizes.{is_side}
+use Rattle.bx_common.specs.Characters.{is_side}
 use Rattle.bx_document.specs.Document.{DocumentState}
 use Rattle.bx_document.specs.History.{next_changes}
 use Rattle.bx_view.specs.Places.{IsTextPlace}
 use Rattle.bx_editor.specs.declared.message.Message.{Message}
-use Rattle.bx_editor.specs.Editor.{Editor, EditorState, cleared}
+use Rattle.bx_editor.specs.Editor.{Editor, cleared, by_run, run_length}
+use Rattle.bx_editor.specs.Functions.{EditorState}
 use Rattle.bx_editor.specs.Answers.{IsAnswer}
 use Rattle.bx_editor.specs.Origin.{BeganAt, StandsAt}
-use Rattle.bx_editor.specs.Runs.{by_run, run_length}
 use Rattle.bx_editor.proofs.RunSteps.{by-length-is, cleared-length, no-step, none-mapped}
 use Rattle.bx_editor.proofs.Viewed.{holds_with, value_with}
 use Rattle.bx_editor.proofs.editor.Editor.step_run.Goals as goal

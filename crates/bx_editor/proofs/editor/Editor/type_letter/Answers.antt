@@ -1,7 +1,8 @@
 use Rattle.std.proofs.Common.{◌≡◌, ◌∙◌, ◌||◌, ap, subst, sym, false}
 use Rattle.std.proofs.lemmas.Bool.{ne_eqb}
-use Rattle.bx_index.specs.Paragraphs.{is_separator}
-use Rattle.bx_editor.specs.Editor.{Editor, EditorState, cleared}
+use Rattle.bx_text.specs.index.Paragraphs.{is_separator}
+use Rattle.bx_editor.specs.Editor.{Editor, cleared}
+use Rattle.bx_editor.specs.Functions.{EditorState}
 use Rattle.bx_editor.specs.Search.{is_no_letter, kept, lengthened, longest_query, search_from, with_query}
 use Rattle.bx_editor.proofs.Sought.{letter-sought}
 use Rattle.bx_editor.proofs.editor.Editor.type_letter.Goals as goal

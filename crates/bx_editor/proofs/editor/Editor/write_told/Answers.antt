@@ -1,8 +1,8 @@
 use Rattle.std.proofs.Common.{rules, ◌≡◌, ◌∙◌, ◌++◌, ℕ, List, length, chars, string_bytes, true, ap, ap₂, sym}
-use Rattle.bx_editor.specs.Editor.{EditorState}
+use Rattle.bx_editor.specs.Functions.{EditorState}
 use Rattle.bx_editor.proofs.ToldHere.{told-here, told-is}
-use Rattle.bx_terms.specs.Characters.{are_ascii_printable}
-use Rattle.bx_asking.specs.Told.{told_text}
+use Rattle.bx_common.specs.Characters.{are_ascii_printable}
+use Rattle.bx_editor.specs.questions.Told.{told_text}
 use Rattle.bx_document.specs.PlaceLevel.{place_level}
 use Rattle.bx_editor.proofs.editor.Editor.write_told.Goals as goal
 

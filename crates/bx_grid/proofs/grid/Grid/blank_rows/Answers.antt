@@ -1,7 +1,7 @@
 use Rattle.std.proofs.Common.{◌≡◌, ◌∙◌, ◌+◌, ◌-◌, ◌*◌, ◌≤◌, List, ap, sym, subst, replicate, arith}
 use Rattle.std.proofs.lemmas.List.{length-replicate, take_at}
-use Rattle.bx_grid.specs.Columns.{Col, blank, paste}
-use Rattle.bx_grid.specs.Picture.{GridState}
+use Rattle.bx_grid.specs.Columns.{Col, blank}
+use Rattle.bx_grid.specs.Grid.{paste, GridState}
 use Rattle.bx_grid.specs.Seen.{all_seen}
 use Rattle.bx_grid.proofs.RowsPut.{noted_rows}
 use Rattle.bx_grid.proofs.Whole.{rows-blank}

@@ -1,5 +1,5 @@
 use Rattle.std.proofs.Common.{◌↔◌, IsTrue, refl, subst, sym, arith}
-use Rattle.bx_grid.specs.Picture.{GridState, HasRoom, IsWithin}
+use Rattle.bx_grid.specs.Grid.{GridState, HasRoom, IsWithin}
 use Rattle.bx_grid.specs.Seen.{all_seen}
 use Rattle.bx_grid.proofs.Blanks.{room_told}
 use Rattle.bx_grid.proofs.grid.Grid.has_room.Goals as goal

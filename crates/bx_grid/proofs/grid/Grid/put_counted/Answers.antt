@@ -1,8 +1,8 @@
 use Rattle.std.proofs.Common.{◌≡◌, ◌∙◌, ◌*◌, ◌+◌, ◌-◌, ◌≤◌, List, ap, sym, subst, refl, length, arith}
 use Rattle.std.proofs.lemmas.List.{take_at}
-use Rattle.bx_grid.specs.Columns.{Col, paste, run_columns}
+use Rattle.bx_grid.specs.Columns.{Col, run_columns}
+use Rattle.bx_grid.specs.Grid.{paste, GridState, IsGrid}
 use Rattle.bx_grid.specs.Codes.{codes_of}
-use Rattle.bx_grid.specs.Picture.{GridState, IsGrid}
 use Rattle.bx_grid.specs.Seen.{seen, all_seen}
 use Rattle.bx_grid.proofs.Grids.{CanPut, can_along, code_set, narrow_seen, put_kept, put_fits}
 use Rattle.bx_grid.proofs.Coded.{noted}

@@ -1,8 +1,8 @@
 use Rattle.std.proofs.Common.{◌≡◌, ◌∙◌, ◌+◌, ◌*◌, ◌<◌, List, ap, sym, subst, length, replicate, arith}
 use Rattle.std.proofs.lemmas.List.{length-map, length-replicate, take_at}
-use Rattle.bx_grid.specs.Columns.{Col, blank, paste}
+use Rattle.bx_grid.specs.Columns.{Col, blank}
+use Rattle.bx_grid.specs.Grid.{paste, GridState, IsGrid}
 use Rattle.bx_grid.specs.Codes.{codes_of}
-use Rattle.bx_grid.specs.Picture.{GridState, IsGrid}
 use Rattle.bx_grid.specs.Seen.{seen, all_seen}
 use Rattle.bx_grid.proofs.Equal.{lists_are}
 use Rattle.bx_grid.proofs.RowsPut.{codes_pasted, noted_rows, one_row, whole_of_one, put_same, rows_kept}

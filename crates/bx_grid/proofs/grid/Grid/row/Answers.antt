@@ -1,5 +1,5 @@
 use Rattle.std.proofs.Common.{◌*◌, take, drop, ap, ◌∙◌}
-use Rattle.bx_grid.specs.Picture.{GridState}
+use Rattle.bx_grid.specs.Grid.{GridState}
 use Rattle.bx_grid.proofs.Grids.{row_seen, row_codes}
 use Rattle.bx_grid.proofs.grid.Grid.row.Goals as goal
 

@@ -1,10 +1,9 @@
 use Rattle.std.proofs.Common.{◌≡◌, ◌∙◌, ◌+◌, ◌-◌, ◌*◌, ◌<◌, ◌≤◌, List, ap, arith, drop, length, map, subst, sym, take}
 use Rattle.std.proofs.lemmas.List.{length-drop, length-take-le, take_at}
 use Rattle.bx_grid.specs.Codes.{codes_of}
-use Rattle.bx_grid.specs.Columns.{Col, paste}
-use Rattle.bx_grid.specs.Picture.{GridState, IsGrid}
+use Rattle.bx_grid.specs.Columns.{Col, turned}
+use Rattle.bx_grid.specs.Grid.{paste, GridState, IsGrid, IsBorder, turned_in}
 use Rattle.bx_grid.specs.Seen.{all_seen}
-use Rattle.bx_grid.specs.Turned.{IsBorder, turned, turned_in}
 use Rattle.bx_grid.proofs.Coded.{noted}
 use Rattle.bx_grid.proofs.RowsPut.{one_row, rows_inside, rows_kept, whole_row}
 use Rattle.bx_grid.proofs.TurnedWhole.{length-inside, length-turned, row-turned, whole-turned_in}

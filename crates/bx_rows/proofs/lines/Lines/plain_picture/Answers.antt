@@ -22,11 +22,11 @@ plain_row-requires g c =
 
 pub columns_left-blanks-requires : goal.columns_left-blanks-requires
 columns_left-blanks-requires g c =
-    let says = g.D.BidiData.data c.args.self.now.tables.now in
+    let ucd = g.D.BidiData.data c.args.self.now.tables.now in
     let body = c.args.self.now.body.now in
-    let part = part-at says c.args.self.now.w body c.args.self.now.starts.now c.args.number _ c.start_of.result c.args.self.now.utf8 c.args.self.now.rows c.requires
+    let part = part-at ucd c.args.self.now.w body c.args.self.now.starts.now c.args.number _ c.start_of.result c.args.self.now.utf8 c.args.self.now.rows c.requires
     c.start_of.ensures in
-    let within = single-fits says c.args.self.now.w body c.args.number c.most_units-count.result _ c.start_of.result _ c.args.self.now.utf8 part c.most_units-count.ensures
+    let within = single-fits ucd c.args.self.now.w body c.args.number c.most_units-count.result _ c.start_of.result _ c.args.self.now.utf8 part c.most_units-count.ensures
     c.in-Some.found.items (if_some _ _ _ c.in-Some.is c.in_ok-found.ensures.units) in
     let counted = c.in_ok-glyphs.ensures.count in
     omega (arith, within, counted, c.len.ensures, c.in_ok-glyphs.glyphs.ok.0)
@@ -38,16 +38,16 @@ arranged-requires-clause-start g c =
 
 pub returns-clause-picture : goal.returns-clause-picture
 returns-clause-picture g c =
-    let says = g.D.BidiData.data c.args.self.now.tables.now in
+    let ucd = g.D.BidiData.data c.args.self.now.tables.now in
     let body = c.args.self.now.body.now in
-    let part = part-at says c.args.self.now.w body c.args.self.now.starts.now c.args.number _ c.start_of.result c.args.self.now.utf8 c.args.self.now.rows c.requires
+    let part = part-at ucd c.args.self.now.w body c.args.self.now.starts.now c.args.number _ c.start_of.result c.args.self.now.utf8 c.args.self.now.rows c.requires
     c.start_of.ensures in
-    let here = units_of_row says c.args.self.now.w body c.args.number in
-    let told = taken says c.args.self.now.w body c.args.number c.most_units-count.result _ c.start_of.result _ c.args.self.now.utf8 part c.most_units-count.ensures in
-    drawn-single says c.args.self.now.w body c.args.number c.most_units-count.result _ c.start_of.result _ c.args.self.now.utf8 part c.most_units-count.ensures
+    let here = units_of_row ucd c.args.self.now.w body c.args.number in
+    let told = taken ucd c.args.self.now.w body c.args.number c.most_units-count.result _ c.start_of.result _ c.args.self.now.utf8 part c.most_units-count.ensures in
+    drawn-single ucd c.args.self.now.w body c.args.number c.most_units-count.result _ c.start_of.result _ c.args.self.now.utf8 part c.most_units-count.ensures
     c.args.self.now.levels.now.paragraph _ c.args.self.now.levels.now.each.items c.in-Some.found.items _ _
     c.deref.result.now
-    (starts-at says c.args.self.now.w body c.args.self.now.starts.now c.args.number _ c.args.self.now.utf8 c.args.self.now.rows c.requires)
+    (starts-at ucd c.args.self.now.w body c.args.self.now.starts.now c.args.number _ c.args.self.now.utf8 c.args.self.now.rows c.requires)
     (if_some _ _ _ c.in-Some.is c.in_ok-found.ensures.units)
     (ap length c.deref.ensures.value ∙ if_some _ _ _ c.in-Some.is c.in_ok-found.ensures.count)
     (c.deref.ensures.value ∙ if_some _ _ _ c.in-Some.is c.in_ok-found.ensures.levels here (sym told) part.chars)
@@ -57,35 +57,35 @@ returns-clause-picture g c =
 
 pub returns-clause-glyphs : goal.returns-clause-glyphs
 returns-clause-glyphs g c k d l =
-    let says = g.D.BidiData.data c.args.self.now.tables.now in
+    let ucd = g.D.BidiData.data c.args.self.now.tables.now in
     let body = c.args.self.now.body.now in
-    let part = part-at says c.args.self.now.w body c.args.self.now.starts.now c.args.number _ c.start_of.result c.args.self.now.utf8 c.args.self.now.rows c.requires
+    let part = part-at ucd c.args.self.now.w body c.args.self.now.starts.now c.args.number _ c.start_of.result c.args.self.now.utf8 c.args.self.now.rows c.requires
     c.start_of.ensures in
-    let here = units_of_row says c.args.self.now.w body c.args.number in
-    (one_if_drawn says c.args.self.now.w body c.args.self.now.levels.now.paragraph c.args.self.now.levels.now.each.items here
-    (row_levels says body c.args.self.now.levels.now.paragraph c.args.self.now.levels.now.each.items here) _ (returns-clause-picture g c)
-    (faces says c.args.self.now.w body c.args.number c.most_units-count.result _ c.start_of.result _ c.args.self.now.utf8 part c.most_units-count.ensures) k d l).0
+    let here = units_of_row ucd c.args.self.now.w body c.args.number in
+    (one_if_drawn ucd c.args.self.now.w body c.args.self.now.levels.now.paragraph c.args.self.now.levels.now.each.items here
+    (row_levels ucd body c.args.self.now.levels.now.paragraph c.args.self.now.levels.now.each.items here) _ (returns-clause-picture g c)
+    (faces ucd c.args.self.now.w body c.args.number c.most_units-count.result _ c.start_of.result _ c.args.self.now.utf8 part c.most_units-count.ensures) k d l).0
 
 pub returns-clause-widths : goal.returns-clause-widths
 returns-clause-widths g c k d l =
-    let says = g.D.BidiData.data c.args.self.now.tables.now in
+    let ucd = g.D.BidiData.data c.args.self.now.tables.now in
     let body = c.args.self.now.body.now in
-    let part = part-at says c.args.self.now.w body c.args.self.now.starts.now c.args.number _ c.start_of.result c.args.self.now.utf8 c.args.self.now.rows c.requires
+    let part = part-at ucd c.args.self.now.w body c.args.self.now.starts.now c.args.number _ c.start_of.result c.args.self.now.utf8 c.args.self.now.rows c.requires
     c.start_of.ensures in
-    let here = units_of_row says c.args.self.now.w body c.args.number in
-    (one_if_drawn says c.args.self.now.w body c.args.self.now.levels.now.paragraph c.args.self.now.levels.now.each.items here
-    (row_levels says body c.args.self.now.levels.now.paragraph c.args.self.now.levels.now.each.items here) _ (returns-clause-picture g c)
-    (faces says c.args.self.now.w body c.args.number c.most_units-count.result _ c.start_of.result _ c.args.self.now.utf8 part c.most_units-count.ensures) k d l).1
+    let here = units_of_row ucd c.args.self.now.w body c.args.number in
+    (one_if_drawn ucd c.args.self.now.w body c.args.self.now.levels.now.paragraph c.args.self.now.levels.now.each.items here
+    (row_levels ucd body c.args.self.now.levels.now.paragraph c.args.self.now.levels.now.each.items here) _ (returns-clause-picture g c)
+    (faces ucd c.args.self.now.w body c.args.number c.most_units-count.result _ c.start_of.result _ c.args.self.now.utf8 part c.most_units-count.ensures) k d l).1
 
 pub returns-clause-columns : goal.returns-clause-columns
 returns-clause-columns g c =
-    let says = g.D.BidiData.data c.args.self.now.tables.now in
+    let ucd = g.D.BidiData.data c.args.self.now.tables.now in
     let body = c.args.self.now.body.now in
-    let part = part-at says c.args.self.now.w body c.args.self.now.starts.now c.args.number _ c.start_of.result c.args.self.now.utf8 c.args.self.now.rows c.requires
+    let part = part-at ucd c.args.self.now.w body c.args.self.now.starts.now c.args.number _ c.start_of.result c.args.self.now.utf8 c.args.self.now.rows c.requires
     c.start_of.ensures in
-    let here = units_of_row says c.args.self.now.w body c.args.number in
-    let each = row_levels says body c.args.self.now.levels.now.paragraph c.args.self.now.levels.now.each.items here in
-    sum_if_drawn says c.args.self.now.w body c.args.self.now.levels.now.paragraph c.args.self.now.levels.now.each.items here each _ (returns-clause-picture g c)
-    (faces says c.args.self.now.w body c.args.number c.most_units-count.result _ c.start_of.result _ c.args.self.now.utf8 part c.most_units-count.ensures)
-    (one_each says body c.args.self.now.levels.now.paragraph c.args.self.now.levels.now.each.items here each refl)
-    (fits says c.args.self.now.w body c.args.number c.most_units-count.result _ c.start_of.result _ c.args.self.now.utf8 part c.most_units-count.ensures)
+    let here = units_of_row ucd c.args.self.now.w body c.args.number in
+    let each = row_levels ucd body c.args.self.now.levels.now.paragraph c.args.self.now.levels.now.each.items here in
+    sum_if_drawn ucd c.args.self.now.w body c.args.self.now.levels.now.paragraph c.args.self.now.levels.now.each.items here each _ (returns-clause-picture g c)
+    (faces ucd c.args.self.now.w body c.args.number c.most_units-count.result _ c.start_of.result _ c.args.self.now.utf8 part c.most_units-count.ensures)
+    (one_each ucd body c.args.self.now.levels.now.paragraph c.args.self.now.levels.now.each.items here each refl)
+    (fits ucd c.args.self.now.w body c.args.number c.most_units-count.result _ c.start_of.result _ c.args.self.now.utf8 part c.most_units-count.ensures)

@@ -13,19 +13,19 @@ units_from-requires g c =
 
 pub returns-clause-units : goal.returns-clause-units
 returns-clause-units g c =
-    let says = g.D.BidiData.data c.args.self.now.tables.now in
+    let ucd = g.D.BidiData.data c.args.self.now.tables.now in
     let body = c.args.self.now.body.now in
-    let part = part-at says c.args.self.now.w body c.args.self.now.starts.now c.args.number _ c.start_of.result c.args.self.now.utf8 c.args.self.now.rows c.requires
+    let part = part-at ucd c.args.self.now.w body c.args.self.now.starts.now c.args.number _ c.start_of.result c.args.self.now.utf8 c.args.self.now.rows c.requires
     c.start_of.ensures in
-    units-are says c.args.self.now.w body _ _ c.in_ok-units.units.items _ c.start_of.result c.most_units-count.result part c.most_units-count.ensures
+    units-are ucd c.args.self.now.w body _ _ c.in_ok-units.units.items _ c.start_of.result c.most_units-count.result part c.most_units-count.ensures
     c.in_ok-units.ensures.units
 
 pub returns-clause-row : goal.returns-clause-row
 returns-clause-row g c =
-    let says = g.D.BidiData.data c.args.self.now.tables.now in
+    let ucd = g.D.BidiData.data c.args.self.now.tables.now in
     let body = c.args.self.now.body.now in
-    let part = part-at says c.args.self.now.w body c.args.self.now.starts.now c.args.number _ c.start_of.result c.args.self.now.utf8 c.args.self.now.rows c.requires
+    let part = part-at ucd c.args.self.now.w body c.args.self.now.starts.now c.args.number _ c.start_of.result c.args.self.now.utf8 c.args.self.now.rows c.requires
     c.start_of.ensures in
-    row-alone says c.args.self.now.w body c.args.number c.in_ok-units.units.items
-    (units-are says c.args.self.now.w body _ _ c.in_ok-units.units.items _ c.start_of.result c.most_units-count.result part c.most_units-count.ensures
+    row-alone ucd c.args.self.now.w body c.args.number c.in_ok-units.units.items
+    (units-are ucd c.args.self.now.w body _ _ c.in_ok-units.units.items _ c.start_of.result c.most_units-count.result part c.most_units-count.ensures
     c.in_ok-units.ensures.units)

@@ -1,22 +1,22 @@
 use Rattle.std.proofs.Common.{rules, ◌≡◌, ◌∙◌, Err, Result, sym, ap, subst}
 use Rattle.std.specs.Prelude.{◌&&◌}
 use Rattle.bx_ucd.specs.Data.{Data}
-use Rattle.bx_session.specs.declared.error.Refused.{Refused}
-use Rattle.bx_session.specs.declared.error.Refused.TheVariants.{Paint}
+use Rattle.bx_session.specs.declared.status.Refused.{Refused}
+use Rattle.bx_session.specs.declared.status.Refused.TheVariants.{Paint}
 use Rattle.bx_session.specs.declared.status.Status.{Status}
-use Rattle.bx_session.specs.Saving.{StoreAfter, is_applied, is_save_byte, store_state, text_to_save}
-use Rattle.bx_session.specs.Session.{SessionState}
+use Rattle.bx_session.specs.Session.{StoreAfter, is_save_byte, store_state, text_to_save}
+use Rattle.bx_session.specs.Feeding.{is_applied, SessionState}
 use Rattle.bx_session.proofs.Bytes.{after_byte_is, byte_appends, byte_paints, owing_is, quiet_is, unpainted_pending}
 use Rattle.bx_session.proofs.session.Session.feed.Goals as goal
 
 pub returns-clause-after_byte : goal.returns-clause-after_byte
 returns-clause-after_byte g c =
-    let says : g.row.D.Denot → Data = g.D.BidiData.data in
+    let ucd : g.row.D.Denot → Data = g.D.BidiData.data in
     let h = c.in_ok-asks.ensures.after_byte in (
       h.0,
       h.1,
       (
-        after_byte_is says h.0 c.args.self.now c.enter.new.self c.paint_after.new.self c.args.byte c.in_ok-asks.key
+        after_byte_is ucd h.0 c.args.self.now c.enter.new.self c.paint_after.new.self c.args.byte c.in_ok-asks.key
             (sym c.in_ok-asks.ensures.asks ∙ c.if-not-asks.false) c.in_ok-asks.ensures.key h.2 c.in_ok-paint_after.ensures.ok,
         c.status-2.ensures,
       ),
@@ -24,44 +24,44 @@ returns-clause-after_byte g c =
 
 pub returns-then-not-asks-clause-after_byte : goal.returns-then-not-asks-clause-after_byte
 returns-then-not-asks-clause-after_byte g c =
-    let says : g.row.D.Denot → Data = g.D.BidiData.data in
+    let ucd : g.row.D.Denot → Data = g.D.BidiData.data in
     let h = c.in_ok-asks.ensures.after_byte in (
       h.0,
       h.1,
       (
-        quiet_is says h.0 c.args.self.now c.enter.new.self c.args.byte (sym c.in_ok-asks.ensures.asks ∙ c.if-not-asks.true) h.2,
+        quiet_is ucd h.0 c.args.self.now c.enter.new.self c.args.byte (sym c.in_ok-asks.ensures.asks ∙ c.if-not-asks.true) h.2,
         c.status.ensures,
       ),
     )
 
 pub returns-clause-paints : goal.returns-clause-paints
 returns-clause-paints g c asks =
-    let says : g.row.D.Denot → Data = g.D.BidiData.data in
+    let ucd : g.row.D.Denot → Data = g.D.BidiData.data in
     let h = c.in_ok-asks.ensures.after_byte in
-    byte_paints says h.0 c.args.self.now c.enter.new.self c.paint_after.new.self.session c.args.byte h.2 c.in_ok-paint_after.ensures.paints
+    byte_paints ucd h.0 c.args.self.now c.enter.new.self c.paint_after.new.self.session c.args.byte h.2 c.in_ok-paint_after.ensures.paints
 
 pub returns-clause-appends : goal.returns-clause-appends
 returns-clause-appends g c asks =
-    let says : g.row.D.Denot → Data = g.D.BidiData.data in
+    let ucd : g.row.D.Denot → Data = g.D.BidiData.data in
     let h = c.in_ok-asks.ensures.after_byte in
-    byte_appends says h.0 c.args.self.now c.enter.new.self c.paint_after.new.self.session c.args.byte h.2 c.in_ok-paint_after.ensures.appends
+    byte_appends ucd h.0 c.args.self.now c.enter.new.self c.paint_after.new.self.session c.args.byte h.2 c.in_ok-paint_after.ensures.appends
 
 pub returns-then-not-asks-clause-quiet : goal.returns-then-not-asks-clause-quiet
 returns-then-not-asks-clause-quiet g c none =
-    let says : g.row.D.Denot → Data = g.D.BidiData.data in
+    let ucd : g.row.D.Denot → Data = g.D.BidiData.data in
     let h = c.in_ok-asks.ensures.after_byte in
     ap (λ (x : SessionState g.row.D.Denot). x.session.pending) h.2
-    ∙ unpainted_pending (says c.args.self.now.tables) h.0 c.args.self.now.session c.args.byte
+    ∙ unpainted_pending (ucd c.args.self.now.tables) h.0 c.args.self.now.session c.args.byte
 
 pub returns-in_err-paint_after-clause-after_byte : goal.returns-in_err-paint_after-clause-after_byte
 returns-in_err-paint_after-clause-after_byte g c =
-    let says : g.row.D.Denot → Data = g.D.BidiData.data in
+    let ucd : g.row.D.Denot → Data = g.D.BidiData.data in
     let h = c.in_ok-asks.ensures.after_byte in
     let s = c.args.self.now in
     let is : c.from_residual-in_err-paint_after.result ≡ Err Paint = search rules in (
       h.0,
-      subst (λ (r : Result Status Refused). StoreAfter (is_applied r && is_save_byte s.session c.args.byte) h.0 (text_to_save (says s.tables) s.session.editor)
+      subst (λ (r : Result Status Refused). StoreAfter (is_applied r && is_save_byte s.session c.args.byte) h.0 (text_to_save (ucd s.tables) s.session.editor)
           (store_state g.S.Store.contents g.S.Store.faults c.args.store.now) (store_state g.S.Store.contents g.S.Store.faults c.enter.new.store)) (sym is) h.1,
-      owing_is says h.0 s c.enter.new.self c.paint_after.new.self c.args.byte c.from_residual-in_err-paint_after.result
+      owing_is ucd h.0 s c.enter.new.self c.paint_after.new.self c.args.byte c.from_residual-in_err-paint_after.result
           (sym c.in_ok-asks.ensures.asks ∙ c.if-not-asks.false) h.2 c.in_err-paint_after.ensures.err is,
     )

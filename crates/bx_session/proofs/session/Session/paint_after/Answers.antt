@@ -2,11 +2,13 @@ use Rattle.std.proofs.Common.{◌≡◌, ◌≤◌, ◌∙◌, ◌++◌, ℕ, Li
 use Rattle.std.proofs.lemmas.List.{length-append}
 use Rattle.bx_grid.specs.Picture.{PictureState}
 use Rattle.bx_ucd.specs.Data.{Data}
-use Rattle.bx_editor.specs.Editor.{Editor, EditorState, with_top}
+use Rattle.bx_editor.specs.Editor.{Editor, with_top}
+use Rattle.bx_editor.specs.Functions.{EditorState}
 use Rattle.bx_editor.specs.Picture.{next_top}
 use Rattle.bx_session.proofs.Pictures.{IsUnseen, picture_height, picture_width, longer_by_both, painting_is, painting_queues, painting_appends, then_clip_longer, value_of}
 use Rattle.bx_session.specs.Painting.{text_in}
-use Rattle.bx_session.specs.Session.{Session, SessionState, clip_after, known_if, painted_after, painting, then_clip}
+use Rattle.bx_session.specs.Session.{Session, clip_after, painted_after, painting, then_clip}
+use Rattle.bx_session.specs.Feeding.{SessionState, known_if}
 use Rattle.bx_session.proofs.session.Session.paint_after.Goals as goal
 
 pub invariant_of-self-2 : goal.invariant_of-self-2

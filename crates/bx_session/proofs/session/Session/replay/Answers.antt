@@ -1,12 +1,13 @@
 use Rattle.std.proofs.Common.{◌∙◌, ap}
 use Rattle.bx_ucd.specs.Data.{Data}
-use Rattle.bx_session.specs.Session.{SessionState, with_painting_owed}
+use Rattle.bx_session.specs.Session.{with_painting_owed}
+use Rattle.bx_session.specs.Feeding.{SessionState}
 use Rattle.bx_session.proofs.Ending.{replay_is}
 use Rattle.bx_session.proofs.session.Session.replay.Goals as goal
 
 pub returns-clause-after_byte : goal.returns-clause-after_byte
 returns-clause-after_byte g c =
-    let says : g.row.D.Denot → Data = g.D.BidiData.data in
+    let ucd : g.row.D.Denot → Data = g.D.BidiData.data in
     ap (λ (x : SessionState g.row.D.Denot). record x { session = with_painting_owed x.session }) c.self.view_is
-    ∙ replay_is says c.args.self.now c.decode-key.new.self c.press_completed.new.self c.args.byte c.decode-key.result c.decode-key.ensures.key
+    ∙ replay_is ucd c.args.self.now c.decode-key.new.self c.press_completed.new.self c.args.byte c.decode-key.result c.decode-key.ensures.key
     c.decode-key.ensures.rest c.in_ok-press_completed.ensures.after_key

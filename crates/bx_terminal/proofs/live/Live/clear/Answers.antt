@@ -1,6 +1,7 @@
 use Rattle.std.proofs.Common.{◌-◌, length, ap, ◌∙◌, sym, replicate}
 use Rattle.std.proofs.lemmas.List.{take_at}
-use Rattle.bx_grid.specs.Columns.{blank, paste}
+use Rattle.bx_grid.specs.Columns.{blank}
+use Rattle.bx_grid.specs.Grid.{paste}
 use Rattle.bx_grid.specs.Seen.{all_seen}
 use Rattle.bx_terminal.proofs.Uncut.{sound_blank}
 use Rattle.bx_terminal.proofs.live.Live.clear.Goals as goal

@@ -1,6 +1,7 @@
 use Rattle.std.proofs.Common.{rules, []}
 use Rattle.std.specs.Str.{IsCharBoundary}
-use Rattle.bx_text.specs.Edits.{IsRange, splice}
+use Rattle.bx_text.specs.Edits.{splice}
+use Rattle.bx_text.specs.Changes.{IsRange}
 use Rattle.bx_text.proofs.Without.{none-at}
 use Rattle.bx_text.proofs.text.Text.exchange.Goals as goal
 

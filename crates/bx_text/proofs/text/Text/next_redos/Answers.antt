@@ -3,7 +3,7 @@ use Rattle.std.specs.List.{reduce}
 use Rattle.bx_text.specs.declared.step.Way.TheVariants.{Again}
 use Rattle.bx_text.specs.Steps.{Apply, step_change}
 use Rattle.bx_text.specs.Text.{TextState, buffers_of, bytes_in}
-use Rattle.bx_text.specs.Times.{merged, next_redos}
+use Rattle.bx_text.specs.Edits.{merged, next_redos}
 use Rattle.bx_text.proofs.Bytes.{IsUtf8-bytes_of}
 use Rattle.bx_text.proofs.UndoneTimes.{future_changes}
 use Rattle.bx_text.proofs.text.Text.next_redos.Goals as goal

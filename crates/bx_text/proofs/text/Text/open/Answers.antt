@@ -3,9 +3,9 @@ use Rattle.std.specs.Prelude.{string_bytes}
 use Rattle.std.specs.Str.{IsUtf8}
 use Rattle.std.proofs.lemmas.List.{take_all}
 use Rattle.std.proofs.lemmas.Str.{IsUtf8-string_bytes}
-use Rattle.bx_pieces.specs.declared.piece.Piece.{Piece}
-use Rattle.bx_pieces.specs.declared.piece.Buffer.TheVariants.{Opened}
-use Rattle.bx_pieces.specs.Pieces.{total, pushed}
+use Rattle.bx_text.specs.declared.pieces.piece.Piece.{Piece}
+use Rattle.bx_text.specs.declared.pieces.piece.Buffer.TheVariants.{Opened}
+use Rattle.bx_text.specs.pieces.Pieces.{total, pushed}
 use Rattle.bx_text.specs.Buffers.{Buffers, AreInBuffers}
 use Rattle.bx_text.proofs.Bytes.{length-bytes_of}
 use Rattle.bx_text.proofs.text.Text.open.Goals as goal

@@ -1,11 +1,12 @@
 use Rattle.std.proofs.Common.{◌≡◌, ℕ, ◌+◌, ◌∷◌, ◌++◌, [], ◌∙◌, List, length, reverse, sym, ap, subst, arith}
 use Rattle.std.specs.Prelude.{string_bytes, string_len, None}
 use Rattle.std.proofs.lemmas.List.{reverse-append}
-use Rattle.bx_pieces.specs.declared.piece.Piece.{Piece}
-use Rattle.bx_pieces.specs.Pieces.{front, back}
+use Rattle.bx_text.specs.declared.pieces.piece.Piece.{Piece}
+use Rattle.bx_text.specs.pieces.Pieces.{front, back}
 use Rattle.bx_text.specs.declared.step.Step.{Step}
 use Rattle.bx_text.specs.Buffers.{Buffers, bytes_of, with_added}
-use Rattle.bx_text.specs.Edits.{Edited, IsRange, IsChange, replaced}
+use Rattle.bx_text.specs.Edits.{Edited, replaced}
+use Rattle.bx_text.specs.Changes.{IsRange, IsChange}
 use Rattle.bx_text.specs.Steps.{future_of}
 use Rattle.std.specs.Str.{IsUtf8}
 use Rattle.bx_text.proofs.Versions.{grown, splice_leads}

@@ -1,9 +1,10 @@
 use Rattle.std.proofs.Common.{◌∙◌, ℕ, ◌+◌, ◌≤◌, ◌++◌, ◌∷◌, [], List, length, reverse, ap, sym, subst, arith}
 use Rattle.std.specs.Prelude.{string_bytes, string_len, None}
-use Rattle.bx_pieces.specs.Pieces.{front, back}
+use Rattle.bx_text.specs.pieces.Pieces.{front, back}
 use Rattle.bx_text.specs.declared.step.Step.{Step}
 use Rattle.bx_text.specs.Buffers.{Buffers, bytes_of}
-use Rattle.bx_text.specs.Edits.{Edited, IsChange, IsRange, largest_text}
+use Rattle.bx_text.specs.Edits.{Edited, largest_text}
+use Rattle.bx_text.specs.Changes.{IsChange, IsRange}
 use Rattle.bx_text.specs.Replacements.{made, text_after}
 use Rattle.bx_text.specs.Steps.{future_of}
 use Rattle.bx_text.specs.Text.{TextState, buffers_of, bytes_in}

@@ -2,10 +2,10 @@ use Rattle.std.proofs.Common.{rules, ◌≡◌, ◌∙◌, ℕ, List, min, lengt
 use Rattle.std.specs.Prelude.{is_some}
 use Rattle.bx_text.specs.declared.change.Change.{Change}
 use Rattle.bx_text.specs.Buffers.{bytes_of}
-use Rattle.bx_text.specs.Edits.{IsChange}
+use Rattle.bx_text.specs.Edits.{next_undos, undone_times}
+use Rattle.bx_text.specs.Changes.{IsChange}
 use Rattle.bx_text.specs.Steps.{HaveTurned, IsTurning, Turning}
 use Rattle.bx_text.specs.Text.{TextState, buffers_of}
-use Rattle.bx_text.specs.Times.{next_undos, undone_times}
 use Rattle.bx_text.proofs.UndoneTimes.{nothing_undone, undone_all, undos_lead}
 use Rattle.bx_text.proofs.text.Text.undo_times.Goals as goal
 use Rattle.bx_text.proofs.text.Text.undo_times.Goals.{After-turn_times}

@@ -1,5 +1,5 @@
 use Rattle.std.proofs.Common.{rules}
-use Rattle.bx_text.specs.Edits.{IsRange}
+use Rattle.bx_text.specs.Changes.{IsRange}
 use Rattle.bx_text.proofs.ReplacedTwice.{wrap_range}
 use Rattle.bx_text.proofs.text.Text.wrap.Goals as goal
 

@@ -1,5 +1,5 @@
 use Rattle.std.proofs.Common.{◌≤◌, ◌∙◌, ap, subst, sym}
-use Rattle.bx_terms.specs.Sizes.{is_side}
+use Rattle.bx_common.specs.Characters.{is_side}
 use Rattle.bx_paragraph.proofs.Starts.{side-some}
 use Rattle.bx_view.specs.TextRows.{cell_of}
 use Rattle.bx_view.proofs.CellColumns.{cell-inside}

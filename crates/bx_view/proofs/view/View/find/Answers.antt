@@ -1,6 +1,6 @@
 use Rattle.std.proofs.Common.{subst, sym}
 use Rattle.bx_view.specs.Caching.{HasBody, IsViewBy}
-use Rattle.bx_view.specs.Standing.{body_at}
+use Rattle.bx_view.specs.Numbers.{body_at}
 use Rattle.bx_view.proofs.view.View.find.Goals as goal
 
 pub add-requires-clause-cache : goal.add-requires-clause-cache

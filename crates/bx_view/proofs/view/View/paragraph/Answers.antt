@@ -1,5 +1,5 @@
 use Rattle.std.proofs.Common.{◌≡◌, ◌∙◌, ap, get_or, subst, true}
-use Rattle.bx_terms.specs.Sizes.{is_side}
+use Rattle.bx_common.specs.Characters.{is_side}
 use Rattle.bx_view.proofs.CachedRows.{of-text}
 use Rattle.bx_view.proofs.view.View.paragraph.Goals as goal
 

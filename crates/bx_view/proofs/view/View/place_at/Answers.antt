@@ -1,5 +1,5 @@
 use Rattle.std.proofs.Common.{◌∙◌, ap, find, nat_le, reverse, sym}
-use Rattle.bx_terms.specs.Sizes.{is_side}
+use Rattle.bx_common.specs.Characters.{is_side}
 use Rattle.bx_view.specs.FoundRow.{rows_by}
 use Rattle.bx_view.specs.TextRows.{places_of, row_of}
 use Rattle.bx_view.proofs.KeptPlaces.{place-at-kept}
@@ -9,13 +9,13 @@ use Rattle.bx_view.proofs.view.View.place_at.Goals as goal
 
 pub returns-clause-place : goal.returns-clause-place
 returns-clause-place g c =
-    let says = g.D.BidiData.data c.args.source.now.tables.now in
+    let ucd = g.D.BidiData.data c.args.source.now.tables.now in
     let text = c.args.source.now.text.now.edited.text in
     let v = c.row_at.new.self in
     let on = c.in_ok-at.ensures.row in
     c.unwrap_or.ensures
-    ∙ greatest-here says c.args.self.now v text c.args.offset c.in_ok-at.at c.args.source.now.utf8 c.row_at.ensures.keeps on c.in_ok-place.place
-    (c.in_ok-place.ensures ∙ ap (λ r. find (λ p. nat_le p c.args.offset) (reverse (places_of r))) (c.row.ensures.row (row_of (rows_by says v text) c.args.offset) on))
+    ∙ greatest-here ucd c.args.self.now v text c.args.offset c.in_ok-at.at c.args.source.now.utf8 c.row_at.ensures.keeps on c.in_ok-place.place
+    (c.in_ok-place.ensures ∙ ap (λ r. find (λ p. nat_le p c.args.offset) (reverse (places_of r))) (c.row.ensures.row (row_of (rows_by ucd v text) c.args.offset) on))
 
 pub returns-clause-text_place : goal.returns-clause-text_place
 returns-clause-text_place g c =

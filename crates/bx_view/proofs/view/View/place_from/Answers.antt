@@ -1,5 +1,5 @@
 use Rattle.std.proofs.Common.{ℕ, ◌+◌, ◌≡◌, ◌∙◌, ap, find, nat_le, length, subst, sym}
-use Rattle.bx_terms.specs.Sizes.{is_side}
+use Rattle.bx_common.specs.Characters.{is_side}
 use Rattle.bx_paragraph.specs.BodyRows.{last_of}
 use Rattle.bx_view.specs.FoundRow.{IsNext, IsSameAtEnd, StandsOn, rows_by}
 use Rattle.bx_view.specs.TextRows.{places_of, row_of}
@@ -11,27 +11,27 @@ use Rattle.bx_view.proofs.view.View.place_from.Goals.{In-Some-2}
 
 pub returns-in-Some-clause-place : goal.returns-in-Some-clause-place
 returns-in-Some-clause-place g c =
-    let says = g.D.BidiData.data c.args.source.now.tables.now in
+    let ucd = g.D.BidiData.data c.args.source.now.tables.now in
     let text = c.args.source.now.text.now.edited.text in
     let v = c.row_at.new.self in
     let on = c.in_ok-at.ensures.row in
-    let n : ℕ = row_of (rows_by says v text) c.args.offset in
-    least-here says c.args.self.now v text c.args.offset c.in_ok-at.at c.args.source.now.utf8 c.row_at.ensures.keeps on c.in_ok-place.field-0
+    let n : ℕ = row_of (rows_by ucd v text) c.args.offset in
+    least-here ucd c.args.self.now v text c.args.offset c.in_ok-at.at c.args.source.now.utf8 c.row_at.ensures.keeps on c.in_ok-place.field-0
     c.in-Some.place c.in-Some.is (c.in_ok-place.ensures ∙ ap (λ r. find (nat_le c.args.offset) (places_of r)) (c.row.ensures.row n on))
 
 pub returns-in_default-2-clause-place : goal.returns-in_default-2-clause-place
 returns-in_default-2-clause-place g c =
-    let says = g.D.BidiData.data c.args.source.now.tables.now in
+    let ucd = g.D.BidiData.data c.args.source.now.tables.now in
     let text = c.args.source.now.text.now.edited.text in
     let v = c.row_at.new.self in
     let on = c.in_ok-at.ensures.row in
-    let n : ℕ = row_of (rows_by says v text) c.args.offset in
+    let n : ℕ = row_of (rows_by ucd v text) c.args.offset in
     let later = c.next_row.new.self in
-    let last : n + 1 ≡ length (rows_by says later text) =
-    subst (IsNext says later text n) c.in_default-2.is (c.in_ok-next.ensures.next n on) in
+    let last : n + 1 ≡ length (rows_by ucd later text) =
+    subst (IsNext ucd later text n) c.in_default-2.is (c.in_ok-next.ensures.next n on) in
     let same : later ≡ v = subst (IsSameAtEnd v later) c.in_default-2.is c.in_ok-next.ensures.same in
-    let still = subst (λ u. StandsOn says u text c.in_ok-at.at n) (sym same) on in
-    least-last says c.args.self.now v text c.args.offset c.in_ok-at.at c.args.source.now.utf8 c.row_at.ensures.keeps on c.in_ok-place.field-0
+    let still = subst (λ u. StandsOn ucd u text c.in_ok-at.at n) (sym same) on in
+    least-last ucd c.args.self.now v text c.args.offset c.in_ok-at.at c.args.source.now.utf8 c.row_at.ensures.keeps on c.in_ok-place.field-0
     c.in_default.is later c.next_row.ensures.keeps last c.in_ok-last.last
     (c.in_ok-last.ensures ∙ ap (λ r. r.start + last_of r.row) (c.row-in_default-2.ensures.row n still))
     (c.in_ok-place.ensures ∙ ap (λ r. find (nat_le c.args.offset) (places_of r)) (c.row.ensures.row n on))
@@ -49,13 +49,13 @@ first_in-requires g c = record { row = (_, there g (goal.at.first_in-requires g 
 
 pub returns-clause-place : goal.returns-clause-place
 returns-clause-place g c =
-    let says = g.D.BidiData.data c.args.source.now.tables.now in
+    let ucd = g.D.BidiData.data c.args.source.now.tables.now in
     let text = c.args.source.now.text.now.edited.text in
     let v = c.row_at.new.self in
     let on = c.in_ok-at.ensures.row in
-    let n : ℕ = row_of (rows_by says v text) c.args.offset in
+    let n : ℕ = row_of (rows_by ucd v text) c.args.offset in
     let after = there g (goal.at.returns-clause-place g c).In-Some-2 in
-    least-next says c.args.self.now v text c.args.offset c.in_ok-at.at c.args.source.now.utf8 c.row_at.ensures.keeps on c.in_ok-place.field-0
+    least-next ucd c.args.self.now v text c.args.offset c.in_ok-at.at c.args.source.now.utf8 c.row_at.ensures.keeps on c.in_ok-place.field-0
     c.in_default.is c.next_row.new.self c.next_row.ensures.keeps c.in-Some-2.next after c.first_in.result (c.first_in.ensures (n + 1) after)
     (c.in_ok-place.ensures ∙ ap (λ r. find (nat_le c.args.offset) (places_of r)) (c.row.ensures.row n on))
 

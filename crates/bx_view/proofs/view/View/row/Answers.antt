@@ -1,5 +1,5 @@
 use Rattle.std.proofs.Common.{◌∙◌, IsUtf8, ap, arith, length, subst, sym}
-use Rattle.bx_terms.specs.Sizes.{is_side}
+use Rattle.bx_common.specs.Characters.{is_side}
 use Rattle.bx_view.proofs.CachedRows.{high-fits, of-row}
 use Rattle.bx_view.proofs.Numbers.{body-utf8}
 use Rattle.bx_view.proofs.view.View.row.Goals as goal
@@ -7,18 +7,18 @@ use Rattle.bx_view.proofs.view.View.row.Goals as goal
 pub invariant_of-result : goal.invariant_of-result
 invariant_of-result g c =
     let s = c.args.source.now in
-    let says = g.D.BidiData.data s.tables.now in
+    let ucd = g.D.BidiData.data s.tables.now in
     let text = s.text.now.edited.text in
     let l = c.paragraph-paragraph.result.now in
     let is = c.paragraph-paragraph.ensures in
     let on = c.requires.row.1 in
-    let high = high-fits says c.args.self.now text c.args.at c.requires.row.0 l s.utf8 on is in
+    let high = high-fits ucd c.args.self.now text c.args.at c.requires.row.0 l s.utf8 on is in
     record {
       by = is.by;
       within = omega (arith, on.is.row, is.count_is);
       sound = record {
         side = ap is_side is.w_is ∙ is.side;
-        utf8 = subst IsUtf8 (sym is.body_is) (body-utf8 says text c.args.at.paragraph on.is.paragraph s.utf8);
+        utf8 = subst IsUtf8 (sym is.body_is) (body-utf8 ucd text c.args.at.paragraph on.is.paragraph s.utf8);
       };
       fits = omega (arith, high, ap length is.body_is, s.short);
     }

@@ -1,5 +1,6 @@
 use Rattle.std.proofs.Common.{◌≡◌, ◌∙◌, ap, false, refl, sym, true, arith, rules}
-use Rattle.bx_view.specs.Standing.{rows_ahead, start_at}
+use Rattle.bx_view.specs.Standing.{rows_ahead}
+use Rattle.bx_view.specs.Numbers.{start_at}
 use Rattle.bx_view.proofs.CachedRows.{before-there}
 use Rattle.bx_view.proofs.WalkSteps.{no-previous, previous-number}
 use Rattle.bx_view.proofs.view.View.row_before_along.Goals as goal
@@ -20,13 +21,13 @@ returns-then-not-to_previous-clause-before g c = λ n on.
 pub returns-clause-before : goal.returns-clause-before
 returns-clause-before g c = λ n on.
     let s = c.args.source.now in
-    let says = g.D.BidiData.data s.tables.now in
+    let ucd = g.D.BidiData.data s.tables.now in
     let walk = c.args.walk.now in
     let none : c.args.at.row ≡ 0 = search rules in
     let went : c.to_previous.result ≡ true = search rules in
     let next = previous-number walk.paragraphs walk.number walk refl c.to_previous.result c.current_span-span.result.number c.to_previous.ensures.there went
     (c.current_span-span.ensures.number ∙ c.to_previous.ensures.number) in
-    before-there says c.args.self.now c.find.new.self
+    before-there ucd c.args.self.now c.find.new.self
     s.text.now.edited.text c.args.at n c.current_span-span.result.number c.current_span-span.result.start c.in_ok-cached.cached c.row_count-rows.result
     c.paragraph.result.now s.utf8 on c.find.ensures.keeps none (sym c.requires.along.1 ∙ next) c.paragraph.ensures
     c.row_count-rows.ensures.starts c.row_count-rows.ensures.some

@@ -1,6 +1,6 @@
 use Rattle.std.proofs.Common.{subst, sym}
 use Rattle.bx_view.specs.Caching.{Caches}
-use Rattle.bx_view.specs.Standing.{body_at}
+use Rattle.bx_view.specs.Numbers.{body_at}
 use Rattle.bx_view.proofs.view.View.row_near.Goals as goal
 
 pub row_in-requires-clause-cached : goal.row_in-requires-clause-cached

@@ -1,6 +1,6 @@
 -- The row is `above` rows above `at`, and not above the old top unless it is `at` itself.
 use Rattle.std.proofs.Common.{ℕ, ◌-◌, ◌<◌, ◌≤◌}
-use Rattle.bx_view.specs.Source.{BeginsAt, IsAlong, Keeps, Stands, StandsOn}
+use Rattle.bx_view.specs.TextRef.{BeginsAt, IsAlong, Keeps, Stands, StandsOn}
 use Rattle.bx_view.proofs.view.View.top_above.Given as goal
 
 abbrev pub invariant-loop-above : goal.invariant-loop-above

@@ -1,6 +1,6 @@
 use Rattle.std.proofs.Common.{◌≡◌}
 use Rattle.std.specs.Prelude.{vec_capacity}
-use Rattle.bx_session.specs.Saving.{store_state}
+use Rattle.bx_session.specs.Session.{store_state}
 use Rattle.bx_world.proofs.Schedules.{Played}
 use Rattle.bx_world.proofs.world.World.play_into.Given as goal
 

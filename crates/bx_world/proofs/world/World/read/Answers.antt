@@ -1,15 +1,15 @@
 use Rattle.bx_ucd.specs.Data.{Data}
 use Rattle.std.proofs.Common.{subst}
-use Rattle.bx_world.specs.World.{World, WorldState}
-use Rattle.bx_world.specs.Steps.{AfterReadStep}
+use Rattle.bx_world.specs.World.{World, AfterReadStep}
+use Rattle.bx_world.specs.Showing.{WorldState}
 use Rattle.bx_world.proofs.Calls.{read_call, read_steps, value_of}
 use Rattle.bx_world.proofs.world.World.read.Goals as goal
 
 pub invariant_of-self : goal.invariant_of-self
 invariant_of-self g c =
-    let says : g.row.D.Denot → Data = g.D.BidiData.data in
+    let ucd : g.row.D.Denot → Data = g.D.BidiData.data in
     let w : World = value_of c.self.inside in
-    read_call (says c.self.inside.session.tables) w c.args.count c.read_some.new.line.items c.read_some.new.screen c.read_some.result c.self.invariant
+    read_call (ucd c.self.inside.session.tables) w c.args.count c.read_some.new.line.items c.read_some.new.screen c.read_some.result c.self.invariant
     c.read_some.ensures.line c.read_some.ensures.ok c.read_some.ensures.err
 
 pub returns-clause-step : goal.returns-clause-step

@@ -5,6 +5,6 @@ use Rattle.bx_world.proofs.world.World.resize.Goals as goal
 
 pub invariant_of-self : goal.invariant_of-self
 invariant_of-self g c =
-    let says : g.row.D.Denot → Data = g.D.BidiData.data in
+    let ucd : g.row.D.Denot → Data = g.D.BidiData.data in
     let w : World = value_of c.self.inside in
-    window_call (says c.self.inside.session.tables) w c.args.height c.args.width c.window.new.self c.self.invariant c.in-Ok.ensures.ok
+    window_call (ucd c.self.inside.session.tables) w c.args.height c.args.width c.window.new.self c.self.invariant c.in-Ok.ensures.ok

@@ -1,14 +1,15 @@
 use Rattle.bx_ucd.specs.Data.{Data}
 use Rattle.std.proofs.Common.{◌≡◌, ◌++◌, take, subst, ap, ◌∙◌}
-use Rattle.bx_world.specs.World.{World, WorldState, after_send}
+use Rattle.bx_world.specs.World.{World, after_send}
+use Rattle.bx_world.specs.Showing.{WorldState}
 use Rattle.bx_world.proofs.Calls.{is_sent, send_call, send_steps, value_of}
 use Rattle.bx_world.proofs.world.World.send.Goals as goal
 
 pub invariant_of-self-2 : goal.invariant_of-self-2
 invariant_of-self-2 g c =
-    let says : g.row.D.Denot → Data = g.D.BidiData.data in
+    let ucd : g.row.D.Denot → Data = g.D.BidiData.data in
     let w : World = value_of c.self.inside in
-    send_call says c.self.inside.session.tables w c.taken.new.self c.args.count c.append.new.line.items
+    send_call ucd c.self.inside.session.tables w c.taken.new.self c.args.count c.append.new.line.items
     (is_sent c.self.inside.session.tables c.self.inside.session.session c.taken.new.self c.args.count c.first_bytes-part.result.now c.pending.result.now
     c.pending.ensures c.first_bytes-part.ensures c.taken.ensures)
     (c.in_ok-append.ensures.ok

@@ -5,5 +5,5 @@ use Rattle.bx_world.proofs.world.World.use_clipboard.Goals as goal
 
 pub invariant_of-self : goal.invariant_of-self
 invariant_of-self g c =
-    let says : g.row.D.Denot → Data = g.D.BidiData.data in
-    clipboard_call says c.self.inside.session c.use_clipboard.new.self (value_of c.self.inside) refl c.use_clipboard.ensures c.self.invariant
+    let ucd : g.row.D.Denot → Data = g.D.BidiData.data in
+    clipboard_call ucd c.self.inside.session c.use_clipboard.new.self (value_of c.self.inside) refl c.use_clipboard.ensures c.self.invariant

@@ -1,6 +1,0 @@
-pub mod Answers
-pub mod Line
-pub mod Names
-pub mod Codes
-pub mod Told
-pub mod Laws

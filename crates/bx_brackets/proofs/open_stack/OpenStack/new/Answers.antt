@@ -1,7 +1,0 @@
--- No closer is noted.
-use Rattle.std.proofs.Common.{replicate, None}
-use Rattle.bx_brackets.proofs.Missed.{missed_none, none_noted}
-use Rattle.bx_brackets.proofs.open_stack.OpenStack.new.Goals as goal
-
-pub invariant_of-result : goal.invariant_of-result
-invariant_of-result c = missed_none (replicate 31 None) _ (none_noted 31)

@@ -1,6 +1,0 @@
-use Rattle.std.proofs.Common.{sym, ◌∙◌}
-use Rattle.bx_cells.proofs.RangeFacts.{of_common}
-use Rattle.bx_cells.proofs.simple.common_kind.Goals as goal
-
-pub returns-then-is_common : goal.returns-then-is_common
-returns-then-is_common c = of_common _ (sym c.is_common.ensures ∙ c.if-is_common.true)

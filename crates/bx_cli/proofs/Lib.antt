@@ -1,2 +1,0 @@
-pub mod Commands
-mod Examples

@@ -1,9 +1,0 @@
-use Rattle.std.proofs.Common.{ap, ◌∙◌}
-use Rattle.std.proofs.lemmas.Result.{IfOk-weaker}
-use Rattle.bx_cli.specs.Rules.{bound}
-use Rattle.bx_cli.proofs.Commands.{requiring_is_bound}
-use Rattle.bx_cli.proofs.unicode.half.Goals as goal
-
-pub returns : goal.returns
-returns c =
-    IfOk-weaker c.requires_arg.result _ _ (λ arg adds. requiring_is_bound c.option.result arg _ adds ∙ ap bound c.option.ensures) c.requires_arg.ensures

@@ -1,4 +1,0 @@
-pub mod Arguments
-pub mod Files
-pub mod Rules
-pub mod Shown

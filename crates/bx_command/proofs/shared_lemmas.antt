@@ -1,0 +1,3 @@
+-- Shared by the programs that lay out a text: command-line options, input files, and exit statuses: lemmas.
+pub mod Commands
+pub mod Examples

@@ -1,0 +1,5 @@
+-- Shared by the programs that lay out a text: command-line options, input files, and exit statuses: definitions.
+pub mod Arguments
+pub mod Files
+pub mod Rules
+pub mod Shown

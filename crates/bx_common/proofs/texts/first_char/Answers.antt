@@ -1,0 +1,15 @@
+use Rattle.std.proofs.Common.{◌≡◌, ◌++◌, ◌∙◌, length, sym, ap, arith, length-append}
+use Rattle.std.specs.Prelude.{encode_utf8}
+use Rattle.std.proofs.lemmas.Str.{chars_past_char, length-encode, len_utf8_bounds}
+use Rattle.bx_common.proofs.texts.first_char.Goals as goal
+
+pub returns-in-Some : goal.returns-in-Some
+returns-in-Some c =
+    let first = c.in-Some.c in
+    let rest = c.as_str.result.now in
+    let e : c.args.text.now ≡ encode_utf8 first ++ rest =
+    sym c.chars-chars.ensures.rest ∙ c.in-Some.ensures.steps.0 ∙ ap (λ t. encode_utf8 first ++ t) (sym c.as_str.ensures) in (
+      e,
+      omega (arith, ap length e, length-append (encode_utf8 first) rest, length-encode first, (len_utf8_bounds first).0),
+      chars_past_char _ rest first c.utf8.text e,
+    )

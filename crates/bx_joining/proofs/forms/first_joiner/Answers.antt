@@ -1,9 +1,0 @@
-use Rattle.std.proofs.Common.{sym, ap, ◌∙◌}
-use Rattle.bx_joining.proofs.LowestLevels.{nearest_with}
-use Rattle.bx_joining.proofs.Nearest.{no_joiners}
-use Rattle.bx_joining.proofs.forms.first_joiner.Goals as goal
-
-pub returns : goal.returns
-returns g c =
-    let says = g.D.BidiData.data c.args.tables.now in
-    sym (c.chars.invariant.near ∙ ap (nearest_with c.chars.lowest) (no_joiners says c.chars.rest.now c.chars.left.now c.in_default.ensures))

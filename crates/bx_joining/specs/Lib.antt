@@ -1,5 +1,0 @@
-pub mod Joining
-pub mod Nearest
-pub mod Places
-pub mod JoinedText
-pub mod Laws

@@ -1,0 +1,3 @@
+pub mod embedding
+pub mod brackets
+pub mod resolve

@@ -1,2 +1,0 @@
-pub mod CachedStops
-pub mod WordRows

@@ -1,4 +1,0 @@
-pub mod Cuts
-pub mod Ends
-pub mod Depths
-pub mod Begun

@@ -1,6 +1,0 @@
-use Rattle.std.proofs.Common.{◌≡◌, take}
-use Rattle.bx_resolve.specs.Levels.{chars_at}
-use Rattle.bx_resolve.proofs.at_indexes.chars_at.Given as goal
-
-abbrev pub invariant-loop-p : goal.invariant-loop-p
-invariant-loop-p l = l.found.items ≡ chars_at l.chars (take l.p-index l.indexes)

@@ -1,9 +1,0 @@
--- Levels that depend on the characters' classes only: what the short ways for simple texts find. `says` is Unicode's data.
-use Rattle.std.specs.Prelude.{◌≡◌, ℕ, List, Option, map}
-use Rattle.bx_ucd.specs.Data.{Data}
-use Rattle.bx_ucd.specs.declared.class.Class.{Class}
-use Rattle.bx_resolve.specs.Levels.{paragraph_levels}
-
--- each text with these classes has these levels, given the paragraph level
-unfoldable pub AreLevelsOf : ℕ → List Class → List (Option ℕ) → Type 0
-AreLevelsOf paragraph cs each = (says : Data) (chars : List ℕ) → cs ≡ map says.class chars → each ≡ paragraph_levels says paragraph chars

@@ -1,6 +1,0 @@
-//! The error of this crate's calls that allocate.
-
-use bx_terms::OutOfMemory;
-
-/// The error of finding levels: out of memory.
-pub type ResolveError = OutOfMemory;

@@ -1,4 +1,0 @@
-pub mod Bisected
-pub mod Steps
-pub mod RunLaws
-mod Examples

@@ -1,4 +1,0 @@
-pub mod Typing
-pub mod Runs
-pub mod Model
-pub mod Laws

@@ -1,0 +1,82 @@
+-- The replay of a journal, and what comes before the keys of a run. `d` is Unicode's data, `s` the session before, `b` a byte of input.
+use Rattle.std.specs.Prelude.{ℕ, true, List, [], ◌∷◌, Option, Some, None}
+use Rattle.bx_keys.specs.declared.key.Key.{Key}
+use Rattle.bx_keys.specs.declared.key.Key.TheVariants.{Quit, Save}
+use Rattle.bx_ucd.specs.Data.{Data}
+use Rattle.bx_editor.specs.declared.questions.answers.Prompt.{Prompt}
+use Rattle.bx_editor.specs.declared.questions.answers.Prompt.TheVariants as asks
+use Rattle.bx_view.specs.Moves.{place_from}
+use Rattle.bx_editor.specs.Editor.{Editor, cleared, rows, with_place}
+use Rattle.bx_editor.specs.declared.search_state.SearchState.{SearchState}
+use Rattle.bx_editor.specs.declared.search_state.SearchState.TheVariants.{Off}
+use Rattle.bx_editor.specs.Keys.{after_key}
+use Rattle.bx_editor.specs.Putting.{paste_ended}
+use Rattle.bx_editor.specs.Replay.{after_passed_quit, after_passed_save}
+use Rattle.bx_editor.specs.Replay as replay
+use Rattle.bx_session.specs.Session.{Session, after_spending, key_of_byte, scrolled, session_after_key, with_painting_owed}
+
+-- The effect of a key in a replay. A Save and a Quit end what any key ends, first a paste, and a Save a search and a question too; a
+-- Quit gives up a search or a question. Neither stores a text, nor ends the session. `ask` and `seek` are what stands once a paste has
+-- ended.
+abbrev pub after_replayed : Data → Prompt → SearchState → Editor → Key → Editor
+after_replayed d ask seek e Save = after_passed_save (paste_ended d e)
+after_replayed d asks.Off Off e Quit = after_passed_quit (paste_ended d e)
+after_replayed d ask seek e key = after_key d None e key
+
+-- the same, in the editor's own state of question and search
+abbrev pub replayed_on : Data → Editor → Key → Editor
+replayed_on d e key = let over = paste_ended d e in after_replayed d over.ask over.seek e key
+
+-- The editor after keys of a journal in sequence. Before each of them it scrolls to the cursor, as the painting before that key did in
+-- the session, since a key can point at a row of the picture.
+abbrev pub after_all_replayed : Data → Editor → List Key → Editor
+after_all_replayed d e [] = e
+after_all_replayed d e (key ∷ keys) = after_all_replayed d (replayed_on d (scrolled d e) key) keys
+
+-- the session after a key of a journal, in these states of question and search
+abbrev pub session_after_replayed : Data → Prompt → SearchState → Session → Key → Session
+session_after_replayed d ask seek s Save = record s { editor = after_passed_save (paste_ended d s.editor) }
+session_after_replayed d asks.Off Off s Quit = record s { editor = after_passed_quit (paste_ended d s.editor) }
+session_after_replayed d ask seek s key = session_after_key d None s key
+
+abbrev pub session_replayed_on : Data → Session → Key → Session
+session_replayed_on d s key = let over = paste_ended d s.editor in session_after_replayed d over.ask over.seek s key
+
+-- the session scrolled to its cursor; nothing is painted
+abbrev pub session_scrolled : Data → Session → Session
+session_scrolled d s = record s { editor = scrolled d s.editor }
+
+-- the session after the key of a journal's byte, if it completes one
+abbrev pub after_replayed_key : Data → Session → Option Key → Session
+after_replayed_key d s None = s
+after_replayed_key d s (Some key) = session_replayed_on d (session_scrolled d s) key
+
+-- the byte's key is applied, and a painting is owed
+abbrev pub after_replay : Data → Session → ℕ → Session
+after_replay d s b = with_painting_owed (after_replayed_key d (after_spending s b) (key_of_byte s b))
+
+-- the session after bytes of a journal
+abbrev pub after_replaying : Data → Session → List ℕ → Session
+after_replaying d s [] = s
+after_replaying d s (b ∷ bs) = after_replaying d (after_replay d s b) bs
+
+-- the end of a replay, which ends a paste first; a painting is owed
+abbrev pub at_unscrolled_end : Data → Session → Session
+at_unscrolled_end d s = with_painting_owed (record s { editor = replay.at_replay_end (paste_ended d s.editor) })
+
+-- the end of a replay, from which the session goes on with the row first that a painting would show first
+abbrev pub at_replay_end : Data → Session → Session
+at_replay_end d s = session_scrolled d (at_unscrolled_end d s)
+
+-- the session after a whole journal
+abbrev pub after_journal : Data → Session → List ℕ → Session
+after_journal d s bytes = at_replay_end d (after_replaying d s bytes)
+
+-- the cursor goes to the first place at or after an offset, or to the last place, and a painting is owed
+abbrev pub after_going : Data → Session → ℕ → Session
+after_going d s offset =
+    with_painting_owed (record s { editor = with_place (cleared s.editor) (place_from (rows d s.editor) offset) })
+
+-- the text counts as changed, no undo leads to a stored one, and a painting is owed
+abbrev pub as_changed : Session → Session
+as_changed s = with_painting_owed (record s { editor = record s.editor { stored = None; changed = true } })

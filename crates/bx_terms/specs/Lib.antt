@@ -1,4 +1,0 @@
-pub mod Characters
-pub mod Directions
-pub mod Glyphs
-pub mod Sizes

@@ -1,0 +1,18 @@
+use Rattle.std.proofs.Common.{◌∙◌, ◌-◌, ap, find, nat_lt}
+use Rattle.bx_paragraph.specs.BodyRows.{offsets_of}
+use Rattle.bx_paragraph.specs.LentRow.{row}
+use Rattle.bx_view.proofs.FindPlaces.{moved-behind}
+use Rattle.bx_view.proofs.PlacedRows.{found_placed}
+use Rattle.bx_view.proofs.moves.placed.first_place_after.Goals as goal
+
+pub place_of-requires : goal.place_of-requires
+place_of-requires g c =
+    found_placed c.args.row.now (nat_lt (c.args.place - c.args.row.now.start)) c.deref.result.now c.first_after-found.result
+    (c.deref.ensures.value ∙ c.in_ok-offsets.ensures) c.first_after-found.ensures
+
+pub returns : goal.returns
+returns g c =
+    let s = c.args.row.now in
+    c.place_of.ensures
+    ∙ moved-behind s.start c.args.place c.requires (offsets_of (row s)) c.first_after-found.result
+    (c.first_after-found.ensures ∙ ap (λ qs. find (nat_lt (c.args.place - c.args.row.now.start)) qs) (c.deref.ensures.value ∙ c.in_ok-offsets.ensures))

@@ -1,0 +1,129 @@
+//! Moves from row to row.
+ghost use Rattle.std.specs.Prelude.{◌≡◌, ℕ, ◌+◌, ◌-◌, IfOk, length, min};
+ghost use Rattle.bx_view.specs.Moves.{row_away, rows_away};
+ghost use Rattle.bx_view.specs.TextRef.{IsViewBy, Keeps, Stands, StandsOn, rows};
+ghost use Rattle.bx_view.specs.TextRows.{cell_of};
+
+use crate::moves::placed::entry;
+use crate::{RowAt, TextRef, Vertical, View};
+use bx_common::OutOfMemory;
+use bx_ucd::BidiData;
+
+/// The row `count` rows above `at`, or the text's first row if there are fewer.
+pub(crate) fn rows_up<D: BidiData>(
+    view: &mut View,
+    source: &TextRef<'_, D>,
+    at: RowAt,
+    count: usize,
+) -> Result<RowAt, OutOfMemory>
+    requires row { Stands source.now view.old at }
+    ensures keeps { Keeps source.now view.old view.new }
+    ensures row { (n : ℕ) → StandsOn source.now view.old at n → IfOk result (λ b. StandsOn source.now view.new b (n - count)) }
+{
+    let mut walk = view.walk_from(source, at);
+    let mut here = at;
+    let mut done = 0;
+    while done < count {
+        let Some(before) = view.row_before_along(source, &mut walk, here)? else {
+            return Ok(here);
+        };
+        here = before;
+        done += 1;
+    }
+    Ok(here)
+}
+
+/// The row `count` rows below `at`, or the text's last row if there are fewer.
+pub(crate) fn rows_down<D: BidiData>(
+    view: &mut View,
+    source: &TextRef<'_, D>,
+    at: RowAt,
+    count: usize,
+) -> Result<RowAt, OutOfMemory>
+    requires row { Stands source.now view.old at }
+    ensures keeps { Keeps source.now view.old view.new }
+    ensures row { (n : ℕ) → StandsOn source.now view.old at n
+        → IfOk result (λ b. StandsOn source.now view.new b (min (n + count) (length (rows source.now view.old) - 1))) }
+{
+    let mut walk = view.walk_from(source, at);
+    let mut here = at;
+    let mut done = 0;
+    while done < count {
+        let Some(next) = view.next_row_along(source, &mut walk, here)? else {
+            return Ok(here);
+        };
+        here = next;
+        done += 1;
+    }
+    Ok(here)
+}
+
+/// The row `count` rows above or below `at`, or the text's first or last row if there are fewer.
+fn row_away<D: BidiData>(
+    view: &mut View,
+    source: &TextRef<'_, D>,
+    way: Vertical,
+    count: usize,
+    at: RowAt,
+) -> Result<RowAt, OutOfMemory>
+    requires row { Stands source.now view.old at }
+    ensures keeps { Keeps source.now view.old view.new }
+    ensures row { (n : ℕ) → StandsOn source.now view.old at n
+        → IfOk result (λ b. StandsOn source.now view.new b (row_away (length (rows source.now view.old)) way count n)) }
+{
+    // The proof compares the row, so each arm names it.
+    match way {
+        Vertical::Up => {
+            let there = rows_up(view, source, at, count)?;
+            Ok(there)
+        }
+        Vertical::Down => {
+            let there = rows_down(view, source, at, count)?;
+            Ok(there)
+        }
+    }
+}
+
+/// The place after a move of `count` rows up or down, at most to the text's first or last row. The row is entered in `column`,
+/// from 1; if it is the place's own, the place stays.
+pub(crate) fn rows_away<D: BidiData>(
+    view: &mut View,
+    source: &TextRef<'_, D>,
+    way: Vertical,
+    count: usize,
+    column: u16,
+    place: usize,
+) -> Result<usize, OutOfMemory>
+    requires data { IsViewBy source.now view.old }
+    ensures keeps { Keeps source.now view.old view.new }
+    ensures place { IfOk result (λ o. o ≡ rows_away view.old.w (rows source.now view.old) way count column place) }
+{
+    let at = view.row_at(source, place)?;
+    // A row is known by its first offset: no other begins there.
+    let own = view.first_in(source, at);
+    let there = row_away(view, source, way, count, at)?;
+    let first = view.first_in(source, there);
+    if first == own {
+        return Ok(place);
+    }
+    let entry = entry(&view.row(source, there), column)?;
+    Ok(entry.unwrap_or(place))
+}
+
+/// The place after a move of `count` rows up or down into the column of the place's cell.
+pub(crate) fn rows_straight<D: BidiData>(
+    view: &mut View,
+    source: &TextRef<'_, D>,
+    way: Vertical,
+    count: usize,
+    place: usize,
+) -> Result<usize, OutOfMemory>
+    requires data { IsViewBy source.now view.old }
+    ensures keeps { Keeps source.now view.old view.new }
+    ensures place { IfOk result (λ o. o ≡ rows_away view.old.w (rows source.now view.old) way count (cell_of view.old.w (rows source.now view.old) place) place) }
+{
+    let column = view.cell_of(source, place)?;
+    // The proof compares the place, so it has a name.
+    let place = rows_away(view, source, way, count, column, place)?;
+    Ok(place)
+}

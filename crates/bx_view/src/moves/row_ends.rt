@@ -1,0 +1,39 @@
+//! Moves to the ends of a row in text order, the keys Home and End.
+ghost use Rattle.std.specs.Prelude.{◌≡◌, IfOk};
+ghost use Rattle.bx_view.specs.Moves.{row_end, row_home};
+ghost use Rattle.bx_view.specs.TextRef.{IsViewBy, Keeps, rows};
+
+use crate::{TextRef, View, last_place};
+use bx_common::OutOfMemory;
+use bx_ucd::BidiData;
+
+/// The first place of the row that a place falls in.
+pub(crate) fn row_home<D: BidiData>(
+    view: &mut View,
+    source: &TextRef<'_, D>,
+    place: usize,
+) -> Result<usize, OutOfMemory>
+    requires data { IsViewBy source.now view.old }
+    ensures keeps { Keeps source.now view.old view.new }
+    ensures home { IfOk result (λ home. home ≡ row_home (rows source.now view.old) place) }
+{
+    let at = view.row_at(source, place)?;
+    let paragraph = view.paragraph(source, at.paragraph, at.cached);
+    Ok(at.start + paragraph.first(at.row))
+}
+
+/// The last place of the row that a place falls in: the paragraph's end in its last row, else the start of the row's last unit.
+pub(crate) fn row_end<D: BidiData>(
+    view: &mut View,
+    source: &TextRef<'_, D>,
+    place: usize,
+) -> Result<usize, OutOfMemory>
+    requires data { IsViewBy source.now view.old }
+    ensures keeps { Keeps source.now view.old view.new }
+    ensures end { IfOk result (λ o. o ≡ row_end (rows source.now view.old) place) }
+{
+    let at = view.row_at(source, place)?;
+    // The proof compares the place, so it has a name.
+    let end = last_place(&view.row(source, at))?;
+    Ok(end)
+}

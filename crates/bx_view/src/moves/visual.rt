@@ -1,0 +1,90 @@
+//! Moves to the left and to the right, from slot to slot, and past a row's last slot into the next or the previous row.
+ghost use Rattle.std.specs.Prelude.{◌≡◌, ℕ, IfOk};
+ghost use Rattle.bx_view.specs.Moves.{end_of, past, row_after, row_before, start_of, step_visual};
+ghost use Rattle.bx_view.specs.TextRef.{IsViewBy, Keeps, Stands, StandsOn, rows};
+
+use crate::moves::placed::{place_beside, reading_end, reading_start, reads_on};
+use crate::{RowAt, TextRef, View};
+use bx_common::OutOfMemory;
+use bx_paragraph::Visual;
+use bx_ucd::BidiData;
+
+/// The place at the reading start of the next row, if there is one.
+fn start_after<D: BidiData>(
+    view: &mut View,
+    source: &TextRef<'_, D>,
+    at: RowAt,
+) -> Result<Option<usize>, OutOfMemory>
+    requires row { Stands source.now view.old at }
+    ensures keeps { Keeps source.now view.old view.new }
+    ensures place { (n : ℕ) → StandsOn source.now view.old at n
+        → IfOk result (λ o. o ≡ start_of view.old.w (row_after (rows source.now view.old) n)) }
+{
+    let Some(there) = view.next_row(source, at)? else {
+        return Ok(None);
+    };
+    // The proof compares the place, so it has a name.
+    let place = reading_start(&view.row(source, there))?;
+    Ok(place)
+}
+
+/// The place at the reading end of the previous row, if there is one.
+fn end_before<D: BidiData>(
+    view: &mut View,
+    source: &TextRef<'_, D>,
+    at: RowAt,
+) -> Result<Option<usize>, OutOfMemory>
+    requires row { Stands source.now view.old at }
+    ensures keeps { Keeps source.now view.old view.new }
+    ensures place { (n : ℕ) → StandsOn source.now view.old at n
+        → IfOk result (λ o. o ≡ end_of view.old.w (row_before (rows source.now view.old) n)) }
+{
+    let Some(there) = view.row_before(source, at)? else {
+        return Ok(None);
+    };
+    // The proof compares the place, so it has a name.
+    let place = reading_end(&view.row(source, there))?;
+    Ok(place)
+}
+
+/// The place after a move past a row's last slot on a side: the reading start of the next row if the paragraph is read toward
+/// that side, else the reading end of the previous row. None if there is no such row.
+fn past<D: BidiData>(
+    view: &mut View,
+    source: &TextRef<'_, D>,
+    at: RowAt,
+    side: Visual,
+) -> Result<Option<usize>, OutOfMemory>
+    requires row { Stands source.now view.old at }
+    ensures keeps { Keeps source.now view.old view.new }
+    ensures place { (n : ℕ) → StandsOn source.now view.old at n
+        → IfOk result (λ o. o ≡ past view.old.w (rows source.now view.old) side n) }
+{
+    // The proof compares the place, so it has a name on both ways.
+    if reads_on(&view.row(source, at), side) {
+        let place = start_after(view, source, at)?;
+        return Ok(place);
+    }
+    let place = end_before(view, source, at)?;
+    Ok(place)
+}
+
+/// The place after a step to a side: that of the row's next slot on the side, else the one `past` the row's last slot, else
+/// `place` itself.
+pub(crate) fn step_visual<D: BidiData>(
+    view: &mut View,
+    source: &TextRef<'_, D>,
+    side: Visual,
+    place: usize,
+) -> Result<usize, OutOfMemory>
+    requires data { IsViewBy source.now view.old }
+    ensures keeps { Keeps source.now view.old view.new }
+    ensures step { IfOk result (λ o. o ≡ step_visual view.old.w (rows source.now view.old) side place) }
+{
+    let at = view.row_at(source, place)?;
+    if let Some(next) = place_beside(&view.row(source, at), side, place)? {
+        return Ok(next);
+    }
+    let past = past(view, source, at, side)?;
+    Ok(past.unwrap_or(place))
+}
