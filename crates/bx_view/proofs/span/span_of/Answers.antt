@@ -4,5 +4,5 @@ use Rattle.bx_view.proofs.span.span_of.Goals as goal
 pub returns-clause-is : goal.returns-clause-is
 returns-clause-is g c =
     let s = c.args.source.now in
-    paragraph-span (g.D.BidiData.data s.tables.now) s.text.now.edited.text s.index.now.paragraphs c.args.number c.span-start.result.0
-    c.span-start.result.1 s.utf8 c.requires s.indexed c.span-start.ensures
+    paragraph-span (g.D.BidiData.data s.tables.now) s.text.now.edited.text s.index.now.paragraphs c.args.number c.span.result.start
+    c.span.result.stop s.utf8 c.requires s.indexed c.span.ensures.span
