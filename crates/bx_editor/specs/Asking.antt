@@ -30,8 +30,8 @@ spans_lines d e = list_any (λ c. is_separator (d.class c)) (chars (bytes_in e (
 abbrev pub cursor_end : Editor → RegionEnd
 cursor_end e = if e.place == (region e).0 then Start else Stop
 
--- `closer` is put in behind the region and then `opener` before it, both in UTF-8: two edits of one run. The cursor stays at its
--- end of the region; between the edits its place is behind `closer`
+-- `closer` is put in behind the region and then `opener` before it, both in UTF-8: two edits of one undo group. The cursor stays at
+-- its end of the region; between the edits its place is behind `closer`
 abbrev pub with_wrap : Data → Editor → List ℕ → List ℕ → Editor
 with_wrap d e opener closer =
     let start = (region e).0 in
@@ -95,7 +95,7 @@ after_line_letter d typing e c =
 
 -- ---- a character by name
 
--- `c` is put in at the place as Insert puts it, but begins a run, and a selection's text stays
+-- `c` is put in at the place as Insert puts it, but begins an undo group, and a selection's text stays
 abbrev pub with_character : Data → Editor → ℕ → Editor
 with_character d e c =
     if fits e.content.text e.place e.place (encode_utf8 c)

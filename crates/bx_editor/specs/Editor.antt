@@ -140,7 +140,7 @@ stored_behind n None = None
 stored_behind n (Some stored) = if nat_lt n stored then None else Some stored
 
 -- the editor once the text was edited: `content` with its past and future, and the cursor's new place. `goes_on`: the edit goes on
--- with the run before; else it begins one
+-- with the undo group before; else it begins one
 abbrev pub with_edit : Editor → Edited → ℕ → Bool → Editor
 with_edit e content place goes_on =
     let n = length e.content.past in
@@ -175,7 +175,8 @@ with_removal d e start stop goes_on =
     let after = place_after d e (splice e.content.text start stop []) start in
     with_edit e (removed e.content start stop e.place after) after goes_on
 
--- the bytes from `start` to `stop` are removed, and then others, if there are any, are inserted where they stood: edits of one run
+-- the bytes from `start` to `stop` are removed, and then others, if there are any, are inserted where they stood: edits of one undo
+-- group
 abbrev pub with_exchange : Data → Editor → ℕ → ℕ → List ℕ → Editor
 with_exchange d e start stop [] = with_removal d e start stop false
 with_exchange d e start stop (b ∷ bs) = with_insertion_at d (with_removal d e start stop false) start (b ∷ bs) true
@@ -186,8 +187,8 @@ with_exchange d e start stop (b ∷ bs) = with_insertion_at d (with_removal d e 
 abbrev pub with_step : Editor → Edited → ℕ → Bool → Editor
 with_step e content place changed = record e { content = content; place = place; mark = None; soft = softness.Off; seek = seeks.Off; changed = changed }
 
--- the latest edit is undone, and the cursor returns to its place before it. One edit undone or redone counts as a change, even where
--- it gives the stored text again
+-- the latest edit is undone, and the cursor returns to its place before it. One edit undone or redone counts as a change, even
+-- where it gives the stored text again
 abbrev pub after_undo : Editor → List Edit → Editor
 after_undo e [] = record e { message = Some messages.NothingToUndo }
 after_undo e (edit ∷ past) = with_step e (undone e.content) edit.before.place true
@@ -269,7 +270,7 @@ cleared e = record e { message = None; quit_before = false; typing = typings.Off
 
 -- ---- undo and redo by undo groups; `n` is a length of the past: its number of edits
 
--- the length of the past to which a run is undone, or redone
+-- the length of the past to which an undo group is undone, or redone
 abbrev pub run_goal : HistoryStep → Editor → ℕ
 run_goal Undo e = run_start e.undo_groups (length e.content.past)
 run_goal Redo e = run_end e.undo_groups (length e.content.past) (length e.content.past + length e.content.future)
@@ -290,7 +291,8 @@ by_run step e None = record e { message = Some (nothing_left step) }
 by_run step e (Some change) =
     with_step e (stepped_times step (run_length step e) e.content) change.place (is_changed_at (run_goal step e) e.stored)
 
--- all edits since a run began are undone, or all up to the next run are redone; the text is changed unless it is the stored one
+-- all edits since an undo group began are undone, or all up to the next undo group are redone; the text is changed unless it is the
+-- stored one
 abbrev pub after_run_step : HistoryStep → Editor → Editor
 after_run_step step e = by_run step e (next_changes step (run_length step e) e.content)
 

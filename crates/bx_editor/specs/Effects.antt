@@ -43,8 +43,8 @@ goal_behind Repaint goal = goal
 goal_behind Select goal = goal
 goal_behind _ goal = None
 
--- the place in a row and a column of the picture, whose first row is the one that was last shown first; the status row points nowhere,
--- and the cursor stays
+-- the place in a row and a column of the picture, whose first row is the one that was last shown first; the status row points
+-- nowhere, and the cursor stays
 abbrev pub pointed_place : Data → Editor → ℕ → ℕ → ℕ
 pointed_place d e row column = if nat_le row (text_height e.height) then pointed_at e.width (rows d e) e.top row column else e.place
 
@@ -54,11 +54,11 @@ pub data Effect : Type 0 where
   Types : ℕ → Effect
   BeginsLine : Effect
   Puts : Effect
-  -- the bytes from one offset to another are removed: removals of one kind after one another are one run, but each of a word is a
-  -- run of its own
+  -- the bytes from one offset to another are removed: removals of one kind after one another are one undo group, but each of a word
+  -- is an undo group of its own
   Removes : Removal → ℕ → ℕ → Effect
   RemovesWord : ℕ → ℕ → Effect
-  -- one edit, or a run of edits, is undone or redone
+  -- one edit, or an undo group, is undone or redone
   Steps : HistoryStep → Effect
   StepsRun : HistoryStep → Effect
   -- the cursor goes to a place, or by a number of rows in the kept column

@@ -10,7 +10,7 @@ use Rattle.bx_view.specs.declared.moves.Logical.TheVariants.{Back}
 use Rattle.bx_editor.specs.Editor.{Editor, rows, with_removal}
 use Rattle.bx_editor.specs.Region.{region, is_selection}
 
--- the bytes from `start` to `stop` are removed, in the run before if `goes_on`; if there are none, nothing changes
+-- the bytes from `start` to `stop` are removed, in the undo group before if `goes_on`; if there are none, nothing changes
 abbrev pub after_removing : Data → Editor → ℕ → ℕ → Bool → Editor
 after_removing d e start stop goes_on = if start == stop then e else with_removal d e start stop goes_on
 
@@ -18,8 +18,8 @@ after_removing d e start stop goes_on = if start == stop then e else with_remova
 abbrev pub or_selection : Data → Editor → Editor → Editor
 or_selection d e other = if is_selection e then with_removal d e ((region e).0) ((region e).1) false else other
 
--- A removal that is of one run with those of its kind, `how`, just before: `typing` is what the key before left. Where nothing is
--- removed, the next edit begins a run.
+-- A removal that is of one undo group with those of its kind, `how`, just before: `typing` is what the key before left. Where
+-- nothing is removed, the next edit begins an undo group.
 abbrev pub removed_on : Data → Typing → Removal → Editor → ℕ → ℕ → Editor
 removed_on d typing how e start stop =
     if start == stop
@@ -30,7 +30,8 @@ removed_on d typing how e start stop =
 abbrev pub after_erasing : Data → Typing → Removal → Editor → ℕ → ℕ → Editor
 after_erasing d typing how e start stop = or_selection d e (removed_on d typing how e start stop)
 
--- the bytes from `start` to `stop` are removed by EraseWord or DeleteWord, as a run of their own, or a selection in their place
+-- the bytes from `start` to `stop` are removed by EraseWord or DeleteWord, as an undo group of their own, or a selection in their
+-- place
 abbrev pub after_erasing_word : Data → Editor → ℕ → ℕ → Editor
 after_erasing_word d e start stop = or_selection d e (after_removing d e start stop false)
 

@@ -121,7 +121,7 @@ answer_of Replace = Replaces
 answer_of Repaint = Stays
 answer_of _ = Ends
 
--- the editor after an answer; after a letter a paste goes on, but no run
+-- the editor after an answer; after a letter a paste goes on, but no undo group
 abbrev pub answered : Data → Option StoreFault → Before → Editor → Key → Answer → Editor
 answered d fault was e key (Letter c) = with_typing (after_sought_letter d was.typing e c) (only_paste was.typing)
 answered d fault was e key Shortens = after_shortening d e

@@ -37,8 +37,8 @@ after_paste d e cs = after_keys d None e (PasteStart ∷ (map Insert cs ++ Paste
 abbrev pub place_between : Data → Editor → ℕ
 place_between d e = place_after d e (splice e.content.text (region e).0 (region e).1 []) (region e).0
 
--- `list` was put in as one edit that begins a run; where a selection gave way, as two of one run. The cursor is at the first
--- place at or after its end
+-- `list` was put in as one edit that begins an undo group; where a selection gave way, as two of one undo group. The cursor is at
+-- the first place at or after its end
 pub record IsOneEdit (d : Data) (e : Editor) (list : List ℕ) (new : Editor) : Type 0 where
   pub alone : is_selection e ≡ false → new.content ≡ inserted e.content e.place list e.place new.place
   pub instead : is_selection e ≡ true

@@ -28,11 +28,11 @@ yielding e = if is_selection e then region e else (e.place, e.place)
 abbrev pub has_room : Editor → List ℕ → Bool
 has_room e new = fits e.content.text (yielding e).0 (yielding e).1 new
 
--- the selection is removed, and bytes are inserted at the place after that: two edits of one run
+-- the selection is removed, and bytes are inserted at the place after that: two edits of one undo group
 abbrev pub with_selection_replaced : Data → Editor → List ℕ → Editor
 with_selection_replaced d e new = with_insertion d (with_removal d e (region e).0 (region e).1 false) new true
 
--- bytes are put in, in the run before if `goes_on` and nothing is selected; without room the text stays as it is
+-- bytes are put in, in the undo group before if `goes_on` and nothing is selected; without room the text stays as it is
 abbrev pub put_in : Data → Editor → List ℕ → Bool → Editor
 put_in d e new goes_on =
     if has_room e new

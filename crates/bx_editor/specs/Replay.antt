@@ -10,10 +10,12 @@ use Rattle.bx_editor.specs.Region.{aged}
 abbrev pub after_passed_quit : Editor → Editor
 after_passed_quit e = record e { typing = Off; soft = aged e.soft; goal = None }
 
--- a Save ends a search and a question too; no undo counts as leading to the stored text, since a journal does not tell whether the save succeeded
+-- a Save ends a search and a question too; no undo counts as leading to the stored text, since a journal does not tell whether the
+-- save succeeded
 abbrev pub after_passed_save : Editor → Editor
 after_passed_save e = record (after_passed_quit e) { seek = seeks.Off; ask = asks.Off; stored = None }
 
--- at the end no search is on, nothing is asked, and the next edit begins a run; the text is the stored one unless it counts as changed
+-- at the end no search is on, nothing is asked, and the next edit begins an undo group; the text is the stored one unless it counts
+-- as changed
 abbrev pub at_replay_end : Editor → Editor
 at_replay_end e = record e { seek = seeks.Off; ask = asks.Off; typing = Off; stored = if e.changed then None else Some (length e.content.past) }

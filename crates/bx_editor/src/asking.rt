@@ -21,8 +21,8 @@ use crate::undo_groups::Kind;
 use bx_common::{OutOfMemory, Range};
 use bx_ucd::BidiData;
 
-/// The most characters of the answer to a question: `longest_line` and `longest_code` of specs/Asking.antt, where their reasons are.
-/// A name has none, since its one letter answers; without a question the answer is the latest one.
+/// The most characters of the answer to a question: `longest_line` and `longest_code` of specs/Asking.antt, where their reasons
+/// are. A name has none, since its one letter answers; without a question the answer is the latest one.
 fn limit_of(ask: Prompt) -> usize
     ensures { result ≡ limit_of ask }
 {
@@ -113,7 +113,7 @@ impl<D: BidiData + Drop> Editor<D> {
         Ok(())
     }
 
-    /// Puts a character in at the place, as the beginning of a run; a selection's text stays.
+    /// Puts a character in at the place, as the beginning of an undo group; a selection's text stays.
     fn put_character(&mut self, c: char) -> Result<(), OutOfMemory>
         ensures ok { OnOk result (self.new ≡ record self.old {
           editor = with_character (D.data self.old.tables) (cleared self.old.editor) c;

@@ -17,7 +17,7 @@ use bx_ucd::BidiData;
 use bx_view::{Logical, Move};
 
 impl<D: BidiData + Drop> Editor<D> {
-    /// Removes the bytes from `start` to `stop`, as an edit that goes on with the run before or begins one.
+    /// Removes the bytes from `start` to `stop`, as an edit that goes on with the undo group before or begins one.
     pub(crate) fn remove(
         &mut self,
         start: usize,

@@ -2,8 +2,8 @@
 
 ghost use Rattle.bx_editor.specs.PasteLaws.{CopiesGoOut, PasteIsOneEdit, PasteIsUnseen};
 
-/// Outside a search and a question, a paste is one edit of all that it brings, or two of one run where a selection gives way to it, and
-/// the cursor is after it. If the text has no room for all, nothing is put in.
+/// Outside a search and a question, a paste is one edit of all that it brings, or two of one undo group where a selection gives way
+/// to it, and the cursor is after it. If the text has no room for all, nothing is put in.
 pub fn paste_is_one_edit()
     ensures { PasteIsOneEdit }
 {}

@@ -27,7 +27,7 @@ pub(crate) struct Past {
 }
 
 impl Past {
-    /// Takes in an edit that was made at the length `n`, and goes on with the run before or begins one. Allocates nothing.
+    /// Takes in an edit that was made at the length `n`, and goes on with the undo group before or begins one. Allocates nothing.
     pub(crate) fn edited(&mut self, n: usize, goes_on: bool)
         requires room { self.old.undo_groups.room ≡ true }
         ensures runs { self.new.undo_groups.numbers ≡ edited self.old.undo_groups.numbers n goes_on }

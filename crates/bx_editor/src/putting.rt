@@ -30,7 +30,8 @@ pub(crate) fn only_paste(typing: Typing) -> Typing
 }
 
 impl<D: BidiData + Drop> Editor<D> {
-    /// Inserts bytes at the place, as an edit that goes on with the run before or begins one. Returns whether there was room.
+    /// Inserts bytes at the place, as an edit that goes on with the undo group before or begins one. Returns whether there was
+    /// room.
     pub(crate) fn insert_text(&mut self, new: &str, goes_on: bool) -> Result<bool, OutOfMemory>
         ensures room { IfOk result (λ room. room ≡ fits self.old.editor.content.text self.old.editor.place self.old.editor.place new.now) }
         ensures ok { IfOk result (λ room. self.new ≡ record self.old {
@@ -48,7 +49,7 @@ impl<D: BidiData + Drop> Editor<D> {
         Ok(true)
     }
 
-    /// Puts bytes in place of the region, as two edits of one run. Returns whether there was room.
+    /// Puts bytes in place of the region, as two edits of one undo group. Returns whether there was room.
     fn replace_region(&mut self, new: &str) -> Result<bool, OutOfMemory>
         ensures room { IfOk result (λ room. room ≡ fits self.old.editor.content.text (region self.old.editor).0 (region self.old.editor).1 new.now) }
         ensures ok { IfOk result (λ room. self.new ≡ record self.old {
@@ -62,7 +63,8 @@ impl<D: BidiData + Drop> Editor<D> {
         let Some(place) = self.document.replace(start, stop, new, self.cursor.place)? else {
             return Ok(false);
         };
-        // Two edits are noted as one: the second goes on with the first one's run, and changes neither `runs` nor `stored`.
+        // Two edits are noted as one: the second goes on with the first one's undo group, and changes neither `undo_groups` nor
+        // `stored`.
         self.past.edited(n, false);
         self.cursor.move_after_edit(place);
         Ok(true)

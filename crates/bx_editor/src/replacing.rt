@@ -135,7 +135,8 @@ impl<D: BidiData + Drop> Editor<D> {
         else {
             return Ok(false);
         };
-        // One or two edits are noted as one: a second one goes on with the first one's run, and changes neither `runs` nor `stored`.
+        // One or two edits are noted as one: a second one goes on with the first one's undo group, and changes neither
+        // `undo_groups` nor `stored`.
         self.past.edited(n, false);
         self.cursor.move_after_edit(place);
         self.origin = 0;

@@ -1,5 +1,5 @@
-//! What a replay does in place of keys of a journal that save or quit, and its end. Each of the calls wants a paste to be ended before
-//! ([`Editor::end_paste`]).
+//! What a replay does in place of keys of a journal that save or quit, and its end. Each of the calls wants a paste to be ended
+//! before ([`Editor::end_paste`]).
 ghost use Rattle.std.specs.Prelude.{◌≡◌, None};
 ghost use Rattle.bx_editor.specs.Replay.{after_passed_quit, after_passed_save, at_replay_end};
 
@@ -33,8 +33,8 @@ impl<D: BidiData + Drop> Editor<D> {
         self.past.stored = None;
     }
 
-    /// Ends a replay: no search is on, nothing is asked, the next edit begins a run, and the text is the stored one unless it counts
-    /// as changed. Allocates nothing.
+    /// Ends a replay: no search is on, nothing is asked, the next edit begins an undo group, and the text is the stored one unless
+    /// it counts as changed. Allocates nothing.
     pub fn end_replay(&mut self)
         requires no_paste { self.old.editor.pasted ≡ None }
         ensures { self.new ≡ record self.old { editor = at_replay_end self.old.editor } }

@@ -1,4 +1,4 @@
-//! The keys that undo and redo: one edit, or a run of them.
+//! The keys that undo and redo: one edit, or an undo group.
 ghost use Rattle.std.specs.Prelude.{◌≡◌, true, OnErr, OnOk};
 ghost use Rattle.bx_editor.specs.Editor.{after_run_step, after_step, cleared, is_changed_at, nothing_left, run_length};
 
@@ -42,7 +42,7 @@ impl<D: BidiData + Drop> Editor<D> {
         Ok(())
     }
 
-    /// How many edits are undone, back to where a run began, or redone, up to where the next begins.
+    /// How many edits are undone, back to where an undo group began, or redone, up to where the next begins.
     fn run_length(&self, step: HistoryStep) -> usize
         ensures { result ≡ run_length step self.now.editor }
     {
@@ -56,7 +56,7 @@ impl<D: BidiData + Drop> Editor<D> {
         }
     }
 
-    /// Undoes the edits since a run began, or redoes those up to the next run; if there is none, sets a message.
+    /// Undoes the edits since an undo group began, or redoes those up to the next undo group; if there is none, sets a message.
     pub(crate) fn step_run(&mut self, step: HistoryStep) -> Result<(), OutOfMemory>
         ensures ok { OnOk result (self.new ≡ record self.old { editor = after_run_step step (cleared self.old.editor) }) }
         ensures err { OnErr result (self.new ≡ self.old) }

@@ -31,8 +31,8 @@ impl<D: BidiData + Drop> Editor<D> {
         }
     }
 
-    /// Puts `opener` before the region and `closer` behind it, as two edits of one run; if the region spans lines or the text is
-    /// full, sets a message instead.
+    /// Puts `opener` before the region and `closer` behind it, as two edits of one undo group; if the region spans lines or the
+    /// text is full, sets a message instead.
     pub(crate) fn wrap(&mut self, opener: char, closer: char) -> Result<(), OutOfMemory>
         ensures ok { OnOk result (self.new ≡ record self.old {
           editor = after_wrapping (D.data self.old.tables) (cleared self.old.editor) opener closer;

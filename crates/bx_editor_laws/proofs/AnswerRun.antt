@@ -30,7 +30,7 @@ use Rattle.bx_editor_laws.proofs.OneRun.{goes-back, insertion-begins, IsOneRun}
 use Rattle.bx_editor_laws.proofs.QuestionKeys.{asked-key, last-asked, typed-leaves}
 use Rattle.bx_editor.proofs.TwoEdits.{runs-of-two}
 
--- ---- two edits of one run
+-- ---- two edits of one undo group
 
 two-start : (numbers : List ℕ) (n : ℕ) → run_start (edited numbers n false) (suc (suc n)) ≡ n
 two-start numbers n =
@@ -44,7 +44,7 @@ wrap-begins d e opener closer = record { more = 1; over = (refl, (refl, refl)); 
 
 -- ---- an answer
 
--- text and history stay, or a run is put in
+-- text and history stay, or an undo group is put in
 abbrev PutsRun : Editor → Editor → Type 0
 PutsRun e new = (new.content ≡ e.content) ⊎ IsOneRun e new
 

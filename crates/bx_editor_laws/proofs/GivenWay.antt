@@ -158,7 +158,7 @@ selection-is-removed d e key has is =
 
 -- ---- something is put in its place
 
--- the bytes stand in its place, of one run with its removal, or were refused
+-- the bytes stand in its place, of one undo group with its removal, or were refused
 record Yields (d : Data) (e : Editor) (bytes : List ℕ) (new : Editor) : Type 0 where
   pub fits : length (rest_with d e bytes) ≤ largest_text → IsReplacedBy d e bytes new
   pub goes : length (rest_with d e bytes) ≤ largest_text → IsOneRun e new × (new.pasted ≡ None)

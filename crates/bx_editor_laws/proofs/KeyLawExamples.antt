@@ -153,7 +153,7 @@ behind_ab = after (start [] 5 40) (letters (codes "ab"))
 abbrev saved_ab : Editor
 saved_ab = after behind_ab (Save ∷ [])
 
--- the blank is a run, and cd another
+-- the blank is an undo group, and cd another
 abbrev one_run_undone : List Key
 one_run_undone = letters (codes " cd") ++ UndoRun ∷ []
 

@@ -30,7 +30,7 @@ ran-to : (e new : Editor) (t now : Edited) (place there : ℕ) (changed : Bool) 
 ran-to e new t now place there changed is same at =
     subst (IsUnmarked t place) (sym is) (record { content_is = same; unmarked = record { place_is = at; mark_is = refl } })
 
--- a run is redone from an editor of any history that has enough edits
+-- an undo group is redone from an editor of any history that has enough edits
 redo-any : (d : Data) (e : Editor) (n : ℕ) (text : List ℕ) (past future : List Edit) → e.pasted ≡ None → suc n ≤ length future
     → let t : Edited = version text past future in let now : Editor = record e { content = t } in run_length steps.Redo now ≡ suc n
     → after_key d None now RedoRun

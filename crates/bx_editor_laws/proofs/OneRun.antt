@@ -1,4 +1,4 @@
--- Characters that go on with each other are one run, which one UndoRun takes back.
+-- Characters that go on with each other are one undo group, which one UndoRun takes back.
 use Rattle.std.proofs.Common.{◌≡◌, ℕ, zero, suc, ◌+◌, ◌-◌, ◌≤◌, ◌<◌, Bool, true, false, List, [], ◌∷◌, ◌++◌, length, map, take, drop}
 use Rattle.std.proofs.Common.{refl, sym, ap}
 use Rattle.std.proofs.Common.{ap₂, subst, ◌∙◌, arith, inl, inr, if◌then◌else◌, length-append}
@@ -57,7 +57,7 @@ over-back first zero text place past future h = h
 over-back first (suc n) text place [] future h = absurd (cc h)
 over-back first (suc n) text place (edit ∷ past) future h = over-back first n edit.before.text edit.before.place past (edit ∷ future) h
 
--- at least one edit, of one run that began at `first`
+-- at least one edit, of one undo group that began at `first`
 pub record Going (first : Editor) (t : Edited) (place : ℕ) (runs : List ℕ) : Type 0 where
   pub more : ℕ
   pub over : IsOver first (suc more) t.text place t.past
@@ -163,7 +163,7 @@ letter-waits d first e c h =
     subst (Waits first) (sym (ap (λ pasted. after_press d None pasted e (Insert c)) h.pasted))
     (record { nothing = h.nothing; list = longer is_crlf h.list c; pasted = ap (λ pasted. pasted_with is_crlf pasted c) h.pasted })
 
--- nothing was put in, or edits of one run were made
+-- nothing was put in, or edits of one undo group were made
 abbrev InRun : Editor → Editor → Type 0
 InRun first e = Nothing first e ⊎ IsOneRun first e
 
@@ -315,7 +315,7 @@ with-size : (first e : Editor) (typing : Typing) (c : ℕ) (cs : List ℕ) → T
     → Types first e typing (length (encode_utf8 c) + length (encode_utf8_all cs))
 with-size first e typing c cs h = subst (Types first e typing) (length-append (encode_utf8 c) (encode_utf8_all cs)) h
 
--- what was typed is one run, and no paste is under way
+-- what was typed is one undo group, and no paste is under way
 abbrev Ran : Editor → Editor → Type 0
 Ran first e = IsOneRun first e × (e.pasted ≡ None)
 

@@ -1,4 +1,4 @@
--- Worked examples: replacing, with its question, its matches and its runs.
+-- Worked examples: replacing, with its question, its matches and its undo groups.
 use Rattle.std.proofs.Common.{◌≡◌, ℕ, List, [], ◌∷◌, ◌++◌, length, replicate, Option, Some, None, refl}
 use Rattle.std.specs.Prelude.{codes, encode_utf8_all}
 use Rattle.std.specs.Fmt.{digits}

@@ -17,7 +17,7 @@ use Rattle.bx_editor_laws.specs.RunLaws.{IsBackBefore}
 use Rattle.bx_editor_laws.proofs.OneRun.{goes-back, removal-begins, IsOneRun, IsOver, Nothing}
 use Rattle.bx_editor_laws.proofs.MatchReplaced.{each-replaces}
 
--- nothing was edited, or edits of one run were made
+-- nothing was edited, or edits of one undo group were made
 abbrev InRun : Editor → Editor → Type 0
 InRun first e = Nothing first e ⊎ IsOneRun first e
 

@@ -103,7 +103,7 @@ all-redos d e n text edit past future settled few =
     ∙ redo-first d (before e) e.ask e.seek e text edit past future refl)
     ∙ after-redos d e n edit.after.text (edit ∷ past) future edit.after.place settled few
 
--- ---- a run at once
+-- ---- an undo group at once
 
 undo-found : (d : Data) (was : Before) (ask : Prompt) (seek : SearchState) (e : Editor) (content : Edited) (place : ℕ) (changed : Bool) → e.ask ≡ ask
     → ((a : Prompt) (s : SearchState) → after_run_step steps.Undo (record e { ask = a; seek = s }) ≡ with_step (record e { ask = a; seek = s }) content place changed)
@@ -217,7 +217,7 @@ redo-either d was asks.Line seek e h = h asks.Off e.seek
 redo-either d was asks.Name seek e h = h asks.Off e.seek
 redo-either d was asks.Code seek e h = h asks.Off e.seek
 
--- ---- how long a run is
+-- ---- how long an undo group is
 
 pub undo-length : (numbers : List ℕ) (n : ℕ) → suc n - run_start numbers (suc n) ≡ suc (n - run_start numbers (suc n))
 undo-length numbers n = omega (arith, start-bound numbers (suc n))

@@ -1,4 +1,4 @@
--- Worked examples: runs of edits, from the definitions and each from a law alone.
+-- Worked examples: undo groups, from the definitions and each from a law alone.
 use Rattle.std.proofs.Common.{◌≡◌, ℕ, ◌<◌, ◌≤◌, Bool, true, false, List, [], ◌∷◌, ◌++◌, length, map, replicate, refl, ap, inr, arith}
 use Rattle.std.specs.Prelude.{codes, Option, Some, None}
 use Rattle.std.specs.Fmt.{digits}
@@ -30,7 +30,7 @@ use Rattle.bx_editor.proofs.Computed.{tables, start, after, letters}
 abbrev edited : List ℕ → List Key → List ℕ × ℕ
 edited text keys = let e = after (start text 5 40) keys in (e.content.text, e.place)
 
--- where runs begin, and what the next edit may go on with
+-- where undo groups begin, and what the next edit may go on with
 abbrev run_at : List ℕ → List Key → List ℕ × Typing
 run_at text keys = let e = after (start text 5 40) keys in (e.undo_groups, e.typing)
 
@@ -41,7 +41,7 @@ told text keys = let e = after (start text 5 40) keys in (e.changed, e.message)
 abbrev two_words : List Key
 two_words = letters (codes "ab cd")
 
--- ---- which edits are of one run
+-- ---- which edits are of one undo group
 
 pub a_word_and_blanks_are_a_run : run_at [] two_words ≡ (0 ∷ 3 ∷ [], Word)
 unfolding unicode_segmentation unicode_width digits

@@ -271,7 +271,7 @@ module _ (s : List ℕ) (d : Data) (fault : Option StoreFault) (was : Before) (e
 
 -- ---- in a question
 
--- two edits of one run
+-- two edits of one undo group
 wrapping : (s : List ℕ) (d : Data) (e : Editor) (opener closer : List ℕ) → Has s e → Has s (with_wrap d e opener closer)
 wrapping s d e opener closer h =
     let t = e.content in

@@ -1,4 +1,4 @@
--- Laws of runs of edits, and of the text that was stored. `d`, `e` and `new` are as in Laws.antt.
+-- Laws of undo groups, and of the text that was stored. `d`, `e` and `new` are as in Laws.antt.
 use Rattle.std.specs.Prelude.{◌≡◌, ◌≢◌, ℕ, ◌+◌, ◌-◌, ◌&&◌, ◌<◌, ◌≤◌, false, List, [], ◌∷◌, ◌++◌, length, map, replicate, encode_utf8_all}
 use Rattle.std.specs.Prelude.{All, Option, None, is_none, if◌then◌else◌}
 use Rattle.bx_common.specs.Characters.{largest_text}
@@ -21,31 +21,32 @@ use Rattle.bx_editor.specs.Functions.{after_keys}
 use Rattle.bx_editor.specs.Putting.{paste_ended}
 use Rattle.bx_editor_laws.specs.Laws.{after_typing, IsUnmarkedAt}
 
--- ---- a run, edit by edit
+-- ---- an undo group, edit by edit
 
--- how many edits are undone until none is left or a run begins
+-- how many edits are undone until none is left or an undo group begins
 abbrev pub undos : Editor → ℕ
 undos e = length e.content.past - undone e.undo_groups (length e.content.past)
 
--- how many edits are redone until none is left or the next run begins
+-- how many edits are redone until none is left or the next undo group begins
 abbrev pub redos : Editor → ℕ
 redos e = redone e.undo_groups (length e.content.past) (length e.content.future) - length e.content.past
 
--- `key` steps over a run, `one` over an edit; `edits` are those that are left to step over. If there are some, `key` does what
--- `n` presses of `one` do, one at least; but the text then counts as changed only if it is not the one that was stored or opened
--- last, which its number of edits tells. If there are none, `key` does what `one` does.
+-- `key` steps over an undo group, `one` over an edit; `edits` are those that are left to step over. If there are some, `key` does
+-- what `n` presses of `one` do, one at least; but the text then counts as changed only if it is not the one that was stored or
+-- opened last, which its number of edits tells. If there are none, `key` does what `one` does.
 pub record IsManySteps (d : Data) (e : Editor) (key one : Key) (n : ℕ) (edits : List Edit) : Type 0 where
   pub many : edits ≢ [] → let all = after_keys d None e (replicate n one) in
       after_key d None e key ≡ record all { changed = is_changed_at (length all.content.past) all.stored }
   pub some : edits ≢ [] → 0 < n
   pub none : edits ≡ [] → after_key d None e key ≡ after_key d None e one
 
--- UndoRun and RedoRun step so over a run
+-- UndoRun and RedoRun step so over an undo group
 pub record RunsAreSteps (d : Data) (e : Editor) : Type 0 where
   pub undo : IsManySteps d e UndoRun Undo (undos e) e.content.past
   pub redo : IsManySteps d e RedoRun Redo (redos e) e.content.future
 
--- outside a paste UndoRun does what `undos` presses of Undo do, RedoRun what `redos` presses of Redo do, but for what counts as changed
+-- outside a paste UndoRun does what `undos` presses of Undo do, RedoRun what `redos` presses of Redo do, but for what counts as
+-- changed
 abbrev pub RunKeysAreSteps : Type 0
 RunKeysAreSteps = (d : Data) (e : Editor) → e.pasted ≡ None → RunsAreSteps d e
 
@@ -55,8 +56,9 @@ RunKeysAreSteps = (d : Data) (e : Editor) → e.pasted ≡ None → RunsAreSteps
 abbrev pub all_edits : Editor → ℕ
 all_edits e = length e.content.past + length e.content.future
 
--- UndoRun then RedoRun leaves text, past and future unchanged where a run ends, and the cursor at its place after the latest
--- edit. RedoRun then UndoRun leaves them unchanged where a run begins, and the cursor at its place before the next edit.
+-- UndoRun then RedoRun leaves text, past and future unchanged where an undo group ends, and the cursor at its place after the
+-- latest edit. RedoRun then UndoRun leaves them unchanged where an undo group begins, and the cursor at its place before the next
+-- edit.
 pub record RunsAreMirrored (d : Data) (e : Editor) : Type 0 where
   pub redo : EndsAt e.undo_groups (all_edits e) (length e.content.past) → (after_keys d None e (UndoRun ∷ RedoRun ∷ [])).content ≡ e.content
   pub redo_place : EndsAt e.undo_groups (all_edits e) (length e.content.past) → (edit : Edit) (past : List Edit) → e.content.past ≡ edit ∷ past
@@ -72,7 +74,7 @@ RedoRunMirrorsUndoRun =
     (d : Data) (text : List ℕ) (height width : ℕ) (base : Base) (typed : List (Key × Option StoreFault))
     → let e = after_typing d (at_start text height width base) typed in e.pasted ≡ None → RunsAreMirrored d e
 
--- ---- what is one run
+-- ---- what is one undo group
 
 -- text, past and place are those of `e`, and no mark is set
 pub record IsBackBefore (e new : Editor) : Type 0 where
@@ -90,8 +92,8 @@ pub record IsWord (d : Data) (letters blanks : List ℕ) : Type 0 where
   pub are_letters : AreOfKind d Letter letters
   pub are_blanks : AreOfKind d Blank blanks
 
--- outside a search, a question and a paste, and where the first letter goes on with no run, one UndoRun takes back a typed word
--- and the blanks after it, if there was room for them
+-- outside a search, a question and a paste, and where the first letter goes on with no undo group, one UndoRun takes back a typed
+-- word and the blanks after it, if there was room for them
 abbrev pub WordIsARun : Type 0
 WordIsARun =
     (d : Data) (e : Editor) (letters blanks : List ℕ) → e.ask ≡ asks.Off → e.seek ≡ Off → e.pasted ≡ None → e.typing ≡ typings.Off

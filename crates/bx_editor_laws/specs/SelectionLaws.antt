@@ -73,7 +73,7 @@ SeekingTakesSelectionOff =
 -- ---- Cancel
 
 -- Outside a question Cancel removes the mark, a selection's too; in one it ends the question, and the mark stays. The message, an
--- earlier Quit and a kept column are gone, and the next edit begins a run; nothing else changes.
+-- earlier Quit and a kept column are gone, and the next edit begins an undo group; nothing else changes.
 pub record IsCancelled (e new : Editor) : Type 0 where
   pub unmarked : e.ask ≡ asks.Off
       → new ≡ record e { mark = None; soft = Off; typing = typings.Off; message = None; quit_before = false; goal = None }

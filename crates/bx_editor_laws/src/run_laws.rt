@@ -1,17 +1,17 @@
-//! Laws of runs of edits, and of the text that was stored. The functions are empty: their contracts are the laws.
+//! Laws of undo groups, and of the text that was stored. The functions are empty: their contracts are the laws.
 
 ghost use Rattle.bx_editor_laws.specs.RunLaws.{RedoRunMirrorsUndoRun, RunKeysAreSteps, UnchangedIsStored, WordIsARun};
 ghost use Rattle.bx_editor_laws.specs.StoredLaws.{StoredIsUnchanged};
 
-/// Outside a paste, UndoRun does what Undo does once for each edit since a run began, and RedoRun what Redo does once for each edit
-/// up to the next run. They differ in one thing: after UndoRun or RedoRun the text that was stored or opened last counts as unchanged,
-/// and no other does.
+/// Outside a paste, UndoRun does what Undo does once for each edit since an undo group began, and RedoRun what Redo does once for
+/// each edit up to the next undo group. They differ in one thing: after UndoRun or RedoRun the text that was stored or opened last
+/// counts as unchanged, and no other does.
 pub fn run_keys_are_steps()
     ensures { RunKeysAreSteps }
 {}
 
 /// After anything that was typed over an opened text, outside a paste: UndoRun then RedoRun leaves text, past and future unchanged,
-/// if a run ends at the text. RedoRun then UndoRun leaves them unchanged, if a run begins there.
+/// if an undo group ends at the text. RedoRun then UndoRun leaves them unchanged, if an undo group begins there.
 pub fn redo_run_mirrors_undo_run()
     ensures { RedoRunMirrorsUndoRun }
 {}
@@ -26,8 +26,8 @@ pub fn unchanged_is_stored()
     ensures { UnchangedIsStored }
 {}
 
-/// Outside a paste, UndoRun and RedoRun find the text unchanged that a Save stored, or that was opened, if they lead back to it by its
-/// number of edits; any other text is changed. So it is until another text is stored, or an edit drops the stored one.
+/// Outside a paste, UndoRun and RedoRun find the text unchanged that a Save stored, or that was opened, if they lead back to it by
+/// its number of edits; any other text is changed. So it is until another text is stored, or an edit drops the stored one.
 pub fn stored_is_unchanged()
     ensures { StoredIsUnchanged }
 {}

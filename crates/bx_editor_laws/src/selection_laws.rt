@@ -15,8 +15,8 @@ pub fn seeking_takes_selection_off()
     ensures { SeekingTakesSelectionOff }
 {}
 
-/// Outside a search and a paste, Cancel removes the mark, a selection's too; in a question it ends that instead. It takes the message
-/// away and forgets an earlier Quit, a kept column and the run of edits, and changes nothing else.
+/// Outside a search and a paste, Cancel removes the mark, a selection's too; in a question it ends that instead. It takes the
+/// message away and forgets an earlier Quit, a kept column and the undo group, and changes nothing else.
 pub fn cancel_unmarks()
     ensures { CancelUnmarks }
 {}
