@@ -261,11 +261,11 @@ static void on_journal(void *whose, bool is_kept) {
 /* A successful save replaces FILE by a new file. The session records that file, by which it is found later. */
 static void on_saved(void *whose) {
     struct edit *edit = whose;
-    struct file_stamp look;
+    struct file_stamp stamp;
     if (saver_cause(&edit->saver) != 0) return;
     edit->was_saved = true;
-    if (session_is_none(&edit->session) || !saver_stamp(&edit->saver, &look, &edit->target.id)) return;
-    edit->target.is_there = look.is_there;
+    if (session_is_none(&edit->session) || !saver_stamp(&edit->saver, &stamp, &edit->target.id)) return;
+    edit->target.is_there = stamp.is_there;
     session_note_file(&edit->session, &edit->target);
 }
 

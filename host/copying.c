@@ -36,6 +36,7 @@ static bool is_being_written(const struct stat *look) {
     return clock_gettime(CLOCK_REALTIME, &today) == 0 && today.tv_sec - look->st_mtim.tv_sec <= CALM;
 }
 
+/* Copies an open file over the session's text. Returns 0 or an errno. */
 static int copy_over(struct session *session, int file) {
     int error = ftruncate(session->text, 0) == 0 && lseek(session->text, 0, SEEK_SET) == 0 ? 0 : errno;
     return error ? error : copy_file(file, 0, session->text);
@@ -96,10 +97,12 @@ static int write_text(struct session *session, struct report *said) {
     return error;
 }
 
+/* Whether a part is to be kept and its file is not written. */
 static bool lacks_part(const struct session *session, enum part part) {
     return session->parts[part].is_kept && !session->parts[part].is_written;
 }
 
+/* Writes a part that is lacking. Returns 0 or an errno. */
 static int write_part(const struct session *session, enum part part) {
     const struct kept_part *kept = &session->parts[part];
     return lacks_part(session, part) ? put_part(session, part, kept->bytes, kept->size) : 0;
@@ -202,6 +205,7 @@ int write_session(struct session *session) {
     return said.error;
 }
 
+/* Takes the end of a child that has reported. */
 static void reap_writer(struct session *session) {
     if (session->child > 0 && session->report < 0 && waitpid(session->child, NULL, WNOHANG) != 0) session->child = -1;
 }
@@ -329,6 +333,7 @@ enum keeping session_mind(struct session *session) {
     return judge_keeping(&facts);
 }
 
+/* Waits so long for the child, and then ends it. */
 static void await_child(struct session *session, int milliseconds) {
     hear_child(session, milliseconds);
     end_child(session);

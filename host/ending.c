@@ -151,11 +151,13 @@ static void give_mode(const struct edit *edit) {
     close(file);
 }
 
+/* Whether FILE is there now. */
 static bool is_there_now(const struct edit *edit) {
-    struct file_stamp look;
-    return stamp_again(&edit->file, &look) && look.is_there;
+    struct file_stamp stamp;
+    return stamp_again(&edit->file, &stamp) && stamp.is_there;
 }
 
+/* Says where the recovered text is, if it was saved as another file. */
 static void tell_aside(const struct edit *edit) {
     if (edit->aside_of && is_there_now(edit))
         warn("%s was changed by another program, so the recovered text is in %s", shown(edit->aside_of), shown(edit->file.typed));
@@ -251,6 +253,7 @@ static bool leave_text(struct edit *edit) {
     return found == REPLAY_SAME;
 }
 
+/* Whether FILE's folder was removed. */
 static bool is_folder_gone(const struct file *file) {
     struct stat look;
     return fstat(file->folder, &look) == 0 && look.st_nlink == 0;
@@ -331,6 +334,7 @@ static void wipe_changes(struct edit *edit) {
     else warn("the dropped changes cannot be deleted from %s%s", shown(edit->session.path), fault_words(error));
 }
 
+/* Leaves the session to be recovered, and says so. */
 static void leave_session(struct edit *edit) {
     if (edit->facts.is_journal_lost) session_note_cut(&edit->session);
     tell_kept(edit, "unsaved text is kept", " restores it");

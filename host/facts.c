@@ -92,6 +92,7 @@ static enum answer has_attribute(int at, const char *name, size_t least) {
     return (size_t)length > least ? YES : NO;
 }
 
+/* Yes if one of the answers is yes; unknown if none is and one is unknown. */
 static enum answer either(enum answer one, enum answer another) {
     if (one == YES || another == YES) return YES;
     return one == UNKNOWN || another == UNKNOWN ? UNKNOWN : NO;
@@ -102,6 +103,7 @@ enum answer has_access_list(int at) {
     return own == YES ? YES : either(own, find_network_list(at).is_more);
 }
 
+/* Whether a folder gives an access list to new files in it. */
 static enum answer gives_access_lists(int folder) {
     enum answer given = has_attribute(folder, "system.posix_acl_default", POSIX_HEADER);
     return given == YES ? YES : either(given, find_network_list(folder).is_given);

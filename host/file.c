@@ -16,25 +16,25 @@
  * END_BYTES: the length of DRAFT_END. */
 enum { MOST_LINKS = 40, OPEN_TRIES = 10, FRONT = 512, MOST_NAMES = 20000, MOST_DRAFTS = 10, END_BYTES = sizeof DRAFT_END - 1 };
 
-/* ---- looks */
+/* ---- file stamps */
 
-bool stamp_at(int folder, const char *name, struct file_stamp *look) {
-    memset(look, 0, sizeof *look);
-    look->is_there = fstatat(folder, name, &look->found, AT_SYMLINK_NOFOLLOW) == 0;
-    return look->is_there || errno == ENOENT;
+bool stamp_at(int folder, const char *name, struct file_stamp *stamp) {
+    memset(stamp, 0, sizeof *stamp);
+    stamp->is_there = fstatat(folder, name, &stamp->found, AT_SYMLINK_NOFOLLOW) == 0;
+    return stamp->is_there || errno == ENOENT;
 }
 
-bool stamp_and_open(int folder, const char *name, struct file_stamp *look, int *itself) {
-    memset(look, 0, sizeof *look);
+bool stamp_and_open(int folder, const char *name, struct file_stamp *stamp, int *itself) {
+    memset(stamp, 0, sizeof *stamp);
     *itself = open_itself(folder, name);
     if (*itself < 0) return errno == ENOENT;
-    look->is_there = fstat(*itself, &look->found) == 0;
-    if (!look->is_there) close_one(itself);
-    return look->is_there;
+    stamp->is_there = fstat(*itself, &stamp->found) == 0;
+    if (!stamp->is_there) close_one(itself);
+    return stamp->is_there;
 }
 
-bool stamp_again(const struct file *file, struct file_stamp *look) {
-    return stamp_at(file->folder, file->name, look);
+bool stamp_again(const struct file *file, struct file_stamp *stamp) {
+    return stamp_at(file->folder, file->name, stamp);
 }
 
 bool find_id(int at, struct file_id *id) {

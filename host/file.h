@@ -113,14 +113,14 @@ const char *not_utf8_message(const struct file *file, unsigned long long line);
 const char *too_long_message(const struct file *file);
 
 /* Looks at a name in a folder. Returns false at a fault other than that nothing is there. */
-bool stamp_at(int folder, const char *name, struct file_stamp *look);
+bool stamp_at(int folder, const char *name, struct file_stamp *stamp);
 
 /* The same, and opens what is there by O_PATH, so that all later questions are about one file. `itself` is -1 if nothing is there, or
  * at a fault. */
-bool stamp_and_open(int folder, const char *name, struct file_stamp *look, int *itself);
+bool stamp_and_open(int folder, const char *name, struct file_stamp *stamp, int *itself);
 
 /* Looks at FILE's name now. */
-bool stamp_again(const struct file *file, struct file_stamp *look);
+bool stamp_again(const struct file *file, struct file_stamp *stamp);
 
 /* Whether both are the same file; whether it is also unchanged, by size, times, owner, permissions and number of names. */
 bool is_same_file(const struct stat *one, const struct stat *other);

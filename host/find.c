@@ -133,6 +133,7 @@ static int search(struct found *found, const struct sessions *sessions, const st
     return error;
 }
 
+/* Moves a session to where none is yet. */
 static void take_missing(struct session *to, struct session *from) {
     if (session_is_none(to)) session_move(to, from);
 }

@@ -56,6 +56,7 @@ static int open_above(int folder, struct stat *found) {
 
 /* ---- one folder, judged */
 
+/* Notes that the folder is missing, or cannot be used, and why. */
 static void fail_with(struct sessions *sessions, int error) {
     sessions->state = error == ENOENT ? FOLDER_MISSING : FOLDER_UNUSABLE;
     sessions->error = error;
@@ -218,6 +219,7 @@ static bool own_folder_in(const char *folder, char path[PATH_MAX]) {
     return put_path(path, "%.*s/%s.%u", (int)length, folder, OWN_NAME, (unsigned)geteuid());
 }
 
+/* The path of the user's folder of sessions in an open folder. */
 static bool own_folder_at(int folder, const char *name, char path[PATH_MAX]) {
     char real[PATH_MAX];
     return own_folder_in(path_of(folder, real) ? real : name, path);
@@ -241,6 +243,7 @@ bool is_state_home_relative(void) {
     return state && state[0] != '/';
 }
 
+/* The path of the folder of sessions in a home folder. */
 static bool below_home(const char *home, char path[PATH_MAX]) {
     return put_path(path, "%s/.local/state/%s", home, OWN_NAME);
 }
@@ -271,6 +274,7 @@ static bool state_folder(char path[PATH_MAX]) {
 
 /* ---- folders in memory */
 
+/* The folder in memory: the user's own, or that of the system. */
 static const char *runtime_folder(void) {
     const char *runtime = variable("XDG_RUNTIME_DIR");
     return runtime ? runtime : SHARED_MEMORY;
@@ -333,6 +337,7 @@ static bool find_place(int folder_of_file, char path[PATH_MAX]) {
     return has_state;
 }
 
+/* No folder of sessions yet. */
 static void sessions_clear(struct sessions *sessions) {
     *sessions = (struct sessions){.state = FOLDER_NOWHERE, .folder = -1, .user = geteuid()};
 }
@@ -379,6 +384,7 @@ static void add_folder(struct list *list, const char *path) {
     list->all[list->count++] = sessions;
 }
 
+/* Adds the user's folder of sessions in a folder that others may use too. */
 static void add_own_folder_in(struct list *list, const char *folder) {
     char path[PATH_MAX];
     if (folder && own_folder_in(folder, path)) add_folder(list, path);

@@ -63,6 +63,7 @@ static bool add_words(char *all[OWN_WORDS + WORDS_MOST + 2], size_t count, char 
     return true;
 }
 
+/* In the child: lets the program keep the open files that its command line names. */
 static void hand_on_files(const struct run *run) {
     for (size_t i = 0; i < run->handed_count; i++)
         if (run->handed[i] >= 0) fcntl(run->handed[i], F_SETFD, 0);

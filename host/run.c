@@ -71,6 +71,7 @@ bool was_typed(void) {
     return is_typed;
 }
 
+/* Reads the program's frames, and closes the pipe at its end. */
 static void hear_words(struct run *run) {
     if (now_running.pipes.words < 0 || read_words_of(run, &now_running.reader, now_running.pipes.words)) return;
     close_one(&now_running.pipes.words);
@@ -121,6 +122,7 @@ static void mind_request(struct run *run) {
     else now_running.dropped = now() + SILENCE_MS;
 }
 
+/* Whether the terminal is read now: not while the queue is full, but always during an end, for which what is typed is dropped. */
 static bool takes_typing(void) {
     return !now_running.is_hung_up && (now_running.end != 0 || queue_length(&now_running.queue) < TYPED_MOST);
 }
@@ -264,6 +266,7 @@ static void mind_second(struct run *run) {
     if (is_read && queue_length(&now_running.queue) == 0) give_notice(NOTICE_NONE);
 }
 
+/* Writes what the program takes. A program that reads no more gets no more. */
 static void mind_queue(void) {
     if (now_running.pipes.keys >= 0 && !write_queue(&now_running.queue, now_running.pipes.keys)) close_input();
 }

@@ -51,11 +51,13 @@ static int stamp_now(struct save *save, int *itself) {
     return SAVE_CHANGED;
 }
 
+/* Whether an open folder is this one. */
 static bool is_folder_at(int folder, dev_t device, ino_t inode) {
     struct stat found;
     return fstat(folder, &found) == 0 && found.st_dev == device && found.st_ino == inode;
 }
 
+/* Opens the folder that is now at the path of FILE's folder. */
 static int open_folder_path(const struct save *save) {
     return open_folder(AT_FDCWD, save->file->folder_path);
 }
@@ -396,9 +398,9 @@ int saver_cause(const struct saver *saver) {
     return current(saver)->cause;
 }
 
-bool saver_stamp(const struct saver *saver, struct file_stamp *look, struct file_id *id) {
+bool saver_stamp(const struct saver *saver, struct file_stamp *stamp, struct file_id *id) {
     const struct state *state = current(saver);
-    *look = state->seen;
+    *stamp = state->seen;
     *id = state->id;
     return state->has_id;
 }

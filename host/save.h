@@ -45,7 +45,7 @@ void saver_refuse(struct saver *saver);
 int saver_cause(const struct saver *saver);
 
 /* FILE as the last save left or found it; false where no save looked at it. */
-bool saver_stamp(const struct saver *saver, struct file_stamp *look, struct file_id *id);
+bool saver_stamp(const struct saver *saver, struct file_stamp *stamp, struct file_id *id);
 
 /* FILE may have a part of its new text alone. A mark has the whole: this name beside FILE, or MARK_NAME in the session's folder,
  * where it gives NULL. */

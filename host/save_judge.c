@@ -16,9 +16,9 @@ static enum reason reason_for(const struct facts *file, nlink_t names, const str
     return folder->gives_access_lists ? REASON_GIVEN_LIST : NO_REASON;
 }
 
-enum reason find_in_place(const struct facts *file, const struct file_stamp *look, const struct facts *folder) {
-    if (!look->is_there || !S_ISREG(look->found.st_mode) || !file->writable) return NO_REASON;
-    return reason_for(file, look->found.st_nlink, folder);
+enum reason find_in_place(const struct facts *file, const struct file_stamp *stamp, const struct facts *folder) {
+    if (!stamp->is_there || !S_ISREG(stamp->found.st_mode) || !file->writable) return NO_REASON;
+    return reason_for(file, stamp->found.st_nlink, folder);
 }
 
 const char *reason_text(enum reason reason) {

@@ -21,7 +21,7 @@ enum reason {
 
 /* Why a new file must not replace a file; NO_REASON if it may, if it is not a plain file, or if the user cannot write it. By the
  * facts about the file, the look at it, and the facts about its folder. */
-enum reason find_in_place(const struct facts *file, const struct file_stamp *look, const struct facts *folder);
+enum reason find_in_place(const struct facts *file, const struct file_stamp *stamp, const struct facts *folder);
 
 /* What messages say about the file, and about what a save by a new file would do to it. */
 const char *reason_text(enum reason reason);

@@ -238,6 +238,7 @@ static void begin_key(struct key_count *count, unsigned char byte) {
     count->after = behind_first(byte);
 }
 
+/* Counts some keys less, at least none. */
 static void take_back(struct key_count *count, size_t keys) {
     count->keys = count->keys > keys ? count->keys - keys : 0;
 }

@@ -262,6 +262,7 @@ void note_own_word(char *word) {
     own_word = word;
 }
 
+/* Writes another name over the host's own, within its room in the command line. */
 static void set_own_word(const char *bytes, size_t length) {
     for (size_t i = 0; i < length; i++) own_word[i] = bytes[i];
 }

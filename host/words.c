@@ -96,17 +96,20 @@ static void take_direction(struct reading *reading, const char *value) {
     else reading->call->direction = (enum direction)direction;
 }
 
+/* The value of --line. */
 static void take_line(struct reading *reading, const char *value) {
     unsigned long line;
     if (!line_of_digits(value, strlen(value), &line)) reading->cause = text_of("--line needs a number, not %s", shown(value));
     else reading->call->line = line_option(line);
 }
 
+/* The value of --to. */
 static void take_other(struct reading *reading, const char *value) {
     if (!*value) reading->cause = "the name of OTHER is empty";
     reading->other = value;
 }
 
+/* The value of --cols. */
 static void take_columns(struct reading *reading, const char *value) {
     unsigned long columns = 0;
     bool is_number = strlen(value) <= 3 && line_of_digits(value, strlen(value), &columns);

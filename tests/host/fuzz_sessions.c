@@ -121,6 +121,7 @@ static void hear_forgotten(void *context, const struct forgotten *forgotten) {
     require(forgotten->error == 0);
 }
 
+/* Reads all that a start reads of a session that it finds. */
 static void look_at_session(const struct session *session) {
     struct process process;
     struct begin begin;
@@ -133,6 +134,7 @@ static void look_at_session(const struct session *session) {
     session_kilobytes(session);
 }
 
+/* Takes these bytes as the files of a session, and does with the session all that a start does. */
 static void try_folder(const uint8_t *bytes, size_t size) {
     static const char name[] = "20200101000000.abcdef";
     struct sessions sessions;

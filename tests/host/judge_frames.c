@@ -23,10 +23,12 @@ static const char *shown(const unsigned char *bytes, size_t length) {
     return text;
 }
 
+/* What a queue still has to write, as text. */
 static const char *queued(const struct frame_queue *queue) {
     return shown(queue->bytes + queue->start, queue_length(queue));
 }
 
+/* What a queue takes, in which order, and which sizes it drops. */
 static void judge_queue(void) {
     static struct frame_queue queue;
     static const unsigned char first[] = {0, 5, 0, 6}, second[] = {0, 7, 0, 8}, byte = 'y';
@@ -49,6 +51,7 @@ static void judge_queue(void) {
     judge("a frame that never fits", !put_frame(&queue, FRAME_TYPED, large, sizeof large));
 }
 
+/* Frames that are written to a pipe, and read from it. */
 static void judge_pipes(void) {
     static struct frame_queue queue;
     static unsigned char room[FRAME_MOST], large[FRAME_MOST];
@@ -66,6 +69,7 @@ static void judge_pipes(void) {
 
 static char heard[512];
 
+/* For take_words: appends a frame to `heard`. */
 static void hear(const struct frame *frame, void *whose) {
     (void)whose;
     size_t length = strlen(heard);
@@ -89,6 +93,7 @@ static void judge_words(const char *text, size_t length, const char *words, cons
 
 #define JUDGE_WORDS(text, words, foreign) judge_words(text, sizeof text - 1, words, foreign, sizeof foreign - 1)
 
+/* Frames and other text on the program's standard error. */
 static void judge_readers(void) {
     JUDGE_WORDS("o\0\0j\0\4lost" "e\0\5saved", "o<>j<lost>e<saved>", "");
     JUDGE_WORDS("f\0\14not-utf8 333" "r\0\7known 3", "f<not-utf8 333>r<known 3>", "");

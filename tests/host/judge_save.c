@@ -52,6 +52,7 @@ static const struct {
     {"of which no name is left", "w", "w", 'f', 0, NO_REASON},
 };
 
+/* The facts that these letters stand for; see `places`. */
 static struct facts facts_of(const char *letters) {
     struct facts facts = {.readable = true, .searchable = true};
     facts.writable = strchr(letters, 'w');
@@ -64,13 +65,14 @@ static struct facts facts_of(const char *letters) {
     return facts;
 }
 
+/* Why a save overwrites FILE in place, if it does. */
 static void check_places(void) {
     for (size_t i = 0; i < sizeof places / sizeof *places; i++) {
         struct facts file = facts_of(places[i].file), folder = facts_of(places[i].folder);
-        struct file_stamp look = {.is_there = places[i].kind != '-'};
-        look.found.st_mode = places[i].kind == 'd' ? S_IFDIR | 0755 : places[i].kind == 'n' ? S_IFLNK | 0777 : S_IFREG | 0644;
-        look.found.st_nlink = places[i].names;
-        enum reason reason = find_in_place(&file, &look, &folder);
+        struct file_stamp stamp = {.is_there = places[i].kind != '-'};
+        stamp.found.st_mode = places[i].kind == 'd' ? S_IFDIR | 0755 : places[i].kind == 'n' ? S_IFLNK | 0777 : S_IFREG | 0644;
+        stamp.found.st_nlink = places[i].names;
+        enum reason reason = find_in_place(&file, &stamp, &folder);
         check(places[i].name, reason, places[i].wanted);
         check(places[i].name, reason_text(reason)[0] != 0, places[i].wanted != NO_REASON);
         check(places[i].name, reason_harm(reason)[0] != 0, places[i].wanted != NO_REASON);
@@ -104,6 +106,7 @@ static const struct {
     {"no rights", "ogp", 0, 0},
 };
 
+/* The permissions of a new file, by what of the old one was taken over. */
 static void check_modes(void) {
     for (size_t i = 0; i < sizeof modes / sizeof *modes; i++) {
         struct taken taken = {.owner = strchr(modes[i].taken, 'o'), .group = strchr(modes[i].taken, 'g'), .is_plain = strchr(modes[i].taken, 'p')};
@@ -111,14 +114,14 @@ static void check_modes(void) {
     }
 }
 
-/* ---- looks */
+/* ---- file stamps */
 
-/* The letter tells what another program did to the file that was seen: see `change`. The third word: what is found, with and
- * without distrust; and whether an exchange took out what was seen. */
+/* The letter tells what another program did to the file that was seen: see `change`. The third word: what is found, as it is, and
+ * if FILE is assumed changed; and whether an exchange took out what was seen. */
 static const struct {
     const char *name;
     char change;
-    enum stamp_verdict wanted, distrusted;
+    enum stamp_verdict wanted, assumed_changed;
     bool is_taken_out;
 } changes[] = {
     {"nothing", '=', STAMP_SAME, STAMP_CHANGED, true},
@@ -146,10 +149,11 @@ static void set_kind(struct stat *found, mode_t kind) {
     found->st_mode = kind | (found->st_mode & 07777);
 }
 
-static struct file_stamp change(struct file_stamp look, char letter) {
-    struct stat *found = &look.found;
+/* The stamp after another program did what the letter tells. */
+static struct file_stamp change(struct file_stamp stamp, char letter) {
+    struct stat *found = &stamp.found;
     switch (letter) {
-    case '-': look.is_there = false; break;
+    case '-': stamp.is_there = false; break;
     case 'd': found->st_dev++; break;
     case 'i': found->st_ino++; break;
     case 's': found->st_size++; break;
@@ -169,9 +173,10 @@ static struct file_stamp change(struct file_stamp look, char letter) {
     case 'S': set_kind(found, S_IFSOCK); break;
     default: break;
     }
-    return look;
+    return stamp;
 }
 
+/* Whether FILE counts as changed, and whether an exchange took out what was seen. */
 static void check_changes(void) {
     const struct file_stamp nothing = {.is_there = false};
     const struct file_stamp seen = {.is_there = true,
@@ -179,7 +184,7 @@ static void check_changes(void) {
     for (size_t i = 0; i < sizeof changes / sizeof *changes; i++) {
         struct file_stamp now = change(seen, changes[i].change);
         check(changes[i].name, judge_stamp(&seen, &now, false), changes[i].wanted);
-        check(changes[i].name, judge_stamp(&seen, &now, true), changes[i].distrusted);
+        check(changes[i].name, judge_stamp(&seen, &now, true), changes[i].assumed_changed);
         check(changes[i].name, is_taken_out(&seen, &now), changes[i].is_taken_out);
     }
     struct file_stamp link = change(seen, 'L');

@@ -6,6 +6,7 @@
 
 static int passed, failed;
 
+/* Counts a check, and names one that fails: what was checked, and the case. */
 static void check(bool is_right, const char *what, const char *which) {
     if (is_right) {
         passed++;
@@ -15,12 +16,14 @@ static void check(bool is_right, const char *what, const char *which) {
     printf("failed: %s: %s\n", what, which);
 }
 
+/* Counts a comparison of two texts. */
 static void check_words(const char *what, const char *found, const char *wanted) {
     check(strcmp(found, wanted) == 0, what, found);
 }
 
 /* ---- short files */
 
+/* The words of the part `begin`: which can be read, as what, and how they are written again. */
 static void check_begins(void) {
     static const struct {
         const char *words;
@@ -56,6 +59,7 @@ static void check_begins(void) {
     }
 }
 
+/* The words by which a session's file is known again: device, inode and the time of its birth. */
 static void check_files(void) {
     static const struct {
         const char *words;
@@ -94,6 +98,7 @@ static void check_files(void) {
     check(!is_same_id(&born, &later), "files", "of two inodes");
 }
 
+/* The words of a process, and whether a session of that process may still go on, on another machine. */
 static void check_processes(void) {
     static const struct process here = {.number = 1, .machine = "here", .boot = "boot"};
     static const struct {
@@ -125,6 +130,7 @@ static void check_processes(void) {
     check(!process_of(longest, &process), "process", "a machine's name that is too long");
 }
 
+/* The words of FILE's permissions. 0600 for those that cannot be read. */
 static void check_modes(void) {
     static const struct {
         const char *words;
@@ -135,6 +141,7 @@ static void check_modes(void) {
 
 /* ---- names, owners */
 
+/* Which names in the folder of sessions are sessions, removed sessions, folders of replays, or files of others. */
 static void check_names(void) {
     static const struct {
         const char *name;
@@ -152,6 +159,7 @@ static void check_names(void) {
     for (size_t at = 0; at < sizeof cases / sizeof *cases; at++) check(kind_of_name(cases[at].name) == cases[at].kind, "name", cases[at].name);
 }
 
+/* Whether a folder is private to user 7, and whether it is safe from others above a private one. */
 static void check_owners(void) {
     static const struct {
         const char *which;
@@ -173,6 +181,7 @@ static void check_owners(void) {
 
 /* ---- whose a session is, and what it holds */
 
+/* Whether a session is of FILE, by what is known of both, and where it counts as such. */
 static void check_belongings(void) {
     static const struct {
         const char *which;
@@ -202,6 +211,7 @@ static void check_belongings(void) {
     }
 }
 
+/* The state of a session, by its locks and what it has. */
 static void check_states(void) {
     static const struct {
         const char *which;
@@ -251,6 +261,7 @@ static void check_marks(void) {
     check(compare_end(&comparison, 0, 0) == FILE_WHOLE, "mark", "both empty");
 }
 
+/* The number of keys in the bytes of a journal, which are taken whole and in two pieces at each offset. */
 static void check_keys(void) {
     static const struct {
         const char *journal;
@@ -286,6 +297,7 @@ static void check_keys(void) {
     }
 }
 
+/* Whether all line ends of a text are CR LF. The text is taken whole and in two pieces at each offset. */
 static void check_line_ends(void) {
     static const struct {
         const char *text;
@@ -305,6 +317,7 @@ static void check_line_ends(void) {
 
 /* ---- a running session */
 
+/* What of a running session is kept, by what is there of its files. */
 static void check_keepings(void) {
     static const struct {
         const char *which;
@@ -323,6 +336,7 @@ static void check_keepings(void) {
     for (size_t at = 0; at < sizeof cases / sizeof *cases; at++) check(judge_keeping(&cases[at].facts) == cases[at].keeping, "keeping", cases[at].which);
 }
 
+/* When a notice that something is not kept is shown again. */
 static void check_notices(void) {
     static const struct {
         const char *which;

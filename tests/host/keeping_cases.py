@@ -32,12 +32,14 @@ class Started:
         return self
 
     def answers(self, question, answer):
+        """Types an answer, and Enter, once the question is shown. Bytes are typed as they are."""
         self.sees(question)
         time.sleep(0.05)  # what is typed before the question is shown is dropped
         self.run.type(answer if isinstance(answer, bytes) else answer.encode() + b'\n')
         return self
 
     def type(self, keys):
+        """Types keys."""
         self.run.type(keys)
         return self
 
@@ -69,12 +71,14 @@ class Place:
         self.host, self.top, self.files, self.count, self.before = host, top, f'{top}/files', 0, []
 
     def variables(self, more=None):
+        """The environment of a start, with these variables."""
         variables = {'HOME': f'{self.top}/home', 'TMPDIR': f'{self.top}/tmp', 'TYPIST': ''}
         for name, value in (more or {}).items():
             variables[name] = value
         return variables
 
     def start(self, *words, is_plain=False, is_slow=False, **variables):
+        """A start in a terminal, with these words."""
         return Started(self, words, variables, is_plain, is_slow)
 
     def edit(self, *words, **variables):
@@ -88,14 +92,17 @@ class Place:
         return done.returncode, done.stdout.decode(), done.stderr.decode()
 
     def path(self, name):
+        """The path of a file of `files`."""
         return f'{self.files}/{name}'
 
     def put(self, name, text, mode=0o644):
+        """Writes a file of `files`."""
         with open(self.path(name), 'wb') as file:
             file.write(text)
         os.chmod(self.path(name), mode)
 
     def text(self, name):
+        """The bytes of a file of `files`."""
         with open(self.path(name), 'rb') as file:
             return file.read()
 
@@ -382,7 +389,7 @@ def all_is_there(place):
 
 
 def another_version(place):
-    """What another version kept is not replayed unasked: its text is had back, or the user is asked."""
+    """What another version kept is not replayed unasked: its text is restored, or the user is asked."""
     place.put('a.txt', b'text\n')
     place.leave()
     place.put_part('versions', b'bidi-edit 0.0.0\n')

@@ -2,7 +2,7 @@
  * the editor does, says `opened PATH` or the refusal, and obeys lines of standard input, each with a line of answer:
  *   save PATH      saves the bytes of a file: `saved`, or the cause
  *   begin          the first part of a save alone; then `put PATH`, and `commit`
- *   look           tells FILE's look: device, inode, size
+ *   look           tells FILE's stamp: device, inode, size
  *   torn           the name of the mark, `-` without one, `=` for the one in the folder
  *   facts          reason for saves in place
  * Exit status 1: FILE was refused; 2: usage. */
@@ -142,10 +142,10 @@ static void obey(char *line) {
     else if (strcmp(line, "torn") == 0) said = torn();
     else if (strcmp(line, "facts") == 0) said = reason_text(find_in_place(&file.facts, &file.stamp, &file.folder_facts));
     else if (strcmp(line, "look") == 0) {
-        struct file_stamp look;
+        struct file_stamp stamp;
         struct file_id id;
-        bool is_known = saver_stamp(&saver, &look, &id);
-        snprintf(text, sizeof text, "%d %llu %lld", is_known, (unsigned long long)look.found.st_ino, (long long)look.found.st_size);
+        bool is_known = saver_stamp(&saver, &stamp, &id);
+        snprintf(text, sizeof text, "%d %llu %lld", is_known, (unsigned long long)stamp.found.st_ino, (long long)stamp.found.st_size);
         said = text;
     }
     printf("%s\n", said);

@@ -138,7 +138,7 @@ class Place:
 
 
 def cleaned(place, *parts, keys=b'd', text='abcdtext\n'):
-    """These parts of a running session are removed; what is typed before and after is had back."""
+    """These parts of a running session are removed; what is typed before and after is restored."""
     place.put('a')
     editor = place.edit('a').types(b'abc')
     for part in parts:

@@ -20,6 +20,7 @@
 static int passed, failed;
 static char top[PATH_MAX];
 
+/* Counts a check, and names one that fails. */
 static void check(bool is_right, const char *what) {
     if (is_right) {
         passed++;
@@ -77,6 +78,7 @@ static bool is_there(const char *path) {
     return lstat(path, &found) == 0;
 }
 
+/* Runs a command of the shell in the top folder. */
 static void run(const char *command) {
     char line[3 * PATH_MAX];
     snprintf(line, sizeof line, "cd '%s' && %s", top, command);
@@ -85,12 +87,14 @@ static void run(const char *command) {
 
 /* ---- sessions */
 
+/* Finds the folder of sessions for a file in this folder. */
 static void find_folder(struct sessions *sessions, const char *folder_of_file) {
     int folder = open(folder_of_file, O_PATH | O_CLOEXEC);
     sessions_find(sessions, folder);
     close(folder);
 }
 
+/* Finds the folder of sessions for the top folder, and makes it. */
 static void make_sessions(struct sessions *sessions) {
     find_folder(sessions, top);
     check(sessions_make(sessions), "the folder of sessions is made");
@@ -109,6 +113,7 @@ static void look_at(struct target *target, const char *name) {
     target_look(target, path, open(folder, O_PATH | O_CLOEXEC), strrchr(path, '/') + 1);
 }
 
+/* Begins a session of FILE as the host does. Returns 0 or an errno. */
 static int begin(struct session *session, const struct sessions *sessions, const struct target *target) {
     int file = open(target->path, O_RDONLY | O_CLOEXEC);
     struct opening opening = {.target = target,
@@ -174,6 +179,7 @@ static const char *kinds(const struct sessions *sessions, const struct target *t
     return letters;
 }
 
+/* Checks which kinds of sessions a start finds for FILE, by the letters of `kinds`. */
 static void check_kinds(const struct sessions *sessions, const struct target *target, const char *wanted, const char *what) {
     const char *found = kinds(sessions, target);
     if (strcmp(found, wanted) != 0) printf("%s: found \"%s\", wanted \"%s\"\n", what, found, wanted);
@@ -190,10 +196,12 @@ static void leave(struct session *session, struct sessions *sessions) {
 
 /* ---- the checks */
 
+/* For sessions_forget: counts a session that was removed. */
 static void count_forgotten(void *context, const struct forgotten *forgotten) {
     if (forgotten->error == 0) ++*(int *)context;
 }
 
+/* A session from its beginning to its removal, and what a start finds of it meanwhile. */
 static void check_life(void) {
     struct sessions sessions;
     struct session session;
@@ -232,6 +240,7 @@ static void check_life(void) {
     leave(&session, &sessions);
 }
 
+/* A session without a key of the user is removed as soon as a start meets it. */
 static void check_empty_one(void) {
     struct sessions sessions;
     struct session session;
@@ -245,6 +254,7 @@ static void check_empty_one(void) {
     leave(&session, &sessions);
 }
 
+/* Checks how the folder of sessions counts if XDG_STATE_HOME is this folder. */
 static void judge_folder(const char *name, enum folder_state wanted, const char *what) {
     struct sessions sessions;
     setenv("XDG_STATE_HOME", path_in("%s", name), 1);
@@ -254,6 +264,7 @@ static void judge_folder(const char *name, enum folder_state wanted, const char 
     setenv("XDG_STATE_HOME", path_in("state"), 1);
 }
 
+/* Which folders are used for sessions: none that another user could change. */
 static void check_trust(void) {
     run("mkdir -p good/bidi_edit open/bidi_edit below/in/bidi_edit linked real && chmod 777 open/bidi_edit below && chmod 700 good/bidi_edit below/in/bidi_edit");
     run("ln -s ../good/bidi_edit linked/bidi_edit && ln -s good real/way");
@@ -353,6 +364,7 @@ static bool is_live_for_other(const struct sessions *sessions, const struct targ
     return strcmp(kinds(sessions, target), "l") == 0;
 }
 
+/* A lock that was removed is made again, and the session counts as running all the time. */
 static void check_lock(void) {
     struct sessions sessions;
     struct session session;
@@ -609,6 +621,7 @@ static void check_resumed(void) {
     leave(&session, &sessions);
 }
 
+/* A session that goes on with its last text, as one that another version recorded does. */
 static void check_renewed(void) {
     struct sessions sessions;
     struct session session, renewed;
@@ -650,6 +663,7 @@ static void refuse_removal(void) {
     leave(&session, &sessions);
 }
 
+/* The checks of refuse_removal, without the rights of root: as root, in a child that is user 65534. */
 static void check_removal(void) {
     int report[2];
     struct {
@@ -681,10 +695,12 @@ static void check_removal(void) {
     if (chown(top, 0, 0) != 0) abort();
 }
 
+/* For sessions_mend: notes what was done. */
 static void note_mended(void *context, const struct mending *mending) {
     *(int *)context = (int)mending->mended;
 }
 
+/* FILE, of which a killed save left this, gets its whole text back from the mark; any other text stays. */
 static void check_mending(void) {
     static const struct {
         const char *which, *bytes;
@@ -725,6 +741,7 @@ static bool mount_small(const char *options) {
     return mount("none", "/", NULL, MS_REC | MS_PRIVATE, NULL) == 0 && mount("none", path_in("small"), "tmpfs", 0, options) == 0;
 }
 
+/* Fills the small disk. */
 static void fill_small(void) {
     run("cat /dev/zero >small/other 2>/dev/null; true");
 }

@@ -25,6 +25,7 @@ static struct counter {
     char name[32];
 } *counter;
 
+/* Counts a call of the system, and tells whether it is the one that fails. Then errno is set. */
 static bool fails(const char *name) {
     if (!counter || !counter->is_on || __sync_add_and_fetch(&counter->count, 1) != counter->fails_at) return false;
     snprintf(counter->name, sizeof counter->name, "%s", name);
@@ -93,18 +94,21 @@ static void require(bool is_right, const char *what) {
     _exit(1);
 }
 
+/* Appends keys to the journal, as the program does; without a fault. */
 static void type_keys(const struct session *session, const char *keys) {
     counter->is_on = false;
     require(write_bytes(session->journal, keys, strlen(keys)) == 0, "keys");
     counter->is_on = true;
 }
 
+/* Removes a file of the session's folder, as another program could; without a fault. */
 static void remove_part(const struct session *session, enum part part) {
     counter->is_on = false;
     unlinkat(session->folder, part_name(part), 0);
     counter->is_on = true;
 }
 
+/* Minds the session until its parts are written, for two seconds at most. */
 static enum keeping mind(struct session *session) {
     enum keeping keeping = session_mind(session);
     for (int waited = 0; keeping == KEEPS_SOON && waited < LIMIT_MS; waited += 5) {
@@ -114,6 +118,7 @@ static enum keeping mind(struct session *session) {
     return keeping;
 }
 
+/* Whether a part of the session has this text. */
 static bool has_text(const struct session *session, enum part part, const char *text) {
     char *found = session_note(session, part);
     bool is_same = found && strcmp(found, text) == 0;
@@ -129,6 +134,7 @@ static void find_file(struct sessions *sessions, struct target *target, char pat
     target_look(target, path, folder, "note");
 }
 
+/* Begins a session of FILE as the host does. */
 static bool begin(struct session *session, const struct sessions *sessions, const struct target *target) {
     int file = open(target->path, O_RDONLY | O_CLOEXEC);
     struct opening opening = {.target = target, .file = file, .mode = 0644, .begin = {.rows = 24, .cols = 80, .direction = "auto"}, .is_joined = true, .versions = "bidi-edit 1\n"};
@@ -144,6 +150,7 @@ static void find_later(struct found *found, struct sessions *sessions, struct ta
     sessions_of(found, sessions, target);
 }
 
+/* A session begins, is filled, is typed into, and ends. What is said of it must be so. */
 static void live_and_end(void) {
     struct sessions sessions;
     struct session session;
@@ -217,6 +224,7 @@ static void go_on_and_remove(void) {
     sessions_close(&sessions);
 }
 
+/* Runs a command of the shell in the top folder. */
 static void run(const char *command) {
     char line[2 * PATH_MAX];
     snprintf(line, sizeof line, "cd '%s' && %s", top, command);
@@ -240,6 +248,7 @@ static bool try_point(void (*life)(void), long fails_at, int error, bool *is_rea
     return WIFEXITED(status) && WEXITSTATUS(status) == 0;
 }
 
+/* FILE as at first, and no session. */
 static void leave_nothing(void) {
     run("rm -rf state && printf text >note");
 }
@@ -251,6 +260,7 @@ static void leave_session(void) {
     if (!try_point(live_and_end, 0, 0, &is_reached)) abort();
 }
 
+/* Lets each call of a life fail in turn, as often as there are calls. Adds those that were right and those that were wrong. */
 static void try_all(void (*life)(void), void (*prepare)(void), int error, int counts[2]) {
     bool is_reached = true;
     for (long at = 1; is_reached; at++) {

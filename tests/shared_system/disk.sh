@@ -90,7 +90,7 @@ has_title_without() { # NAME TEXT
 recover_from_small_disk() { # CHECK
     as_user "$host" --recover --to other note >"$folder/output" 2>&1
     cmp "$folder/expected" other >"$folder/differs" 2>&1
-    report "disk, $1: every key is had back" $? "$(cat "$folder/output" "$folder/differs")"
+    report "disk, $1: every key is restored" $? "$(cat "$folder/output" "$folder/differs")"
     same "disk, $1: nothing is said to be cut" "$(grep -c 'is cut' "$folder/output")" 0
     close_small_disk
     rm -f note other
@@ -158,7 +158,7 @@ check_filled_up() {
     expect_in first 'disk, filled up: what is said at the end' 'unsaved text is kept up to where its journal could not be written'
     rm -f "$folder/small/other"
     as_user "$host" --recover --to other note >"$folder/output" 2>&1
-    same 'disk, filled up: what is had back' "$? $(head -c 1 other)" '0 a'
+    same 'disk, filled up: what is restored' "$? $(head -c 1 other)" '0 a'
     has 'disk, filled up: where it is cut is said' "$(cat "$folder/output")" 'the session ends after key'
     close_editors first
     close_small_disk

@@ -159,7 +159,7 @@ check_cut_off() { # CALLS COUNT TEXT
         terminal send-keys -t first C-q
         expect_in first "in place, killed at $1: FILE has all" 'note already contains everything that was typed in its last session'
     else
-        expect_in first "in place, killed at $1: what was typed is had back" '* 1:2'
+        expect_in first "in place, killed at $1: what was typed is restored" '* 1:2'
     fi
     same "in place, killed at $1: FILE and its other name" "$(cat note note.link | tr '\n' ' ')$(echo note*)" "$3 $3 note note.link"
     close_editors first

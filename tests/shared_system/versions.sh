@@ -25,7 +25,7 @@ check_snapshot() {
     same 'versions, its text is stored elsewhere' "$(cat other)" xyab
     rm -f other
     open_editor first '' --recover note
-    expect_in first 'versions, its text is had back' 'xyab'
+    expect_in first 'versions, its text is restored' 'xyab'
     terminal send-keys -t first C-q
     expect_in first 'versions, it counts as unsaved' 'unsaved: ^Q again'
     kill_editor first

@@ -2,6 +2,7 @@
 # shellcheck disable=SC2154 # variables shared with other parts
 # The checks in one terminal. Uses window.sh and kinds.sh. A picture is named KIND-WHAT.
 
+# Counts a check that this terminal cannot take, and says why.
 skip() { # NAME WHY
     skipped=$((skipped + 1))
     echo "skipped $1: $2"
