@@ -66,7 +66,7 @@ fn failed_text(cause: Option<SaveCause>) -> &'static str
         Some(SaveCause::ReadOnly) => "save failed: read-only disk",
         Some(SaveCause::TooLarge) => "save failed: file too large",
         Some(SaveCause::OutOfMemory) => "save failed: out of memory",
-        Some(SaveCause::Changed) => "save failed: changed by another program, ^S overwrites it",
+        Some(SaveCause::Changed) => "save failed: file changed on disk, ^S overwrites it",
         Some(SaveCause::NotPlain) => "save failed: not a plain file",
         Some(SaveCause::CutOff) => {
             "save failed: file cut off, its whole text is in a .bx file beside it"

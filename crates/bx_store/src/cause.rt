@@ -72,7 +72,7 @@ impl SaveCause {
             SaveCause::ReadOnly => "read-only disk",
             SaveCause::TooLarge => "file too large",
             SaveCause::OutOfMemory => "out of memory",
-            SaveCause::Changed => "changed by another program, ^S overwrites it",
+            SaveCause::Changed => "file changed on disk, ^S overwrites it",
             SaveCause::NotPlain => "not a plain file",
             SaveCause::CutOff => "file cut off, its whole text is in a .bx file beside it",
             SaveCause::Other => "disk error",
