@@ -100,9 +100,9 @@ pub fn first_span<H: Haystack, D: BidiData>(
     };
     match first_match(haystack, &sought, x) {
         None => None,
-        Some(at) => {
-            let stop = match_end(haystack, tables, reading, query, at);
-            Some(Range { start: at, stop })
-        }
+        Some(at) => Some(Range {
+            start: at,
+            stop: match_end(haystack, tables, reading, query, at),
+        }),
     }
 }
