@@ -26,7 +26,8 @@ goes-on : (numbers : List ℕ) (n : ℕ) → run_start (edited numbers n true) (
 goes-on numbers n = let same : suc n ≡ n + 1 = omega arith in ap (run_start (edited numbers n true)) same ∙ edit-is-of-its-run numbers n true
 
 exchange-begins : (d : Data) (first e : Editor) (start stop : ℕ) (new : List ℕ) → Nothing first e → IsOneRun first (with_exchange d e start stop new)
-exchange-begins d first e start stop [] h = removal-begins d first e start stop h
+exchange-begins d first e start stop [] h =
+    let begun = removal-begins d first e start stop h in record { more = begun.more; over = begun.over; start = begun.start }
 exchange-begins d first e start stop (b ∷ bs) h =
     let without = with_removal d e start stop false in
     let begun = removal-begins d first e start stop h in
