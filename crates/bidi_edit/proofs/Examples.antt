@@ -1,5 +1,6 @@
 -- Worked examples: how a run's end is reported, and what follows from the clause of a run alone.
 use Rattle.std.proofs.Common.{◌≡◌, ◌≢◌, ◌++◌, ℕ, Bool, true, false, List, [], ◌∷◌, length, Option, Some, None, Result, Ok, Err, IsOk, refl, sym, ap, subst, ◌∙◌, if◌then◌else◌}
+use Rattle.std.specs.Global.{Vec}
 use Rattle.std.specs.Prelude.{◌&&◌, codes}
 use Rattle.bx_editor.specs.Functions.{has_changes}
 use Rattle.bx_store.specs.declared.faults.Faults.{Faults}
@@ -66,14 +67,14 @@ a_write_fault changed = refl
 
 -- a run that is said to have ended saved left no change
 pub a_saved_run : {V : Type 0} (did : V → Action → V → Type 0) (obeyed : V → Session → ByteAnswer → V → Session → Type 0) (stored : V → StoreState)
-    (b : Beginning) (files : UnicodeFiles) (device device' : V) → (e : Edits did obeyed stored b files device device' (Ok Saved))
+    (b : Beginning) (files : UnicodeFiles (Vec ℕ)) (device device' : V) → (e : Edits did obeyed stored b files device device' (Ok Saved))
     → has_changes e.session.editor ≡ false
 a_saved_run did obeyed stored b files device device' e = saved_leaves_nothing e.end (has_changes e.session.editor) (sym e.tells)
 
 -- A run over a reader, a recorder, a writer and a store handed to the recorder all that it obeyed, and at the end of the input nothing
 -- was unread.
 pub a_run_is_recorded : {R J W S : Type 0} (remaining : R → Option (List ℕ)) (contents : J → Option (List ℕ)) (failures : J → ℕ)
-    (out : W → Option (List ℕ)) (saved : S → Option (List ℕ)) (faults : S → Faults) (b : Beginning) (files : UnicodeFiles)
+    (out : W → Option (List ℕ)) (saved : S → Option (List ℕ)) (faults : S → Faults) (b : Beginning) (files : UnicodeFiles (Vec ℕ))
     (device device' : Wired R J W S) (result : Result Changes ProgramFault)
     → let stored : Wired R J W S → StoreState = λ x. store_state saved faults x.store.now in
     (e : Edits (DidWired remaining contents failures out) (λ from s a to t. ObeyedWired from to) stored b files device device' result)

@@ -10,5 +10,5 @@ returns-in_err-session g c = stays_on _ _ c.from_residual.result c.in_err-sessio
 pub returns : goal.returns
 returns g c =
     let b = c.args.beginning in
-    edits_of g.V.Device.did g.V.Device.obeyed g.V.Device.stored _ (beginning_of b) b.unicode (ucd c.in_ok-session.session.tables)
+    edits_of g.V.Device.did g.V.Device.obeyed g.V.Device.stored _ (beginning_of b) b.unicode.now (ucd c.in_ok-session.session.tables)
     c.in_ok-session.session.session _ _ c.resume-changes.result c.in_ok-session.ensures.tables c.in_ok-session.ensures.opens c.resume-changes.ensures
