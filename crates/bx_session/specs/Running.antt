@@ -132,7 +132,8 @@ Runs d old new store store' reader reader' writer writer' =
     (answered : List ByteAnswer) × (dropped : List ℕ) × (written : List ℕ) × (all : Session)
     × HasRun d old new store store' reader reader' writer writer' answered dropped written all
 
--- the session, and the bytes that the reader has left, after a run, by its result
+-- The session, and the bytes that the reader has left, after a run, by its result. A failed write or flush can come at any time, so it
+-- tells nothing of the session; that it was the last step of the run is in the log (`IsLog` of Log.antt).
 abbrev pub EndsWith : Result End RunFault → Session → Option (List ℕ) → Type 0
 EndsWith (Ok Quit) s left = (s.editor.ended ≡ true) × (s.pending ≡ [])
 EndsWith (Ok (InputEnded changed)) s left = (s.editor.ended ≡ false) × (s.pending ≡ []) × (changed ≡ has_changes s.editor) × IsAtEnd left

@@ -199,7 +199,7 @@ impl<D: BidiData + Drop> Session<D> {
     /// Errors: `Size` if a side is not from 1 to 500: nothing has changed. `Paint` if memory runs out: the size is set, the queue
     /// is unchanged, and the painting is owed.
     pub fn set_window_size(&mut self, height: u16, width: u16) -> Result<(), Refused>
-        ensures told { ToldBy (D.data self.old.tables) self.old.session height width result self.new.session }
+        ensures resized { ToldBy (D.data self.old.tables) self.old.session height width result self.new.session }
         ensures tables { self.new.tables ≡ self.old.tables }
         ensures paints { OnOk result (ToldPaints (D.data self.old.tables) self.old.session self.new.session) }
         ensures refused { OnErr result (self.new.session.pending ≡ self.old.session.pending) }

@@ -61,6 +61,7 @@ pub(crate) fn keep_and_obey<D: BidiData + Drop, V: Device>(
     ensures tables { session.new.tables ≡ session.old.tables }
 {
     let mut rest = bytes;
+    // The label names the loop in its proof.
     'parts: while !rest.is_empty() {
         if session.ended() {
             return;

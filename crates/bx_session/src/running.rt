@@ -54,6 +54,7 @@ pub fn run_device<D: BidiData + Drop, V: Device>(
 {
     send(device, session)?;
     let mut buffer = [0; 256];
+    // The label names the loop in its proof.
     'reads: for read in 0..limit {
         if session.ended() {
             return Ok(End::Quit);

@@ -13,7 +13,7 @@ invariant_of-self g c =
     told_call ucd c.self.inside.session.tables c.set_window_size-answer.new.self.tables w c.set_window_size-answer.new.self.session c.args.height c.args.width c.set_window_size-answer.result
     c.mark_after.new.told c.set_window_size-answer.ensures.tables
     (c.mark_after.ensures ∙ ap (λ after. mark_after c.self.inside.told after c.set_window_size-answer.result) c.is_window-told.ensures)
-    c.self.invariant c.set_window_size-answer.ensures.told c.set_window_size-answer.ensures.paints
+    c.self.invariant c.set_window_size-answer.ensures.resized c.set_window_size-answer.ensures.paints
 
 pub returns-clause-step : goal.returns-clause-step
 returns-clause-step g c =
@@ -23,4 +23,4 @@ returns-clause-step g c =
     (record w { session = c.set_window_size-answer.new.self.session; told = c.mark_after.new.told })) c.self.view_is
     (told_steps (ucd c.self.inside.session.tables) w c.set_window_size-answer.new.self.session c.args.height c.args.width c.set_window_size-answer.result c.answer_of.result
     c.mark_after.new.told c.answer_of.ensures
-    (c.mark_after.ensures ∙ ap (λ after. mark_after c.self.inside.told after c.set_window_size-answer.result) c.is_window-told.ensures) c.set_window_size-answer.ensures.told)
+    (c.mark_after.ensures ∙ ap (λ after. mark_after c.self.inside.told after c.set_window_size-answer.result) c.is_window-told.ensures) c.set_window_size-answer.ensures.resized)
