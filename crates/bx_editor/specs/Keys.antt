@@ -163,6 +163,7 @@ answered_match d fault was e key Ends = after_pressing d fault was (without_sear
 
 -- ---- in any state of a search
 
+-- a key while no question is on, by the state of the search: as a key of a query, of a replacement, or of a match that is shown
 abbrev pub after_searching : Data → Option StoreFault → Before → SearchState → Editor → Key → Editor
 after_searching d fault was Off e key = after_pressing d fault was e key
 after_searching d fault was Begun e key = after_seeking d fault was e key
