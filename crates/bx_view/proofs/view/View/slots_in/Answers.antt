@@ -1,4 +1,4 @@
-use Rattle.std.proofs.Common.{◌⊎◌, inl, inr, ◌∙◌, ◌-◌, ◌<◌, ◌≤◌, ap, ap₂, arith, length}
+use Rattle.std.proofs.Common.{◌⊎◌, ◌×◌, ℕ, inl, inr, ◌∙◌, ◌-◌, ◌<◌, ◌≤◌, ap, ap₂, arith, length}
 use Rattle.bx_view.specs.TextParts.{slots_in}
 use Rattle.bx_view.proofs.PartSlots.{none-told, some-told}
 use Rattle.bx_view.proofs.view.View.slots_in.Goals as goal
@@ -7,7 +7,7 @@ use Rattle.bx_view.proofs.view.View.slots_in.Goals.{then-start-stop-via-then-sta
 pub returns-then-start-stop : goal.returns-then-start-stop
 returns-then-start-stop g c = λ n on.
     let s = c.row-row.result in
-    let part = (c.args.part.start, c.args.part.stop) in
+    let part : ℕ × ℕ = (c.args.part.start, c.args.part.stop) in
     let low = c.saturating_sub-start.ensures in
     let high = c.saturating_sub-stop.ensures in
     let outside : (part.1 - s.start ≤ part.0 - s.start) ⊎ (length s.paragraph.now.body < part.0 - s.start) = elim c.then-start-stop.branch [
