@@ -7,11 +7,16 @@ use Rattle.bx_editor.specs.Keys.{after_key}
 use Rattle.bx_editor.specs.Search.{reading, sought}
 use Rattle.bx_keys.specs.declared.key.Key.{Key}
 use Rattle.bx_keys.specs.declared.key.Key.TheVariants.{Size, Notice, PasteStart, PasteEnd}
+use Rattle.bx_keys.specs.declared.key.Key.TheVariants as keys
+use Rattle.bx_grid.specs.Picture.{is_size}
+use Rattle.bx_paragraph.specs.declared.moves.Visual.TheVariants as visual
 use Rattle.bx_store.specs.declared.store.StoreFault.{StoreFault}
 use Rattle.bx_ucd.specs.Data.{Data}
 use Rattle.bx_view.specs.declared.moves.Logical.TheVariants.{Back, Forward}
 use Rattle.bx_view.specs.declared.moves.Move.{Move}
 use Rattle.bx_view.specs.declared.moves.Move.TheVariants.{Logical, Word}
+use Rattle.bx_view.specs.declared.moves.Move.TheVariants as moves
+use Rattle.bx_view.specs.declared.moves.Vertical.TheVariants as ways
 use Rattle.bx_view.specs.Moves.{place_at}
 use Rattle.bx_find.specs.Matches.{first_from}
 use Rattle.bx_text.specs.Edits.{splice}
@@ -44,6 +49,29 @@ is_told_key (Notice notice) = true
 is_told_key PasteStart = true
 is_told_key PasteEnd = true
 is_told_key _ = false
+
+-- a key that tells no size, or one that a window may have
+abbrev pub has_size : Key → Bool
+has_size (Size height width) = is_size height width
+has_size _ = true
+
+-- the move that a key makes, if it makes one that keeps no column and points at no cell; a page has `page` rows
+abbrev pub move_of : ℕ → Key → Option Move
+move_of page keys.Back = Some (Logical Back)
+move_of page keys.Forward = Some (Logical Forward)
+move_of page keys.Up = Some (moves.Rows ways.Up 1)
+move_of page keys.Down = Some (moves.Rows ways.Down 1)
+move_of page keys.Right = Some (moves.Visual visual.Right)
+move_of page keys.Left = Some (moves.Visual visual.Left)
+move_of page keys.RowHome = Some moves.RowHome
+move_of page keys.RowEnd = Some moves.RowEnd
+move_of page keys.PageUp = Some (moves.Rows ways.Up page)
+move_of page keys.PageDown = Some (moves.Rows ways.Down page)
+move_of page keys.WordLeft = Some (moves.WordTowards visual.Left)
+move_of page keys.WordRight = Some (moves.WordTowards visual.Right)
+move_of page keys.TextStart = Some moves.TextStart
+move_of page keys.TextEnd = Some moves.TextEnd
+move_of page _ = None
 
 -- ---- the moves by which the code removes: none leads past the place
 

@@ -1,18 +1,17 @@
 //! The effect of each key.
-ghost use Rattle.std.specs.Prelude.{◌≡◌, None, Some, is_some, true, false, OnErr, OnOk};
+ghost use Rattle.std.specs.Prelude.{◌≡◌, Some, true, OnErr, OnOk};
 ghost use Rattle.bx_editor.specs.Asking.{without_ask};
-ghost use Rattle.bx_editor.specs.Editor.{after_help, after_quit, cleared, next_base, with_base, with_typing};
+ghost use Rattle.bx_editor.specs.Editor.{after_help, after_quit, after_save, cleared, next_base, with_base, with_typing};
 ghost use Rattle.bx_editor.specs.Effects.{before};
-ghost use Rattle.bx_editor.specs.Keys.{after_any, after_asking, after_in_paste, after_key, after_pressing, after_user, is_edit_or_move, is_save};
-ghost use Rattle.bx_editor.specs.Keys.{may_refuse};
-ghost use Rattle.bx_editor.specs.Functions.{is_size_key, is_told_key};
+ghost use Rattle.bx_editor.specs.Keys.{after_any, after_asking, after_key, after_pressing, after_user, is_edit_or_move, may_refuse};
+ghost use Rattle.bx_editor.specs.Functions.{has_size, move_of};
 
 use crate::editor::Editor;
 use crate::message::Message;
 use crate::moving::goal_behind;
 use crate::questions::Prompt;
 use crate::search_state::{SearchPurpose, SearchState};
-use crate::selecting::{aged, soft_behind};
+use crate::selecting::soft_behind;
 use crate::undo_groups::Typing;
 use bx_common::{Base, OutOfMemory};
 use bx_document::HistoryStep;
@@ -20,6 +19,29 @@ use bx_keys::Key;
 use bx_store::StoreFault;
 use bx_ucd::BidiData;
 use bx_view::{Logical, Move, Vertical, Visual};
+
+/// The move that a key makes, if it makes one that keeps no column and points at no cell. A page has `page` rows.
+fn move_of(key: Key, page: usize) -> Option<Move>
+    ensures { result ≡ move_of page key }
+{
+    match key {
+        Key::Back => Some(Move::Logical(Logical::Back)),
+        Key::Forward => Some(Move::Logical(Logical::Forward)),
+        Key::Up => Some(Move::Rows(Vertical::Up, 1)),
+        Key::Down => Some(Move::Rows(Vertical::Down, 1)),
+        Key::Right => Some(Move::Visual(Visual::Right)),
+        Key::Left => Some(Move::Visual(Visual::Left)),
+        Key::RowHome => Some(Move::RowHome),
+        Key::RowEnd => Some(Move::RowEnd),
+        Key::PageUp => Some(Move::Rows(Vertical::Up, page)),
+        Key::PageDown => Some(Move::Rows(Vertical::Down, page)),
+        Key::WordLeft => Some(Move::WordTowards(Visual::Left)),
+        Key::WordRight => Some(Move::WordTowards(Visual::Right)),
+        Key::TextStart => Some(Move::TextStart),
+        Key::TextEnd => Some(Move::TextEnd),
+        _ => None,
+    }
+}
 
 /// The next direction in the cycle Auto, Ltr, Rtl.
 fn next_base(base: Base) -> Base
@@ -91,18 +113,9 @@ impl<D: BidiData + Drop> Editor<D> {
         self.tell(Message::Direction(base));
     }
 
-    /// Reports the end of a Save, with its fault if it failed, and ends a search or a question. Call [`Editor::end_paste`] before the
-    /// text is stored. Allocates nothing.
-    pub fn finish_save(&mut self, fault: Option<StoreFault>)
-        requires no_paste { self.old.editor.pasted ≡ None }
-        ensures { self.new ≡ record self.old { editor = after_key (D.data self.old.tables) fault self.old.editor Key.Save } }
-    {
-        self.note_save(fault);
-    }
-
-    /// The same, in any state.
+    /// Notes the end of a Save: what is saved, or why it failed.
     fn note_save(&mut self, fault: Option<StoreFault>)
-        ensures { self.new ≡ record self.old { editor = after_user (D.data self.old.tables) fault self.old.editor Key.Save } }
+        ensures { self.new ≡ record self.old { editor = after_save (cleared self.old.editor) fault } }
     {
         match fault {
             None => {
@@ -112,234 +125,160 @@ impl<D: BidiData + Drop> Editor<D> {
             }
             Some(fault) => self.tell(Message::SaveFailed(fault.cause)),
         }
-        match self.ask {
-            Prompt::Off => self.leave_search(),
-            Prompt::Line | Prompt::Name | Prompt::Code => self.leave_question(),
-        }
-        self.goal = None;
-        self.cursor.soft = aged(self.cursor.soft);
     }
 
-    /// Applies a key other than Save and Size.
+    /// Applies a key. At a Save, `fault` says why the text could not be stored; None if it was stored. The caller stores it first, and
+    /// before that ends a paste ([`Editor::end_paste`]). At any other key `fault` has no meaning. While a paste is under way, a character
+    /// goes into it, Repaint leaves it, and any other key that the user presses first ends it.
     ///
     /// Errors: `OutOfMemory`, only for a key that edits, undoes, redoes, moves, copies or finds, or ends a paste, and nothing has
     /// changed.
-    pub fn apply(&mut self, key: Key) -> Result<(), OutOfMemory>
-        requires no_save { is_save key ≡ false }
-        requires no_size { is_size_key key ≡ false }
-        ensures ok { OnOk result (self.new.editor ≡ after_key (D.data self.old.tables) None self.old.editor key) }
+    pub fn apply(&mut self, key: Key, fault: Option<StoreFault>) -> Result<(), OutOfMemory>
+        requires sized { has_size key ≡ true }
+        ensures ok { OnOk result (self.new.editor ≡ after_key (D.data self.old.tables) fault self.old.editor key) }
         ensures tables { self.new.tables ≡ self.old.tables }
         ensures err { OnErr result (self.new ≡ self.old) }
         ensures edits { OnErr result (may_refuse self.old.editor key ≡ true) }
     {
         match key {
-            Key::Notice(notice) => {
-                self.message = Some(Message::Notice(notice));
-                Ok(())
-            }
-            Key::PasteStart => {
-                self.start_paste();
-                Ok(())
-            }
-            Key::PasteEnd => self.finish_paste(),
-            _ if self.is_pasting() => self.press_in_paste(key),
-            _ => self.press_key(key),
+            Key::Size(height, width) => self.resize(height, width),
+            Key::Notice(notice) => self.message = Some(Message::Notice(notice)),
+            Key::PasteStart => self.start_paste(),
+            Key::PasteEnd => self.finish_paste()?,
+            Key::Insert(c) if self.is_pasting() => self.paste_letter(c)?,
+            Key::Repaint => self.press_key(key, fault)?,
+            _ if self.is_pasting() => self.press_behind_paste(key, fault)?,
+            _ => self.press_key(key, fault)?,
         }
-    }
-
-    /// Applies a key that the user presses while a paste is under way: a character goes into it, Repaint leaves it, and any other key
-    /// first ends it.
-    fn press_in_paste(&mut self, key: Key) -> Result<(), OutOfMemory>
-        requires no_save { is_save key ≡ false }
-        requires typed { is_told_key key ≡ false }
-        requires some { is_some self.old.editor.pasted ≡ true }
-        ensures ok { OnOk result (self.new.editor ≡ after_in_paste (D.data self.old.tables) None self.old.editor key) }
-        ensures tables { self.new.tables ≡ self.old.tables }
-        ensures err { OnErr result (self.new ≡ self.old) }
-        ensures edits { OnErr result (may_refuse self.old.editor key ≡ true) }
-    {
-        match key {
-            Key::Insert(c) => self.paste_letter(c),
-            Key::Repaint => self.press_key(key),
-            _ => self.press_behind_paste(key),
-        }
+        Ok(())
     }
 
     /// Applies a key that the user presses where no paste is under way.
-    pub(crate) fn press_key(&mut self, key: Key) -> Result<(), OutOfMemory>
-        requires no_save { is_save key ≡ false }
-        requires typed { is_told_key key ≡ false }
-        ensures ok { OnOk result (self.new.editor ≡ after_user (D.data self.old.tables) None self.old.editor key) }
+    pub(crate) fn press_key(
+        &mut self,
+        key: Key,
+        fault: Option<StoreFault>,
+    ) -> Result<(), OutOfMemory>
+        ensures ok { OnOk result (self.new.editor ≡ after_user (D.data self.old.tables) fault self.old.editor key) }
         ensures tables { self.new.tables ≡ self.old.tables }
         ensures err { OnErr result (self.new ≡ self.old) }
         ensures edits { OnErr result (is_edit_or_move key ≡ true) }
     {
-        self.press_any(key)?;
+        self.press_any(key, fault)?;
         self.goal = goal_behind(key, self.goal);
         self.cursor.soft = soft_behind(key, self.cursor.soft);
         Ok(())
     }
 
     /// Applies a key that the user presses: in a question, in a search, or outside both.
-    fn press_any(&mut self, key: Key) -> Result<(), OutOfMemory>
-        requires no_save { is_save key ≡ false }
-        requires typed { is_told_key key ≡ false }
+    fn press_any(&mut self, key: Key, fault: Option<StoreFault>) -> Result<(), OutOfMemory>
         ensures ok { OnOk result (self.new.editor
-            ≡ after_any (D.data self.old.tables) None (before self.old.editor) self.old.editor.ask self.old.editor.seek (cleared self.old.editor) key) }
+            ≡ after_any (D.data self.old.tables) fault (before self.old.editor) self.old.editor.ask self.old.editor.seek (cleared self.old.editor) key) }
         ensures tables { self.new.tables ≡ self.old.tables }
         ensures err { OnErr result (self.new ≡ self.old) }
         ensures edits { OnErr result (is_edit_or_move key ≡ true) }
     {
         match (self.ask, self.cursor.seek) {
-            (Prompt::Off, SearchState::Off) => self.press(key),
-            (Prompt::Off, SearchState::Begun | SearchState::Typed) => self.press_in_search(key),
-            (Prompt::Off, SearchState::WithBegun | SearchState::WithTyped) =>
-                self.press_for_replacement(key),
-            (Prompt::Off, SearchState::Replacing) => self.press_at_match(key),
-            (Prompt::Line | Prompt::Name | Prompt::Code, _) => self.press_in_question(key),
+            (Prompt::Line | Prompt::Name | Prompt::Code, _) => self.press_in_question(key, fault),
+            (_, SearchState::Off) => self.press(key, fault),
+            (_, SearchState::Begun | SearchState::Typed) => self.press_in_search(key, fault),
+            (_, SearchState::WithBegun | SearchState::WithTyped) => {
+                self.press_for_replacement(key, fault)
+            }
+            (_, SearchState::Replacing) => self.press_at_match(key, fault),
         }
     }
 
     /// Applies a key outside a search and a question.
-    pub(crate) fn press(&mut self, key: Key) -> Result<(), OutOfMemory>
-        requires no_save { is_save key ≡ false }
-        requires typed { is_told_key key ≡ false }
+    pub(crate) fn press(&mut self, key: Key, fault: Option<StoreFault>) -> Result<(), OutOfMemory>
         ensures ok { OnOk result (self.new.editor
-            ≡ after_pressing (D.data self.old.tables) None (before self.old.editor) (cleared self.old.editor) key) }
+            ≡ after_pressing (D.data self.old.tables) fault (before self.old.editor) (cleared self.old.editor) key) }
         ensures tables { self.new.tables ≡ self.old.tables }
         ensures err { OnErr result (self.new ≡ self.old) }
         ensures edits { OnErr result (is_edit_or_move key ≡ true) }
     {
         let page = self.page();
+        if let Some(m) = move_of(key, page) {
+            return self.moved(m);
+        }
         match key {
-            Key::Insert(c) => self.insert(c),
-            Key::Erase => self.erase(),
-            Key::Delete => self.delete(),
-            Key::EraseWord => self.erase_word(),
-            Key::DeleteWord => self.delete_word(),
-            Key::ErasePoint => self.erase_point(),
-            Key::NewLine => self.new_line(),
-            Key::Back => self.moved(Move::Logical(Logical::Back)),
-            Key::Forward => self.moved(Move::Logical(Logical::Forward)),
-            Key::Up => self.moved(Move::Rows(Vertical::Up, 1)),
-            Key::Down => self.moved(Move::Rows(Vertical::Down, 1)),
-            Key::Right => self.moved(Move::Visual(Visual::Right)),
-            Key::Left => self.moved(Move::Visual(Visual::Left)),
-            Key::RowHome => self.moved(Move::RowHome),
-            Key::RowEnd => self.moved(Move::RowEnd),
-            Key::PageUp => self.moved(Move::Rows(Vertical::Up, page)),
-            Key::PageDown => self.moved(Move::Rows(Vertical::Down, page)),
-            Key::WordLeft => self.moved(Move::WordTowards(Visual::Left)),
-            Key::WordRight => self.moved(Move::WordTowards(Visual::Right)),
-            Key::TextStart => self.moved(Move::TextStart),
-            Key::TextEnd => self.moved(Move::TextEnd),
-            Key::LineUp => self.move_by_rows(Vertical::Up, 1),
-            Key::LineDown => self.move_by_rows(Vertical::Down, 1),
-            Key::PageBack => self.move_by_rows(Vertical::Up, page),
-            Key::PageOn => self.move_by_rows(Vertical::Down, page),
-            Key::Point(row, column) => self.point(row, column),
-            Key::FindNext => self.go_to_next(),
-            Key::Undo => self.step(HistoryStep::Undo),
-            Key::Redo => self.step(HistoryStep::Redo),
-            Key::UndoRun => self.step_run(HistoryStep::Undo),
-            Key::RedoRun => self.step_run(HistoryStep::Redo),
-            Key::Copy => self.copy(),
-            Key::Cut => self.cut(),
-            Key::Put => self.put(),
-            Key::Mark => {
-                self.turn_mark();
-                Ok(())
-            }
-            Key::Select => {
-                self.select();
-                Ok(())
-            }
-            Key::Cancel => {
-                self.remove_mark();
-                Ok(())
-            }
-            Key::Help => {
-                self.help();
-                Ok(())
-            }
+            Key::Insert(c) => self.insert(c)?,
+            Key::Erase => self.erase()?,
+            Key::Delete => self.delete()?,
+            Key::EraseWord => self.erase_word()?,
+            Key::DeleteWord => self.delete_word()?,
+            Key::ErasePoint => self.erase_point()?,
+            Key::NewLine => self.new_line()?,
+            Key::LineUp => self.move_by_rows(Vertical::Up, 1)?,
+            Key::LineDown => self.move_by_rows(Vertical::Down, 1)?,
+            Key::PageBack => self.move_by_rows(Vertical::Up, page)?,
+            Key::PageOn => self.move_by_rows(Vertical::Down, page)?,
+            Key::Point(row, column) => self.point(row, column)?,
+            Key::FindNext => self.go_to_next()?,
+            Key::Undo => self.step(HistoryStep::Undo)?,
+            Key::Redo => self.step(HistoryStep::Redo)?,
+            Key::UndoRun => self.step_run(HistoryStep::Undo)?,
+            Key::RedoRun => self.step_run(HistoryStep::Redo)?,
+            Key::Copy => self.copy()?,
+            Key::Cut => self.cut()?,
+            Key::Put => self.put()?,
+            Key::Find | Key::FindBack => self.begin_search(SearchPurpose::Find),
+            Key::Replace => self.begin_search(SearchPurpose::Replace),
+            Key::Mark => self.turn_mark(),
+            Key::Select => self.select(),
+            Key::Cancel => self.remove_mark(),
             Key::GoTo => {
                 self.unselect();
                 self.begin_question(Prompt::Line);
-                Ok(())
             }
-            Key::Name => {
-                self.begin_question(Prompt::Name);
-                Ok(())
-            }
-            Key::Tell => {
-                self.tell(Message::Told);
-                Ok(())
-            }
-            Key::Quit => {
-                self.quit();
-                Ok(())
-            }
-            Key::Direction => {
-                self.turn_direction();
-                Ok(())
-            }
-            Key::Find | Key::FindBack => {
-                self.begin_search(SearchPurpose::Find);
-                Ok(())
-            }
-            Key::Replace => {
-                self.begin_search(SearchPurpose::Replace);
-                Ok(())
-            }
-            Key::Repaint => {
-                self.clear_message();
-                Ok(())
-            }
-            Key::Save | Key::Size(..) | Key::Notice(_) => unreachable!(),
-            Key::PasteStart | Key::PasteEnd => unreachable!(),
+            Key::Name => self.begin_question(Prompt::Name),
+            Key::Tell => self.tell(Message::Told),
+            Key::Help => self.help(),
+            Key::Direction => self.turn_direction(),
+            Key::Save => self.note_save(fault),
+            Key::Quit => self.quit(),
+            _ => self.clear_message(),
         }
+        Ok(())
     }
 
     /// Applies a key in a question.
-    fn press_in_question(&mut self, key: Key) -> Result<(), OutOfMemory>
-        requires no_save { is_save key ≡ false }
-        requires typed { is_told_key key ≡ false }
+    fn press_in_question(&mut self, key: Key, fault: Option<StoreFault>) -> Result<(), OutOfMemory>
         ensures ok { OnOk result (self.new.editor
-            ≡ after_asking (D.data self.old.tables) None (before self.old.editor) (cleared self.old.editor) key) }
+            ≡ after_asking (D.data self.old.tables) fault (before self.old.editor) (cleared self.old.editor) key) }
         ensures tables { self.new.tables ≡ self.old.tables }
         ensures err { OnErr result (self.new ≡ self.old) }
         ensures edits { OnErr result (is_edit_or_move key ≡ true) }
     {
         match key {
-            Key::Insert(c) => self.answer_question(c),
-            Key::NewLine => self.answer_question('\n'),
-            Key::Erase | Key::Delete | Key::ErasePoint => self.shorten_answer(),
+            Key::Insert(c) => self.answer_question(c)?,
+            Key::NewLine => self.answer_question('\n')?,
+            Key::Erase | Key::Delete | Key::ErasePoint => self.shorten_answer()?,
             Key::Quit | Key::Copy | Key::Cancel => {
                 self.leave_question();
                 self.reset_after_key();
-                Ok(())
             }
-            Key::Repaint => {
-                self.clear_message();
-                Ok(())
-            }
-            _ => self.press_without_question(key),
+            Key::Repaint => self.clear_message(),
+            _ => self.press_without_question(key, fault)?,
         }
+        Ok(())
     }
 
     /// Ends the question, and applies a key with its usual effect. A refused key leaves the question.
-    fn press_without_question(&mut self, key: Key) -> Result<(), OutOfMemory>
-        requires no_save { is_save key ≡ false }
-        requires typed { is_told_key key ≡ false }
+    fn press_without_question(
+        &mut self,
+        key: Key,
+        fault: Option<StoreFault>,
+    ) -> Result<(), OutOfMemory>
         ensures ok { OnOk result (self.new.editor
-            ≡ after_pressing (D.data self.old.tables) None (before self.old.editor) (without_ask (cleared self.old.editor)) key) }
+            ≡ after_pressing (D.data self.old.tables) fault (before self.old.editor) (without_ask (cleared self.old.editor)) key) }
         ensures tables { self.new.tables ≡ self.old.tables }
         ensures err { OnErr result (self.new ≡ self.old) }
         ensures edits { OnErr result (is_edit_or_move key ≡ true) }
     {
         let ask = self.ask;
         self.leave_question();
-        match self.press(key) {
+        match self.press(key, fault) {
             Ok(()) => Ok(()),
             Err(refused) => {
                 self.ask = ask;

@@ -1,8 +1,8 @@
 //! A paste: what stands between PasteStart and PasteEnd goes into the text at once.
-ghost use Rattle.std.specs.Prelude.{◌≡◌, None, false, is_some, option_map, string_bytes, IsOk, OnErr, OnOk};
+ghost use Rattle.std.specs.Prelude.{◌≡◌, None, is_some, option_map, string_bytes, IsOk, OnErr, OnOk};
 ghost use Rattle.bx_editor.specs.Putting.{after_paste_end, after_paste_start, after_pasted_letter, longer, paste_begun, paste_ended, pasted_with, pastes_crlf, with_paste, with_pasted, without_paste};
-ghost use Rattle.bx_editor.specs.Functions.{as_before, has_changes, has_pasted, is_told_key};
-ghost use Rattle.bx_editor.specs.Keys.{after_user, is_of_paste, is_save, needs_no_painting};
+ghost use Rattle.bx_editor.specs.Functions.{as_before, has_changes, has_pasted};
+ghost use Rattle.bx_editor.specs.Keys.{after_user, is_of_paste, needs_no_painting};
 
 use crate::editor::Editor;
 use crate::message::Message;
@@ -13,6 +13,7 @@ use crate::selecting::aged;
 use crate::undo_groups::Typing;
 use bx_common::{LARGEST_TEXT, OutOfMemory};
 use bx_keys::Key;
+use bx_store::StoreFault;
 use bx_ucd::BidiData;
 
 /// Appends a character to what a paste has brought, or CR LF in its place. A list that is longer than any text stays as it is.
@@ -197,23 +198,28 @@ impl<D: BidiData + Drop> Editor<D> {
     /// Puts in what a paste has brought, and applies a key with its usual effect.
     ///
     /// Errors: `OutOfMemory`. The key has changed nothing, but the text may have what was put in.
-    fn put_and_press(&mut self, list: &str, key: Key) -> Result<(), OutOfMemory>
-        requires no_save { is_save key ≡ false }
-        requires typed { is_told_key key ≡ false }
-        ensures ok { OnOk result (self.new.editor ≡ after_user (D.data self.old.tables) None (with_pasted (D.data self.old.tables) self.old.editor list.now) key) }
+    fn put_and_press(
+        &mut self,
+        list: &str,
+        key: Key,
+        fault: Option<StoreFault>,
+    ) -> Result<(), OutOfMemory>
+        ensures ok { OnOk result (self.new.editor ≡ after_user (D.data self.old.tables) fault (with_pasted (D.data self.old.tables) self.old.editor list.now) key) }
         ensures tables { self.new.tables ≡ self.old.tables }
         ensures err { OnErr result (as_before self.old.editor self.new.editor ≡ self.old.editor) }
     {
         self.put_pasted(list)?;
-        self.press_key(key)
+        self.press_key(key, fault)
     }
 
     /// Ends the paste, and applies a key with its usual effect. A refused key leaves the paste as it was: for that the text is copied
     /// first, with its history. Only a paste whose end was lost is ended so.
-    pub(crate) fn press_behind_paste(&mut self, key: Key) -> Result<(), OutOfMemory>
-        requires no_save { is_save key ≡ false }
-        requires typed { is_told_key key ≡ false }
-        ensures ok { OnOk result (self.new.editor ≡ after_user (D.data self.old.tables) None (paste_ended (D.data self.old.tables) self.old.editor) key) }
+    pub(crate) fn press_behind_paste(
+        &mut self,
+        key: Key,
+        fault: Option<StoreFault>,
+    ) -> Result<(), OutOfMemory>
+        ensures ok { OnOk result (self.new.editor ≡ after_user (D.data self.old.tables) fault (paste_ended (D.data self.old.tables) self.old.editor) key) }
         ensures tables { self.new.tables ≡ self.old.tables }
         ensures err { OnErr result (self.new ≡ self.old) }
     {
@@ -222,9 +228,9 @@ impl<D: BidiData + Drop> Editor<D> {
         let (stored, changed) = (self.past.stored, self.past.changed);
         let (cursor, typing, message) = (self.cursor, self.typing, self.message);
         let Some(list) = self.pasted.take() else {
-            return self.press_key(key);
+            return self.press_key(key, fault);
         };
-        match self.put_and_press(list.as_str(), key) {
+        match self.put_and_press(list.as_str(), key, fault) {
             Ok(()) => Ok(()),
             Err(refused) => {
                 self.document.restore(document);

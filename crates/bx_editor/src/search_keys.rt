@@ -1,10 +1,9 @@
 //! The keys of a search: while the query is asked for, while the replacement is, and while a match is shown.
-ghost use Rattle.std.specs.Prelude.{◌≡◌, None, true, false, OnErr, OnOk};
+ghost use Rattle.std.specs.Prelude.{◌≡◌, true, OnErr, OnOk};
 ghost use Rattle.bx_view.specs.Places.{IsTextPlace};
 ghost use Rattle.bx_editor.specs.Editor.{cleared, with_typing};
 ghost use Rattle.bx_editor.specs.Effects.{before};
-ghost use Rattle.bx_editor.specs.Keys.{after_pressing, after_seeking, answer_of, answered_match, answered_replacement, is_edit_or_move, is_save};
-ghost use Rattle.bx_editor.specs.Functions.{is_told_key};
+ghost use Rattle.bx_editor.specs.Keys.{after_pressing, after_seeking, answer_of, answered_match, answered_replacement, is_edit_or_move};
 ghost use Rattle.bx_editor.specs.Origin.{asks_replacement, is_queried};
 ghost use Rattle.bx_editor.specs.Putting.{only_paste};
 ghost use Rattle.bx_editor.specs.Replacing.{after_match_letter, after_replacement_letter, after_sought_end, after_sought_letter};
@@ -16,6 +15,7 @@ use crate::search_state::{SearchPurpose, SearchState};
 use crate::undo_groups::Typing;
 use bx_common::OutOfMemory;
 use bx_keys::Key;
+use bx_store::StoreFault;
 use bx_ucd::BidiData;
 
 impl<D: BidiData + Drop> Editor<D> {
@@ -67,47 +67,42 @@ impl<D: BidiData + Drop> Editor<D> {
     }
 
     /// Applies a key while the query is asked for.
-    pub(crate) fn press_in_search(&mut self, key: Key) -> Result<(), OutOfMemory>
-        requires no_save { is_save key ≡ false }
-        requires typed { is_told_key key ≡ false }
+    pub(crate) fn press_in_search(
+        &mut self,
+        key: Key,
+        fault: Option<StoreFault>,
+    ) -> Result<(), OutOfMemory>
         requires origin { IsTextPlace (D.data self.old.tables) self.old.editor.content.text self.old.editor.origin }
         requires queried { is_queried self.old.editor.seek ≡ true }
         ensures ok { OnOk result (self.new.editor
-            ≡ after_seeking (D.data self.old.tables) None (before self.old.editor) (cleared self.old.editor) key) }
+            ≡ after_seeking (D.data self.old.tables) fault (before self.old.editor) (cleared self.old.editor) key) }
         ensures tables { self.new.tables ≡ self.old.tables }
         ensures err { OnErr result (self.new ≡ self.old) }
         ensures edits { OnErr result (is_edit_or_move key ≡ true) }
     {
         match key {
-            Key::Insert(c) => self.answer(c),
-            Key::NewLine => self.answer('\n'),
-            Key::Erase | Key::Delete | Key::ErasePoint => self.shorten(),
-            Key::Find | Key::FindNext => self.find_next(),
-            Key::FindBack => self.find_previous(),
-            Key::Replace => self.ask_replacement(),
-            Key::Quit | Key::Copy | Key::Cancel => {
-                self.give_up();
-                Ok(())
-            }
-            Key::Repaint => {
-                self.clear_message();
-                Ok(())
-            }
-            _ => self.press_last(key),
+            Key::Insert(c) => self.answer(c)?,
+            Key::NewLine => self.answer('\n')?,
+            Key::Erase | Key::Delete | Key::ErasePoint => self.shorten()?,
+            Key::Find | Key::FindNext => self.find_next()?,
+            Key::FindBack => self.find_previous()?,
+            Key::Replace => self.ask_replacement()?,
+            Key::Quit | Key::Copy | Key::Cancel => self.give_up(),
+            Key::Repaint => self.clear_message(),
+            _ => self.press_last(key, fault)?,
         }
+        Ok(())
     }
 
     /// Applies a key with its usual effect, and ends the search.
-    fn press_last(&mut self, key: Key) -> Result<(), OutOfMemory>
-        requires no_save { is_save key ≡ false }
-        requires typed { is_told_key key ≡ false }
+    fn press_last(&mut self, key: Key, fault: Option<StoreFault>) -> Result<(), OutOfMemory>
         ensures ok { OnOk result (self.new.editor
-            ≡ without_search (after_pressing (D.data self.old.tables) None (before self.old.editor) (cleared self.old.editor) key)) }
+            ≡ without_search (after_pressing (D.data self.old.tables) fault (before self.old.editor) (cleared self.old.editor) key)) }
         ensures tables { self.new.tables ≡ self.old.tables }
         ensures err { OnErr result (self.new ≡ self.old) }
         ensures edits { OnErr result (is_edit_or_move key ≡ true) }
     {
-        self.press(key)?;
+        self.press(key, fault)?;
         self.leave_search();
         Ok(())
     }
@@ -134,39 +129,30 @@ impl<D: BidiData + Drop> Editor<D> {
     }
 
     /// Applies a key while the replacement is asked for.
-    pub(crate) fn press_for_replacement(&mut self, key: Key) -> Result<(), OutOfMemory>
-        requires no_save { is_save key ≡ false }
-        requires typed { is_told_key key ≡ false }
+    pub(crate) fn press_for_replacement(
+        &mut self,
+        key: Key,
+        fault: Option<StoreFault>,
+    ) -> Result<(), OutOfMemory>
         requires origin { IsTextPlace (D.data self.old.tables) self.old.editor.content.text self.old.editor.origin }
         requires asked { asks_replacement self.old.editor.seek ≡ true }
         ensures ok { OnOk result (self.new.editor
-            ≡ answered_replacement (D.data self.old.tables) None (before self.old.editor) (cleared self.old.editor) key (answer_of key)) }
+            ≡ answered_replacement (D.data self.old.tables) fault (before self.old.editor) (cleared self.old.editor) key (answer_of key)) }
         ensures tables { self.new.tables ≡ self.old.tables }
         ensures err { OnErr result (self.new ≡ self.old) }
         ensures edits { OnErr result (is_edit_or_move key ≡ true) }
     {
         match key {
-            Key::Insert(c) => self.answer_replacement(c),
-            Key::NewLine => self.answer_replacement('\n'),
-            Key::Erase | Key::Delete | Key::ErasePoint => self.shorten_replacement(),
-            Key::Find | Key::FindNext | Key::FindBack => {
-                self.begin_search(SearchPurpose::Find);
-                Ok(())
-            }
-            Key::Replace => {
-                self.show_match();
-                Ok(())
-            }
-            Key::Quit | Key::Copy | Key::Cancel => {
-                self.give_up();
-                Ok(())
-            }
-            Key::Repaint => {
-                self.clear_message();
-                Ok(())
-            }
-            _ => self.press_behind(key),
+            Key::Insert(c) => self.answer_replacement(c)?,
+            Key::NewLine => self.answer_replacement('\n')?,
+            Key::Erase | Key::Delete | Key::ErasePoint => self.shorten_replacement()?,
+            Key::Find | Key::FindNext | Key::FindBack => self.begin_search(SearchPurpose::Find),
+            Key::Replace => self.show_match(),
+            Key::Quit | Key::Copy | Key::Cancel => self.give_up(),
+            Key::Repaint => self.clear_message(),
+            _ => self.press_behind(key, fault)?,
         }
+        Ok(())
     }
 
     /// Applies a character that is typed while a match is shown.
@@ -188,54 +174,43 @@ impl<D: BidiData + Drop> Editor<D> {
     }
 
     /// Applies a key while a match is shown.
-    pub(crate) fn press_at_match(&mut self, key: Key) -> Result<(), OutOfMemory>
-        requires no_save { is_save key ≡ false }
-        requires typed { is_told_key key ≡ false }
+    pub(crate) fn press_at_match(
+        &mut self,
+        key: Key,
+        fault: Option<StoreFault>,
+    ) -> Result<(), OutOfMemory>
         requires shown { self.old.editor.seek ≡ SearchState.Replacing }
         ensures ok { OnOk result (self.new.editor
-            ≡ answered_match (D.data self.old.tables) None (before self.old.editor) (cleared self.old.editor) key (answer_of key)) }
+            ≡ answered_match (D.data self.old.tables) fault (before self.old.editor) (cleared self.old.editor) key (answer_of key)) }
         ensures tables { self.new.tables ≡ self.old.tables }
         ensures err { OnErr result (self.new ≡ self.old) }
         ensures edits { OnErr result (is_edit_or_move key ≡ true) }
     {
         match key {
-            Key::Insert(c) => self.answer_match(c),
-            Key::NewLine => self.answer_match('\n'),
-            Key::Find | Key::FindNext => self.pass_over(),
-            Key::Replace => self.replace_all(),
-            Key::FindBack => {
-                self.begin_search(SearchPurpose::Find);
-                Ok(())
-            }
-            Key::Erase | Key::Delete | Key::ErasePoint => {
-                self.reset_after_key();
-                Ok(())
-            }
-            Key::Quit | Key::Copy | Key::Cancel => {
-                self.end_replacing();
-                Ok(())
-            }
-            Key::Repaint => {
-                self.clear_message();
-                Ok(())
-            }
-            _ => self.press_behind(key),
+            Key::Insert(c) => self.answer_match(c)?,
+            Key::NewLine => self.answer_match('\n')?,
+            Key::Find | Key::FindNext => self.pass_over()?,
+            Key::Replace => self.replace_all()?,
+            Key::FindBack => self.begin_search(SearchPurpose::Find),
+            Key::Erase | Key::Delete | Key::ErasePoint => self.reset_after_key(),
+            Key::Quit | Key::Copy | Key::Cancel => self.end_replacing(),
+            Key::Repaint => self.clear_message(),
+            _ => self.press_behind(key, fault)?,
         }
+        Ok(())
     }
 
     /// Ends the search, and applies a key with its usual effect. A refused key leaves the search.
-    fn press_behind(&mut self, key: Key) -> Result<(), OutOfMemory>
-        requires no_save { is_save key ≡ false }
-        requires typed { is_told_key key ≡ false }
+    fn press_behind(&mut self, key: Key, fault: Option<StoreFault>) -> Result<(), OutOfMemory>
         ensures ok { OnOk result (self.new.editor
-            ≡ after_pressing (D.data self.old.tables) None (before self.old.editor) (without_search (cleared self.old.editor)) key) }
+            ≡ after_pressing (D.data self.old.tables) fault (before self.old.editor) (without_search (cleared self.old.editor)) key) }
         ensures tables { self.new.tables ≡ self.old.tables }
         ensures err { OnErr result (self.new ≡ self.old) }
         ensures edits { OnErr result (is_edit_or_move key ≡ true) }
     {
         let seek = self.cursor.seek;
         self.leave_search();
-        match self.press(key) {
+        match self.press(key, fault) {
             Ok(()) => Ok(()),
             Err(refused) => {
                 self.cursor.seek = seek;

@@ -90,41 +90,19 @@ opening_is {D} ucd tables text height width base e rest queue new utf8 sized is 
 
 -- ---- a key
 
-pub applied : {D : Type 0} (ucd : D → Data) (old new : EditorState D) (key : Key) → new.editor ≡ after_key (ucd old.tables) None old.editor key
-    → new.tables ≡ old.tables → new ≡ record old { editor = after_key (ucd old.tables) None old.editor key }
-applied {D} ucd old new key is same =
+pub applied : {D : Type 0} (ucd : D → Data) (fault : Option StoreFault) (old new : EditorState D) (key : Key)
+    → new.editor ≡ after_key (ucd old.tables) fault old.editor key → new.tables ≡ old.tables
+    → new ≡ record old { editor = after_key (ucd old.tables) fault old.editor key }
+applied {D} ucd fault old new key is same =
     ap (λ (x : D). record { tables = x; editor = new.editor }) same ∙ ap (λ (x : Editor). record { tables = old.tables; editor = x }) is
 
--- ---- a Save
+-- ---- how a Save ended
 
-pub save_is : {D : Type 0} (ucd : D → Data) (fault : Option StoreFault) (old ended new : EditorState D)
-    → ended ≡ record old { editor = paste_ended (ucd old.tables) old.editor }
-    → new ≡ record ended { editor = after_key (ucd ended.tables) fault ended.editor Save }
-    → new ≡ record old { editor = after_key (ucd old.tables) fault old.editor Save }
-save_is {D} ucd fault old ended new is saved =
-    saved
-    ∙ ap (λ (x : EditorState D). record x { editor = after_key (ucd x.tables) fault x.editor Save }) is
-    ∙ ap (λ (x : Editor). record { tables = old.tables; editor = x }) (save_ahead (ucd old.tables) fault old.editor)
-
--- how it ended
 pub save_ends : (result : Result (Unit {0}) StoreFault) (fault : Option StoreFault) (text : List ℕ) (old new : StoreState) → fault ≡ result_err result
     → OnOk result (new ≡ with_text text old) → OnErr result (new.contents ≡ old.contents) → IfErr result (λ e. new.faults ≡ with_fault e old.faults)
     → SaveEnds fault text old new
 save_ends (Ok done) fault text old new is ok stored failure = subst (λ (f : Option StoreFault). SaveEnds f text old new) (sym is) ok
 save_ends (Err e) fault text old new is ok stored failure = subst (λ (f : Option StoreFault). SaveEnds f text old new) (sym is) (stored, failure)
-
-pub saved_is : {D : Type 0} (ucd : D → Data) (fault : Option StoreFault) (s : SessionState D) (ended new : EditorState D) → s.session.editor.ended ≡ false
-    → ended ≡ record { tables = s.tables; editor = paste_ended (ucd s.tables) s.session.editor }
-    → new ≡ record ended { editor = after_key (ucd ended.tables) fault ended.editor Save }
-    → record { tables = new.tables; session = record s.session { editor = new.editor } }
-    ≡ record s { session = session_after_key (ucd s.tables) fault s.session Save }
-saved_is {D} ucd fault s ended new on is saved =
-    let d = ucd s.tables in
-    let e : Editor = after_key d fault s.session.editor Save in
-    let before : EditorState D = record { tables = s.tables; editor = s.session.editor } in
-    let runs : e.ended ≡ false = key_goes_on d fault s.session.editor Save refl ∙ on in
-    ap (λ (x : EditorState D). record { tables = x.tables; session = record s.session { editor = x.editor } }) (save_is ucd fault before ended new is saved)
-    ∙ ap (λ (ended : Bool). record { tables = s.tables; session = record s.session { editor = e; known = if ended then None else s.session.known } }) (sym runs)
 
 -- ---- a byte
 

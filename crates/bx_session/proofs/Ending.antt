@@ -3,7 +3,6 @@ use Rattle.std.proofs.Common.{◌≡◌, ℕ, Bool, true, List, Option, Some, No
 use Rattle.std.specs.Prelude.{◌≢◌, is_some}
 use Rattle.bx_keys.specs.declared.key.Key.{Key}
 use Rattle.bx_keys.specs.declared.key.Key.TheVariants.{Save, Quit}
-use Rattle.bx_grid.specs.Picture.{PictureState}
 use Rattle.bx_store.specs.declared.store.StoreFault.{StoreFault}
 use Rattle.bx_ucd.specs.Data.{Data}
 use Rattle.bx_editor.specs.declared.questions.answers.Prompt.{Prompt}
@@ -15,12 +14,10 @@ use Rattle.bx_editor.specs.Keys.{after_key, after_press, after_user}
 use Rattle.bx_editor.specs.Putting.{ended_with, paste_ended}
 use Rattle.bx_editor.specs.Replay.{after_passed_quit, after_passed_save}
 use Rattle.bx_editor.proofs.Pasted.{ended-none}
-use Rattle.bx_session.specs.Painting.{FitsEditor}
-use Rattle.bx_session.specs.Session.{Session, after_spending, key_of_byte, known_after}
+use Rattle.bx_session.specs.Session.{Session, after_spending, key_of_byte, known_after, session_after_key}
 use Rattle.bx_session.specs.Feeding.{SessionState}
 use Rattle.bx_session.specs.Replaying.{after_replay, after_replayed_key, session_after_replayed, session_replayed_on, session_scrolled}
 use Rattle.bx_session.specs.Session.{with_painting_owed}
-use Rattle.bx_session.proofs.KeySizes.{SameSize, ended_goes_on, fits_still, still_fits}
 
 -- no paste is under way any more
 pub over : (d : Data) (e : Editor) → (paste_ended d e).pasted ≡ None
@@ -96,6 +93,17 @@ pub save_passed : {D : Type 0} (ucd : D → Data) (old mid new : SessionState D)
 save_passed {D} ucd old mid new is passed =
     passed ∙ ap (λ (x : SessionState D). record x { session = record x.session { editor = after_passed_save x.session.editor } }) is
 
+-- a Save that is applied, once the paste has ended
+pub save_is : {D : Type 0} (ucd : D → Data) (fault : Option StoreFault) (old mid new : SessionState D)
+    → mid ≡ record old { session = record old.session { editor = paste_ended (ucd old.tables) old.session.editor } }
+    → new ≡ record mid { session = session_after_key (ucd mid.tables) fault mid.session Save }
+    → new ≡ record old { session = session_after_key (ucd old.tables) fault old.session Save }
+save_is {D} ucd fault old mid new is saved =
+    saved
+    ∙ ap (λ (x : SessionState D). record x { session = session_after_key (ucd x.tables) fault x.session Save }) is
+    ∙ ap (λ (e : Editor). record old { session = record old.session { editor = e; known = known_after old.session.known Save e } })
+    (save_ahead (ucd old.tables) fault old.session.editor)
+
 -- a key, once the session is scrolled
 pub scrolled_first : {D : Type 0} (ucd : D → Data) (old mid new : SessionState D) (key : Key)
     → mid ≡ record old { session = session_scrolled (ucd old.tables) old.session }
@@ -115,13 +123,3 @@ replay_is {D} ucd old mid new b key completes is pressed =
     (pressed
     ∙ ap (λ (x : SessionState D). record x { session = after_replayed_key (ucd x.tables) x.session key }) is
     ∙ ap (λ (k : Option Key). record old { session = after_replayed_key d (after_spending old.session b) k }) completes)
-
--- ---- the window's size
-
--- a painted picture fits as before
-pub ended_fits : (d : Data) (painted : Option PictureState) (e new : Editor) → new ≡ paste_ended d e → FitsEditor painted e → FitsEditor painted new
-ended_fits d painted e new is was = fits_still painted e new (subst (SameSize e) (sym is) (ended_goes_on d e).1) was
-
-pub save_fits : (d d' : Data) (fault : Option StoreFault) (painted : Option PictureState) (e mid new : Editor) → mid ≡ paste_ended d e
-    → new ≡ after_key d' fault mid Save → FitsEditor painted e → FitsEditor painted new
-save_fits d d' fault painted e mid new is saved was = still_fits d' fault painted mid new Save refl saved (ended_fits d painted e mid is was)

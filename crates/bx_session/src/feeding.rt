@@ -15,7 +15,7 @@ use crate::status::{Refused, Status};
 use bx_common::is_side;
 use bx_editor::Editor;
 use bx_keys::Key;
-use bx_store::Store;
+use bx_store::{Store, StoreFault};
 use bx_ucd::BidiData;
 
 /// Whether the screen's content counts as unknown after a key: after Repaint, and after a size, since a resized terminal may show
@@ -43,38 +43,12 @@ fn needs_painting<D: BidiData + Drop>(editor: &Editor<D>, key: Option<Key>) -> b
     }
 }
 
-/// Applies a key other than Save to the editor.
-///
-/// Errors: `Edit` if memory runs out, only for a key that edits, moves, copies, finds or ends a paste; nothing has changed.
-fn apply<D: BidiData + Drop>(editor: &mut Editor<D>, key: Key) -> Result<(), Refused>
-    requires no_save { keys.is_save key ≡ false }
-    requires sides { HasSides key }
-    ensures after_key { OnOk result (editor.new ≡ record editor.old {
-      editor = keys.after_key (D.data editor.old.tables) None editor.old.editor key;
-    }) }
-    ensures err { OnErr result (editor.new ≡ editor.old) }
-    ensures edits { OnErr result (keys.may_refuse editor.old.editor key ≡ true) }
-    ensures refused { OnErr result (result ≡ Err Refused.Edit) }
-{
-    match key {
-        Key::Size(height, width) => {
-            editor.resize(height, width);
-            Ok(())
-        }
-        _ => match editor.apply(key) {
-            Ok(()) => Ok(()),
-            Err(_) => Err(Refused::Edit),
-        },
-    }
-}
-
 impl<D: BidiData + Drop> Session<D> {
     /// Decodes a byte. Returns the key that it completes; None if it completes no key, and after the session's end.
     pub(crate) fn decode(&mut self, byte: u8) -> Option<Key>
         ensures key { result ≡ key_of_byte self.old.session byte }
         ensures rest { self.new ≡ record self.old { session = after_spending self.old.session byte } }
         ensures sides { IfSome result HasSides }
-        ensures runs { IfSome result (λ key. self.new.session.editor.ended ≡ false) }
     {
         if self.editor.ended() {
             return None;
@@ -82,11 +56,31 @@ impl<D: BidiData + Drop> Session<D> {
         self.decoder.feed(byte)
     }
 
-    /// Ends a paste, stores the text, and tells the editor how that ended. Paints nothing.
+    /// Applies a key, without painting. `fault` belongs to a Save, for which the text was stored: why that failed, or None.
+    ///
+    /// Errors: `Edit` if memory runs out, only for a key that edits, moves, copies, finds or ends a paste; nothing has changed.
+    pub(crate) fn press(&mut self, key: Key, fault: Option<StoreFault>) -> Result<(), Refused>
+        requires sides { HasSides key }
+        ensures after_key { OnOk result (self.new ≡ record self.old {
+          session = session_after_key (D.data self.old.tables) fault self.old.session key;
+        }) }
+        ensures err { OnErr result (self.new ≡ self.old) }
+        ensures edits { OnErr result (keys.may_refuse self.old.session.editor key ≡ true) }
+        ensures refused { OnErr result (result ≡ Err Refused.Edit) }
+    {
+        let Ok(()) = self.editor.apply(key, fault) else {
+            return Err(Refused::Edit);
+        };
+        if asks_for_whole(key) || self.editor.ended() {
+            self.is_known = false;
+        }
+        Ok(())
+    }
+
+    /// Ends a paste, stores the text, and applies Save. Paints nothing.
     ///
     /// Errors: `Edit` if memory runs out, only for the end of a paste; nothing has changed, and nothing is stored.
     fn save<S: Store>(&mut self, store: &mut S) -> Result<(), Refused>
-        requires runs { self.old.session.editor.ended ≡ false }
         ensures saved { OnOk result ((fault : Option StoreFault)
             × SaveEnds fault (text_to_save (D.data self.old.tables) self.old.session.editor)
             (store_state S.contents S.faults store.old) (store_state S.contents S.faults store.new)
@@ -98,32 +92,9 @@ impl<D: BidiData + Drop> Session<D> {
         ensures edits { OnErr result (keys.may_refuse self.old.session.editor Key.Save ≡ true) }
         ensures refused { OnErr result (result ≡ Err Refused.Edit) }
     {
-        let Ok(()) = self.editor.end_paste() else {
-            return Err(Refused::Edit);
-        };
+        self.end_paste()?;
         let fault = save_pieces(self.editor.pieces(), store).err();
-        self.editor.finish_save(fault);
-        Ok(())
-    }
-
-    /// Applies a key other than Save, without painting.
-    ///
-    /// Errors: `Edit` if memory runs out, only for a key that edits, moves, copies, finds or ends a paste; nothing has changed.
-    pub(crate) fn press(&mut self, key: Key) -> Result<(), Refused>
-        requires no_save { keys.is_save key ≡ false }
-        requires sides { HasSides key }
-        ensures after_key { OnOk result (self.new ≡ record self.old {
-          session = session_after_key (D.data self.old.tables) None self.old.session key;
-        }) }
-        ensures err { OnErr result (self.new ≡ self.old) }
-        ensures edits { OnErr result (keys.may_refuse self.old.session.editor key ≡ true) }
-        ensures refused { OnErr result (result ≡ Err Refused.Edit) }
-    {
-        apply(&mut self.editor, key)?;
-        if asks_for_whole(key) || self.editor.ended() {
-            self.is_known = false;
-        }
-        Ok(())
+        self.press(Key::Save, fault)
     }
 
     /// Whether the picture is painted after this key, before the key is applied: it may change the picture, or a painting is owed.
@@ -158,7 +129,7 @@ impl<D: BidiData + Drop> Session<D> {
                 Ok((asks, key))
             }
             Some(pressed) => {
-                self.press(pressed)?;
+                self.press(pressed, None)?;
                 Ok((asks, key))
             }
             None => Ok((asks, key)),

@@ -40,7 +40,7 @@ impl<D: BidiData + Drop> Session<D> {
                 self.end_paste()?;
                 self.pass_quit()
             }
-            _ => self.press(key),
+            _ => self.press(key, None),
         }
     }
 
@@ -60,14 +60,14 @@ impl<D: BidiData + Drop> Session<D> {
                 self.editor.pass_quit();
                 Ok(())
             }
-            _ => self.press(Key::Quit),
+            _ => self.press(Key::Quit, None),
         }
     }
 
     /// Ends a paste, if one is under way: what it has brought goes into the text.
     ///
     /// Errors: `Edit` if memory runs out; nothing has changed. Never without a paste.
-    fn end_paste(&mut self) -> Result<(), Refused>
+    pub(crate) fn end_paste(&mut self) -> Result<(), Refused>
         ensures ok { OnOk result (self.new ≡ record self.old {
           session = record self.old.session { editor = paste_ended (D.data self.old.tables) self.old.session.editor };
         }) }

@@ -1,4 +1,4 @@
-use Rattle.std.proofs.Common.{None, ◌∙◌, ap}
+use Rattle.std.proofs.Common.{◌∙◌, ap}
 use Rattle.bx_editor.specs.Editor.{cleared}
 use Rattle.bx_editor.specs.Functions.{EditorState}
 use Rattle.bx_editor.specs.Effects.{before}
@@ -8,6 +8,6 @@ use Rattle.bx_editor.proofs.editor.Editor.press_behind.Goals as goal
 pub returns-in-Ok-clause-ok : goal.returns-in-Ok-clause-ok
 returns-in-Ok-clause-ok g c =
     c.in-Ok.ensures.ok
-    ∙ ap (λ (s : EditorState g.row.D.Denot). after_pressing (g.D.BidiData.data s.tables) None (before s.editor)
+    ∙ ap (λ (s : EditorState g.row.D.Denot). after_pressing (g.D.BidiData.data s.tables) c.args.fault (before s.editor)
     (cleared s.editor) c.args.key)
     c.leave_search.ensures

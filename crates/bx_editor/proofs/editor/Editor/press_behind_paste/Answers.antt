@@ -35,9 +35,9 @@ returns-in-Ok-clause-ok g c =
     let e : Editor = was.editor in
     let taken = sym c.take.ensures.value ∙ c.in-Some.is in
     c.in-Ok.ensures.ok
-    ∙ ap (λ list. after_user d None (with_pasted d e list) c.args.key) c.as_str.ensures.value
-    ∙ ap (λ pasted. after_user d None (ended_with d e (option_map string_bytes pasted)) c.args.key) (sym taken)
-    ∙ ap (λ (s : EditorState g.row.D.Denot). after_user (g.D.BidiData.data s.tables) None (paste_ended (g.D.BidiData.data s.tables) s.editor) c.args.key)
+    ∙ ap (λ list. after_user d c.args.fault (with_pasted d e list) c.args.key) c.as_str.ensures.value
+    ∙ ap (λ pasted. after_user d c.args.fault (ended_with d e (option_map string_bytes pasted)) c.args.key) (sym taken)
+    ∙ ap (λ (s : EditorState g.row.D.Denot). after_user (g.D.BidiData.data s.tables) c.args.fault (paste_ended (g.D.BidiData.data s.tables) s.editor) c.args.key)
     c.self.view_is
 
 pub returns-in_default-clause-ok : goal.returns-in_default-clause-ok
@@ -48,7 +48,7 @@ returns-in_default-clause-ok g c =
     let left : option_map string_bytes c.take.new.self ≡ None = ap (option_map string_bytes) c.take.ensures.after in
     let ended : EditorState g.row.D.Denot → EditorState g.row.D.Denot = λ s. record s { editor = paste_ended (g.D.BidiData.data s.tables) s.editor } in
     subst (λ (s : EditorState g.row.D.Denot). OnOk c.press_key.result
-    (c.press_key.new.self.editor ≡ after_user (g.D.BidiData.data s.tables) None s.editor c.args.key))
+    (c.press_key.new.self.editor ≡ after_user (g.D.BidiData.data s.tables) c.args.fault s.editor c.args.key))
     (ap (λ (x : Editor). (let s : EditorState g.row.D.Denot = record was { editor = x } in s))
     (none-ended (g.D.BidiData.data was.tables) was.editor (option_map string_bytes c.take.new.self) none left)
     ∙ ap ended c.self.view_is) c.press_key.ensures.ok

@@ -1,4 +1,4 @@
-use Rattle.std.proofs.Common.{◌≡◌, None, ap, subst, ◌∙◌}
+use Rattle.std.proofs.Common.{◌≡◌, ap, subst, ◌∙◌}
 use Rattle.std.specs.Prelude.{OnOk}
 use Rattle.std.proofs.lemmas.Result.{on_err_weaker}
 use Rattle.bx_ucd.specs.Data.{Data}
@@ -11,7 +11,7 @@ use Rattle.bx_editor.proofs.editor.Editor.put_and_press.Goals as goal
 pub returns-clause-ok : goal.returns-clause-ok
 returns-clause-ok g c =
     subst (λ (s : EditorState g.row.D.Denot). OnOk c.press_key.result
-    (c.press_key.new.self.editor ≡ after_user (g.D.BidiData.data s.tables) None s.editor c.args.key))
+    (c.press_key.new.self.editor ≡ after_user (g.D.BidiData.data s.tables) c.args.fault s.editor c.args.key))
     c.in_ok-put_pasted.ensures.ok c.press_key.ensures.ok
 
 pub returns-clause-err : goal.returns-clause-err
