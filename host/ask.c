@@ -163,7 +163,7 @@ static const char *note_of(const struct session *session) {
         const char *machine = machine_text(session);
         return text_of(" (on %s)", machine ? machine : THIS_MACHINE);
     }
-    if (session_has(session, PART_MARK)) return " (a save was interrupted)";
+    if (session_has(session, PART_BACKUP)) return " (a save was interrupted)";
     return state == SESSION_DROPPED ? " (dropped)" : "";
 }
 

@@ -52,7 +52,7 @@ bool tell_mended(const struct edit *edit, const struct mending *mending, void (*
     const char *file = shown(edit->file.typed);
     if (mending->mended == MENDED_PUT_BACK) say("a save of %s was interrupted; its whole text has been restored", file);
     if (mending->mended == MENDED_STILL_TORN)
-        say("a save of %s was interrupted, and its text cannot be restored: the whole text is in %s", file, shown(mending->mark));
+        say("a save of %s was interrupted, and its text cannot be restored: the whole text is in %s", file, shown(mending->backup));
     return mending->mended == MENDED_STILL_TORN;
 }
 
@@ -323,13 +323,13 @@ static void begin_facts(struct edit *edit) {
     if (edit->unkept && !edit->facts.is_unwanted) edit->facts.told = edit->unkept_notice;
 }
 
-/* Prepares the saver. With a session, a save keeps the lock open, and if it overwrites FILE, its mark is in the session's folder. */
+/* Prepares the saver. With a session, a save keeps the lock open, and if it overwrites FILE, its backup is in the session's folder. */
 static void begin_saves(struct edit *edit) {
     if (!saver_open(&edit->saver, &edit->file)) tell_no_memory();
     edit->saver.is_itself = edit->is_itself;
     if (session_is_none(&edit->session)) return;
     edit->saver.lock = edit->session.lock;
-    if (edit->is_in_place) edit->saver.mark_folder = edit->session.folder;
+    if (edit->is_in_place) edit->saver.backup_folder = edit->session.folder;
 }
 
 int run_session(struct edit *edit) {

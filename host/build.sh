@@ -35,8 +35,8 @@ sanitized) set -- "$@" -g -fno-omit-frame-pointer -fsanitize=address,undefined -
 esac
 # names.sh quotes the name
 { mkdir -p "$out" && true >"$program.$$"; } 2>/dev/null || {
-    # shellcheck source=launcher/names.sh
-    . "$here/../launcher/names.sh"
+    # shellcheck source=tools/launcher/names.sh
+    . "$here/../tools/launcher/names.sh"
     echo "bidi-edit: the host is not built, and cannot be built here, since nothing can be written in $(shown "$written"): build it in your own copy" >&2
     exit 1
 }

@@ -1,5 +1,5 @@
 /* Drafts: the new files that a save writes and then puts in FILE's place. Where a new file must not replace FILE, the draft becomes the
- * mark, and its text overwrites FILE. All of this runs in the child that serves the save. saving.h says what each call promises. */
+ * backup, and its text overwrites FILE. All of this runs in the child that serves the save. saving.h says what each call promises. */
 #include "saving.h"
 
 #include <errno.h>
@@ -212,35 +212,35 @@ void draft_remove(struct draft *draft) {
 
 /* ---- saves into FILE itself */
 
-void save_drop_mark(struct save *save) {
-    int mark_folder = save->saver->mark_folder;
-    if (mark_folder >= 0) unlinkat(mark_folder, MARK_NAME, 0);
+void save_drop_backup(struct save *save) {
+    int backup_folder = save->saver->backup_folder;
+    if (backup_folder >= 0) unlinkat(backup_folder, BACKUP_NAME, 0);
     if (save->state.is_torn && save->state.torn[0]) unlinkat(save->folder, save->state.torn, 0);
     save->state.is_torn = false;
     save->state.torn[0] = 0;
 }
 
-/* Gives the mark beside FILE the first free name of those in the manual, else a random one. */
-static int name_mark(struct save *save) {
+/* Gives the backup beside FILE the first free name of those in the manual, else a random one. */
+static int name_backup(struct save *save) {
     char name[PATH_MAX + 8];
     int error = EEXIST;
-    for (int number = 0; error == EEXIST && number < MARK_NAMES; number++) {
-        mark_name(save->file, number, name);
+    for (int number = 0; error == EEXIST && number < BACKUP_NAMES; number++) {
+        backup_name(save->file, number, name);
         error = strlen(name) > NAME_MAX ? ENAMETOOLONG : draft_name_as(&save->draft, name);
     }
     return error == EEXIST || error == ENAMETOOLONG ? draft_name(&save->draft, save->file) : error;
 }
 
-/* Makes the draft the mark. The mark and its name are on the disk before FILE changes. */
-static int keep_mark(struct save *save) {
-    int mark_folder = save->saver->mark_folder, error = 0;
-    if (mark_folder < 0) {
-        error = name_mark(save);
+/* Makes the draft the backup. The backup and its name are on the disk before FILE changes. */
+static int keep_backup(struct save *save) {
+    int backup_folder = save->saver->backup_folder, error = 0;
+    if (backup_folder < 0) {
+        error = name_backup(save);
         return error == 0 ? save_sync_folder(save) : error;
     }
-    if (renameat(mark_folder, MARK_DRAFT_NAME, mark_folder, MARK_NAME) != 0) return errno;
-    snprintf(save->draft.name, sizeof save->draft.name, "%s", MARK_NAME);
-    int folder = openat(mark_folder, ".", O_RDONLY | O_DIRECTORY | O_CLOEXEC);
+    if (renameat(backup_folder, BACKUP_DRAFT_NAME, backup_folder, BACKUP_NAME) != 0) return errno;
+    snprintf(save->draft.name, sizeof save->draft.name, "%s", BACKUP_NAME);
+    int folder = openat(backup_folder, ".", O_RDONLY | O_DIRECTORY | O_CLOEXEC);
     if (folder < 0) return errno;
     error = sync_file(folder);
     close(folder);
@@ -261,10 +261,10 @@ static int open_to_write(const struct save *save, int *cause) {
     return -1;
 }
 
-/* Records that FILE may be torn, and which mark has its text. An older mark is removed. */
+/* Records that FILE may be torn, and which backup has its text. An older backup is removed. */
 static void note_torn(struct save *save) {
     struct state *state = &save->state;
-    const char *name = save->saver->mark_folder < 0 ? save->draft.name : "";
+    const char *name = save->saver->backup_folder < 0 ? save->draft.name : "";
     if (state->is_torn && state->torn[0] && strcmp(state->torn, name) != 0) unlinkat(save->folder, state->torn, 0);
     state->is_torn = true;
     snprintf(state->torn, sizeof state->torn, "%s", name);
@@ -287,7 +287,7 @@ static bool is_written_over(const struct save *save) {
 
 int save_in_place(struct save *save) {
     struct state *state = &save->state;
-    int cause = 0, error = keep_mark(save);
+    int cause = 0, error = keep_backup(save);
     if (error != 0) return cause_of(error);
     int file = open_to_write(save, &cause);
     if (file < 0) return cause;
@@ -299,12 +299,12 @@ int save_in_place(struct save *save) {
         if (error == 0) state->is_assumed_changed = !state->seen.is_there || is_written_over(save);
         state->old = state->seen;
         state->has_id = find_id(file, &state->id);
-        /* the mark stays as long as FILE may need it */
+        /* the backup stays as long as FILE may need it */
         save->draft.name[0] = 0;
         draft_close(&save->draft);
     }
     close(file);
     if (error != 0) return cause_of(error);
-    save_drop_mark(save);
+    save_drop_backup(save);
     return 0;
 }

@@ -160,7 +160,7 @@ static bool is_there_now(const struct edit *edit) {
 /* Says where the recovered text is, if it was saved as another file. */
 static void tell_aside(const struct edit *edit) {
     if (edit->aside_of && is_there_now(edit))
-        warn("%s was changed by another program, so the recovered text is in %s", shown(edit->aside_of), shown(edit->file.typed));
+        warn("%s was changed on disk, so the recovered text is in %s", shown(edit->aside_of), shown(edit->file.typed));
 }
 
 /* Whether FILE's text, as it was opened, had CR LF at each line's end. */
@@ -189,11 +189,11 @@ static bool mend_now(struct edit *edit) {
     const char *name;
     if (edit->is_itself && saver_is_torn(&edit->saver, &name) && name) {
         mending.mended = MENDED_STILL_TORN;
-        snprintf(mending.mark, sizeof mending.mark, "%s", name);
+        snprintf(mending.backup, sizeof mending.backup, "%s", name);
         tell_mended(edit, &mending, warn);
     }
     if (!edit->is_in_place) return false;
-    if (session_mend(&edit->session, &edit->sessions, &edit->target, &mending) != 0) return session_has(&edit->session, PART_MARK);
+    if (session_mend(&edit->session, &edit->sessions, &edit->target, &mending) != 0) return session_has(&edit->session, PART_BACKUP);
     return tell_mended(edit, &mending, warn);
 }
 

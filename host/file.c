@@ -306,7 +306,7 @@ size_t draft_stem(const struct file *file) {
     return length;
 }
 
-void mark_name(const struct file *file, int number, char name[PATH_MAX + 8]) {
+void backup_name(const struct file *file, int number, char name[PATH_MAX + 8]) {
     snprintf(name, PATH_MAX + 8, number ? "%s" DRAFT_END "%d" : "%s" DRAFT_END, file->name, number);
 }
 
@@ -341,9 +341,9 @@ static char *add_drafts(const struct file *file, char *names) {
 
 const char *leftovers_line(const struct file *file) {
     char *names = text_of("%s", ""), name[PATH_MAX + 8];
-    for (int number = 0; number < MARK_NAMES; number++) {
+    for (int number = 0; number < BACKUP_NAMES; number++) {
         struct stat found;
-        mark_name(file, number, name);
+        backup_name(file, number, name);
         if (fstatat(file->folder, name, &found, 0) == 0) names = add_name(file, names, name);
     }
     names = add_drafts(file, names);

@@ -99,10 +99,10 @@ const char *refuse_access(const struct file *file, bool is_in_place);
 enum { DRAFT_LETTERS = 8 };
 size_t draft_stem(const struct file *file);
 
-/* The mark is the file with the whole text while a save overwrites FILE. Beside FILE, MARK_NAMES names are tried for it: FILE.bx, and
+/* The backup is the file with the whole text while a save overwrites FILE. Beside FILE, BACKUP_NAMES names are tried for it: FILE.bx, and
  * FILE.bx1 to FILE.bx9. */
-enum { MARK_NAMES = 10 };
-void mark_name(const struct file *file, int number, char name[PATH_MAX + 8]);
+enum { BACKUP_NAMES = 10 };
+void backup_name(const struct file *file, int number, char name[PATH_MAX + 8]);
 
 /* The message that names files which killed saves left beside FILE; NULL if there are none. */
 const char *leftovers_line(const struct file *file);

@@ -234,24 +234,24 @@ void sessions_forget(const struct sessions *sessions, const struct target *targe
     walk_end(&walk);
 }
 
-/* ---- repairs of FILE after an interrupted save that overwrote it, from the mark of the session that saved */
+/* ---- repairs of FILE after an interrupted save that overwrote it, from the backup of the session that saved */
 
-/* ---- FILE compared with a mark */
+/* ---- FILE compared with a backup */
 
 struct comparing {
-    int mark;
+    int backup;
     off_t place;
     bool is_read;
-    struct mark_comparison comparison;
+    struct backup_comparison comparison;
 };
 
-/* For read_pieces: compares a piece of FILE with the bytes of the mark at the same place. */
+/* For read_pieces: compares a piece of FILE with the bytes of the backup at the same place. */
 static void compare_piece(void *context, const char *bytes, size_t size) {
     struct comparing *comparing = context;
     while (size > 0 && comparing->is_read) {
         char piece[4096];
         size_t wanted = size < sizeof piece ? size : sizeof piece;
-        ssize_t count = pread(comparing->mark, piece, wanted, comparing->place);
+        ssize_t count = pread(comparing->backup, piece, wanted, comparing->place);
         if (count < 0 && errno == EINTR) continue;
         comparing->is_read = count > 0;
         if (count <= 0) return;
@@ -262,36 +262,36 @@ static void compare_piece(void *context, const char *bytes, size_t size) {
     }
 }
 
-enum verdict judge_file(int file, int mark) {
-    struct stat of_file, of_mark;
-    struct comparing comparing = {.mark = mark, .is_read = true};
-    if (fstat(file, &of_file) != 0 || fstat(mark, &of_mark) != 0 || !S_ISREG(of_file.st_mode)) return FILE_OTHER;
-    if (of_file.st_size > of_mark.st_size) return FILE_OTHER;
+enum verdict judge_file(int file, int backup) {
+    struct stat of_file, of_backup;
+    struct comparing comparing = {.backup = backup, .is_read = true};
+    if (fstat(file, &of_file) != 0 || fstat(backup, &of_backup) != 0 || !S_ISREG(of_file.st_mode)) return FILE_OTHER;
+    if (of_file.st_size > of_backup.st_size) return FILE_OTHER;
     compare_begin(&comparing.comparison);
     if (read_pieces(file, 0, compare_piece, &comparing) != 0 || !comparing.is_read) return FILE_OTHER;
-    return compare_end(&comparing.comparison, (uint64_t)comparing.place, (uint64_t)of_mark.st_size);
+    return compare_end(&comparing.comparison, (uint64_t)comparing.place, (uint64_t)of_backup.st_size);
 }
 
 static int open_target(const struct target *target, int flags) {
     return target->folder < 0 ? -1 : part_open(target->folder, target->name, flags);
 }
 
-/* Compares FILE, as it is now, with an open mark. FILE_OTHER if FILE cannot be opened. */
-static enum verdict judge_target(const struct target *target, int mark) {
+/* Compares FILE, as it is now, with an open backup. FILE_OTHER if FILE cannot be opened. */
+static enum verdict judge_target(const struct target *target, int backup) {
     int file = open_target(target, O_RDONLY);
     if (file < 0) return FILE_OTHER;
-    enum verdict verdict = judge_file(file, mark);
+    enum verdict verdict = judge_file(file, backup);
     close(file);
     return verdict;
 }
 
-/* Copies the text of a mark into a torn file. The file is judged again once it is open, so that the same file is judged and written. */
-static enum mended put_back(const struct target *target, int mark) {
+/* Copies the text of a backup into a torn file. The file is judged again once it is open, so that the same file is judged and written. */
+static enum mended put_back(const struct target *target, int backup) {
     int file = open_target(target, O_RDWR);
     if (file < 0) return MENDED_STILL_TORN;
     enum mended mended = MENDED_WHOLE;
-    if (judge_file(file, mark) == FILE_TORN) {
-        int error = lseek(file, 0, SEEK_SET) == 0 ? copy_file(mark, 0, file) : errno;
+    if (judge_file(file, backup) == FILE_TORN) {
+        int error = lseek(file, 0, SEEK_SET) == 0 ? copy_file(backup, 0, file) : errno;
         if (!error && fsync(file) != 0) error = errno;
         mended = error ? MENDED_STILL_TORN : MENDED_PUT_BACK;
     }
@@ -331,24 +331,24 @@ static bool is_being_saved(const struct sessions *sessions, const struct session
 
 /* ---- the repair */
 
-/* Repairs FILE from the session's mark, only if a save was interrupted in it. Without a mark FILE counts as whole. */
+/* Repairs FILE from the session's backup, only if a save was interrupted in it. Without a backup FILE counts as whole. */
 static enum mended mend_by(const struct session *session, const struct target *target) {
-    int mark = session_open(session, PART_MARK);
-    if (mark < 0) return MENDED_WHOLE;
+    int backup = session_open(session, PART_BACKUP);
+    if (backup < 0) return MENDED_WHOLE;
     enum mended mended = MENDED_WHOLE;
-    if (judge_target(target, mark) == FILE_TORN) mended = put_back(target, mark);
-    close(mark);
+    if (judge_target(target, backup) == FILE_TORN) mended = put_back(target, backup);
+    close(backup);
     return mended;
 }
 
 int session_mend(struct session *session, const struct sessions *sessions, const struct target *target, struct mending *mending) {
     mending->mended = MENDED_WHOLE;
-    session_path_of(session, PART_MARK, mending->mark);
-    int error = session_erase(session, PART_MARK_DRAFT);
-    if (error || !session_has(session, PART_MARK)) return error;
+    session_path_of(session, PART_BACKUP, mending->backup);
+    int error = session_erase(session, PART_BACKUP_DRAFT);
+    if (error || !session_has(session, PART_BACKUP)) return error;
     if (saves_into(session, target) && !is_being_saved(sessions, session, target)) mending->mended = mend_by(session, target);
     if (mending->mended == MENDED_STILL_TORN) return 0;
-    return renameat(session->folder, part_name(PART_MARK), session->folder, part_name(PART_SAVE)) == 0 ? 0 : errno;
+    return renameat(session->folder, part_name(PART_BACKUP), session->folder, part_name(PART_SAVE)) == 0 ? 0 : errno;
 }
 
 bool sessions_mend(const struct sessions *sessions, const struct target *target, void (*tell)(void *, const struct mending *), void *context) {
@@ -358,9 +358,9 @@ bool sessions_mend(const struct sessions *sessions, const struct target *target,
     while (!is_torn && walk_next_own(&walk)) {
         struct session *session = &walk.session;
         struct mending mending;
-        if (!session_has(session, PART_MARK) || !saves_into(session, target)) continue;
+        if (!session_has(session, PART_BACKUP) || !saves_into(session, target)) continue;
         enum session_state state = session_state(session);
-        if (state == SESSION_LIVE || state == SESSION_ELSEWHERE || session_lock(session, PART_MARK) != LOCK_TAKEN) continue;
+        if (state == SESSION_LIVE || state == SESSION_ELSEWHERE || session_lock(session, PART_BACKUP) != LOCK_TAKEN) continue;
         if (session_mend(session, sessions, target, &mending) != 0) continue;
         tell(context, &mending);
         is_torn = mending.mended == MENDED_STILL_TORN;

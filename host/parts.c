@@ -21,9 +21,9 @@ const char *part_name(enum part part) {
         [PART_TEXT] = "text",         [PART_PATH] = "path",         [PART_OPENED] = "opened",     [PART_BESIDE] = "beside",
         [PART_BEGIN] = "begin",       [PART_PROCESS] = "process",   [PART_MODE] = "mode",         [PART_VERSIONS] = "versions",
         [PART_JOURNAL] = "journal",   [PART_LOCK] = "lock",         [PART_DROPPED] = "dropped",   [PART_CUT] = "cut",
-        [PART_UNSAVED] = "unsaved",   [PART_UNJOINED] = "unjoined", [PART_SNAPSHOT] = "snapshot", [PART_MARK] = MARK_NAME,
-        [PART_MARK_DRAFT] = MARK_DRAFT_NAME, [PART_PLACE] = "place",      [PART_SAVE] = "save",         [PART_FILE] = "file",
-        [PART_SECRET] = "secret",
+        [PART_UNSAVED] = "unsaved",   [PART_UNJOINED] = "unjoined", [PART_SNAPSHOT] = "snapshot", [PART_PLACE] = "place",
+        [PART_SAVE] = "save",         [PART_FILE] = "file",         [PART_SECRET] = "secret",     [PART_BACKUP] = BACKUP_NAME,
+        [PART_BACKUP_DRAFT] = BACKUP_DRAFT_NAME,
     };
     return names[part];
 }
@@ -261,7 +261,7 @@ bool session_has_keys(const struct session *session) {
 }
 
 bool session_has_something(const struct session *session) {
-    return session_has_keys(session) || session_has(session, PART_UNSAVED) || session_has(session, PART_MARK);
+    return session_has_keys(session) || session_has(session, PART_UNSAVED) || session_has(session, PART_BACKUP);
 }
 
 bool session_process(const struct session *session, struct process *process) {

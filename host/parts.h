@@ -7,6 +7,13 @@
 
 enum { FILE_MODE = 0600 };
 
+/* Opens the folder above an open one, and looks at it. Returns AT_ROOT if there is none, UNSEEN at a fault. */
+enum { UNSEEN = -1, AT_ROOT = -2 };
+int open_above(int folder, struct stat *found);
+
+/* Judges the folder at `path`. Only the folder above is found by its path; all else is asked of what is then open. */
+void sessions_judge(struct sessions *sessions);
+
 /* Opens a part with these flags, never following a link or waiting for a pipe. */
 int part_open(int folder, const char *name, int flags);
 
@@ -53,8 +60,8 @@ void remove_folder(const struct session *session, const char *name);
 /* Ends the child that writes, at once. */
 void end_child(struct session *session);
 
-/* Compares an open file with an open mark. FILE_OTHER if one cannot be read or the file is not plain. A file longer than the mark is not
- * read. */
-enum verdict judge_file(int file, int mark);
+/* Compares an open file with an open backup. FILE_OTHER if one cannot be read or the file is not plain. A file longer than the backup is
+ * not read. */
+enum verdict judge_file(int file, int backup);
 
 #endif

@@ -1,6 +1,5 @@
-/* The folders of sessions: where FILE's sessions are kept, whether that folder is safe from other users, and which other folders may have
- * sessions of the user. session.h says what each call promises. */
-#include <errno.h>
+/* The folders of sessions: where FILE's sessions are kept, and which other folders may have sessions of the user. session.h says what each
+ * call promises. */
 #include <fcntl.h>
 #include <mntent.h>
 #include <pwd.h>
@@ -11,8 +10,7 @@
 #include <unistd.h>
 
 #include "file.h"
-#include "session.h"
-#include "util.h"
+#include "parts.h"
 
 /* The name of the folder of sessions in the user's state folder; the folder in memory that nearly every system has. */
 #define OWN_NAME "bidi_edit"
@@ -36,121 +34,6 @@ static int open_nearest(const char *path) {
         if (end == above) return open_folder(AT_FDCWD, "/");
         *end = '\0';
     }
-}
-
-/* Opens the folder above an open one. AT_ROOT: there is none. UNSEEN: it cannot be examined. */
-enum { UNSEEN = -1, AT_ROOT = -2 };
-/* Opens the folder above an open one, and looks at it. Returns AT_ROOT if there is none, UNSEEN at a fault. */
-static int open_above(int folder, struct stat *found) {
-    struct stat below;
-    int above = open_folder(folder, "..");
-    if (above < 0) return UNSEEN;
-    int refused = UNSEEN;
-    if (fstat(folder, &below) == 0 && fstat(above, found) == 0) {
-        if (!is_same_file(&below, found)) return above;
-        refused = AT_ROOT;
-    }
-    close(above);
-    return refused;
-}
-
-/* ---- one folder, judged */
-
-/* Notes that the folder is missing, or cannot be used, and why. */
-static void fail_with(struct sessions *sessions, int error) {
-    sessions->state = error == ENOENT ? FOLDER_MISSING : FOLDER_UNUSABLE;
-    sessions->error = error;
-}
-
-/* Looks at an open folder and all above it for one that another user could change. The topmost such folder is the one that is named. */
-static void judge_above(struct sessions *sessions, int folder) {
-    struct stat found;
-    int above = open_folder(folder, ".");
-    if (above >= 0 && fstat(above, &found) != 0) {
-        close(above);
-        above = UNSEEN;
-    }
-    while (above >= 0) {
-        if (!is_safe_above(found.st_uid, found.st_mode, sessions->user)) {
-            sessions->state = FOLDER_DISTRUSTED;
-            if (!path_of(above, sessions->distrusted)) put_path(sessions->distrusted, "%s", sessions->path);
-        }
-        int next = open_above(above, &found);
-        close(above);
-        above = next;
-    }
-    /* a folder that cannot be examined could be another user's */
-    if (above == UNSEEN && sessions->state == FOLDER_READY) fail_with(sessions, EACCES);
-}
-
-/* Judges the folder of sessions by its own owner and mode, then by those of the folders above, and opens it only if all are safe. */
-static void judge_at(struct sessions *sessions, int above, const char *name) {
-    struct stat found;
-    char real[PATH_MAX];
-    int folder = openat(above, name, O_PATH | O_NOFOLLOW | O_CLOEXEC);
-    if (folder < 0) {
-        fail_with(sessions, errno);
-        return;
-    }
-    if (path_of(above, real)) put_path(sessions->path, "%s/%s", before_slash(real), name);
-    if (fstat(folder, &found) != 0 || !S_ISDIR(found.st_mode) || !is_private(found.st_uid, found.st_mode, sessions->user)) {
-        sessions->state = FOLDER_DISTRUSTED;
-        memcpy(sessions->distrusted, sessions->path, sizeof sessions->distrusted);
-    } else {
-        sessions->state = FOLDER_READY;
-        judge_above(sessions, above);
-    }
-    if (sessions->state == FOLDER_READY) {
-        sessions->folder = openat(folder, ".", O_RDONLY | O_DIRECTORY | O_CLOEXEC);
-        if (sessions->folder < 0) fail_with(sessions, EACCES);
-    }
-    close(folder);
-}
-
-/* Judges the folder at `path`. Only the folder above is found by its path; all else is asked of what is then open. */
-static void sessions_judge(struct sessions *sessions) {
-    char above[PATH_MAX];
-    put_path(above, "%s", sessions->path);
-    char *name = strrchr(above, '/');
-    if (!name || !name[1]) {
-        fail_with(sessions, EINVAL);
-        return;
-    }
-    *name++ = '\0';
-    int folder = open_folder(AT_FDCWD, above[0] ? above : "/");
-    if (folder < 0) {
-        fail_with(sessions, errno);
-        return;
-    }
-    judge_at(sessions, folder, name);
-    close(folder);
-}
-
-/* Creates a folder and those above it. Returns 0 if the folder exists in the end, otherwise the first fault. */
-static int make_folders(char *path) {
-    int first = 0;
-    for (char *end = path; end;) {
-        end = strchr(end + 1, '/');
-        if (end) *end = '\0';
-        int error = mkdir(path, FOLDER_MODE) == 0 || errno == EEXIST ? 0 : errno;
-        if (end) *end = '/';
-        /* for a folder that exists, the system may say first that the folder above cannot be written */
-        if (first == 0) first = error;
-        if (!end) return error ? first : 0;
-    }
-    return 0;
-}
-
-bool sessions_make(struct sessions *sessions) {
-    if (sessions->state != FOLDER_MISSING) return sessions->state == FOLDER_READY;
-    int error = make_folders(sessions->path);
-    if (error == 0) sessions_judge(sessions);
-    /* it was removed meanwhile, or could not be made */
-    if (sessions->state == FOLDER_MISSING) {
-        sessions->state = FOLDER_UNUSABLE;
-        sessions->error = error ? error : ENOENT;
-    }
-    return sessions->state == FOLDER_READY;
 }
 
 void sessions_close(struct sessions *sessions) {

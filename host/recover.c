@@ -177,7 +177,7 @@ static enum outcome take_by_text(struct edit *edit, struct session *session, int
     return outcome;
 }
 
-/* Recovers a session that is locked. First FILE is repaired from its mark; then its keys are trusted only if editor and tables are the
+/* Recovers a session that is locked. First FILE is repaired from its backup; then its keys are trusted only if editor and tables are the
  * same. */
 static enum outcome take_locked(struct edit *edit, struct session *session, int *status) {
     struct mending mending;

@@ -140,19 +140,19 @@ static int settle_way(struct save *save, int itself) {
     if (!save->is_there || !S_ISREG(save->state.seen.found.st_mode)) return 0;
     enum reason reason = find_reason(save, itself);
     bool is_itself = save->state.is_overwritten_in_place || (saver->is_itself && !save->state.is_replaced);
-    save->is_in_place = saver->mark_folder >= 0 || is_itself || reason != NO_REASON;
-    /* without a session there is no place for a mark, since nothing can be created beside FILE */
-    return reason == REASON_PROTECTED && saver->mark_folder < 0 ? SAVE_NOT_PERMITTED : 0;
+    save->is_in_place = saver->backup_folder >= 0 || is_itself || reason != NO_REASON;
+    /* without a session there is no place for a backup, since nothing can be created beside FILE */
+    return reason == REASON_PROTECTED && saver->backup_folder < 0 ? SAVE_NOT_PERMITTED : 0;
 }
 
 /* Opens the draft. A FILE that did not exist gets the usual mode, reduced by the user's umask. */
 static int open_draft(struct save *save) {
-    int mark_folder = save->saver->mark_folder;
+    int backup_folder = save->saver->backup_folder;
     mode_t mode = save->is_in_place || save->state.old.is_there ? 0600 : 0666;
-    if (save->is_in_place && mark_folder >= 0) {
-        /* FILE may be torn, and need the mark that exists */
-        if (faccessat(mark_folder, MARK_NAME, F_OK, AT_SYMLINK_NOFOLLOW) == 0) save->state.is_torn = true;
-        return draft_open_own(&save->draft, mark_folder, MARK_DRAFT_NAME, mode);
+    if (save->is_in_place && backup_folder >= 0) {
+        /* FILE may be torn, and need the backup that exists */
+        if (faccessat(backup_folder, BACKUP_NAME, F_OK, AT_SYMLINK_NOFOLLOW) == 0) save->state.is_torn = true;
+        return draft_open_own(&save->draft, backup_folder, BACKUP_DRAFT_NAME, mode);
     }
     return draft_open(&save->draft, save->file, save->folder, mode, true);
 }
@@ -226,7 +226,7 @@ static int replace(struct save *save) {
     if (save->draft.name[0]) unlinkat(save->folder, save->draft.name, 0);
     save->draft.name[0] = 0;
     note_replaced(save, &before);
-    save_drop_mark(save);
+    save_drop_backup(save);
     return 0;
 }
 
@@ -283,14 +283,14 @@ void save_publish(const struct save *save) {
 
 /* ---- the child serves a save */
 
-/* The cause to report: while FILE is torn and its mark is beside it, the user must know that first. */
+/* The cause to report: while FILE is torn and its backup is beside it, the user must know that first. */
 static int cause_to_tell(const struct save *save, int cause) {
     return cause != 0 && save->state.is_torn && save->state.torn[0] ? SAVE_CUT_OFF : cause;
 }
 
-/* Removes the draft of a failed save, even if it is the mark already, unless FILE needs the mark. */
+/* Removes the draft of a failed save, even if it is the backup already, unless FILE needs the backup. */
 static void clean_up(struct save *save) {
-    if (save->state.is_torn && strcmp(save->draft.name, MARK_NAME) == 0 && save->saver->mark_folder >= 0) save->draft.name[0] = 0;
+    if (save->state.is_torn && strcmp(save->draft.name, BACKUP_NAME) == 0 && save->saver->backup_folder >= 0) save->draft.name[0] = 0;
     draft_remove(&save->draft);
 }
 
@@ -351,7 +351,7 @@ static _Noreturn void serve(struct save *save, int request, int answer) {
 static void become_child(const struct saver *saver, int request, int answer) {
     static const int ignored[] = {SIGHUP, SIGINT, SIGQUIT, SIGTERM, SIGTSTP, SIGTTIN, SIGTTOU, SIGPIPE, SIGXFSZ};
     const struct file *file = saver->file;
-    const int kept[] = {request, answer, file->folder, saver->mark_folder, saver->lock};
+    const int kept[] = {request, answer, file->folder, saver->backup_folder, saver->lock};
     prctl(PR_SET_NAME, "bidi-saver");
     for (size_t i = 0; i < sizeof ignored / sizeof *ignored; i++) signal(ignored[i], SIG_IGN);
     close_others(kept, sizeof kept / sizeof *kept);
@@ -359,7 +359,7 @@ static void become_child(const struct saver *saver, int request, int answer) {
 
 bool saver_open(struct saver *saver, struct file *file) {
     void *shared = mmap(NULL, sizeof(struct saved), PROT_READ | PROT_WRITE, MAP_SHARED | MAP_ANONYMOUS, -1, 0);
-    *saver = (struct saver){.file = file, .mark_folder = -1, .lock = -1, .answer = -1};
+    *saver = (struct saver){.file = file, .backup_folder = -1, .lock = -1, .answer = -1};
     if (shared == MAP_FAILED) return false;
     saver->saved = shared;
     atomic_init(&saver->saved->current, 0);

@@ -11,10 +11,10 @@ struct saved;
 
 struct saver {
     /* Given before the first save. Files that the child keeps open: the session's folder, where saves go into FILE itself with the
-     * mark there, else -1; the session's lock, or -1. */
+     * backup there, else -1; the session's lock, or -1. */
     struct file *file;
-    int mark_folder, lock;
-    /* Saves go into FILE itself, with the mark beside it. */
+    int backup_folder, lock;
+    /* Saves go into FILE itself, with the backup beside it. */
     bool is_itself;
     /* What the saves so far left, in memory that the child writes to. */
     struct saved *saved;
@@ -22,12 +22,13 @@ struct saver {
     int answer;
 };
 
-/* The names of the mark and of its draft in the session's folder (the part `place` notes that there may be one). */
-#define MARK_NAME "mark"
-#define MARK_DRAFT_NAME "mark.bx"
+/* The names of the backup and of its draft in the session's folder (the part `place` notes that there may be one). They stay as they are,
+ * since sessions of earlier versions have them. */
+#define BACKUP_NAME "mark"
+#define BACKUP_DRAFT_NAME "mark.bx"
 
-/* Prepares a saver. What it has seen of FILE last is `file` as it was opened. mark_folder, lock and is_itself are -1, -1 and false, and the
- * caller may set them. Returns false without memory. */
+/* Prepares a saver. What it has seen of FILE last is `file` as it was opened. backup_folder, lock and is_itself are -1, -1 and false, and
+ * the caller may set them. Returns false without memory. */
 bool saver_open(struct saver *saver, struct file *file);
 
 /* Forks the child that serves one save, from its BEGIN frame on `request`, which it answers on `answer`, to its end. Returns its
@@ -47,7 +48,7 @@ int saver_cause(const struct saver *saver);
 /* FILE as the last save left or found it; false where no save looked at it. */
 bool saver_stamp(const struct saver *saver, struct file_stamp *stamp, struct file_id *id);
 
-/* FILE may have a part of its new text alone. A mark has the whole: this name beside FILE, or MARK_NAME in the session's folder,
+/* FILE may have a part of its new text alone. A backup has the whole text: this name beside FILE, or BACKUP_NAME in the session's folder,
  * where it gives NULL. */
 bool saver_is_torn(const struct saver *saver, const char **name);
 

@@ -12,7 +12,7 @@
 #include "file.h"
 #include "save.h"
 
-/* ---- drafts and marks (draft.c) */
+/* ---- drafts and backups (draft.c) */
 
 struct draft {
     /* The folder, which the draft does not close, and the draft's name there; empty while it has none. */
@@ -84,7 +84,7 @@ struct state {
     bool is_moved;
     dev_t device;
     ino_t inode;
-    /* FILE may lack a part of its text; the name of the mark beside FILE, or empty if the mark is in the session's folder. */
+    /* FILE may lack a part of its text; the name of the backup beside FILE, or empty if the backup is in the session's folder. */
     bool is_torn;
     char torn[NAME_MAX + 1];
     /* The result of the last save, and FILE's identity after it. */
@@ -102,15 +102,15 @@ struct save {
     /* FILE's folder; and the same folder opened for syncing and locking, -1 if it cannot be read. */
     int folder, folder_to_sync;
     struct draft draft;
-    /* At the beginning FILE was as last seen; the draft is to be a mark; FILE had no access list. */
+    /* At the beginning FILE was as last seen; the draft is to be a backup; FILE had no access list. */
     bool is_there, is_in_place, is_listless;
 };
 
-/* Makes the draft the mark, and overwrites FILE in place with its text. */
+/* Makes the draft the backup, and overwrites FILE in place with its text. */
 int save_in_place(struct save *save);
 
-/* Removes the mark, now that FILE is complete. */
-void save_drop_mark(struct save *save);
+/* Removes the backup, now that FILE is complete. */
+void save_drop_backup(struct save *save);
 
 /* Syncs FILE's folder; 0 or an errno. */
 int save_sync_folder(const struct save *save);

@@ -16,7 +16,7 @@
 /* The mode of folders of sessions; the space that must stay free for keys, in bytes. */
 enum { FOLDER_MODE = 0700, ROOM_FOR_KEYS = 8192 };
 
-/* ---- folders of sessions (places.c) */
+/* ---- folders of sessions (places.c, trust.c) */
 
 enum folder_state {
     /* Open, and found safe. */
@@ -108,12 +108,12 @@ enum part {
     PART_UNJOINED,
     /* The text at the session's end. */
     PART_SNAPSHOT,
-    /* The mark: the whole text of a save that overwrites FILE, as long as FILE is being written; and a mark that is not complete yet. */
-    PART_MARK,
-    PART_MARK_DRAFT,
+    /* The backup: the whole text of a save that overwrites FILE, as long as FILE is being written; and one that is not complete yet. */
+    PART_BACKUP,
+    PART_BACKUP_DRAFT,
     /* FILE's path, if saves overwrite FILE in place. */
     PART_PLACE,
-    /* The text of the last mark, after FILE was repaired from it or needed no repair. */
+    /* The text of the last backup, after FILE was repaired from it or needed no repair. */
     PART_SAVE,
     /* FILE's device, inode and birth as it was opened or saved last. */
     PART_FILE,
@@ -324,11 +324,11 @@ enum mended { MENDED_WHOLE, MENDED_PUT_BACK, MENDED_STILL_TORN };
 struct mending {
     enum mended mended;
     /* The file with the whole text. */
-    char mark[PATH_MAX];
+    char backup[PATH_MAX];
 };
-/* Repairs FILE from the mark of a locked session. Unless FILE stays torn, the mark is renamed to the part `save`. */
+/* Repairs FILE from the backup of a locked session. Unless FILE stays torn, the backup is renamed to the part `save`. */
 int session_mend(struct session *session, const struct sessions *sessions, const struct target *target, struct mending *mending);
-/* Repairs FILE from the marks of all sessions that no editor has open. Calls `tell` for each outcome; ends if FILE stays torn.
+/* Repairs FILE from the backups of all sessions that no editor has open. Calls `tell` for each outcome; ends if FILE stays torn.
  * Returns whether FILE is whole. */
 bool sessions_mend(const struct sessions *sessions, const struct target *target, void (*tell)(void *, const struct mending *), void *context);
 

@@ -197,22 +197,22 @@ bool counts_as_own(enum belonging belonging, enum session_state state) {
 
 /* ---- torn files */
 
-void compare_begin(struct mark_comparison *comparison) {
-    *comparison = (struct mark_comparison){.is_same = true, .is_torn = true};
+void compare_begin(struct backup_comparison *comparison) {
+    *comparison = (struct backup_comparison){.is_same = true, .is_torn = true};
 }
 
-void compare_more(struct mark_comparison *comparison, const char *of_file, const char *of_mark, size_t count) {
+void compare_more(struct backup_comparison *comparison, const char *of_file, const char *of_backup, size_t count) {
     for (size_t at = 0; at < count; at++) {
-        if (of_file[at] == of_mark[at]) continue;
+        if (of_file[at] == of_backup[at]) continue;
         comparison->is_same = false;
         /* zeros stand for blocks that were not written */
         if (of_file[at] != 0) comparison->is_torn = false;
     }
 }
 
-enum verdict compare_end(const struct mark_comparison *comparison, uint64_t size_of_file, uint64_t size_of_mark) {
-    if (comparison->is_same && size_of_file == size_of_mark) return FILE_WHOLE;
-    return comparison->is_torn && size_of_file <= size_of_mark ? FILE_TORN : FILE_OTHER;
+enum verdict compare_end(const struct backup_comparison *comparison, uint64_t size_of_file, uint64_t size_of_backup) {
+    if (comparison->is_same && size_of_file == size_of_backup) return FILE_WHOLE;
+    return comparison->is_torn && size_of_file <= size_of_backup ? FILE_TORN : FILE_OTHER;
 }
 
 /* ---- keys */

@@ -107,7 +107,7 @@ enum session_state { SESSION_LIVE, SESSION_ELSEWHERE, SESSION_EMPTY, SESSION_DRO
 
 struct state_facts {
     bool is_locked, may_be_elsewhere;
-    /* It has keys, a text that counts as changed, or a mark, whose text FILE may lack. */
+    /* It has keys, a text that counts as changed, or a backup, whose text FILE may lack. */
     bool has_something;
     bool is_dropped;
 };
@@ -118,16 +118,16 @@ bool counts_as_own(enum belonging belonging, enum session_state state);
 
 /* ---- torn files, keys, line ends */
 
-/* A file compared with the mark, which has the whole text of a save that overwrites it. TORN: the save was interrupted in it.
+/* A file compared with the backup, which has the whole text of a save that overwrites it. TORN: the save was interrupted in it.
  * OTHER: another program has written it. */
 enum verdict { FILE_WHOLE, FILE_TORN, FILE_OTHER };
-struct mark_comparison {
+struct backup_comparison {
     bool is_same, is_torn;
 };
 /* Compares bytes at the same place of both, piece by piece; and the lengths at the end. */
-void compare_begin(struct mark_comparison *comparison);
-void compare_more(struct mark_comparison *comparison, const char *of_file, const char *of_mark, size_t count);
-enum verdict compare_end(const struct mark_comparison *comparison, uint64_t size_of_file, uint64_t size_of_mark);
+void compare_begin(struct backup_comparison *comparison);
+void compare_more(struct backup_comparison *comparison, const char *of_file, const char *of_backup, size_t count);
+enum verdict compare_end(const struct backup_comparison *comparison, uint64_t size_of_file, uint64_t size_of_backup);
 
 /* Counts a journal's keys, piece by piece, without replaying them. It does not count notices of the host, sizes of the window, and
  * a Save right before a size: a recovered session begins with these two. */

@@ -16,8 +16,8 @@ case "$#:${1:-}" in
 esac
 # shellcheck source=tests/report.sh
 . "$top/tests/report.sh"
-# shellcheck source=launcher/dist.sh
-. "$top/launcher/dist.sh"
+# shellcheck source=tools/launcher/dist.sh
+. "$top/tools/launcher/dist.sh"
 room=$(mktemp -d) || exit 1
 trap 'rm -rf -- "$room"' EXIT
 trap 'exit 1' HUP INT TERM

@@ -2,8 +2,8 @@
 # shellcheck disable=SC2034,SC2154 # words that the scripts give and take
 # Built programs, for scripts that run one. `top` is the repository.
 
-# shellcheck source=launcher/dist.sh
-. "$top/launcher/dist.sh"
+# shellcheck source=tools/launcher/dist.sh
+. "$top/tools/launcher/dist.sh"
 
 # Whether a program has the stamp that the toolchain writes after a proved build. The stamp ends with the program's checksum.
 is_proved() { # PROGRAM

@@ -9,7 +9,7 @@ set -u
 top=$(cd "$(dirname "$0")/.." && pwd)
 # shellcheck source=tests/report.sh
 . "$top/tests/report.sh"
-prove=$top/launcher/proving/prove.sh
+prove=$top/tools/launcher/proving/prove.sh
 folder=$(mktemp -d)
 socket="bb$$"
 passed=0 failed=0
@@ -247,8 +247,9 @@ check_killed() {
 # words.
 make_checkout() {
     make_tree
-    cp -R "$top/bidi-edit" "$top/launcher" "$top/data" "$folder/tree/"
-    mkdir -p "$folder/tree/host"
+    mkdir -p "$folder/tree/host" "$folder/tree/tools"
+    cp -R "$top/bidi-edit" "$top/data" "$folder/tree/"
+    cp -R "$top/tools/launcher" "$folder/tree/tools/"
     cat >"$folder/tree/host/build.sh" <<'END'
 here=$(dirname "$0")
 mkdir -p "$here/out"

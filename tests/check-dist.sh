@@ -9,8 +9,8 @@ here=$(CDPATH='' cd -- "$(dirname -- "$0")" && pwd)
 # shellcheck source=tests/report.sh
 . "$here/report.sh"
 top=${here%/*}
-# shellcheck source=launcher/dist.sh
-. "$top/launcher/dist.sh"
+# shellcheck source=tools/launcher/dist.sh
+. "$top/tools/launcher/dist.sh"
 folder=$(mktemp -d) || exit 1
 trap 'chmod -R u+w "$folder"; rm -rf -- "$folder"' EXIT
 trap 'exit 1' HUP INT TERM

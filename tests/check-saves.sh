@@ -3,7 +3,7 @@
 # FILE meanwhile; files, links, owners and disks of all kinds; and each call of a save is killed, or fails. FILE must have its old or
 # its new bytes, complete, with its owner and permissions; a link must stay a link; only the draft of a killed save may be left beside
 # it; and nobody else may read the draft. All this is checked for saves that replace FILE and for saves that overwrite it, where FILE
-# may be torn as long as the mark, in a folder of its own or beside FILE, has the whole new text. `--quick` kills no calls, which take
+# may be torn as long as the backup, in a folder of its own or beside FILE, has the whole new text. `--quick` kills no calls, which take
 # some minutes. It needs a C compiler, python3 and strace; some checks need root. It prints the number of checks of each kind, and in
 # the last line the totals. Exit status 1: a check failed; 77: python3 or strace is missing.
 set -u
@@ -29,10 +29,10 @@ fi
 points=0 faulty=0 failures=0 skipped=0 kind='' kind_points=0
 # shellcheck disable=SC2034 # of the parts
 place=$folder/place
-# The session's folder, with the mark.
+# The session's folder, with the backup.
 own=$folder/own
 # shellcheck disable=SC2034 # of the parts
-mark=$own/mark
+backup=$own/mark
 program='' mounted=''
 
 clean_up() {

@@ -20,7 +20,7 @@ check_all() { # NAME..
     if [ $# = 0 ]; then
         try judge_session session_judge.c || result=1
         # shellcheck disable=SC2046 # names without blanks
-        try sessions_parts $(sources) || result=1
+        try sessions_life ../tests/host/sessions_scene.c ../tests/host/sessions_parts.c ../tests/host/sessions_repairs.c $(sources) || result=1
     fi
     if [ -n "$points" ]; then
         # shellcheck disable=SC2046 # names without blanks

@@ -11,8 +11,8 @@ umask 022
 export LC_ALL=C CDPATH=''
 
 top=$(CDPATH='' cd -- "$(dirname -- "$0")/.." && pwd)
-# shellcheck source=launcher/dist.sh
-. "$top/launcher/dist.sh"
+# shellcheck source=tools/launcher/dist.sh
+. "$top/tools/launcher/dist.sh"
 
 # Sets `is_removal`, `prefix`, `lib` and `record`.
 read_words() { # WORD..
@@ -58,7 +58,7 @@ take_built() {
 
 # The same, to those of dist/, and `start` to their folder.
 take_ready() {
-    find_start thoroughly || refuse "${cause:-there is no dist/ to take them from}; launcher/proving/prove.sh . bidi_edit builds the editor"
+    find_start thoroughly || refuse "${cause:-there is no dist/ to take them from}; tools/launcher/proving/prove.sh . bidi_edit builds the editor"
     programs='bidi_edit bidi_print' host=$start/bin/bidi-edit
 }
 

@@ -39,12 +39,12 @@ has_tool() { # NAME TOOL
 # they must be there.
 need_proved() {
     if ! [ -x "$top/crates/bidi_edit/out/bidi_edit" ]; then
-        find_start thoroughly || refuse "${cause:-there is no dist/ to take it from}; launcher/proving/prove.sh . bidi_edit bidi_print builds both programs"
+        find_start thoroughly || refuse "${cause:-there is no dist/ to take it from}; tools/launcher/proving/prove.sh . bidi_edit bidi_print builds both programs"
         return
     fi
     for program in bidi_edit bidi_print; do
         built=$top/crates/$program/out/$program
-        if ! [ -x "$built" ] || ! [ -f "$built.stamp" ]; then refuse "$built is not built and proved: launcher/proving/prove.sh . $program does it"; fi
+        if ! [ -x "$built" ] || ! [ -f "$built.stamp" ]; then refuse "$built is not built and proved: tools/launcher/proving/prove.sh . $program does it"; fi
         is_proved "$built" || refuse "$built is not what its stamp tells: rt run in crates/$program builds it anew"
     done
 }

@@ -69,7 +69,7 @@ begin() {
     : >"$folder/copies"
     if [ -n "$crates" ]; then
         # shellcheck disable=SC2086 # split into words
-        sh "$clone/launcher/proving/prove.sh" "$clone" $crates >"$folder/said" 2>&1 &
+        sh "$clone/tools/launcher/proving/prove.sh" "$clone" $crates >"$folder/said" 2>&1 &
         child=$!
     else
         # the sleep, longer than a usual limit, keeps what stands there after a failure
@@ -152,7 +152,7 @@ modules_of() { # CRATE
 }
 
 # Prints a line for each crate that was built: its name, start, end, jobs and processor time. In proving.times, which
-# launcher/proving/prove.sh writes, the fields 5 to 8 are such as 1m2.3s: user and system time, of the shell and of its children.
+# tools/launcher/proving/prove.sh writes, the fields 5 to 8 are such as 1m2.3s: user and system time, of the shell and of its children.
 crate_times() {
     awk '
         function seconds(time,    part) { split(time, part, /[ms]/); return part[1] * 60 + part[2] }

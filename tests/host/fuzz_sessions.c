@@ -1,5 +1,5 @@
-/* A fuzzer of what a session's folder and a mark may hold: clang -fsanitize=fuzzer,address,undefined. The first byte picks what the
- * rest is: the words of a short file, a name, a journal, a text, a file beside its mark, or the parts of a whole folder, which is
+/* A fuzzer of what a session's folder and a backup may hold: clang -fsanitize=fuzzer,address,undefined. The first byte picks what the
+ * rest is: the words of a short file, a name, a journal, a text, a file beside its backup, or the parts of a whole folder, which is
  * then searched, repaired and swept in a folder of the working folder. */
 #include <fcntl.h>
 #include <stdint.h>
@@ -71,16 +71,16 @@ static void try_text(const char *text, size_t size) {
 }
 
 /* Half of the bytes beside the other half. */
-static void try_mark(const char *text, size_t size) {
-    size_t of_file = size > 0 ? (unsigned char)text[0] % (size + 1) : 0, of_mark = size - of_file;
-    size_t shared = of_file < of_mark ? of_file : of_mark;
-    bool is_torn = of_file <= of_mark;
+static void try_backup(const char *text, size_t size) {
+    size_t of_file = size > 0 ? (unsigned char)text[0] % (size + 1) : 0, of_backup = size - of_file;
+    size_t shared = of_file < of_backup ? of_file : of_backup;
+    bool is_torn = of_file <= of_backup;
     for (size_t at = 0; at < shared; at++) is_torn = is_torn && (text[at] == 0 || text[at] == text[of_file + at]);
-    struct mark_comparison comparison;
+    struct backup_comparison comparison;
     compare_begin(&comparison);
     compare_more(&comparison, text, text + of_file, shared);
-    enum verdict verdict = compare_end(&comparison, of_file, of_mark);
-    bool is_whole = of_file == of_mark && memcmp(text, text + of_file, shared) == 0;
+    enum verdict verdict = compare_end(&comparison, of_file, of_backup);
+    bool is_whole = of_file == of_backup && memcmp(text, text + of_file, shared) == 0;
     require(verdict == (is_whole ? FILE_WHOLE : is_torn ? FILE_TORN : FILE_OTHER));
 }
 
@@ -134,6 +134,16 @@ static void look_at_session(const struct session *session) {
     session_kilobytes(session);
 }
 
+/* Makes the top folder, once. */
+static void make_top(void) {
+    char path[PATH_MAX];
+    if (top[0]) return;
+    snprintf(top, sizeof top, "./fuzzed.XXXXXX");
+    require(mkdtemp(top) != NULL && realpath(top, path) != NULL);
+    snprintf(top, sizeof top, "%.*s", PATH_MAX - 1, path);
+    setenv("XDG_STATE_HOME", top, 1);
+}
+
 /* Takes these bytes as the files of a session, and does with the session all that a start does. */
 static void try_folder(const uint8_t *bytes, size_t size) {
     static const char name[] = "20200101000000.abcdef";
@@ -141,12 +151,7 @@ static void try_folder(const uint8_t *bytes, size_t size) {
     struct found found;
     struct target target;
     char path[PATH_MAX + 8];
-    if (!top[0]) {
-        snprintf(top, sizeof top, "./fuzzed.XXXXXX");
-        require(mkdtemp(top) != NULL && realpath(top, path) != NULL);
-        snprintf(top, sizeof top, "%.*s", PATH_MAX - 1, path);
-        setenv("XDG_STATE_HOME", top, 1);
-    }
+    make_top();
     int folder = open(top, O_RDONLY | O_DIRECTORY | O_CLOEXEC);
     sessions_find(&sessions, folder);
     require(sessions_make(&sessions));
@@ -191,7 +196,7 @@ int LLVMFuzzerTestOneInput(const uint8_t *bytes, size_t size) {
     if (which == 0) try_words(text);
     if (which == 1) try_name(text);
     if (which == 2) try_text(text, size - 1);
-    if (which == 3) try_mark(text, size - 1);
+    if (which == 3) try_backup(text, size - 1);
     if (which == 4) try_folder(bytes + 1, size - 1);
     free(text);
     return 0;

@@ -232,18 +232,18 @@ static void check_states(void) {
 
 /* ---- bytes */
 
-/* Compares a text with its mark, in pieces of `step` bytes. */
-static enum verdict compare_in_pieces(const char *text, size_t size, const char *mark, size_t step) {
-    struct mark_comparison comparison;
-    size_t mark_size = strlen(mark), shared = size < mark_size ? size : mark_size, from = 0;
+/* Compares a text with its backup, in pieces of `step` bytes. */
+static enum verdict compare_in_pieces(const char *text, size_t size, const char *backup, size_t step) {
+    struct backup_comparison comparison;
+    size_t backup_size = strlen(backup), shared = size < backup_size ? size : backup_size, from = 0;
     compare_begin(&comparison);
-    for (; shared - from > step; from += step) compare_more(&comparison, text + from, mark + from, step);
-    compare_more(&comparison, text + from, mark + from, shared - from);
-    return compare_end(&comparison, size, mark_size);
+    for (; shared - from > step; from += step) compare_more(&comparison, text + from, backup + from, step);
+    compare_more(&comparison, text + from, backup + from, shared - from);
+    return compare_end(&comparison, size, backup_size);
 }
 
 /* Each text is taken whole and in pieces of every length. */
-static void check_marks(void) {
+static void check_backups(void) {
     static const struct {
         const char *which, *of_file;
         size_t size;
@@ -255,10 +255,10 @@ static void check_marks(void) {
     };
     for (size_t at = 0; at < sizeof cases / sizeof *cases; at++)
         for (size_t step = 1; step <= 5; step++)
-            check(compare_in_pieces(cases[at].of_file, cases[at].size, "hello", step) == cases[at].verdict, "mark", cases[at].which);
-    struct mark_comparison comparison;
+            check(compare_in_pieces(cases[at].of_file, cases[at].size, "hello", step) == cases[at].verdict, "backup", cases[at].which);
+    struct backup_comparison comparison;
     compare_begin(&comparison);
-    check(compare_end(&comparison, 0, 0) == FILE_WHOLE, "mark", "both empty");
+    check(compare_end(&comparison, 0, 0) == FILE_WHOLE, "backup", "both empty");
 }
 
 /* The number of keys in the bytes of a journal, which are taken whole and in two pieces at each offset. */
@@ -360,7 +360,7 @@ int main(void) {
     check_owners();
     check_belongings();
     check_states();
-    check_marks();
+    check_backups();
     check_keys();
     check_line_ends();
     check_keepings();

@@ -1,9 +1,10 @@
 """keeping.py HOST [NAME..]: checks what the host keeps, asks and tells, with typist.py in place of the program. Each case has a folder and
 a home of its own, and fails by an exception. Prints a line for each, and the totals. Exit status 1: a case failed."""
-import os, shutil, signal, subprocess, sys, tempfile
+import os, re, shutil, signal, subprocess, sys, tempfile
 HERE = os.path.dirname(os.path.abspath(__file__))
 sys.path.insert(0, HERE)
 import keeping_cases, keeping_ends, keeping_files
+from keeping_scene import Place
 from terminals import become_reaper
 
 # Processes that check side by side: more than there may be processors, since a case mostly waits.
@@ -31,10 +32,11 @@ def try_case(case, installed, top):
     for name in ('', '/home', '/tmp', '/files'):
         os.mkdir(top + name, 0o700)
     try:
-        case(keeping_cases.Place(installed, top))
+        case(Place(installed, top))
     except Exception as fault:  # the next case goes on
+        # the last line of a case, and not of what it calls
         where = fault.__traceback__
-        while where.tb_next and 'keeping' in where.tb_next.tb_frame.f_code.co_filename:
+        while where.tb_next and re.search('keeping_(cases|ends|files)', where.tb_next.tb_frame.f_code.co_filename):
             where = where.tb_next
         return f'line {where.tb_lineno}: {fault!r}'
     return ''

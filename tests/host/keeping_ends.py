@@ -1,6 +1,6 @@
 """Cases of keeping.py: what is kept while the program runs, and what is told at the end."""
 import os, re, shutil, signal, stat, subprocess, time
-from keeping_cases import CHOICE, QUIT, SAVE
+from keeping_scene import CHOICE, QUIT, SAVE
 
 
 def saved(place):
@@ -44,7 +44,7 @@ def no_keys(place):
 
 
 def other_names(place):
-    """Saves of a FILE with two names go into it, with a mark in the session, or without a session by --force."""
+    """Saves of a FILE with two names go into it, with a backup in the session, or without a session by --force."""
     place.put('a.txt', b'text\n')
     os.link(place.path('a.txt'), place.path('b.txt'))
     started = place.edit('a.txt').sees(b'notice 9').type(b'x').sees(b'*').type(SAVE).sees(b'saved').type(QUIT).ends(0)

@@ -1,6 +1,6 @@
 """Cases of keeping.py: kinds of files, other names of FILE, full disks, and what is removed."""
 import glob, os, re, signal, subprocess, time
-from keeping_cases import CHOICE, QUIT, SAVE
+from keeping_scene import CHOICE, QUIT, SAVE
 
 NOBODY = ['setpriv', '--reuid', '65534', '--regid', '65534', '--clear-groups']
 
@@ -101,6 +101,27 @@ def torn(place):
             os.unlink(name)
 
 
+def start_on_full_disk(place, disk, filler):
+    """Fills the disk with the file `filler`, and starts the host with its sessions there: it tells that it keeps none."""
+    try:
+        while True:
+            filler.write(bytes(4096))
+    except OSError:
+        pass
+    started = place.edit('a.txt', XDG_STATE_HOME=disk)
+    assert started.err() == f'bidi-edit: unsaved text is not kept, since there is no space in {disk}/bidi_edit\n\a', started.err()
+    return started.sees(b'notice 1')
+
+
+def make_room(started, filler):
+    """Empties the file that fills the disk: a session is kept again."""
+    time.sleep(1.5)
+    filler.truncate(0)
+    filler.seek(0)
+    # the cause stays the disk's
+    assert started.run.pump(15, b'notice 6') and b'notice 5' not in started.run.output, started.run.output
+
+
 def full_disk(place):
     """No room for a session, then room, and then none for its journal."""
     disk = f'{place.top}/disk'
@@ -110,33 +131,12 @@ def full_disk(place):
     try:
         place.put('a.txt', b'text\n')
         filler = open(f'{disk}/filler', 'wb', buffering=0)
-
-        def fill():
-            try:
-                while True:
-                    filler.write(bytes(4096))
-            except OSError:
-                pass
-
-        def start():
-            fill()
-            started = place.edit('a.txt', XDG_STATE_HOME=disk)
-            assert started.err() == f'bidi-edit: unsaved text is not kept, since there is no space in {disk}/bidi_edit\n\a', started.err()
-            return started.sees(b'notice 1')
-
-        def make_room(started):
-            time.sleep(1.5)
-            filler.truncate(0)
-            filler.seek(0)
-            # the cause stays the disk's
-            assert started.run.pump(15, b'notice 6') and b'notice 5' not in started.run.output, started.run.output
-
         # no key has the program try its journal again
-        started = start()
-        make_room(started)
+        started = start_on_full_disk(place, disk, filler)
+        make_room(started, filler)
         started.type(QUIT).ends(0)
-        started = start().type(b'abc').sees(b'*')
-        make_room(started)
+        started = start_on_full_disk(place, disk, filler).type(b'abc').sees(b'*')
+        make_room(started, filler)
         os.kill(started.run.job, signal.SIGTERM)
         started.ends(-signal.SIGTERM)
         assert 'unsaved text is kept: ' in started.err(), started.err()

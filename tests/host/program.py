@@ -98,11 +98,15 @@ class Saves:
 
 
 def keep(journal, key):
-    """Appends a key to the journal."""
+    """Appends a key to the journal, if there is one."""
     try:
-        put(journal, key)
+        if journal is not None:
+            put(journal, key)
     except OSError:
         say(b'j', b'lost')
+    if 'chatty' in WAYS:
+        say(b'j', b'lost')
+        say(b'j', b'kept')
 
 
 def replay(given):
@@ -187,11 +191,7 @@ def main():
             if key < 32:
                 continue
             typed += bytes([key])
-            if journal is not None:
-                keep(journal, bytes([key]))
-            if 'chatty' in WAYS:
-                say(b'j', b'lost')
-                say(b'j', b'kept')
+            keep(journal, bytes([key]))
 
 
 main()

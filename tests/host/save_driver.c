@@ -1,9 +1,9 @@
-/* save_driver [--mark FOLDER] [--itself] [--lost] FILE: plays the program's side of saves, for the checks of saves. It opens FILE as
+/* save_driver [--backup FOLDER] [--itself] [--lost] FILE: plays the program's side of saves, for the checks of saves. It opens FILE as
  * the editor does, says `opened PATH` or the refusal, and obeys lines of standard input, each with a line of answer:
  *   save PATH      saves the bytes of a file: `saved`, or the cause
  *   begin          the first part of a save alone; then `put PATH`, and `commit`
  *   look           tells FILE's stamp: device, inode, size
- *   torn           the name of the mark, `-` without one, `=` for the one in the folder
+ *   torn           the name of the backup, `-` without one, `=` for the one in the folder
  *   facts          reason for saves in place
  * Exit status 1: FILE was refused; 2: usage. */
 #include <errno.h>
@@ -42,7 +42,7 @@ static bool read_frame(int file, unsigned char *room, struct frame *frame) {
 
 /* The words of causes, by number. */
 static const char *const causes[] = {
-    "saved", "no space", "not permitted", "folder gone", "read-only disk", "file too large", "out of memory", "changed by another program",
+    "saved", "no space", "not permitted", "folder gone", "read-only disk", "file too large", "out of memory", "file changed on disk",
     "not a plain file", "file cut off", "disk error",
 };
 
@@ -153,16 +153,16 @@ static void obey(char *line) {
 }
 
 int main(int count, char **words) {
-    int pipes[2][2], mark = -1, at = 1;
+    int pipes[2][2], backup = -1, at = 1;
     bool is_itself = false, is_lost = false, is_forced = false;
     for (; at < count && strncmp(words[at], "--", 2) == 0; at++) {
         if (strcmp(words[at], "--itself") == 0) is_itself = true;
         else if (strcmp(words[at], "--lost") == 0) is_lost = true;
         else if (strcmp(words[at], "--force") == 0) is_forced = true;
-        else if (strcmp(words[at], "--mark") == 0 && at + 1 < count) mark = open(words[++at], O_PATH | O_DIRECTORY | O_CLOEXEC);
+        else if (strcmp(words[at], "--backup") == 0 && at + 1 < count) backup = open(words[++at], O_PATH | O_DIRECTORY | O_CLOEXEC);
     }
     if (at + 1 != count || pipe2(pipes[0], O_CLOEXEC) != 0 || pipe2(pipes[1], O_CLOEXEC) != 0) {
-        fputs("usage: save_driver [--mark FOLDER] [--itself] [--lost] [--force] FILE\n", stderr);
+        fputs("usage: save_driver [--backup FOLDER] [--itself] [--lost] [--force] FILE\n", stderr);
         return 2;
     }
     fcntl(pipes[0][1], F_SETFL, O_NONBLOCK);
@@ -175,7 +175,7 @@ int main(int count, char **words) {
         return 1;
     }
     if (!saver_open(&saver, &file)) die("saver");
-    saver.mark_folder = mark;
+    saver.backup_folder = backup;
     saver.is_itself = is_itself;
     message = leftovers_line(&file);
     printf("opened %s%s%s\n", file.path, message ? ": " : "", message ? message : "");

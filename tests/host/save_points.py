@@ -2,7 +2,7 @@
 """save_points.py DRIVER LIBRARY: interrupts saves at each of their calls. DRIVER is save_driver, LIBRARY is faulty_calls.c as a library.
 
 Each call of a save is killed before and after it, and fails with ENOSPC, EIO and EPERM, in scenes of all kinds: FILE must have its old
-or its new text, whole, or a beginning of the new one while the mark has all of it; what is told must be so; nothing but the draft of a
+or its new text, whole, or a beginning of the new one while the backup has all of it; what is told must be so; nothing but the draft of a
 killed save may be left, closed to others; and a later save goes through. The same with file systems that lack calls. Prints a line for
 each fault, and the totals. Exit status 1: one failed.
 """
@@ -43,7 +43,7 @@ def read(path):
 
 
 class Scene:
-    """FILE and what is around it. `way`: beside, mark (in a folder of its own) or itself (the mark beside FILE)."""
+    """FILE and what is around it. `way`: beside, backup (in a folder of its own) or itself (the backup beside FILE)."""
 
     def __init__(self, name, way):
         self.name, self.way, self.faults = name, way, []
@@ -92,7 +92,7 @@ class Scene:
         os.link(self.kept, f"{self.folder}/other")
 
     def words(self):
-        return {"beside": [], "mark": ["--mark", self.own], "itself": ["--itself"]}[self.way]
+        return {"beside": [], "backup": ["--backup", self.own], "itself": ["--itself"]}[self.way]
 
     def is_in_place(self):
         return self.old is not None and (self.way != "beside" or self.name == "doubled")
@@ -106,9 +106,9 @@ class Scene:
     def before(self):
         return "none" if self.old is None else "old"
 
-    def mark(self):
-        """The text of the mark."""
-        if self.way == "mark":
+    def backup(self):
+        """The text of the backup."""
+        if self.way == "backup":
             return read(f"{self.own}/mark")
         for name in sorted(set(os.listdir(self.folder)) - self.names):
             return read(f"{self.folder}/{name}")
@@ -123,7 +123,7 @@ class Scene:
         state = self.state()
         if state == "torn":
             self.same("whether a torn FILE is written in place", self.is_in_place(), True)
-            self.same("whether the mark of a torn FILE has the text", self.mark() == NEW, True)
+            self.same("whether the backup of a torn FILE has the text", self.backup() == NEW, True)
         elif state != "new" or answer == "told":
             if not (self.is_in_place() and state == "new"):
                 self.same("FILE", state, self.before())
@@ -163,7 +163,7 @@ class Scene:
 
     def check_nothing_left(self):
         self.same("what is left", self.left(), [])
-        self.same("what is left of the mark", [name for name in os.listdir(self.own) if name == "mark"], [])
+        self.same("what is left of the backup", [name for name in os.listdir(self.own) if name == "mark"], [])
 
 
 def play(scene, saves, at=0, error=0, lacks=""):
@@ -254,7 +254,7 @@ def check_error_and_saves(name, way, lacks, number, call, error):
     scene = Scene(name, way)
     answers, _ = play(scene, 3, number, error, lacks)
     scene.same("the last answer", answers[-1:], ["saved"])
-    scene.same("whether a save after a fault says that FILE is another's", answers[1:].count("changed by another program") <= 1, True)
+    scene.same("whether a save after a fault says that FILE is another's", answers[1:].count("file changed on disk") <= 1, True)
     scene.same("FILE", scene.state(), "new")
     if call != "unlinkat":
         scene.check_nothing_left()
@@ -283,7 +283,7 @@ def main():
     for name in names:
         check_all(name, "beside")
     for name in "plain", "made", "doubled", "linked":
-        check_all(name, "mark")
+        check_all(name, "backup")
     for name in "plain", "doubled", "beset":
         check_all(name, "itself")
     for lacks in "tmpfile", "tmpfile exchange noreplace", "tmpfile exchange noreplace link sync lock", "exchange lists statx", "proc":

@@ -42,8 +42,16 @@ def in_shell(tree, words):
     yield holds(f'{name}: suspended, painted after fg', b'hello' in shown.rpartition(b'1049h')[2] and b'hello' not in shown.partition(b'1049h')[0], shown)
     shown = show(QUIT)
     yield holds(f'{name}: Quit', TAIL in shown and b'P> ' in shown, shown)
+    run.close()
+
+
+def killed_in_shell(tree, words):
+    """The checks of a host that is killed in the shell that these words start."""
+    name = ' '.join(words)
+    run = Run(words, PS1='P> ', **tree.variables())
+    run.pump(5, b'P> ')
+    run.rest(0.2)
     before = termios.tcgetattr(run.slave)
-    run.output = b''
     run.type(f"'{tree.host}' '{tree.new_file('job')}'\n".encode())
     run.pump(5, b'hello')
     run.output = b''
@@ -51,7 +59,8 @@ def in_shell(tree, words):
     yield holds(f'{name}: killed', run.pump(5, TAIL), run.output)
     run.rest(0.5)
     yield same(f'{name}: settings as at the prompt before', termios.tcgetattr(run.slave), before)
-    yield holds(f'{name}: the shell goes on', b'a2b' in show(b'echo a$((1+1))b\n'), run.output)
+    run.type(b'echo a$((1+1))b\n')
+    yield holds(f'{name}: the shell goes on', run.pump(5, b'a2b'), run.output)
     run.close()
 
 
@@ -59,6 +68,7 @@ def shells(tree):
     for words in SHELLS:
         if shutil.which(words[0]):
             yield from in_shell(tree, words)
+            yield from killed_in_shell(tree, words)
 
 
 def paste(run, file):

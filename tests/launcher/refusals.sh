@@ -185,7 +185,7 @@ refused_in_terminal() { # NAME WANTED FILE
     same "$1: nothing else" "$(grep -a -c '1049h' "$folder/output") $(grep -c . "$folder/errors")" '0 2'
 }
 
-# What a killed save left is told: a mark, FILE.bx or FILE.bx with a digit, and a draft, which has eight letters before its end.
+# What a killed save left is told: a backup, FILE.bx or FILE.bx with a digit, and a draft, which has eight letters before its end.
 check_leftovers() {
     printf '\377' >f
     for name in f.bx f.bx9 f.bxx f.ab3defgh.bx f.other.bx 'g h.bx2'; do : >"$name"; done

@@ -63,7 +63,7 @@ check_foreign() { # NAME SCENE CHANGE
     open_session env
     "$3"
     save_all
-    says 'changed by another'
+    says 'file changed on disk'
     same "FILE after the first save" "$(state)" theirs
     save_all
     same "FILE after the second save" "$(state)" new
@@ -131,7 +131,7 @@ check_exchanged() {
         [ "$number" = second ] || save_all
     done
     says 'folder gone'
-    check_no_mark
+    check_no_backup
     rm "$place/inner"
     mv "$place/gone" "$place/inner"
     kept=$place/inner/text
@@ -150,7 +150,7 @@ check_retargeted() {
     cp -p "$kept" "$place/links/other"
     ln -sf other "$file"
     save_all
-    says 'changed by another'
+    says 'file changed on disk'
     same "the new target after the first save" "$(cat "$place/links/other")" "$(cat "$folder/old")"
     save_all
     same "the new target after the second save" "$(cat "$place/links/other")" "$(cat "$folder/old")"
@@ -171,7 +171,7 @@ check_vanished() {
     close_session
 }
 
-# Checks saves into FILE itself: most of what check_changes checks, and two cases of the mark.
+# Checks saves into FILE itself: most of what check_changes checks, and two cases of the backup.
 check_changes_in_place() {
     begin_kind 'changed by another program, in place'
     way=in_place
@@ -181,44 +181,44 @@ check_changes_in_place() {
     check_foreign 'written behind a link' linked change_in_place
     check_between_saves
     check_amid_save
-    check_no_mark
+    check_no_backup
     check_exchanged
     check_vanished
-    check_no_mark
+    check_no_backup
     check_gone_when_torn
-    check_mark_of_before
+    check_backup_of_before
     way=beside
 }
 
-# Tears FILE by a save whose last call fails, and removes it. The next save creates it by a rename, and removes the mark.
+# Tears FILE by a save whose last call fails, and removes it. The next save creates it by a rename, and removes the backup.
 check_gone_when_torn() {
     begin_point 'a file that was torn and is gone'
     prepare plain
-    # the first two syncs are of the mark's draft and its folder, the third is of FILE
+    # the first two syncs are of the backup's draft and its folder, the third is of FILE
     open_session strace -f -o "$folder/log" -e trace=fsync -e inject=fsync:error=EIO:when=3
     save_all
     grep -q INJECTED "$folder/log" || fails "the call was not met"
-    [ -e "$mark" ] || fails "the mark is not there"
+    [ -e "$backup" ] || fails "the backup is not there"
     rm "$kept"
     save_all
     same "FILE after the second save" "$(state)" new
-    check_no_mark
+    check_no_backup
     check_place
     check_nothing_left
     close_session
 }
 
-# A mark from an earlier session stays until a save of this session succeeds.
-check_mark_of_before() {
-    begin_point 'a mark that is there at the start'
+# A backup from an earlier session stays until a save of this session succeeds.
+check_backup_of_before() {
+    begin_point 'a backup that is there at the start'
     prepare plain
-    echo 'of before' >"$mark"
+    echo 'of before' >"$backup"
     edit strace -f -o "$folder/log" -e trace=ftruncate -e inject=ftruncate:error=EIO <"$folder/orders" >"$folder/out" 2>/dev/null
     says 'disk error'
     same "FILE" "$(state)" old
-    cmp -s "$mark" "$folder/new" || fails "the mark has not all of the new text"
+    cmp -s "$backup" "$folder/new" || fails "the backup has not all of the new text"
     check_save 'the same, and a save that goes through' new env
-    check_no_mark
+    check_no_backup
     check_nothing_left
 }
 

@@ -19,7 +19,7 @@ check_save() { # NAME STATE COMMAND..
     same "FILE" "$(state)" "$wanted_state"
 }
 
-# Other files of the names that marks have do not stop saves.
+# Other files of the names that backups have do not stop saves.
 check_drafts() {
     begin_kind 'what is beside FILE'
     for way in beside itself; do
@@ -42,7 +42,7 @@ check_drafts() {
     same "what is there" "$(names)" 'links text'
 }
 
-# A name has 255 bytes at most, of which a mark needs three. Longer ones are refused at the opening.
+# A name has 255 bytes at most, of which a backup needs three. Longer ones are refused at the opening.
 check_names() {
     begin_kind 'long names'
     long=$(printf '%0252d' 7)

@@ -94,14 +94,14 @@ check_owners() {
     mode=666
     check_save "another user's file, in place" new "$folder/as_other"
     check_place
-    check_no_mark
+    check_no_backup
     check_nothing_left
 
     prepare plain
     chmod 644 "$kept"
     chown 54322 "$own"
     check_save "another user's file that may not be written, in place" old "$folder/as_other"
-    check_no_mark
+    check_no_backup
     check_nothing_left
     way=beside
 }
@@ -143,7 +143,7 @@ check_disks() {
     put_old "$kept" 640
     way=in_place
     check_save 'a file that is mounted by itself, in place' new env
-    check_no_mark
+    check_no_backup
     check_nothing_left
     way=beside
     umount "$kept" && mounted=''

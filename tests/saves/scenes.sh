@@ -53,7 +53,7 @@ head -c 800000 /dev/zero | tr '\0' a >"$folder/rest"
 printf 'theirs\n' >"$folder/theirs"
 # what the driver is told to do
 echo "save $folder/new" >"$folder/orders"
-# The kind of save, `beside`, `in_place` (with the mark in the session's folder) or `itself` (with the mark beside FILE); whether FILE
+# The kind of save, `beside`, `in_place` (with the backup in the session's folder) or `itself` (with the backup beside FILE); whether FILE
 # is opened though it cannot be saved.
 way=beside force=''
 
@@ -105,8 +105,8 @@ prepare() { # SCENE
         chown "$owner" "$kept"
         ;;
     esac
-    mark=$own/mark
-    [ "$way" != itself ] || mark=$kept.bx
+    backup=$own/mark
+    [ "$way" != itself ] || backup=$kept.bx
 }
 
 # Prints the state of FILE: old, new, theirs, none, or torn.
@@ -131,9 +131,9 @@ check_place() {
     esac
 }
 
-# Checks that the mark is gone; its draft, with `.bx` after its name, does not count.
-check_no_mark() {
-    [ ! -e "$mark" ] || fails "the mark is left"
+# Checks that the backup is gone; its draft, with `.bx` after its name, does not count.
+check_no_backup() {
+    [ ! -e "$backup" ] || fails "the backup is left"
 }
 
 # Prints the names in the scene's folder.
@@ -155,7 +155,7 @@ check_nothing_left() {
 edit() { # COMMAND..
     set -- "$@" "$folder/driver"
     case $way in
-    in_place) set -- "$@" --mark "$own" ;;
+    in_place) set -- "$@" --backup "$own" ;;
     itself) set -- "$@" --itself ;;
     esac
     timeout 30 "$@" ${force:+--force} "$file"

@@ -2,7 +2,7 @@
 # shellcheck disable=SC2034,SC2154 # variables shared with other parts
 # Saves into FILE itself, where a rename must not replace it, and FILE after an interrupted save. Interrupted saves are of a
 # session of `note`, which has a second name, so that saves go into it: its text is `ab`, the one that is saved `xab`, which the
-# session's mark has meanwhile.
+# session's backup has meanwhile.
 
 # ---- complete saves
 
@@ -148,7 +148,7 @@ is_unlocked() {
 check_cut_off() { # CALLS COUNT TEXT
     cut_off_save "$1"
     test -e "$(session_of_check)/mark"
-    report "in place, killed at $1: the whole text is kept" $? 'there is no mark'
+    report "in place, killed at $1: the whole text is kept" $? 'there is no backup'
     open_editor first '' note
     expect_in first "in place, killed at $1: the session is asked about" 'an unfinished session'
     same "in place, killed at $1: what is said" "$(terminal capture-pane -p -J -t first | grep -c 'its whole text has been restored')" "$2"
@@ -174,7 +174,7 @@ check_killed_saver() {
     stop_injecting
     # FILE was written, which counts as a change once
     terminal send-keys -t first y C-s
-    wait_for 60 shows_in first 'changed by another'
+    wait_for 60 shows_in first 'file changed on disk'
     terminal send-keys -t first C-s
     expect_in first 'in place, the child killed: the next save' 'saved'
     same 'in place, the child killed: FILE is whole' "$(cat note note.link | tr '\n' ' ')" 'xyab xyab '

@@ -39,7 +39,7 @@ name_of_told() { # TOLD
     name=${name%x}
 }
 
-# Whether a file is UTF-8 without the characters of `hidden_bytes` and most others that launcher/names.sh calls hidden; only the
+# Whether a file is UTF-8 without the characters of `hidden_bytes` and most others that tools/launcher/names.sh calls hidden; only the
 # line end is let through.
 is_harmless() { # FILE
     iconv -f UTF-8 -t UTF-8 <"$1" >"$folder/letters" 2>/dev/null && perl -CSD -ne '
@@ -149,7 +149,7 @@ check_building_names() { # TOLD
         : >"$folder/$name/crates.txt"
         mkdir -p "$folder/$name/crates/x"
         rest=${each#*:}
-        PATH=$folder/bin:$PATH sh "$top/launcher/proving/prove.sh" "${rest#*:}" x >"$folder/told" 2>&1
+        PATH=$folder/bin:$PATH sh "$top/tools/launcher/proving/prove.sh" "${rest#*:}" x >"$folder/told" 2>&1
         is_harmless "$folder/told"
         report "names, building, ${each%%:*}: nothing hidden" $? "$(cat -v "$folder/told")"
         has "names, building, ${each%%:*}: the name" "$(cat "$folder/told")" "${rest%%:*}"

@@ -9,7 +9,7 @@
 make_source() {
     source=$folder/source prefix=$folder/prefix
     mkdir -p "$source/host/out" "$source/tests"
-    cp -R "$top/bidi-edit" "$top/launcher" "$top/data" "$top/tools" "$top/docs" "$source/"
+    cp -R "$top/bidi-edit" "$top/data" "$top/tools" "$top/docs" "$source/"
     cp "$top/tests/built.sh" "$top/tests/report.sh" "$source/tests/"
     cp "$top/host/build.sh" "$top/host/words.h" "$source/host/"
     # the built host is newer

@@ -88,8 +88,9 @@ check_state_home() {
 # `temporary`.
 make_clone() {
     clone=$folder/clone kit=$folder/kit
-    mkdir -p "$clone/host/out" "$kit"
-    cp -R "$top/bidi-edit" "$top/launcher" "$top/data" "$clone/"
+    mkdir -p "$clone/host/out" "$clone/tools" "$kit"
+    cp -R "$top/bidi-edit" "$top/data" "$clone/"
+    cp -R "$top/tools/launcher" "$clone/tools/"
     cp "$top/host/build.sh" "$clone/host/"
     printf '#!/bin/sh\nexit 0\n' >"$clone/host/out/bidi-edit"
     chmod 755 "$clone/host/out/bidi-edit"
@@ -116,7 +117,7 @@ END
 
 # Builds as the first start does. Messages go to `said`, the status to `status`. WORDs are a command to run it under.
 prove() { # WORD..
-    as_user "$@" env PATH="$kit:$PATH" TMPDIR="$folder/private" timeout 60 sh "$clone/launcher/proving/prove.sh" "$clone" bidi_edit \
+    as_user "$@" env PATH="$kit:$PATH" TMPDIR="$folder/private" timeout 60 sh "$clone/tools/launcher/proving/prove.sh" "$clone" bidi_edit \
         >"$folder/said" 2>&1
     status=$?
 }
@@ -152,7 +153,7 @@ has_begun() {
 check_lock() {
     make_clone
     as_user touch "$kit/slow"
-    as_user env PATH="$kit:$PATH" sh "$clone/launcher/proving/prove.sh" "$clone" bidi_edit >"$folder/first" 2>&1 &
+    as_user env PATH="$kit:$PATH" sh "$clone/tools/launcher/proving/prove.sh" "$clone" bidi_edit >"$folder/first" 2>&1 &
     first=$!
     wait_for 50 has_begun
     prove

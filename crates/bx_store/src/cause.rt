@@ -23,7 +23,7 @@ pub enum SaveCause {
     Changed,
     /// A folder, a device, a pipe or a socket took the file's place.
     NotPlain,
-    /// The file has only a beginning of its new text; the mark, a draft beside it, has all.
+    /// The file has only a beginning of its new text; the backup, a file next to it, has all of it.
     CutOff,
     /// Any other fault.
     Other,

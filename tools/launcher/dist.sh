@@ -5,10 +5,10 @@
 #
 # dist/SOURCES has the lines `toolchain WORDS`, `sources DIGEST`, `host DIGEST` and `program NAME SUM`.
 
-# shellcheck source=launcher/names.sh
-. "$top/launcher/names.sh"
-# shellcheck source=launcher/unpack.sh
-. "$top/launcher/unpack.sh"
+# shellcheck source=tools/launcher/names.sh
+. "$top/tools/launcher/names.sh"
+# shellcheck source=tools/launcher/unpack.sh
+. "$top/tools/launcher/unpack.sh"
 
 # the only list of them; the last plays schedules for the tests
 dist_player=player

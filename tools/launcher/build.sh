@@ -5,8 +5,8 @@ set -u
 
 top=$1
 shift
-# shellcheck source=launcher/names.sh
-. "$top/launcher/names.sh"
+# shellcheck source=tools/launcher/names.sh
+. "$top/tools/launcher/names.sh"
 
 # Makes the toolchain use /tmp if nothing can be created in TMPDIR.
 settle_folder() {
@@ -25,7 +25,7 @@ sh "$top/host/build.sh" || exit
 [ $# != 0 ] || exit 0
 # Ctrl-C reaches both scripts; prove.sh cleans up and reports before this one ends
 trap : INT QUIT
-sh "$top/launcher/proving/prove.sh" "$top" "$@" || exit
+sh "$top/tools/launcher/proving/prove.sh" "$top" "$@" || exit
 # for --version
 kit=$top/crates/bidi_edit/out/kit
 [ ! -d "${kit%/*}" ] || { rt version >"$kit.new" && mv "$kit.new" "$kit"; } 2>/dev/null || :

@@ -2,8 +2,8 @@
 # shellcheck disable=SC2154 # top is set by the script that reads this file
 # Refusals before the first build, of arguments that are wrong in any case. For the script bidi-edit, which sets `top`.
 
-# shellcheck source=launcher/names.sh
-. "$top/launcher/names.sh"
+# shellcheck source=tools/launcher/names.sh
+. "$top/tools/launcher/names.sh"
 
 # The usage of host/words.c, with the line about printing.
 usage='usage: bidi-edit [--direction auto|ltr|rtl] [--line N | +N] [--force] FILE

@@ -15,7 +15,7 @@
 set -u
 
 parts=$(CDPATH='' cd -- "${0%/*}" && pwd)
-# shellcheck source=launcher/names.sh
+# shellcheck source=tools/launcher/names.sh
 . "$parts/../names.sh"
 
 say() { # WORDS

@@ -1,0 +1,124 @@
+"""The scene of the cases of keeping.py: a folder and a home for each, starts of the host in terminals, and what is typed and asked."""
+import glob, os, signal, subprocess, time
+from terminals import Run
+
+QUIT, SAVE = b'\x11', b'\x13'
+CHOICE = b'[r]ecover, [d]elete for good, [l]ater? '
+REST = b'Open the file and leave the session, or keep its parts as files next to it (open, keep)? '
+
+
+class Started:
+    """A start of the host in a terminal of its own, half a second later if `is_slow`; its standard output and error go to files, unless
+    `is_plain`."""
+
+    def __init__(self, place, words, variables, is_plain=False, is_slow=False):
+        self.place = place
+        place.count += 1
+        self.out_path, self.err_path = f'{place.top}/out{place.count}', f'{place.top}/err{place.count}'
+        line = ('sleep 0.5; ' if is_slow else '') + 'cd "$0" && exec "$@"' + ('' if is_plain else f' >{self.out_path} 2>{self.err_path}')
+        self.run = Run(['sh', '-c', line, place.files, *place.before, place.host, *words], **place.variables(variables))
+
+    def out(self):
+        return open(self.out_path, encoding='utf-8').read()
+
+    def err(self):
+        return open(self.err_path, encoding='utf-8').read()
+
+    def sees(self, text, seconds=15):
+        """Waits for a text in the terminal, and forgets all before it."""
+        is_there = self.run.pump(seconds, text)
+        assert is_there, (text, self.run.output[-500:], self.out(), self.err())
+        self.run.output = self.run.output.partition(text)[2]
+        return self
+
+    def answers(self, question, answer):
+        """Types an answer, and Enter, once the question is shown. Bytes are typed as they are."""
+        self.sees(question)
+        time.sleep(0.05)  # what is typed before the question is shown is dropped
+        self.run.type(answer if isinstance(answer, bytes) else answer.encode() + b'\n')
+        return self
+
+    def type(self, keys):
+        """Types keys."""
+        self.run.type(keys)
+        return self
+
+    def ends(self, status, seconds=15):
+        """Waits for the end, and compares the status: an exit status, or less than 0 a signal's number."""
+        assert self.run.pump(seconds), ('goes on', self.run.output[-300:])
+        self.run.drain()
+        found = -os.WTERMSIG(self.run.status) if os.WIFSIGNALED(self.run.status) else os.WEXITSTATUS(self.run.status)
+        assert found == status, (found, self.out(), self.err(), self.run.output[-300:])
+        left = self.run.left(3)
+        assert left == {}, left
+        self.run.close()
+        return self
+
+    def kill(self):
+        """Kills the host."""
+        os.kill(self.run.job, signal.SIGKILL)
+        return self.ends(-signal.SIGKILL)
+
+    def words(self, name='a.txt'):
+        """The program's words."""
+        return open(f'{self.place.files}/{name}.words').read().split('\n')
+
+
+class Place:
+    """The folder of a case: `files` has FILEs, `home` the sessions. `before` are words that precede the host."""
+
+    def __init__(self, host, top):
+        self.host, self.top, self.files, self.count, self.before = host, top, f'{top}/files', 0, []
+
+    def variables(self, more=None):
+        """The environment of a start, with these variables."""
+        variables = {'HOME': f'{self.top}/home', 'TMPDIR': f'{self.top}/tmp', 'TYPIST': ''}
+        for name, value in (more or {}).items():
+            variables[name] = value
+        return variables
+
+    def start(self, *words, is_plain=False, is_slow=False, **variables):
+        """A start in a terminal, with these words."""
+        return Started(self, words, variables, is_plain, is_slow)
+
+    def edit(self, *words, **variables):
+        """A start that comes to edit, and whose text is shown."""
+        return self.start(*words, **variables).sees(b'text <')
+
+    def tells(self, *words, redirection='', **variables):
+        """A start without a terminal: its status, standard output and error."""
+        done = subprocess.run(['setsid', '-w', 'sh', '-c', f'exec "$@" {redirection}', 'sh', *self.before, self.host, *words], cwd=self.files, stdin=subprocess.DEVNULL, capture_output=True,
+                              env={**os.environ, 'TERM': 'xterm', **self.variables(variables)}, timeout=20)
+        return done.returncode, done.stdout.decode(), done.stderr.decode()
+
+    def path(self, name):
+        """The path of a file of `files`."""
+        return f'{self.files}/{name}'
+
+    def put(self, name, text, mode=0o644):
+        """Writes a file of `files`."""
+        with open(self.path(name), 'wb') as file:
+            file.write(text)
+        os.chmod(self.path(name), mode)
+
+    def text(self, name):
+        """The bytes of a file of `files`."""
+        with open(self.path(name), 'rb') as file:
+            return file.read()
+
+    def sessions(self):
+        return sorted(glob.glob(f'{self.top}/home/.local/state/bidi_edit/[0-9]*'))
+
+    def part(self, name):
+        with open(f'{self.sessions()[0]}/{name}', 'rb') as file:
+            return file.read()
+
+    def put_part(self, name, text):
+        with open(f'{self.sessions()[0]}/{name}', 'wb') as file:
+            file.write(text)
+
+    def leave(self, name='a.txt', keys=b'abc'):
+        """Leaves a session of a file with keys that are not saved, by a hangup."""
+        started = self.edit(name).type(keys).sees(b'*')
+        os.kill(started.run.job, signal.SIGHUP)
+        return started.ends(-signal.SIGHUP)
