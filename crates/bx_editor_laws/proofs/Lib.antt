@@ -70,3 +70,10 @@ pub mod ColumnKept
 pub mod InReach
 pub mod StoredUnchanged
 mod KeyLawExamples
+mod RefusalLawExamples
+pub mod PasteOver
+pub mod TextsKept
+pub mod TextsChanged
+pub mod OneCause
+pub mod MessageWords
+pub mod CauseKinds

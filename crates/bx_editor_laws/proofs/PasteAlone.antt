@@ -34,7 +34,7 @@ use Rattle.bx_editor_laws.proofs.PasteEnded.{over}
 use Rattle.bx_editor_laws.proofs.ReplacedBack.{all-settled, match-settled, one-settled}
 
 -- no paste is under way
-abbrev IsSettled : Editor → Type 0
+abbrev pub IsSettled : Editor → Type 0
 IsSettled e = e.pasted ≡ None
 
 -- nothing is asked or sought, or no paste is under way
@@ -75,7 +75,7 @@ asking d fault was e AsksLine is h = h
 asking d fault was e AsksName is h = h
 asking d fault was e _ is h = absurd (cc is)
 
-effect-settled : (d : Data) (fault : Option StoreFault) (was : Before) (e : Editor) (one : Effect) → IsSettled e → IsSettled (by d fault was e one)
+pub effect-settled : (d : Data) (fault : Option StoreFault) (was : Before) (e : Editor) (one : Effect) → IsSettled e → IsSettled (by d fault was e one)
 effect-settled d fault was e one h = kept_by.effect-keeps d IsSettled (pressing d) fault was e one h (λ is. asking d fault was e one is h)
 
 answers : (d : Data) → questions.IsKept d IsSettled
@@ -88,7 +88,7 @@ answers d = record {
   asked = λ e ask answer h. h;
 }
 
-either : (P : Editor → Type 0) (b : Bool) (p q : Editor) → P p → P q → P (if b then p else q)
+pub either : (P : Editor → Type 0) (b : Bool) (p q : Editor) → P p → P q → P (if b then p else q)
 either P true p q h k = h
 either P false p q h k = k
 
@@ -98,13 +98,13 @@ asked-settled : (e : Editor) (place : Option ℕ) → IsSettled e → IsSettled 
 asked-settled e None h = h
 asked-settled e (Some place) h = h
 
-asking-settled : (d : Data) (e : Editor) → IsSettled e → IsSettled (after_asking_replacement d e)
+pub asking-settled : (d : Data) (e : Editor) → IsSettled e → IsSettled (after_asking_replacement d e)
 asking-settled d e h =
     let aimed : Editor = record e { aim = aims.Replace } in
     let l = landing_from d aimed.place aimed in
     either IsSettled (length (sought d aimed) == 0) aimed (asked_at l.place (landed aimed l)) h (asked-settled (landed aimed l) l.place h)
 
-letter-settled : (d : Data) (e : Editor) (c : ℕ) → IsSettled e → IsSettled (after_letter d e c)
+pub letter-settled : (d : Data) (e : Editor) (c : ℕ) → IsSettled e → IsSettled (after_letter d e c)
 letter-settled d e c h =
     let longer = search_from d e.place (with_query e (lengthened longest_query (kept e.seek e.query) c)) in
     either IsSettled (is_no_letter d c) e longer h h
@@ -144,7 +144,7 @@ replacement-letter-settled d typing e c h =
     (either IsSettled (is_paste typing) e (after_showing d e) h (shown-settled e (next_match d e e.place) h))
     (either IsSettled (is_no_letter d c) e (with_replacement e (lengthened longest_query (kept e.seek e.replacement) c)) h h)
 
-replacement-settled : (d : Data) (fault : Option StoreFault) (was : Before) (e : Editor) (key : Key) (answer : Answer) → IsSettled e
+pub replacement-settled : (d : Data) (fault : Option StoreFault) (was : Before) (e : Editor) (key : Key) (answer : Answer) → IsSettled e
     → IsSettled (answered_replacement d fault was e key answer)
 replacement-settled d fault was e key (Letter c) h = replacement-letter-settled d was.typing e c h
 replacement-settled d fault was e key Shortens h = h
@@ -160,7 +160,7 @@ match-letter-settled d typing e c h =
     either IsSettled ((c == 0xA) && not (is_paste typing)) (after_replacing d e) e
     (one-settled d e h (fits e.content.text e.at (match_stop d e) e.replacement)) h
 
-answered-match-settled : (d : Data) (fault : Option StoreFault) (was : Before) (e : Editor) (key : Key) (answer : Answer) → IsSettled e
+pub answered-match-settled : (d : Data) (fault : Option StoreFault) (was : Before) (e : Editor) (key : Key) (answer : Answer) → IsSettled e
     → IsSettled (answered_match d fault was e key answer)
 answered-match-settled d fault was e key (Letter c) h = match-letter-settled d was.typing e c h
 answered-match-settled d fault was e key Shortens h = h
@@ -176,7 +176,7 @@ answered-match-settled d fault was e key Ends h = let left = without_search e in
 
 -- ---- any key
 
-in-question : (d : Data) (fault : Option StoreFault) (was : Before) (e : Editor) (key : Key) → IsSettled e → IsSettled (after_asking d fault was e key)
+pub in-question : (d : Data) (fault : Option StoreFault) (was : Before) (e : Editor) (key : Key) → IsSettled e → IsSettled (after_asking d fault was e key)
 in-question d fault was e key h =
     let free = without_ask e in
     questions.question-keeps d IsSettled (answers d) fault was e key (answer_of key) h (effect-settled d fault was free (effect_of d free key) h)

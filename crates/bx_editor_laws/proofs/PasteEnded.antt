@@ -40,7 +40,7 @@ module _ (d : Data) (e : Editor) (P : Editor → Type 0) (same : P e) (bare : P 
 
 -- ---- the keys that end one
 
-in-ends : (d : Data) (fault : Option StoreFault) (e : Editor) (key : Key) → ends_paste key ≡ true
+pub in-ends : (d : Data) (fault : Option StoreFault) (e : Editor) (key : Key) → ends_paste key ≡ true
     → after_in_paste d fault e key ≡ after_user d fault (paste_ended d e) key
 in-ends d fault e (Insert c) ends = absurd (cc ends)
 in-ends d fault e Repaint ends = absurd (cc ends)

@@ -1,6 +1,6 @@
 -- Worked examples, each from a law of pastes alone.
-use Rattle.std.proofs.Common.{◌≡◌, ℕ, ◌<◌, ◌≤◌, false, List, [], ◌∷◌, ◌++◌, map, refl, ap, arith}
-use Rattle.std.specs.Prelude.{codes, Option, None}
+use Rattle.std.proofs.Common.{◌≡◌, ℕ, ◌<◌, ◌≤◌, true, false, List, [], ◌∷◌, ◌++◌, map, refl, ap, arith}
+use Rattle.std.specs.Prelude.{◌≢◌, codes, Option, None}
 use Rattle.std.specs.Fmt.{digits}
 use Rattle.std.proofs.lemmas.List.Elements.{All-cons, All-nil}
 use Rattle.ucd_case.proofs.Computing.{ucd_case}
@@ -9,12 +9,12 @@ use Rattle.unicode_segmentation.proofs.Computing.{unicode_segmentation}
 use Rattle.unicode_width.proofs.Computing.{unicode_width}
 use Rattle.bx_common.specs.declared.base.Base.TheVariants.{Auto}
 use Rattle.bx_keys.specs.declared.key.Key.{Key}
-use Rattle.bx_keys.specs.declared.key.Key.TheVariants.{Find, Forward, PasteEnd, PasteStart, Right, Select, UndoRun}
+use Rattle.bx_keys.specs.declared.key.Key.TheVariants.{Find, Forward, Insert, PasteEnd, PasteStart, Right, Select, UndoRun}
 use Rattle.bx_store.specs.declared.store.StoreFault.{StoreFault}
 use Rattle.bx_editor.specs.declared.search_state.SearchState.TheVariants.{Off}
 use Rattle.bx_editor.specs.Editor.{Editor}
 use Rattle.bx_editor.specs.Putting.{pastes_crlf}
-use Rattle.bx_editor_laws.specs.PastingLaws.{KeysEndPastes, PasteComesBack, PasteIsTyping, PastesAreAlone}
+use Rattle.bx_editor_laws.specs.PastingLaws.{KeysEndPastes, PasteComesBack, PasteIsTyping, PastesAreAlone, PastesEndByKeys}
 use Rattle.bx_editor.proofs.Computed.{tables, start, after, letters}
 
 -- text and place
@@ -31,6 +31,15 @@ pub right_goes_on_behind_the_letter : KeysEndPastes → Has (codes "xab") 2 (aft
 unfolding unicode_segmentation unicode_width digits
 right_goes_on_behind_the_letter law =
     let same = (law tables None half Right refl).same in (ap (λ (e : Editor). e.content.text) same, ap (λ (e : Editor). e.place) same)
+
+pub after_right_it_is_over : PastesEndByKeys → (after half (Right ∷ [])).pasted ≡ None
+unfolding unicode_segmentation unicode_width digits
+after_right_it_is_over law = (law tables None half Right (λ none. cc none)).0 refl
+
+pub after_a_letter_it_goes_on : PastesEndByKeys → (after half (letters (codes "y"))).pasted ≢ None
+unfolding unicode_segmentation unicode_width digits
+after_a_letter_it_goes_on law over =
+    let ends : false ≡ true = (law tables None half (Insert 0x79) (λ none. cc none)).1 over in cc ends
 
 -- ---- outside a search
 

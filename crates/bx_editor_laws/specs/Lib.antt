@@ -9,3 +9,4 @@ pub mod PointingLaws
 pub mod LineLaws
 pub mod WordLaws
 pub mod StoredLaws
+pub mod RefusalLaws

@@ -1,5 +1,5 @@
 -- Laws of pastes: which keys end one, what one puts in, and when one is under way. `d`, `e` and `new` are as in Laws.antt.
-use Rattle.std.specs.Prelude.{◌≡◌, ◌≢◌, ℕ, ◌+◌, ◌<◌, ◌≤◌, true, false, List, [], ◌∷◌, length, map, encode_utf8, encode_utf8_all, All}
+use Rattle.std.specs.Prelude.{◌≡◌, ◌≢◌, ◌↔◌, ℕ, ◌+◌, ◌<◌, ◌≤◌, true, false, List, [], ◌∷◌, length, map, encode_utf8, encode_utf8_all, All}
 use Rattle.std.specs.Prelude.{Option, None, if◌then◌else◌}
 use Rattle.bx_common.specs.declared.base.Base.{Base}
 use Rattle.bx_keys.specs.declared.key.Key.{Key}
@@ -27,6 +27,12 @@ pub record EndsFirst (d : Data) (fault : Option StoreFault) (e : Editor) (key : 
 
 abbrev pub KeysEndPastes : Type 0
 KeysEndPastes = (d : Data) (fault : Option StoreFault) (e : Editor) (key : Key) → ends_paste key ≡ true → EndsFirst d fault e key
+
+-- a paste that is under way is over after a key exactly if the key ends it, as `ends_paste` says
+abbrev pub PastesEndByKeys : Type 0
+PastesEndByKeys =
+    (d : Data) (fault : Option StoreFault) (e : Editor) (key : Key) → e.pasted ≢ None
+    → (ends_paste key ≡ true) ↔ ((after_key d fault e key).pasted ≡ None)
 
 -- nothing is asked or sought
 pub record IsFree (e : Editor) : Type 0 where

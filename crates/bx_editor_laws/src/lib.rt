@@ -6,6 +6,7 @@ mod laws;
 mod line_laws;
 mod pasting_laws;
 mod pointing_laws;
+mod refusal_laws;
 mod replace_laws;
 mod run_laws;
 mod selection_laws;
@@ -23,8 +24,14 @@ pub use laws::{
     undo_gives_back,
 };
 pub use line_laws::new_line_puts_separator;
-pub use pasting_laws::{keys_end_pastes, paste_comes_back, paste_is_typing, pastes_are_alone};
+pub use pasting_laws::{
+    keys_end_pastes, paste_comes_back, paste_is_typing, pastes_are_alone, pastes_end_by_keys,
+};
 pub use pointing_laws::{point_stays, point_takes_units, point_twice_is_once};
+pub use refusal_laws::{
+    kinds_tell_causes, opening_has_one_cause, refusable_keys_change_texts,
+    unrefused_keys_keep_texts, words_tell_causes, words_tell_messages,
+};
 pub use replace_laws::{
     enter_replaces, find_passes_over, match_takes_marks, replace_replaces_all, replaced_comes_back,
     same_letters_stay, shown_stands,

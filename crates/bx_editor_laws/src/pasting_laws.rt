@@ -1,11 +1,16 @@
 //! Laws of pastes. The functions are empty: their contracts are the laws.
 
-ghost use Rattle.bx_editor_laws.specs.PastingLaws.{KeysEndPastes, PasteComesBack, PasteIsTyping, PastesAreAlone};
+ghost use Rattle.bx_editor_laws.specs.PastingLaws.{KeysEndPastes, PasteComesBack, PasteIsTyping, PastesAreAlone, PastesEndByKeys};
 
 /// A key that ends a paste does what it does once the paste has ended. So what other laws say of keys outside a paste holds in one
 /// too, of the text with what the paste has brought.
 pub fn keys_end_pastes()
     ensures { KeysEndPastes }
+{}
+
+/// A paste that is under way is over after a key exactly if the key is one that ends a paste.
+pub fn pastes_end_by_keys()
+    ensures { PastesEndByKeys }
 {}
 
 /// Whatever was typed over an opened text, a paste into the text is under way only outside a search and a question.
