@@ -1,5 +1,5 @@
 -- The start and the end of a run, from the contracts of the calls within.
-use Rattle.std.proofs.Common.{◌≡◌, ℕ, Bool, true, false, List, None, Result, Ok, Err, IsErrAnd, sym, ap, subst, ◌∙◌}
+use Rattle.std.proofs.Common.{◌≡◌, ℕ, Bool, true, false, List, None, Result, Ok, Err, IfErr, IsErrAnd, sym, ap, subst, ◌∙◌}
 use Rattle.std.specs.Global.{Vec}
 use Rattle.bx_editor.specs.Functions.{has_changes}
 use Rattle.bx_ucd.specs.Data.{Data}
@@ -16,13 +16,15 @@ use Rattle.bx_session.specs.Painting.{QueuesPicture}
 use Rattle.bx_session.specs.Running.{ByteAnswer, EndsWith}
 use Rattle.bx_session.specs.Log.{HasLogged}
 use Rattle.bx_session.specs.Beginning.{Beginning, at_offset}
+use Rattle.bx_recovery.specs.declared.beginning.Beginning as given
 use Rattle.bx_recovery.specs.declared.fault.RecoveryFault.{RecoveryFault}
 use Rattle.bx_recovery.specs.declared.fault.RecoveryFault.TheVariants as recovery
 use Rattle.bx_recovery.specs.Beginnings.{IsOpened}
+use Rattle.bx_recovery.specs.Refusals.{CanOpen, IsFirstCause}
 use Rattle.bidi_edit.specs.declared.edit.Changes.{Changes}
 use Rattle.bidi_edit.specs.declared.fault.ProgramFault.{ProgramFault}
 use Rattle.bidi_edit.specs.declared.fault.ProgramFault.TheVariants as fault
-use Rattle.bidi_edit.specs.Faults.{fault_of_recovery}
+use Rattle.bidi_edit.specs.Faults.{IsFirstFault, IsLaterFault, fault_of_recovery}
 use Rattle.bidi_edit.specs.Run.{Edits, Resumes, RunsTo, RunsUnless, most_reads, outcome_of}
 
 -- ---- which results come of a run
@@ -57,6 +59,48 @@ runs_further P P' Q (Err (fault.Open error)) f h = h
 runs_further P P' Q (Err fault.Unwritten) f h = h
 runs_further P P' Q (Err fault.Untold) f h = h
 runs_further P P' Q (Err fault.OutOfMemory) f h = h
+
+-- ---- the first cause
+
+first_of : (b : given.Beginning) (cause : RecoveryFault) → IsFirstCause b cause → IsFirstFault b (fault_of_recovery cause)
+first_of b (recovery.Tables error) first = first
+first_of b (recovery.Open error) first = first
+first_of b recovery.Unwritten first = absurd first
+first_of b recovery.OutOfMemory can = (can, tt)
+
+-- the session was not opened
+pub first_on : (b : given.Beginning) (r : Result Changes ProgramFault) (cause : RecoveryFault) → IsErrAnd r (λ e. e ≡ fault_of_recovery cause)
+    → IsFirstCause b cause → IfErr r (IsFirstFault b)
+first_on b (Ok changes) cause is first = absurd is
+first_on b (Err e) cause is first = subst (IsFirstFault b) (sym is) (first_of b cause first)
+
+first_if_later : (b : given.Beginning) (e : ProgramFault) → CanOpen b → IsLaterFault e → IsFirstFault b e
+first_if_later b (fault.Tables error) can later = absurd later
+first_if_later b (fault.Open error) can later = absurd later
+first_if_later b (fault.File error) can later = absurd later
+first_if_later b (fault.Text error) can later = absurd later
+first_if_later b fault.Unwritten can later = absurd later
+first_if_later b fault.Untold can later = absurd later
+first_if_later b fault.OutOfMemory can later = (can, later)
+first_if_later b fault.Unsaved can later = (can, later)
+first_if_later b (fault.Run cause) can later = (can, later)
+
+-- the session was opened
+pub once_opened : (b : given.Beginning) (r : Result Changes ProgramFault) → CanOpen b → IfErr r IsLaterFault → IfErr r (IsFirstFault b)
+once_opened b (Ok changes) can later = tt
+once_opened b (Err e) can later = first_if_later b e can later
+
+outcome_later : (end : Result End RunFault) (changed : Bool) → IfErr (outcome_of end changed) IsLaterFault
+outcome_later (Err cause) changed = tt
+outcome_later (Ok Quit) false = tt
+outcome_later (Ok (InputEnded unsaved)) false = tt
+outcome_later (Ok Quit) true = tt
+outcome_later (Ok (InputEnded unsaved)) true = tt
+
+-- the session was run
+pub run_is_later : (r : Result Changes ProgramFault) (end : Result End RunFault) (changed : Bool) → r ≡ outcome_of end changed
+    → IfErr r IsLaterFault
+run_is_later r end changed is = subst (λ (x : Result Changes ProgramFault). IfErr x IsLaterFault) (sym is) (outcome_later end changed)
 
 -- ---- after the opening
 

@@ -1,17 +1,23 @@
 -- Worked examples: how a run's end is reported, and what follows from the clause of a run alone.
-use Rattle.std.proofs.Common.{◌≡◌, ◌≢◌, ◌++◌, ℕ, Bool, true, false, List, [], ◌∷◌, length, Option, Some, None, Result, Ok, Err, IsOk, refl, sym, ap, subst, ◌∙◌, if◌then◌else◌}
+use Rattle.std.proofs.Common.{◌≡◌, ◌≢◌, ◌<◌, ◌++◌, ℕ, Bool, true, false, List, [], ◌∷◌, length, Option, Some, None, Result, Ok, Err, IsOk, IsUtf8}
+use Rattle.std.proofs.Common.{◌⊎◌, ⊎_elim, inl, inr, refl, sym, ap, subst, ◌∙◌, if◌then◌else◌}
 use Rattle.std.specs.Global.{Vec}
 use Rattle.std.specs.Prelude.{◌&&◌, codes}
+use Rattle.std.specs.Str.{chars, is_utf8}
+use Rattle.std.proofs.lemmas.Str.{is_utf8-from_IsUtf8}
+use Rattle.bx_common.specs.Characters.{largest_text}
 use Rattle.bx_editor.specs.Functions.{has_changes}
+use Rattle.bx_editor.specs.declared.opening.OpenError.TheVariants.{TooLong, NotUtf8}
 use Rattle.bx_store.specs.declared.faults.Faults.{Faults}
 use Rattle.bx_ucd.specs.Data.{Data}
+use Rattle.bx_ucd.specs.declared.error.UcdError.{UcdError}
 use Rattle.bx_keys.specs.Keys.{key_after}
 use Rattle.bx_command.specs.declared.shared.unicode.UnicodeFiles.{UnicodeFiles}
 use Rattle.bx_session.specs.declared.action.Action.{Action}
 use Rattle.bx_session.specs.declared.end.End.{End}
 use Rattle.bx_session.specs.declared.end.End.TheVariants.{Quit, InputEnded}
 use Rattle.bx_session.specs.declared.end.RunFault.{RunFault}
-use Rattle.bx_session.specs.declared.end.RunFault.TheVariants.{ReadLimit, WriteFault}
+use Rattle.bx_session.specs.declared.end.RunFault.TheVariants.{ReadFault, ReadLimit, WriteFault}
 use Rattle.bx_session.specs.declared.status.Refused.{Refused}
 use Rattle.bx_session.specs.declared.status.Status.{Status}
 use Rattle.bx_session.specs.declared.wired.Wired.{Wired}
@@ -24,11 +30,18 @@ use Rattle.bx_session.specs.Wire.{DidWired, ObeyedWired}
 use Rattle.bx_session.specs.Beginning.{Beginning, at_offset, begun}
 use Rattle.bx_session.proofs.KeySizes.{ended_goes_on}
 use Rattle.bx_session.proofs.Moved.{ended_with, recorded}
+use Rattle.bx_recovery.specs.declared.beginning.Beginning as given
+use Rattle.bx_recovery.specs.Beginnings.{bytes_of}
+use Rattle.bx_command.specs.shared.Tables.{NoMemoryInTables, refused_line}
+use Rattle.bx_recovery.specs.Refusals.{CanOpen}
 use Rattle.bx_recovery.proofs.Opened.{reads_all}
+use Rattle.bx_recovery.proofs.RefusalExamples.{a_bad_first_byte}
 use Rattle.bidi_edit.specs.declared.edit.Changes.TheVariants.{Saved, Dropped}
 use Rattle.bidi_edit.specs.declared.fault.ProgramFault.TheVariants as fault
 use Rattle.bidi_edit.specs.declared.edit.Changes.{Changes}
 use Rattle.bidi_edit.specs.declared.fault.ProgramFault.{ProgramFault}
+use Rattle.bidi_edit.specs.Ending.{end_of, last_word}
+use Rattle.bidi_edit.specs.Faults.{IsFirstFault}
 use Rattle.bidi_edit.specs.Run.{Edits, RunsTo, RunsUnless, most_reads, outcome_of}
 
 -- ---- how an end is reported
@@ -62,6 +75,59 @@ a_hangup_with_changes = refl
 -- a write fault is reported, whatever is unsaved
 pub a_write_fault : (changed : Bool) → outcome_of (Err WriteFault) changed ≡ Err (fault.Run WriteFault)
 a_write_fault changed = refl
+
+-- ---- the last word
+
+pub a_saved_run_says_so : last_word (end_of (Ok Saved)) ≡ 0x65 ∷ 0 ∷ 5 ∷ codes "saved"
+a_saved_run_says_so = refl
+
+pub a_failed_write_is_told : last_word (end_of (Err (fault.Run WriteFault))) ≡ 0x65 ∷ 0 ∷ 6 ∷ codes "output"
+a_failed_write_is_told = refl
+
+-- the word `saved` is that of no other end, and no fault before a run has it
+pub no_other_end_says_saved : (result : Result Changes ProgramFault) → last_word (end_of result) ≡ 0x65 ∷ 0 ∷ 5 ∷ codes "saved" → result ≡ Ok Saved
+no_other_end_says_saved (Ok Saved) is = refl
+no_other_end_says_saved (Ok Dropped) is = absurd (cc is)
+no_other_end_says_saved (Err fault.Unsaved) is = absurd (cc is)
+no_other_end_says_saved (Err (fault.Run ReadFault)) is = absurd (cc is)
+no_other_end_says_saved (Err (fault.Run WriteFault)) is = absurd (cc is)
+no_other_end_says_saved (Err (fault.Run ReadLimit)) is = absurd (cc is)
+no_other_end_says_saved (Err (fault.Tables error)) is = absurd (cc is)
+no_other_end_says_saved (Err (fault.File error)) is = absurd (cc is)
+no_other_end_says_saved (Err (fault.Text error)) is = absurd (cc is)
+no_other_end_says_saved (Err (fault.Open error)) is = absurd (cc is)
+no_other_end_says_saved (Err fault.Unwritten) is = absurd (cc is)
+no_other_end_says_saved (Err fault.Untold) is = absurd (cc is)
+no_other_end_says_saved (Err fault.OutOfMemory) is = absurd (cc is)
+
+-- ---- why a session did not run
+
+-- a text that is told as too long is too long, and no line of Unicode's files is refused
+pub what_is_told_as_too_long : (b : given.Beginning) → IsFirstFault b (fault.Open TooLong)
+    → (refused_line b.unicode.now ≡ None) × (largest_text < length (bytes_of b.text))
+what_is_told_as_too_long b cause = cause
+
+not_utf8 : IsUtf8 (0xFF ∷ 0x61 ∷ []) → ⊥
+unfolding chars is_utf8
+not_utf8 utf8 = let e : true ≡ false = sym (is_utf8-from_IsUtf8 (0xFF ∷ 0x61 ∷ []) utf8) in cc e
+
+is_bad : (b : given.Beginning) → bytes_of b.text ≡ 0xFF ∷ 0x61 ∷ [] → CanOpen b → ⊥
+is_bad b is can = not_utf8 (subst IsUtf8 is can.text.utf8)
+
+-- of the bytes FF and a it is told that they are not UTF-8 from the first byte on, if no line of Unicode's files is refused; or memory
+-- ran out while these were read
+pub a_text_that_is_not_utf8 : (b : given.Beginning) (f : ProgramFault) → refused_line b.unicode.now ≡ None → bytes_of b.text ≡ 0xFF ∷ 0x61 ∷ []
+    → IsFirstFault b f → (f ≡ fault.Open (NotUtf8 0)) ⊎ ((error : UcdError) × (f ≡ fault.Tables error) × NoMemoryInTables b.unicode.now error)
+a_text_that_is_not_utf8 b (fault.Tables error) none is cause =
+    inr (error, refl, ⊎_elim (λ told. absurd (let e : Some error ≡ None = sym told ∙ none in cc e)) (λ out. out) cause)
+a_text_that_is_not_utf8 b (fault.Open error) none is cause = inl (ap fault.Open (a_bad_first_byte b error is cause))
+a_text_that_is_not_utf8 b (fault.File error) none is cause = absurd cause.1
+a_text_that_is_not_utf8 b (fault.Text error) none is cause = absurd cause.1
+a_text_that_is_not_utf8 b (fault.Run end) none is cause = absurd (is_bad b is cause.0)
+a_text_that_is_not_utf8 b fault.Unsaved none is cause = absurd (is_bad b is cause.0)
+a_text_that_is_not_utf8 b fault.Unwritten none is cause = absurd cause.1
+a_text_that_is_not_utf8 b fault.Untold none is cause = absurd cause.1
+a_text_that_is_not_utf8 b fault.OutOfMemory none is cause = absurd (is_bad b is cause.0)
 
 -- ---- what follows from the clause of a run
 

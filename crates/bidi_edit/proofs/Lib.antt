@@ -1,3 +1,4 @@
 pub mod Edited
+pub mod Frames
 pub mod Examples
 pub mod CheckExamples

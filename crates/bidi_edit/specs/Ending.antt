@@ -1,5 +1,5 @@
 -- How a run ended, in a word for the host. A run that tells `saved` has no unsaved changes (`outcome_of` of Run.antt).
-use Rattle.std.specs.Prelude.{ℕ, List, Option, Some, None, Result, Ok, Err, codes}
+use Rattle.std.specs.Prelude.{ℕ, ◌/◌, ◌%◌, List, [], ◌∷◌, length, Option, Some, None, Result, Ok, Err, codes}
 use Rattle.bx_session.specs.declared.end.RunFault.TheVariants.{ReadFault, WriteFault, ReadLimit}
 use Rattle.bidi_edit.specs.declared.edit.Changes.{Changes}
 use Rattle.bidi_edit.specs.declared.edit.Changes.TheVariants as changes
@@ -30,3 +30,12 @@ abbrev pub end_of : Result Changes ProgramFault → Option Ending
 end_of (Ok changes.Saved) = Some ending.Saved
 end_of (Ok changes.Dropped) = Some ending.Dropped
 end_of (Err cause) = end_of_fault cause
+
+-- a frame for the host: a letter, the number of its bytes in two bytes, the high one first, and the bytes
+abbrev pub frame : ℕ → List ℕ → List ℕ
+frame letter bytes = letter ∷ length bytes / 256 ∷ length bytes % 256 ∷ bytes
+
+-- the last word: a frame with the letter e and the word of the end; nothing if a fault came before the run
+abbrev pub last_word : Option Ending → List ℕ
+last_word None = []
+last_word (Some end) = frame 0x65 (word_of end)

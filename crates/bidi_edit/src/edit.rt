@@ -1,10 +1,12 @@
 //! One run of the editor over a device: a reader, a journal, a writer and a store.
 
-ghost use Rattle.std.specs.Prelude.{◌≡◌, Option, List, Result, ℕ, OnErr, OnOk};
+ghost use Rattle.std.specs.Prelude.{◌≡◌, Option, List, Result, ℕ, IfErr, OnErr, OnOk};
 ghost use Rattle.bx_session.specs.Laws.{after_journal};
 ghost use Rattle.bx_session.specs.Painting.{QueuesPicture};
 ghost use Rattle.bx_session.specs.Session.{Session as SessionValue, with_painting};
 ghost use Rattle.bx_recovery.specs.Beginnings.{beginning_of};
+ghost use Rattle.bx_recovery.specs.Refusals.{CanOpen};
+ghost use Rattle.bidi_edit.specs.Faults.{IsFirstFault, IsLaterFault};
 ghost use Rattle.bidi_edit.specs.Run.{Edits, Resumes, RunsTo, RunsUnless, outcome_of};
 
 use crate::fault::ProgramFault;
@@ -62,9 +64,10 @@ fn resume<D: BidiData + Drop, V: Device>(
     session: &mut Session<D>,
     keys: &[u8],
 ) -> Result<Changes, ProgramFault<'static>>
-    ensures { RunsUnless result
+    ensures runs { RunsUnless result
         (Resumes V.did V.obeyed V.stored (D.data session.old.tables) session.old.session keys.now device.old device.new result)
         (device.new ≡ device.old) }
+    ensures refused { IfErr result IsLaterFault }
 {
     begin(session, keys)?;
     let end = run_device(READS, device, session);
@@ -80,9 +83,11 @@ pub fn edit<'a, V: Device>(
     device: &mut V,
     beginning: Beginning<'_>,
 ) -> Result<Changes, ProgramFault<'a>>
-    ensures { RunsUnless result
+    ensures runs { RunsUnless result
         (Edits V.did V.obeyed V.stored (beginning_of beginning.entry) beginning.entry.unicode.now device.old device.new result)
         (device.new ≡ device.old) }
+    ensures openable { OnOk result (CanOpen beginning.entry) }
+    ensures refused { IfErr result (IsFirstFault beginning.entry) }
 {
     let keys = beginning.keys;
     let mut session = open(beginning)?;

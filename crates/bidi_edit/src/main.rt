@@ -28,7 +28,6 @@ use bx_recovery::{Beginning, Replayed, recover};
 use bx_session::{Recorder, Wired, WrittenJournal};
 use bx_store::{FileStore, MemoryStore, Store};
 use edit::{Changes, edit};
-use ending::end_of;
 use fault::ProgramFault;
 use files::{check_file, held_text, host_store, read_files, write_text};
 use std::io::{Read, Write};
@@ -59,7 +58,8 @@ fn edit_file<'a, R: Read + Drop, W: Write, S: Store>(
         empty_journal(rt, path);
     }
     if options.frames {
-        tell_end(rt, end_of(&changes));
+        // if standard error fails, nothing can be reported
+        let _ = tell_end(&mut rt.stderr(), &changes);
     }
     changes?;
     Ok(())

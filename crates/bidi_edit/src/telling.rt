@@ -1,7 +1,14 @@
 //! What goes to standard error: sentences for a reader, or frames for the host.
 
-use crate::ending::{Ending, end_of_fault};
+ghost use Rattle.std.specs.Prelude.{OnOk, take};
+ghost use Rattle.std.specs.Io.KnownBytes.{Appends};
+ghost use Rattle.bx_bytes.specs.Writing.{WritesFront};
+ghost use Rattle.bidi_edit.specs.Ending.{end_of, frame, last_word};
+
+use crate::edit::Changes;
+use crate::ending::{end_of, end_of_fault};
 use crate::fault::ProgramFault;
+use bx_bytes::{WriteFault, write_all};
 use bx_command::{FileFault, JournalNotes, Options, TextFault};
 use bx_input::{END, FAULT, JOURNAL, OPENED, REPLAYED};
 use bx_recovery::Replayed;
@@ -29,16 +36,24 @@ const LOST: &str =
 /// The most bytes of a frame: as many as the host takes for a word.
 const MOST: usize = 2047;
 
-/// Writes a frame to standard error. What is too long is cut off.
-fn tell(rt: &HostRuntime, letter: u8, text: &str) {
-    let bytes = &text.as_bytes()[..text.len().min(MOST)];
+/// Writes a frame. What is too long is cut off.
+///
+/// Errors: `WriteFault`: a first part of the frame was written.
+fn write_frame<W: Write>(writer: &mut W, letter: u8, text: &str) -> Result<(), WriteFault>
+    ensures all { OnOk result (Appends (W.contents writer.old) (W.contents writer.new) (frame letter (take 2047 text.now))) }
+    ensures front { WritesFront (frame letter (take 2047 text.now)) (W.contents writer.old) (W.contents writer.new) }
+{
+    let bytes = &text.as_bytes()[..MOST.min(text.len())];
     let count = bytes.len();
     let head = [letter, (count / 256) as u8, (count % 256) as u8];
-    let mut errors = rt.stderr();
+    write_all(writer, &head)?;
+    write_all(writer, bytes)
+}
+
+/// Writes a frame to standard error. What is too long is cut off.
+fn tell(rt: &HostRuntime, letter: u8, text: &str) {
     // if standard error fails, nothing can be reported
-    if errors.write_all(&head).is_ok() {
-        let _ = errors.write_all(bytes);
-    }
+    let _ = write_frame(&mut rt.stderr(), letter, text);
 }
 
 /// Writes a frame whose bytes are made for it.
@@ -74,10 +89,19 @@ pub fn tell_replayed(rt: &HostRuntime, replayed: Replayed) {
     tell_made(rt, REPLAYED, &replayed);
 }
 
-/// Tells the host how a run ended, if it began.
-pub fn tell_end(rt: &HostRuntime, end: Option<Ending>) {
-    if let Some(end) = end {
-        tell(rt, END, end.word());
+/// Writes the host's last word of a run, how it ended. Writes nothing if a fault came before the run.
+///
+/// Errors: `WriteFault`: a first part of the frame was written.
+pub fn tell_end<W: Write>(
+    errors: &mut W,
+    changes: &Result<Changes, ProgramFault<'_>>,
+) -> Result<(), WriteFault>
+    ensures all { OnOk result (Appends (W.contents errors.old) (W.contents errors.new) (last_word (end_of changes.now))) }
+    ensures front { WritesFront (last_word (end_of changes.now)) (W.contents errors.old) (W.contents errors.new) }
+{
+    match end_of(changes) {
+        Some(end) => write_frame(errors, END, end.word()),
+        None => Ok(()),
     }
 }
 
