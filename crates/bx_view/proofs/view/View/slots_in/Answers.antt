@@ -1,4 +1,4 @@
-use Rattle.std.proofs.Common.{◌⊎◌, ◌×◌, ℕ, inl, inr, ◌∙◌, ◌-◌, ◌<◌, ◌≤◌, ap, ap₂, arith, length}
+use Rattle.std.proofs.Common.{◌⊎◌, ℕ, inl, inr, ◌∙◌, ◌-◌, ◌<◌, ◌≤◌, ap, ap₂, arith, length}
 use Rattle.bx_view.specs.TextParts.{slots_in}
 use Rattle.bx_view.proofs.PartSlots.{none-told, some-told}
 use Rattle.bx_view.proofs.view.View.slots_in.Goals as goal
