@@ -1,4 +1,4 @@
-use Rattle.std.proofs.Common.{◌≡◌, ◌×◌, ℕ, ◌+◌, ◌-◌, ◌*◌, ◌≤◌, ◌∙◌, ◌++◌, List, IsUtf8, ap, ap₂, arith, replicate, string_bytes, subst, sym, take}
+use Rattle.std.proofs.Common.{◌≡◌, ℕ, ◌+◌, ◌-◌, ◌*◌, ◌≤◌, ◌∙◌, ◌++◌, List, IsUtf8, ap, ap₂, arith, replicate, string_bytes, subst, sym, take}
 use Rattle.std.specs.Prelude.{if◌then◌else◌}
 use Rattle.bx_grid.specs.Columns.{blank}
 use Rattle.bx_grid.specs.Grid.{GridState}
