@@ -88,14 +88,6 @@ opening_is {D} ucd tables text height width base e rest queue new utf8 sized is 
     ap (λ (x : D). record { tables = x; session = new.session }) (same ∙ ap (λ (x : EditorState D). x.tables) is)
     ∙ ap (λ (x : Session). record { tables = tables; session = x }) state
 
--- ---- a key
-
-pub applied : {D : Type 0} (ucd : D → Data) (fault : Option StoreFault) (old new : EditorState D) (key : Key)
-    → new.editor ≡ after_key (ucd old.tables) fault old.editor key → new.tables ≡ old.tables
-    → new ≡ record old { editor = after_key (ucd old.tables) fault old.editor key }
-applied {D} ucd fault old new key is same =
-    ap (λ (x : D). record { tables = x; editor = new.editor }) same ∙ ap (λ (x : Editor). record { tables = old.tables; editor = x }) is
-
 -- ---- how a Save ended
 
 pub save_ends : (result : Result (Unit {0}) StoreFault) (fault : Option StoreFault) (text : List ℕ) (old new : StoreState) → fault ≡ result_err result
