@@ -1,8 +1,8 @@
 -- Worked examples: how a run's end is reported, and what follows from the clause of a run alone.
 use Rattle.std.proofs.Common.{◌≡◌, ◌≢◌, ◌<◌, ◌++◌, ℕ, Bool, true, false, List, [], ◌∷◌, length, Option, Some, None, Result, Ok, Err, IsOk, IsUtf8}
-use Rattle.std.proofs.Common.{◌⊎◌, ⊎_elim, inl, inr, refl, sym, ap, subst, ◌∙◌, if◌then◌else◌}
+use Rattle.std.proofs.Common.{◌⊎◌, ⊎_elim, inl, inr, refl, sym, ap, subst, ◌∙◌, arith, if◌then◌else◌}
 use Rattle.std.specs.Global.{Vec}
-use Rattle.std.specs.Prelude.{◌&&◌, codes}
+use Rattle.std.specs.Prelude.{◌&&◌, codes, get_or}
 use Rattle.std.specs.Str.{chars, is_utf8}
 use Rattle.std.proofs.lemmas.Str.{is_utf8-from_IsUtf8}
 use Rattle.bx_common.specs.Characters.{largest_text}
@@ -89,9 +89,9 @@ pub no_other_end_says_saved : (result : Result Changes ProgramFault) → last_wo
 no_other_end_says_saved (Ok Saved) is = refl
 no_other_end_says_saved (Ok Dropped) is = absurd (cc is)
 no_other_end_says_saved (Err fault.Unsaved) is = absurd (cc is)
-no_other_end_says_saved (Err (fault.Run ReadFault)) is = absurd (cc is)
+no_other_end_says_saved (Err (fault.Run ReadFault)) is = absurd (let e : 0x69 ≡ 0x73 = ap (λ bytes. get_or bytes 3 0) is in omega (arith, e))
 no_other_end_says_saved (Err (fault.Run WriteFault)) is = absurd (cc is)
-no_other_end_says_saved (Err (fault.Run ReadLimit)) is = absurd (cc is)
+no_other_end_says_saved (Err (fault.Run ReadLimit)) is = absurd (let e : 0x72 ≡ 0x73 = ap (λ bytes. get_or bytes 3 0) is in omega (arith, e))
 no_other_end_says_saved (Err (fault.Tables error)) is = absurd (cc is)
 no_other_end_says_saved (Err (fault.File error)) is = absurd (cc is)
 no_other_end_says_saved (Err (fault.Text error)) is = absurd (cc is)
