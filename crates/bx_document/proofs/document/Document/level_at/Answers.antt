@@ -40,7 +40,7 @@ unit_level-requires-clause-place g c =
     let body = c.as_str-body.ensures.value ∙ c.in_ok-copy.ensures
     ∙ ap (λ s. slice_range s.document.content.text c.span_at-span.result.start c.span_at-span.result.stop) (sym same) ∙ u.span.body in
     place-of-body (g.D.BidiData.data s.tables.now) s.text.now.edited.text c.source-source.result.utf8 c.args.place
-    c.span_at-span.result.0 c.span_at-span.result.1.0 c.as_str-body.result.now
+    c.span_at-span.result.number c.span_at-span.result.start c.as_str-body.result.now
     (c.span_at-span.ensures.number ∙ ap (λ ls. paragraph_of ls c.args.place) s.indexed) u.span.start body place
 
 pub unit_level-requires-clause-bounds : goal.unit_level-requires-clause-bounds
@@ -52,7 +52,7 @@ unit_level-requires-clause-bounds g c =
     let body = c.as_str-body.ensures.value ∙ c.in_ok-copy.ensures
     ∙ ap (λ s. slice_range s.document.content.text c.span_at-span.result.start c.span_at-span.result.stop) (sym same) ∙ u.span.body in
     bound-of-body (g.D.BidiData.data s.tables.now) s.text.now.edited.text c.source-source.result.utf8 c.args.place
-    c.span_at-span.result.0 c.span_at-span.result.1.0 c.as_str-body.result.now
+    c.span_at-span.result.number c.span_at-span.result.start c.as_str-body.result.now
     (c.span_at-span.ensures.number ∙ ap (λ ls. paragraph_of ls c.args.place) s.indexed) u.span.start body place
 
 pub returns : goal.returns
@@ -67,7 +67,7 @@ returns g c =
     let each = c.as_slice.ensures.value ∙ c.in_ok-levels.ensures.each ∙ ap (λ b. levels_under ucd b (chars c.as_str-body.result.now)) c.base.ensures in
     c.unit_level.ensures
     ∙ level-is ucd s.text.now.edited.text c.source-source.result.utf8 c.args.place
-    c.span_at-span.result.0 c.span_at-span.result.1.0 c.as_str-body.result.now
+    c.span_at-span.result.number c.span_at-span.result.start c.as_str-body.result.now
     (c.span_at-span.ensures.number ∙ ap (λ ls. paragraph_of ls c.args.place) s.indexed) u.span.start body
     i.view.base c.as_slice.result.now each
     ∙ ap (λ s. place_level (g.D.BidiData.data s.tables) s.document.base s.document.content.text c.args.place) same

@@ -9,7 +9,7 @@ use Rattle.bx_editor.specs.declared.cursor.Soft.TheVariants.{Off}
 use Rattle.bx_editor.proofs.Copied.{line-copied, nothing-copied, region-copied}
 use Rattle.bx_editor.proofs.editor.Editor.copy.Goals as goal
 
-ends : {a b c d : ℕ} → a ≡ c → b ≡ d → (a, b) ≡ (c, d)
+ends : {a b c d : ℕ} → a ≡ c → b ≡ d → ◌≡◌ {A = ℕ × ℕ} (a, b) (c, d)
 ends = ap₂ (λ (a b : ℕ). (a, b))
 
 pub returns-then-start-stop-clause-ok : goal.returns-then-start-stop-clause-ok
