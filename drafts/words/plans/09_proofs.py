@@ -1,0 +1,11 @@
+# words that only proofs use
+move('bx_bytes/Utf8', 'begins_character', 'bx_bytes/proofs.Encoded', at='first')
+move('bx_cells/SimpleFace', 'is_some_mark', 'bx_cells/proofs.OpenCluster', at='first')
+move('bx_explicit/OpenChains', 'all_above is_resumed', 'bx_explicit/proofs.FirstLow', at='first')
+move('bx_explicit/Sequences', 'AreRising', 'bx_explicit/proofs.LevelRuns', at='first')
+move('bx_index/Scan', 'NoneBefore', 'bx_index/proofs.Scans', at='first')
+move('bx_index/ScanRanges', 'rest_of', 'bx_index/proofs.Beside', at='first')
+move('bx_rows/RowScan', 'Fits', 'bx_rows/proofs.Scans', at='first')
+move('bx_rows/Shown', 'HasLetter', 'bx_rows/proofs.FaceGlyphs', at='first')
+rename('bx_ucd/JoinedTables', 'bx_ucd/proofs.JoinedTables')
+edit('crates/bx_explicit/src/runs.rt', 'ghost use Rattle.bx_explicit.proofs.LevelRuns.{AreRising};\n', '')
