@@ -22,10 +22,10 @@ mod typist;
 
 use crate::outcome::{Outcome, number};
 use anyhow::{Context, Result, bail};
+use bx_command::UnicodeFiles;
 use std::alloc::{AllocError, Global};
 use std::rt::Files;
 use std::time::{CpuClock, Duration};
-use table_files::TableFiles;
 use task::Task;
 use texts::Script;
 
@@ -71,7 +71,7 @@ fn outcome_of(
 /// Carries out the last four words: TASK, TEXT, BYTES and TIMES.
 fn measure<R: CpuClock + AllocGlobal>(
     rt: &R,
-    files: &TableFiles,
+    files: &UnicodeFiles<Vec<u8>>,
     words: &[String],
 ) -> Result<Outcome> {
     let [task, script, bytes, times] = words else {
@@ -97,12 +97,16 @@ fn measure<R: CpuClock + AllocGlobal>(
 /// Carries out the words after --tables and its files.
 fn measure_joined<R: Files + CpuClock + AllocGlobal>(
     rt: &R,
-    mut files: TableFiles,
+    mut files: UnicodeFiles<Vec<u8>>,
     words: &[String],
 ) -> Result<Outcome> {
     match words {
         [option, joining, characters, rest @ ..] if option.as_str() == "--joining" => {
-            files.add_joining(rt, joining.as_str(), characters.as_str())?;
+            files.joining = Some(table_files::read_joining(
+                rt,
+                joining.as_str(),
+                characters.as_str(),
+            )?);
             measure(rt, &files, rest)
         }
         all => measure(rt, &files, all),
@@ -113,7 +117,7 @@ fn measure_joined<R: Files + CpuClock + AllocGlobal>(
 pub(crate) fn run<R: Files + CpuClock + AllocGlobal>(rt: &R, words: &[String]) -> Result<Outcome> {
     match words {
         [option, classes, brackets, mirroring, rest @ ..] if option.as_str() == "--tables" => {
-            let files = TableFiles::read(
+            let files = table_files::read(
                 rt,
                 classes.as_str(),
                 brackets.as_str(),
@@ -121,7 +125,7 @@ pub(crate) fn run<R: Files + CpuClock + AllocGlobal>(rt: &R, words: &[String]) -
             )?;
             measure_joined(rt, files, rest)
         }
-        all => measure(rt, &TableFiles::small(rt.alloc())?, all),
+        all => measure(rt, &table_files::small(rt.alloc())?, all),
     }
 }
 
@@ -133,9 +137,9 @@ pub(crate) fn read_tables<R: Files + CpuClock + AllocGlobal>(
     let [times, classes, brackets, mirroring, joining @ ..] = words else {
         bail!("usage: bench [--time] tables TIMES CLASSES BRACKETS MIRRORING [JOINING CHARACTERS]");
     };
-    let mut files = TableFiles::read(rt, classes.as_str(), brackets.as_str(), mirroring.as_str())?;
+    let mut files = table_files::read(rt, classes.as_str(), brackets.as_str(), mirroring.as_str())?;
     if let [joining, characters] = joining {
-        files.add_joining(rt, joining.as_str(), characters.as_str())?;
+        files.joining = Some(table_files::read_joining(rt, joining.as_str(), characters.as_str())?);
     }
     let rounds = number(times)?;
     let start = rt.thread_cpu_time()?;

@@ -104,8 +104,8 @@ fn walk(index: &Index) -> usize {
     let mut seen: usize = 1;
     let mut walk = index.walk_at_offset(0);
     for _ in 0..index.count() {
-        let (start, stop) = walk.span();
-        if start <= stop && walk.to_next() {
+        let span = walk.span();
+        if span.start <= span.stop && walk.to_next() {
             seen = seen.saturating_add(1);
         }
     }

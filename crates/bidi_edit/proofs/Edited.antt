@@ -1,7 +1,9 @@
 -- The start and the end of a run, from the contracts of the calls within.
 use Rattle.std.proofs.Common.{◌≡◌, ℕ, Bool, true, false, List, None, Result, Ok, Err, IfErr, IsErrAnd, sym, ap, subst, ◌∙◌}
+use Rattle.std.specs.Global.{Vec}
 use Rattle.bx_editor.specs.Functions.{has_changes}
 use Rattle.bx_ucd.specs.Data.{Data}
+use Rattle.bx_command.specs.shared.Tables.{AreOfFiles}
 use Rattle.bx_command.specs.declared.shared.unicode.UnicodeFiles.{UnicodeFiles}
 use Rattle.bx_session.specs.declared.action.Action.{Action}
 use Rattle.bx_session.specs.declared.end.End.{End}
@@ -17,7 +19,7 @@ use Rattle.bx_session.specs.Beginning.{Beginning, at_offset}
 use Rattle.bx_recovery.specs.declared.beginning.Beginning as given
 use Rattle.bx_recovery.specs.declared.fault.RecoveryFault.{RecoveryFault}
 use Rattle.bx_recovery.specs.declared.fault.RecoveryFault.TheVariants as recovery
-use Rattle.bx_recovery.specs.Beginnings.{AreOfFiles, IsOpened}
+use Rattle.bx_recovery.specs.Beginnings.{IsOpened}
 use Rattle.bx_recovery.specs.Refusals.{CanOpen, IsFirstCause}
 use Rattle.bidi_edit.specs.declared.edit.Changes.{Changes}
 use Rattle.bidi_edit.specs.declared.fault.ProgramFault.{ProgramFault}
@@ -131,7 +133,7 @@ module _ {V : Type 0} (did : V → Action → V → Type 0) (obeyed : V → Sess
 
   -- ---- a whole run
 
-  pub edits_of : (Q : Type 0) (b : Beginning) (files : UnicodeFiles) (d : Data) (s : Session) (device device' : V) (result : Result Changes ProgramFault)
+  pub edits_of : (Q : Type 0) (b : Beginning) (files : UnicodeFiles (Vec ℕ)) (d : Data) (s : Session) (device device' : V) (result : Result Changes ProgramFault)
       → AreOfFiles d files → IsOpened d b s → RunsUnless result (Resumes did obeyed stored d s b.journal device device' result) Q
       → RunsUnless result (Edits did obeyed stored b files device device' result) Q
   edits_of Q b files d s device device' result are opened =

@@ -1,6 +1,7 @@
 -- Worked examples: how a run's end is reported, and what follows from the clause of a run alone.
 use Rattle.std.proofs.Common.{◌≡◌, ◌≢◌, ◌<◌, ◌++◌, ℕ, Bool, true, false, List, [], ◌∷◌, length, Option, Some, None, Result, Ok, Err, IsOk, IsUtf8}
 use Rattle.std.proofs.Common.{◌⊎◌, ⊎_elim, inl, inr, refl, sym, ap, subst, ◌∙◌, arith, if◌then◌else◌}
+use Rattle.std.specs.Global.{Vec}
 use Rattle.std.specs.Prelude.{◌&&◌, codes, get_or}
 use Rattle.std.specs.Str.{chars, is_utf8}
 use Rattle.std.proofs.lemmas.Str.{is_utf8-from_IsUtf8}
@@ -31,7 +32,8 @@ use Rattle.bx_session.proofs.KeySizes.{ended_goes_on}
 use Rattle.bx_session.proofs.Moved.{ended_with, recorded}
 use Rattle.bx_recovery.specs.declared.beginning.Beginning as given
 use Rattle.bx_recovery.specs.Beginnings.{bytes_of}
-use Rattle.bx_recovery.specs.Refusals.{CanOpen, NoMemoryInTables, refused_line}
+use Rattle.bx_command.specs.shared.Tables.{NoMemoryInTables, refused_line}
+use Rattle.bx_recovery.specs.Refusals.{CanOpen}
 use Rattle.bx_recovery.proofs.Opened.{reads_all}
 use Rattle.bx_recovery.proofs.RefusalExamples.{a_bad_first_byte}
 use Rattle.bidi_edit.specs.declared.edit.Changes.TheVariants.{Saved, Dropped}
@@ -102,7 +104,7 @@ no_other_end_says_saved (Err fault.OutOfMemory) is = absurd (cc is)
 
 -- a text that is told as too long is too long, and no line of Unicode's files is refused
 pub what_is_told_as_too_long : (b : given.Beginning) → IsFirstFault b (fault.Open TooLong)
-    → (refused_line b.unicode ≡ None) × (largest_text < length (bytes_of b.text))
+    → (refused_line b.unicode.now ≡ None) × (largest_text < length (bytes_of b.text))
 what_is_told_as_too_long b cause = cause
 
 not_utf8 : IsUtf8 (0xFF ∷ 0x61 ∷ []) → ⊥
@@ -114,8 +116,8 @@ is_bad b is can = not_utf8 (subst IsUtf8 is can.text.utf8)
 
 -- of the bytes FF and a it is told that they are not UTF-8 from the first byte on, if no line of Unicode's files is refused; or memory
 -- ran out while these were read
-pub a_text_that_is_not_utf8 : (b : given.Beginning) (f : ProgramFault) → refused_line b.unicode ≡ None → bytes_of b.text ≡ 0xFF ∷ 0x61 ∷ []
-    → IsFirstFault b f → (f ≡ fault.Open (NotUtf8 0)) ⊎ ((error : UcdError) × (f ≡ fault.Tables error) × NoMemoryInTables b.unicode error)
+pub a_text_that_is_not_utf8 : (b : given.Beginning) (f : ProgramFault) → refused_line b.unicode.now ≡ None → bytes_of b.text ≡ 0xFF ∷ 0x61 ∷ []
+    → IsFirstFault b f → (f ≡ fault.Open (NotUtf8 0)) ⊎ ((error : UcdError) × (f ≡ fault.Tables error) × NoMemoryInTables b.unicode.now error)
 a_text_that_is_not_utf8 b (fault.Tables error) none is cause =
     inr (error, refl, ⊎_elim (λ told. absurd (let e : Some error ≡ None = sym told ∙ none in cc e)) (λ out. out) cause)
 a_text_that_is_not_utf8 b (fault.Open error) none is cause = inl (ap fault.Open (a_bad_first_byte b error is cause))
@@ -131,14 +133,14 @@ a_text_that_is_not_utf8 b fault.OutOfMemory none is cause = absurd (is_bad b is 
 
 -- a run that is said to have ended saved left no change
 pub a_saved_run : {V : Type 0} (did : V → Action → V → Type 0) (obeyed : V → Session → ByteAnswer → V → Session → Type 0) (stored : V → StoreState)
-    (b : Beginning) (files : UnicodeFiles) (device device' : V) → (e : Edits did obeyed stored b files device device' (Ok Saved))
+    (b : Beginning) (files : UnicodeFiles (Vec ℕ)) (device device' : V) → (e : Edits did obeyed stored b files device device' (Ok Saved))
     → has_changes e.session.editor ≡ false
 a_saved_run did obeyed stored b files device device' e = saved_leaves_nothing e.end (has_changes e.session.editor) (sym e.tells)
 
 -- A run over a reader, a recorder, a writer and a store handed to the recorder all that it obeyed, and at the end of the input nothing
 -- was unread.
 pub a_run_is_recorded : {R J W S : Type 0} (remaining : R → Option (List ℕ)) (contents : J → Option (List ℕ)) (failures : J → ℕ)
-    (out : W → Option (List ℕ)) (saved : S → Option (List ℕ)) (faults : S → Faults) (b : Beginning) (files : UnicodeFiles)
+    (out : W → Option (List ℕ)) (saved : S → Option (List ℕ)) (faults : S → Faults) (b : Beginning) (files : UnicodeFiles (Vec ℕ))
     (device device' : Wired R J W S) (result : Result Changes ProgramFault)
     → let stored : Wired R J W S → StoreState = λ x. store_state saved faults x.store.now in
     (e : Edits (DidWired remaining contents failures out) (λ from s a to t. ObeyedWired from to) stored b files device device' result)

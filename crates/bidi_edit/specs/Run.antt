@@ -1,8 +1,10 @@
 -- The start, the end and the result of a run of the program. Names without a prime are of before a run, those with one of after
 -- it. `d` is Unicode's data, `b` what the session starts with.
+use Rattle.std.specs.Global.{Vec}
 use Rattle.std.specs.Prelude.{◌≡◌, ℕ, Bool, true, false, List, None, Result, Ok, Err}
 use Rattle.bx_editor.specs.Functions.{has_changes}
 use Rattle.bx_ucd.specs.Data.{Data}
+use Rattle.bx_command.specs.shared.Tables.{AreOfFiles}
 use Rattle.bx_command.specs.declared.shared.unicode.UnicodeFiles.{UnicodeFiles}
 use Rattle.bx_session.specs.declared.action.Action.{Action}
 use Rattle.bx_session.specs.declared.end.End.{End}
@@ -14,7 +16,6 @@ use Rattle.bx_session.specs.Painting.{QueuesPicture}
 use Rattle.bx_session.specs.Running.{ByteAnswer, EndsWith}
 use Rattle.bx_session.specs.Log.{HasLogged}
 use Rattle.bx_session.specs.Beginning.{Beginning, IsBegun, begun}
-use Rattle.bx_recovery.specs.Beginnings.{AreOfFiles}
 use Rattle.bidi_edit.specs.declared.edit.Changes.{Changes}
 use Rattle.bidi_edit.specs.declared.edit.Changes.TheVariants.{Saved, Dropped}
 use Rattle.bidi_edit.specs.declared.fault.ProgramFault.{ProgramFault}
@@ -50,7 +51,7 @@ pub record Resumes {V : Type 0} (did : V → Action → V → Type 0) (obeyed : 
 
 -- a session was begun from this start, by tables that agree with these files, and run, and the result tells how that ended
 pub record Edits {V : Type 0} (did : V → Action → V → Type 0) (obeyed : V → Session → ByteAnswer → V → Session → Type 0) (stored : V → StoreState)
-    (b : Beginning) (files : UnicodeFiles) (device device' : V) (result : Result Changes ProgramFault) : Type 0 where
+    (b : Beginning) (files : UnicodeFiles (Vec ℕ)) (device device' : V) (result : Result Changes ProgramFault) : Type 0 where
   pub tables : Data
   pub session : Session
   pub end : Result End RunFault

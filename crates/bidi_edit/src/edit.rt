@@ -84,7 +84,7 @@ pub fn edit<'a, V: Device>(
     beginning: Beginning<'_>,
 ) -> Result<Changes, ProgramFault<'a>>
     ensures runs { RunsUnless result
-        (Edits V.did V.obeyed V.stored (beginning_of beginning.entry) beginning.entry.unicode device.old device.new result)
+        (Edits V.did V.obeyed V.stored (beginning_of beginning.entry) beginning.entry.unicode.now device.old device.new result)
         (device.new ≡ device.old) }
     ensures openable { OnOk result (CanOpen beginning.entry) }
     ensures refused { IfErr result (IsFirstFault beginning.entry) }

@@ -106,7 +106,7 @@ fn beginning_of<'a>(
 ) -> Beginning<'a> {
     Beginning {
         alloc: rt.alloc(),
-        unicode: files.unicode.lend(),
+        unicode: &files.unicode,
         text,
         rows: options.rows,
         cols: options.cols,

@@ -9,7 +9,7 @@ mod fault;
 mod printing;
 mod words;
 
-use bx_command::{FileFault, UnicodeBytes, finish, refuse, refuse_words, text_of, words_of};
+use bx_command::{FileFault, UnicodeFiles, finish, refuse, refuse_words, text_of, words_of};
 use fault::ProgramFault;
 use printing::print_bytes;
 use std::io::Write;
@@ -25,7 +25,7 @@ fn program<'a, W: Write>(
     options: &Options<'a>,
     writer: &mut W,
 ) -> Result<(), ProgramFault<'a>> {
-    let unicode = UnicodeBytes::read(rt, options.unicode)?;
+    let unicode = UnicodeFiles::read(rt, &options.unicode)?;
     let Some(bytes) = text_of(rt, options.file)? else {
         return Err(FileFault::Unreadable(options.file).into());
     };
@@ -33,7 +33,7 @@ fn program<'a, W: Write>(
         rt.alloc(),
         writer,
         bytes.as_slice(),
-        unicode.lend(),
+        &unicode,
         options.style,
     )
 }

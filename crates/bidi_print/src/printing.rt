@@ -1,13 +1,12 @@
 //! Printing of a file's bytes.
 
 ghost use Rattle.std.specs.Prelude.{◌≡◌, None, OnOk};
-ghost use Rattle.bx_ucd.specs.Reading.{refusal, texts_of};
+ghost use Rattle.bx_command.specs.shared.Tables.{refused_line};
 
 use crate::fault::ProgramFault;
 use bx_command::UnicodeFiles;
 use bx_common::LARGEST_TEXT;
 use bx_print::{PrintError, Style, print};
-use bx_ucd::Tables;
 use simdutf8::compat::from_utf8;
 use std::alloc::{AllocError, Global};
 use std::io::Write;
@@ -26,19 +25,12 @@ pub fn print_bytes<W: Write>(
     alloc: Global,
     writer: &mut W,
     bytes: &[u8],
-    unicode: UnicodeFiles<'_>,
+    unicode: &UnicodeFiles<Vec<u8>>,
     style: Style,
 ) -> Result<(), ProgramFault<'static>>
-    ensures { OnOk result (refusal unicode.entry.classes.now unicode.entry.brackets.now unicode.entry.mirroring.now
-        (texts_of unicode.entry.joining) ≡ None) }
+    ensures { OnOk result (refused_line unicode.now ≡ None) }
 {
-    let tables = Tables::read(
-        alloc,
-        unicode.classes,
-        unicode.brackets,
-        unicode.mirroring,
-        unicode.joining,
-    )?;
+    let tables = unicode.tables(alloc)?;
     // a file that is too long is cut off, maybe inside a character
     if bytes.len() > LARGEST_TEXT {
         return Err(PrintError::TooLong.into());

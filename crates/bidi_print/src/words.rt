@@ -1,7 +1,7 @@
 //! The program's command line.
 
 use bx_command::{
-    UnicodePaths, direction, direction_of, flag, is_given, missing_value, paths_of, side, side_of,
+    UnicodeFiles, direction, direction_of, flag, is_given, missing_value, paths_of, side, side_of,
     value_of, with_tables,
 };
 use bx_print::{Marks, Style};
@@ -15,7 +15,7 @@ pub struct Options<'a> {
     /// The style of printing.
     pub style: Style,
     /// The paths of Unicode's files.
-    pub unicode: UnicodePaths<'a>,
+    pub unicode: UnicodeFiles<&'a str>,
     /// The path of the file to print.
     pub file: &'a str,
 }

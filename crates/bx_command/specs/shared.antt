@@ -3,3 +3,4 @@ pub mod Arguments
 pub mod Files
 pub mod Rules
 pub mod Shown
+pub mod Tables

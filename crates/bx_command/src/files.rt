@@ -1,13 +1,13 @@
 //! The input files of a session: Unicode's, the text, and a journal to replay.
 
 use crate::parsed::Options;
-use crate::shared::{FileFault, UnicodeBytes, bytes_of, text_of};
+use crate::shared::{FileFault, UnicodeFiles, bytes_of, text_of};
 
 /// The input files of a session.
 #[derive(Drop)]
 pub struct Files {
     /// The bytes of Unicode's files.
-    pub unicode: UnicodeBytes,
+    pub unicode: UnicodeFiles<Vec<u8>>,
     /// The bytes of the opened text; None if FILE is opened and does not exist.
     pub text: Option<Vec<u8>>,
     /// The bytes of the replayed journal; empty if none is replayed.
@@ -38,7 +38,7 @@ impl Files {
     /// Errors: the fault of the first file that cannot be read.
     pub fn read<'a>(rt: &HostRuntime, options: &Options<'a>) -> Result<Files, FileFault<'a>> {
         Ok(Files {
-            unicode: UnicodeBytes::read(rt, options.unicode)?,
+            unicode: UnicodeFiles::read(rt, &options.unicode)?,
             text: opened_text(rt, options)?,
             keys: match options.replay {
                 Some(path) => bytes_of(rt, path)?,

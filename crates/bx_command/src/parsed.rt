@@ -3,7 +3,7 @@
 ghost use Rattle.std.specs.Prelude.{◌≡◌, true};
 ghost use Rattle.bx_common.specs.Characters.{is_side};
 
-use crate::shared::UnicodePaths;
+use crate::shared::UnicodeFiles;
 use bx_common::Base;
 
 /// The parsed command line.
@@ -14,7 +14,7 @@ pub struct Options<'a> {
     /// The window's columns, from 1 to 500.
     pub cols: u16,
     /// The paths of Unicode's files.
-    pub unicode: UnicodePaths<'a>,
+    pub unicode: UnicodeFiles<&'a str>,
     /// The path of the edited file, which saves write.
     pub file: &'a str,
     /// The path of the text to open; None to open FILE itself.

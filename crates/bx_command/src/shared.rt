@@ -13,4 +13,4 @@ pub use arguments::{
 pub use ending::{finish, refuse, refuse_words};
 pub use files::{FileFault, bytes_of, text_of};
 pub use shown::{Inner, Numbered, Shown, Style, style_of};
-pub use unicode::{JoiningPaths, UnicodeBytes, UnicodeFiles, UnicodePaths, paths_of, with_tables};
+pub use unicode::{JoiningFiles, UnicodeFiles, paths_of, with_tables};

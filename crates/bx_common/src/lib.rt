@@ -1,10 +1,11 @@
-//! Terms that several layers share: kinds of characters, glyphs and their columns, limits of a window and a text, the allocation error.
+//! Terms that several layers share: kinds of characters, glyphs and their columns, limits of a window and a text, ranges, the allocation error.
 #![tactic(auto)]
 
 mod base;
 mod characters;
 mod glyphs;
 mod memory;
+mod range;
 mod sizes;
 mod texts;
 
@@ -14,5 +15,6 @@ pub use characters::{
 };
 pub use glyphs::{is_glyph, run_width};
 pub use memory::OutOfMemory;
+pub use range::Range;
 pub use sizes::{LARGEST_SIDE, LARGEST_TEXT, is_side};
 pub use texts::{are_equal, first_char};

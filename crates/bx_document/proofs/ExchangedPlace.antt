@@ -5,7 +5,7 @@ use Rattle.bx_text.specs.Edits.{Edited, splice}
 use Rattle.bx_text.specs.Changes.{exchanged}
 use Rattle.bx_ucd.specs.Data.{Data}
 use Rattle.bx_view.specs.Moves.{place_from}
-use Rattle.bx_document.specs.Document.{Document, DocumentState, after_exchange, place_after, rows_of}
+use Rattle.bx_document.specs.Document.{Document, DocumentState, after_exchange, place_after, place_after_removal, rows_of}
 
 pub exchanged_text : (text : List ℕ) (start stop : ℕ) (new : List ℕ) → start ≤ length text
     → splice (splice text start stop []) start start new ≡ splice text start stop new
@@ -19,7 +19,7 @@ exchanged_text text start stop new inside =
 
 -- the document after both edits
 exchanged_document : (d : Data) (t : Document) (start stop : ℕ) (new : List ℕ) (place between after : ℕ) → 0 < length new
-    → start ≤ length t.content.text → between ≡ place_after d t start stop [] → after ≡ place_after d t start stop new
+    → start ≤ length t.content.text → between ≡ place_after_removal d t start stop → after ≡ place_after d t start stop new
     → record t { content = exchanged t.content start stop start new place between after } ≡ after_exchange d t start stop new place
 exchanged_document d t start stop [] place between after some inside e f = absurd (omega (arith, some))
 exchanged_document d t start stop (b ∷ bs) place between after some inside e f =
@@ -32,7 +32,7 @@ exchanged_document d t start stop (b ∷ bs) place between after some inside e f
 pub exchanged_state : {D : Type 0} (ucd : D → Data) (inner now : DocumentState D) (u : Edited) (start stop : ℕ)
     (new : List ℕ) (place between after : ℕ)
     → inner ≡ now → u ≡ exchanged inner.document.content start stop start new place between after → 0 < length new
-    → start ≤ length now.document.content.text → between ≡ place_after (ucd now.tables) now.document start stop []
+    → start ≤ length now.document.content.text → between ≡ place_after_removal (ucd now.tables) now.document start stop
     → after ≡ place_after (ucd now.tables) now.document start stop new
     → record inner { document = record inner.document { content = u } }
     ≡ record now { document = after_exchange (ucd now.tables) now.document start stop new place }

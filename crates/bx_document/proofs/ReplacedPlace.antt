@@ -16,7 +16,7 @@ use Rattle.bx_view.specs.TextRows.{text_rows}
 use Rattle.bx_view.proofs.PlacesOn.{finds-least}
 use Rattle.bx_view.proofs.TextPlaces.{place-between}
 use Rattle.bx_paragraph.proofs.Starts.{side-some}
-use Rattle.bx_document.specs.Document.{Document, place_after, place_after_replacement, replaced_text}
+use Rattle.bx_document.specs.Document.{Document, place_after, place_after_removal, place_after_replacement, replaced_text}
 use Rattle.bx_document.proofs.PlaceAfter.{splice_bytes}
 use Rattle.bx_document.proofs.TouchedPlace.{splice_utf8}
 
@@ -108,7 +108,7 @@ module _ (text : List ℕ) (utf8 : IsUtf8 text) (start stop between : ℕ) (rang
         ∙ ap (λ xs. (front ++ new) ++ xs) (sym (drop-drop kept stop text))
         ∙ sym (ap₂ (λ xs ys. xs ++ new ++ ys) ahead after)
 
-    pub replaced_place : (ucd : Data) (t : Document) (o : ℕ) → t.content.text ≡ text → between ≡ place_after ucd t start stop []
+    pub replaced_place : (ucd : Data) (t : Document) (o : ℕ) → t.content.text ≡ text → between ≡ place_after_removal ucd t start stop
         → o ≡ place_after ucd t start behind whole → o ≡ place_after_replacement ucd t start stop new
     replaced_place ucd t o same e place =
         let rows = text_rows ucd t.base t.w in
@@ -117,7 +117,7 @@ module _ (text : List ℕ) (utf8 : IsUtf8 text) (start stop between : ℕ) (rang
         ∙ ap (λ xs. place_from (rows (splice (splice xs start stop []) between between new)) (between + length new)) (sym same)
         ∙ ap (λ b. place_from (rows (splice (splice t.content.text start stop []) b b new)) (b + length new)) e
 
-    pub replaced_text_place : (ucd : Data) (t : Document) (o : ℕ) → t.content.text ≡ text → between ≡ place_after ucd t start stop []
+    pub replaced_text_place : (ucd : Data) (t : Document) (o : ℕ) → t.content.text ≡ text → between ≡ place_after_removal ucd t start stop
         → IsTextPlace ucd (splice text start behind whole) o → IsTextPlace ucd (replaced_text ucd t start stop new) o
     replaced_text_place ucd t o same e place =
         subst (λ xs. IsTextPlace ucd xs o)

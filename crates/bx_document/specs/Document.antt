@@ -1,10 +1,11 @@
 -- An editable text laid out in a window, and what each of its edits makes of it. Offsets and places count bytes of the text.
 -- `d` is the data of Unicode's tables (`ucd` in other files of this folder), `t` the document before an edit.
-use Rattle.std.specs.Prelude.{ℕ, ◌+◌, List, [], ◌∷◌, length}
+use Rattle.std.specs.Prelude.{ℕ, ◌+◌, List, [], length}
 use Rattle.bx_common.specs.declared.base.Base.{Base}
 use Rattle.bx_document.specs.declared.edits.RegionEnd.{RegionEnd}
+use Rattle.bx_document.specs.History.{exchange, insertion, removal}
 use Rattle.bx_document.specs.Swapped.{wrapped_end, wrapped_text}
-use Rattle.bx_text.specs.Edits.{Edited, inserted, opened, removed, splice, wrapped}
+use Rattle.bx_text.specs.Edits.{Edited, opened, splice, wrapped}
 use Rattle.bx_view.specs.Moves.{place_from}
 use Rattle.bx_view.specs.TextRows.{TextRow, text_rows}
 use Rattle.bx_ucd.specs.Data.{Data}
@@ -38,38 +39,37 @@ rows d t = rows_of d t t.content.text
 abbrev pub place_after : Data → Document → ℕ → ℕ → List ℕ → ℕ
 place_after d t start stop new = place_from (rows_of d t (splice t.content.text start stop new)) (start + length new)
 
--- after bytes are inserted at an offset; the cursor was at `place`
-abbrev pub after_insertion_at : Data → Document → ℕ → List ℕ → ℕ → Document
-after_insertion_at d t at new place = record t { content = inserted t.content at new place (place_after d t at at new) }
+-- the place after the bytes from `start` to `stop` are removed: the first one at or after `start`
+abbrev pub place_after_removal : Data → Document → ℕ → ℕ → ℕ
+place_after_removal d t start stop = place_from (rows_of d t (splice t.content.text start stop [])) start
 
 -- after bytes are inserted at a place
 abbrev pub after_insertion : Data → Document → ℕ → List ℕ → Document
-after_insertion d t place new = after_insertion_at d t place new place
+after_insertion d t place new = record t { content = insertion (rows_of d t) t.content place new place }
 
 -- after the bytes from `start` to `stop` are removed; the cursor was at `place`
 abbrev pub after_removal : Data → Document → ℕ → ℕ → ℕ → Document
-after_removal d t start stop place = record t { content = removed t.content start stop place (place_after d t start stop []) }
+after_removal d t start stop place = record t { content = removal (rows_of d t) t.content start stop place }
 
 -- the text without the bytes from `start` to `stop`, and with `new` inserted at the place that their removal leads to
 abbrev pub replaced_text : Data → Document → ℕ → ℕ → List ℕ → List ℕ
 replaced_text d t start stop new =
-    let between = place_after d t start stop [] in splice (splice t.content.text start stop []) between between new
+    let between = place_after_removal d t start stop in splice (splice t.content.text start stop []) between between new
 
 -- the place after that replacement: the first one of `replaced_text` at or after the end of `new`
 abbrev pub place_after_replacement : Data → Document → ℕ → ℕ → List ℕ → ℕ
 place_after_replacement d t start stop new =
-    place_from (rows_of d t (replaced_text d t start stop new)) (place_after d t start stop [] + length new)
+    place_from (rows_of d t (replaced_text d t start stop new)) (place_after_removal d t start stop + length new)
 
 -- after the bytes from `start` to `stop` are removed and then `new` is inserted at the place after that; the cursor was at
 -- `place`
 abbrev pub after_replacement : Data → Document → ℕ → ℕ → List ℕ → ℕ → Document
-after_replacement d t start stop new place = after_insertion d (after_removal d t start stop place) (place_after d t start stop []) new
+after_replacement d t start stop new place = after_insertion d (after_removal d t start stop place) (place_after_removal d t start stop) new
 
 -- after the bytes from `start` to `stop` are removed and then, if they are not empty, other bytes are inserted at `start`; the
 -- cursor was at `place`
 abbrev pub after_exchange : Data → Document → ℕ → ℕ → List ℕ → ℕ → Document
-after_exchange d t start stop [] place = after_removal d t start stop place
-after_exchange d t start stop (b ∷ bs) place = after_insertion_at d (after_removal d t start stop place) start (b ∷ bs) (place_after d t start stop [])
+after_exchange d t start stop new place = record t { content = exchange (rows_of d t) t.content start stop new place }
 
 -- the place after a wrap of the bytes from `start` to `stop`, for a cursor that was at their end `at`: the first one at or after
 -- that end in the wrapped text

@@ -60,10 +60,6 @@ glyph_row w glyphs = take w (side_by_side (fitting w glyphs) ++ replicate w blan
 
 -- ---- characters as they were typed
 
--- the glyph of a character of one column, not in negative
-abbrev pub typed_glyph : ℕ → Glyph
-typed_glyph c = glyph (encode_utf8 c) 1 false
-
--- the glyphs of some bytes' characters in the order in which they were typed, a column for each
+-- the glyphs of some bytes' characters in the order in which they were typed, a column for each, not in negative
 abbrev pub typed_glyphs : List ℕ → List Glyph
-typed_glyphs typed = map typed_glyph (chars typed)
+typed_glyphs typed = map (λ c. glyph (encode_utf8 c) 1 false) (chars typed)

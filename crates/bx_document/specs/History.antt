@@ -1,10 +1,25 @@
--- Undo and redo: what they make of a text `t` with its past and future, and the change of its bytes by which index and view
--- follow.
-use Rattle.std.specs.Prelude.{ℕ, Option}
+-- What edits, undo and redo make of a text `t` with its past and future, and the change of its bytes by which index and view follow.
+-- `rows` gives the rows of any text; before an edit the cursor was at `place`.
+use Rattle.std.specs.Prelude.{ℕ, ◌+◌, List, [], ◌∷◌, length, Option}
 use Rattle.bx_text.specs.declared.change.Change.{Change}
-use Rattle.bx_text.specs.Edits.{Edited, next_redos, next_undos, redone_times, undone_times}
+use Rattle.bx_text.specs.Edits.{Edited, inserted, next_redos, next_undos, redone_times, removed, splice, undone_times}
+use Rattle.bx_view.specs.Moves.{place_from}
+use Rattle.bx_view.specs.TextRows.{TextRow}
 use Rattle.bx_document.specs.declared.history.HistoryStep.{HistoryStep}
 use Rattle.bx_document.specs.declared.history.HistoryStep.TheVariants.{Undo, Redo}
+
+-- bytes are inserted at an offset; the cursor goes to the first place at or after their end
+abbrev pub insertion : (List ℕ → List TextRow) → Edited → ℕ → List ℕ → ℕ → Edited
+insertion rows t at new place = inserted t at new place (place_from (rows (splice t.text at at new)) (at + length new))
+
+-- the bytes from `start` to `stop` are removed; the cursor goes to the first place at or after `start`
+abbrev pub removal : (List ℕ → List TextRow) → Edited → ℕ → ℕ → ℕ → Edited
+removal rows t start stop place = removed t start stop place (place_from (rows (splice t.text start stop [])) start)
+
+-- the bytes from `start` to `stop` are removed, and then others, if there are any, are inserted where they stood
+abbrev pub exchange : (List ℕ → List TextRow) → Edited → ℕ → ℕ → List ℕ → ℕ → Edited
+exchange rows t start stop [] place = removal rows t start stop place
+exchange rows t start stop (b ∷ bs) place = insertion rows (removal rows t start stop place) start (b ∷ bs) (place_from (rows (splice t.text start stop [])) start)
 
 -- the text after `n` steps, or after all if there are fewer
 abbrev pub stepped_times : HistoryStep → ℕ → Edited → Edited

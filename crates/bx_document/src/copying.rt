@@ -6,28 +6,32 @@ ghost use Rattle.bx_view.specs.TextRef.{bytes};
 ghost use Rattle.bx_document.specs.Line.{line_of};
 
 use crate::document::Document;
-use bx_common::OutOfMemory;
+use bx_common::{OutOfMemory, Range};
 use bx_ucd::BidiData;
 use bx_view::TextRef;
 
-/// The offsets of the start and the end of the line, the paragraph with its separator, that an offset falls in. Allocates
-/// nothing.
-fn line_at<D: BidiData>(source: &TextRef<'_, D>, offset: usize) -> (usize, usize)
+/// The line, the paragraph with its separator, that an offset falls in. Allocates nothing.
+fn line_at<D: BidiData>(source: &TextRef<'_, D>, offset: usize) -> Range
     requires bounds { IsCharBoundary (bytes source.now) offset }
-    ensures line { result ≡ line_of (D.data source.now.tables.now) (bytes source.now) offset }
-    ensures range { IsRange (bytes source.now) result.0 result.1 }
+    ensures start { result.start ≡ (line_of (D.data source.now.tables.now) (bytes source.now) offset).0 }
+    ensures stop { result.stop ≡ (line_of (D.data source.now.tables.now) (bytes source.now) offset).1 }
+    ensures range { IsRange (bytes source.now) result.start result.stop }
 {
     let walk = source.index.walk_at_offset(offset);
-    let (start, end) = walk.span();
-    (start, end + walk.separator())
+    let span = walk.span();
+    Range {
+        start: span.start,
+        stop: span.stop + walk.separator(),
+    }
 }
 
 impl<D: BidiData + Drop> Document<D> {
-    /// The offsets of the start and the end of a place's paragraph, its separator included. Allocates nothing.
-    pub fn line_of(&self, place: usize) -> (usize, usize)
+    /// A place's paragraph, its separator included. Allocates nothing.
+    pub fn line_of(&self, place: usize) -> Range
         requires text_place { IsTextPlace (D.data self.now.tables) self.now.document.content.text place }
-        ensures line { result ≡ line_of (D.data self.now.tables) self.now.document.content.text place }
-        ensures range { IsRange self.now.document.content.text result.0 result.1 }
+        ensures start { result.start ≡ (line_of (D.data self.now.tables) self.now.document.content.text place).0 }
+        ensures stop { result.stop ≡ (line_of (D.data self.now.tables) self.now.document.content.text place).1 }
+        ensures range { IsRange self.now.document.content.text result.start result.stop }
     {
         let source = self.own.source();
         line_at(&source, place)

@@ -103,8 +103,7 @@ impl<D: BidiData + Drop> Document<D> {
         ensures { result ≡ paragraph_number (D.data self.now.tables) self.now.document.content.text offset + 1 }
     {
         let source = self.own.source();
-        let (number, _) = source.index.span_at(offset);
-        number + 1
+        source.index.span_at(offset).number + 1
     }
 
     /// The base direction of the paragraphs. Allocates nothing.

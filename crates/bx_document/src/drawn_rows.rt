@@ -6,7 +6,7 @@ ghost use Rattle.bx_document.specs.Drawing.{region_rows};
 
 use crate::region::turn_row;
 use crate::row_cache::RowCache;
-use bx_common::OutOfMemory;
+use bx_common::{OutOfMemory, Range};
 use bx_grid::Grid;
 use bx_ucd::BidiData;
 use bx_view::{RowAt, TextRef, View};
@@ -16,8 +16,8 @@ use bx_view::{RowAt, TextRef, View};
 pub(crate) struct Page {
     /// The number of the grid's rows to fill, from its first.
     pub(crate) count: u16,
-    /// The offsets, in bytes of the text, of the region's start and end.
-    pub(crate) region: (usize, usize),
+    /// The region, a range of the text's bytes.
+    pub(crate) region: Range,
 }
 
 /// Fills a page, the first rows of a grid, with the text's rows from `at` on, and with blank rows past the text's end. Shows in
@@ -40,7 +40,7 @@ pub(crate) fn draw_rows<D: BidiData>(
     ensures keeps { Keeps source.now view.old view.new }
     ensures drawn { (k : ℕ) → StandsOn source.now view.old at k → OnOk result
         (grid.new ≡ record grid.old {
-          columns = region_rows (D.data source.now.tables.now) view.old.w page.region page.count
+          columns = region_rows (D.data source.now.tables.now) view.old.w (page.region.start, page.region.stop) page.count
               (take page.count (drop k (rows source.now view.old)))
               ++ drop (page.count * grid.old.width) grid.old.columns;
         }) }

@@ -6,7 +6,7 @@ ghost use Rattle.bx_text.specs.Changes.{IsRange};
 ghost use Rattle.bx_view.specs.Moves.{place_at};
 ghost use Rattle.bx_view.specs.Places.{IsTextPlace};
 ghost use Rattle.bx_document.specs.Document.{after_exchange, after_insertion, after_removal, after_replacement, after_wrap, place_after};
-ghost use Rattle.bx_document.specs.Document.{place_after_replacement, place_after_wrap, replaced_text, rows_of};
+ghost use Rattle.bx_document.specs.Document.{place_after_removal, place_after_replacement, place_after_wrap, replaced_text, rows_of};
 ghost use Rattle.bx_document.specs.Swapped.{wrapped_end, wrapped_text};
 
 use crate::document::Document;
@@ -78,7 +78,7 @@ impl<D: BidiData + Drop> Document<D> {
     fn place_after_removal(&mut self, start: usize, stop: usize) -> Result<usize, OutOfMemory>
         requires range { IsRange self.old.document.content.text start stop }
         ensures same { self.new ≡ self.old }
-        ensures place { IfOk result (λ o. o ≡ place_after (D.data self.old.tables) self.old.document start stop []) }
+        ensures place { IfOk result (λ o. o ≡ place_after_removal (D.data self.old.tables) self.old.document start stop) }
         ensures text_place { IfOk result (IsTextPlace (D.data self.old.tables) (splice self.old.document.content.text start stop [])) }
         ensures order { IfOk result (λ o. start ≤ o) }
     {
@@ -121,7 +121,7 @@ impl<D: BidiData + Drop> Document<D> {
         ensures ok { OnOk result (self.new ≡ record self.old {
           document = after_removal (D.data self.old.tables) self.old.document start stop place;
         }) }
-        ensures place { IfOk result (λ o. o ≡ place_after (D.data self.old.tables) self.old.document start stop []) }
+        ensures place { IfOk result (λ o. o ≡ place_after_removal (D.data self.old.tables) self.old.document start stop) }
         ensures text_place { IfOk result (IsTextPlace (D.data self.new.tables) self.new.document.content.text) }
         ensures err { OnErr result (self.new ≡ self.old) }
     {
@@ -141,7 +141,7 @@ impl<D: BidiData + Drop> Document<D> {
     ) -> Result<usize, OutOfMemory>
         requires range { IsRange self.old.document.content.text start stop }
         requires fits { fits self.old.document.content.text start stop new.now ≡ true }
-        requires between { between ≡ place_after (D.data self.old.tables) self.old.document start stop [] }
+        requires between { between ≡ place_after_removal (D.data self.old.tables) self.old.document start stop }
         requires order { start ≤ between }
         requires place { IsTextPlace (D.data self.old.tables) (splice self.old.document.content.text start stop []) between }
         ensures same { self.new ≡ self.old }

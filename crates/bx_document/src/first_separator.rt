@@ -103,7 +103,7 @@ impl<D: BidiData + Drop> Document<D> {
         if walk.separator() != 2 {
             return false;
         }
-        match source.text.piece_at(walk.span().1) {
+        match source.text.piece_at(walk.span().stop) {
             Some(separator) => separator.as_bytes()[0] == b'\r',
             None => false,
         }

@@ -48,10 +48,10 @@ impl<D: BidiData + Drop> Document<D> {
         ensures { IfOk result (λ l. l ≡ place_level (D.data self.now.tables) self.now.document.base self.now.document.content.text place) }
     {
         let source = self.own.source();
-        let (_, (start, stop)) = source.index.span_at(place);
-        let copy = self.copy(start, stop)?;
+        let span = source.index.span_at(place);
+        let copy = self.copy(span.start, span.stop)?;
         let body = copy.as_str();
         let levels = levels(self.alloc, body, source.tables, self.view.base())?;
-        Ok(unit_level(body, levels.each.as_slice(), place - start))
+        Ok(unit_level(body, levels.each.as_slice(), place - span.start))
     }
 }

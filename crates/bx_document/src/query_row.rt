@@ -6,8 +6,9 @@ ghost use Rattle.bx_common.specs.Glyphs.{is_one_glyph, run_width};
 ghost use Rattle.bx_common.specs.declared.base.Base.TheVariants.{Auto};
 ghost use Rattle.bx_rows.specs.Shown.{glyph_of};
 ghost use Rattle.bx_paragraph.specs.Layout.{IsLayoutBy};
+ghost use Rattle.bx_rows.specs.PlainRows.{single_glyph};
 ghost use Rattle.bx_rows.specs.RowPicture.{letter_glyphs};
-ghost use Rattle.bx_document.specs.Drawing.{fitting, glyph_row, query_glyphs, typed_glyph, typed_glyphs};
+ghost use Rattle.bx_document.specs.Drawing.{fitting, glyph_row, query_glyphs, typed_glyphs};
 ghost use Rattle.bx_document.specs.Narrow.{IsNarrow, IsWellDrawn};
 
 use crate::document::Document;
@@ -105,7 +106,7 @@ fn text_and_query<'a, D: BidiData>(
 /// Appends the glyph of a character of one column.
 fn push_narrow(alloc: Global, glyphs: &mut Vec<Drawn<'_>>, c: char) -> Result<(), AllocError>
     requires narrow { IsNarrow c }
-    ensures typed { OnOk result (map glyph_of glyphs.new.items ≡ map glyph_of glyphs.old.items ++ typed_glyph c ∷ []) }
+    ensures typed { OnOk result (map glyph_of glyphs.new.items ≡ map glyph_of glyphs.old.items ++ single_glyph c ∷ []) }
     ensures glyphs { All IsWellDrawn glyphs.old.items → OnOk result (All IsWellDrawn glyphs.new.items) }
 {
     let mut buffer = [0; 4];

@@ -5,7 +5,7 @@ ghost use Rattle.bx_document.specs.Drawing.{region_columns, row_columns};
 ghost use Rattle.bx_document.specs.Shown.{with_rows};
 ghost use Rattle.bx_document.specs.RegionSlots.{IsSpan, row_in, turned_slots};
 
-use bx_common::OutOfMemory;
+use bx_common::{OutOfMemory, Range};
 use bx_grid::Grid;
 use bx_paragraph::Slot;
 use bx_ucd::BidiData;
@@ -31,13 +31,13 @@ pub(crate) fn turn_row<D: BidiData>(
     at: RowAt,
     grid: &mut Grid,
     row: u16,
-    region: (usize, usize),
+    region: Range,
 ) -> Result<(), OutOfMemory>
     requires at { Stands source.now view.now at }
     requires inside { row < grid.old.height }
     requires drawn { OfRow source.now view.now at (λ r. row_in grid.old row ≡ row_columns (D.data source.now.tables.now) view.now.w r) }
     ensures { OfRow source.now view.now at (λ r.
-        OnOk result (grid.new ≡ with_rows grid.old row (region_columns (D.data source.now.tables.now) view.now.w region r))) }
+        OnOk result (grid.new ≡ with_rows grid.old row (region_columns (D.data source.now.tables.now) view.now.w (region.start, region.stop) r))) }
 {
     let slots = view.slots_in(source, at, region)?;
     turn_slots(grid, row, &slots);

@@ -10,7 +10,7 @@ ghost use Rattle.bx_document.specs.Document.{rows};
 ghost use Rattle.bx_document.specs.Swapped.{behind_character};
 
 use crate::document::Document;
-use bx_common::{OutOfMemory, first_char};
+use bx_common::{OutOfMemory, Range, first_char};
 use bx_find::{Query, Reading};
 use bx_ucd::BidiData;
 
@@ -78,20 +78,15 @@ impl<D: BidiData + Drop> Document<D> {
         bx_find::match_end(&self.own, self.own.tables(), reading, query, at)
     }
 
-    /// A query's first match at or after `x`, and its end. Allocates nothing.
-    pub(crate) fn first_span(
-        &self,
-        reading: Reading,
-        query: &Query,
-        x: usize,
-    ) -> Option<(usize, usize)>
+    /// The range of a query's first match at or after `x`. Allocates nothing.
+    pub(crate) fn first_span(&self, reading: Reading, query: &Query, x: usize) -> Option<Range>
         requires bounds { IsCharBoundary self.now.document.content.text x }
         ensures spans { MatchOption result
             (spans_from (D.data self.now.tables) reading query.now self.now.document.content.text x ≡ [])
             (λ s. spans_from (D.data self.now.tables) reading query.now self.now.document.content.text x
-            ≡ s ∷ spans_from (D.data self.now.tables) reading query.now self.now.document.content.text s.1) }
-        ensures range { IfSome result (λ s. IsRange self.now.document.content.text s.0 s.1) }
-        ensures onward { IfSome result (λ s. (x ≤ s.0) × (s.0 < s.1)) }
+            ≡ (s.start, s.stop) ∷ spans_from (D.data self.now.tables) reading query.now self.now.document.content.text s.stop) }
+        ensures range { IfSome result (λ s. IsRange self.now.document.content.text s.start s.stop) }
+        ensures onward { IfSome result (λ s. (x ≤ s.start) × (s.start < s.stop)) }
     {
         bx_find::first_span(&self.own, self.own.tables(), reading, query, x)
     }

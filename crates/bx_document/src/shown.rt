@@ -8,7 +8,7 @@ ghost use Rattle.bx_document.specs.Shown.{rows_above, shown_columns};
 
 use crate::document::Document;
 use crate::drawn_rows::{Page, draw_rows};
-use bx_common::OutOfMemory;
+use bx_common::{OutOfMemory, Range};
 use bx_grid::Grid;
 use bx_ucd::BidiData;
 use bx_view::Position;
@@ -39,8 +39,8 @@ impl<D: BidiData + Drop> Document<D> {
     }
 
     /// Draws the first `count` rows of a grid. They show the rows of the text from the row of the offset `top` on, scrolled by
-    /// the fewest rows that make the row of `place` visible. The region goes from the offset `region.0` up to `region.1`; the
-    /// columns of units that begin in it are turned to the other rendition.
+    /// the fewest rows that make the row of `place` visible. The region is a range of the text's bytes; the columns of units that
+    /// begin in it are turned to the other rendition.
     ///
     /// Errors: `OutOfMemory`; some of the rows may be drawn.
     pub fn show(
@@ -49,7 +49,7 @@ impl<D: BidiData + Drop> Document<D> {
         top: usize,
         place: usize,
         count: u16,
-        region: (usize, usize),
+        region: Range,
     ) -> Result<Shown, OutOfMemory>
         requires width { grid.old.width ≡ self.old.document.w }
         requires inside { count ≤ grid.old.height }
@@ -58,7 +58,7 @@ impl<D: BidiData + Drop> Document<D> {
         ensures top { IfOk result (λ s. s.top ≡ follow (rows (D.data self.old.tables) self.old.document) top place count) }
         ensures among { IfOk result (λ s. IsAmong (rows (D.data self.old.tables) self.old.document) s.top place count) }
         ensures drawn { IfOk result (λ s. grid.new ≡ record grid.old {
-          columns = shown_columns (D.data self.old.tables) self.old.document s.top region count
+          columns = shown_columns (D.data self.old.tables) self.old.document s.top (region.start, region.stop) count
               ++ drop (count * grid.old.width) grid.old.columns;
         }) }
         ensures row { IfOk result (λ s. s.row ≡ rows_above (D.data self.old.tables) self.old.document s.top place) }

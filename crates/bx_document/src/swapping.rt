@@ -48,14 +48,14 @@ impl<D: BidiData + Drop> Document<D> {
             count: 0,
             len: 0,
         };
-        while let Some((at, end)) = self.first_span(reading, query, measure.stop) {
-            let between = at - measure.stop;
+        while let Some(found) = self.first_span(reading, query, measure.stop) {
+            let between = found.start - measure.stop;
             measure.len = measure
                 .len
                 .saturating_add(between)
                 .saturating_add(other.len());
             measure.count += 1;
-            measure.stop = end;
+            measure.stop = found.stop;
         }
         measure
     }
@@ -89,10 +89,10 @@ impl<D: BidiData + Drop> Document<D> {
     {
         let mut copy = String::with_capacity(self.alloc, len)?;
         let mut from = start;
-        while let Some((at, end)) = self.first_span(reading, query, from) {
-            self.push_range(&mut copy, from, at)?;
+        while let Some(found) = self.first_span(reading, query, from) {
+            self.push_range(&mut copy, from, found.start)?;
             copy.push_str(other)?;
-            from = end;
+            from = found.stop;
         }
         Ok(copy)
     }

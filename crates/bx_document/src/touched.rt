@@ -24,8 +24,7 @@ fn start_before<D: BidiData>(source: &TextRef<'_, D>, start: usize) -> usize
     ensures start { result ≡ touched_start (D.data source.now.tables.now) (bytes source.now) start }
     ensures range { IsRange (bytes source.now) result start }
 {
-    let (_, (first, _)) = source.index.span_at(start.saturating_sub(1));
-    first
+    source.index.span_at(start.saturating_sub(1)).start
 }
 
 /// The end of the paragraph that an offset falls in, its separator included. Allocates nothing.
@@ -35,7 +34,7 @@ pub(crate) fn stop_after<D: BidiData>(source: &TextRef<'_, D>, stop: usize) -> u
     ensures range { IsRange (bytes source.now) stop result }
 {
     let walk = source.index.walk_at_offset(stop);
-    walk.span().1 + walk.separator()
+    walk.span().stop + walk.separator()
 }
 
 /// The offset at which the paragraphs begin that an edit touches, and a copy of their text as it is after the edit, which

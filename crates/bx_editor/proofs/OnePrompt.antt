@@ -42,8 +42,7 @@ effect d fault was e one unasked unsought = free e (by d fault was e one) (effec
 
 -- in a search
 exchange : (d : Data) (first e : Editor) (start stop : ℕ) (new : List ℕ) → SameAsk first e → SameAsk first (with_exchange d e start stop new)
-exchange d first e start stop [] h = h
-exchange d first e start stop (b ∷ bs) h = h
+exchange d first e start stop new h = h
 
 sought-asks : (d : Data) (first : Editor) → IsKeptSeeking d (SameAsk first)
 sought-asks d first = record {

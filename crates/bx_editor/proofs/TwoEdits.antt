@@ -5,9 +5,10 @@ use Rattle.std.proofs.lemmas.Bool.Decides.{nat_tests}
 use Rattle.std.proofs.lemmas.List.{take-append-drop}
 use Rattle.std.proofs.lemmas.List.Elements.{filter-append}
 use Rattle.bx_editor.specs.undo_groups.Groups.{below, edited}
-use Rattle.bx_text.specs.Edits.{inserted, removed, splice}
+use Rattle.bx_text.specs.Edits.{splice}
+use Rattle.bx_document.specs.History.{insertion, removal}
 use Rattle.bx_ucd.specs.Data.{Data}
-use Rattle.bx_editor.specs.Editor.{Editor, place_after, stored_behind, with_edit}
+use Rattle.bx_editor.specs.Editor.{Editor, place_after, rows_of, stored_behind, with_edit}
 use Rattle.bx_editor.specs.Putting.{with_selection_replaced}
 use Rattle.bx_editor.specs.Region.{region}
 
@@ -49,8 +50,7 @@ selection_once d e new =
     let start = (region e).0 in
     let stop = (region e).1 in
     let between = place_after d e (splice e.content.text start stop []) start in
-    let after = place_after d e (splice (splice e.content.text start stop []) between between new) (between + length new) in
-    with_edit e (inserted (removed e.content start stop e.place between) between new between after) after false
+    with_edit d e (insertion (rows_of d e) (removal (rows_of d e) e.content start stop e.place) between new between) (between + length new) false
 
 pub replaced-once : (d : Data) (e : Editor) (new : List ℕ) → selection_once d e new ≡ with_selection_replaced d e new
 replaced-once d e new =

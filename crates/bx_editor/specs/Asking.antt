@@ -1,7 +1,6 @@
 -- Going to a line, and characters by name or code: what is asked, and how it is answered. `d` is Unicode's data, `e` the editor;
 -- `typing` is what the key before left.
-use Rattle.std.specs.Prelude.{ℕ, ◌+◌, ◌==◌, false, List, [], length, chars, encode_utf8, unwrap_or, Option, Some, None, if◌then◌else◌}
-use Rattle.std.specs.Prelude.{Bool}
+use Rattle.std.specs.Prelude.{ℕ, ◌+◌, ◌==◌, Bool, false, List, [], length, chars, encode_utf8, unwrap_or, Option, Some, None, if◌then◌else◌}
 use Rattle.std.specs.List.{list_any}
 use Rattle.bx_ucd.specs.Data.{Data}
 use Rattle.bx_editor.specs.declared.questions.line.Target.{Target}
@@ -37,8 +36,9 @@ with_wrap d e opener closer =
     let start = (region e).0 in
     let stop = (region e).1 in
     let between = place_after d e (wrapped_text e.content.text start stop [] closer) (stop + length closer) in
-    let after = place_after d e (wrapped_text e.content.text start stop opener closer) (wrapped_end (cursor_end e) start stop opener) in
-    with_edit e (wrapped e.content start stop opener closer e.place between after) after false
+    let offset = wrapped_end (cursor_end e) start stop opener in
+    let after = place_after d e (wrapped_text e.content.text start stop opener closer) offset in
+    with_edit d e (wrapped e.content start stop opener closer e.place between after) offset false
 
 -- the region is put between two characters; where it spans lines, or the text has no room, a message is set instead
 abbrev pub after_wrapping : Data → Editor → ℕ → ℕ → Editor

@@ -8,13 +8,12 @@ use Rattle.bx_editor.specs.declared.questions.answers.Prompt.{Prompt}
 use Rattle.bx_editor.specs.declared.questions.answers.Prompt.TheVariants as asks
 use Rattle.bx_keys.specs.declared.notice.Notice.{Notice}
 use Rattle.bx_store.specs.declared.store.StoreFault.{StoreFault}
-use Rattle.bx_text.specs.Edits.{Edited, Edit, opened, inserted, removed, splice, undone, redone}
+use Rattle.bx_text.specs.Edits.{Edited, Edit, opened, undone, redone}
 use Rattle.bx_text.specs.declared.change.Change.{Change}
 use Rattle.bx_view.specs.TextRows.{TextRow, text_rows}
 use Rattle.bx_view.specs.Moves.{place_from}
 use Rattle.bx_document.specs.declared.history.HistoryStep.{HistoryStep}
-use Rattle.bx_document.specs.declared.history.HistoryStep.TheVariants as steps
-use Rattle.bx_document.specs.History.{next_changes, stepped_times}
+use Rattle.bx_document.specs.History.{exchange, insertion, next_changes, removal, stepped_times}
 use Rattle.bx_document.specs.declared.history.HistoryStep.TheVariants.{Undo, Redo}
 use Rattle.bx_editor.specs.declared.search_state.SearchPurpose.{SearchPurpose}
 use Rattle.bx_editor.specs.declared.search_state.SearchPurpose.TheVariants as aims
@@ -139,14 +138,18 @@ abbrev pub stored_behind : ℕ → Option ℕ → Option ℕ
 stored_behind n None = None
 stored_behind n (Some stored) = if nat_lt n stored then None else Some stored
 
--- the editor once the text was edited: `content` with its past and future, and the cursor's new place. `goes_on`: the edit goes on
--- with the undo group before; else it begins one
-abbrev pub with_edit : Editor → Edited → ℕ → Bool → Editor
-with_edit e content place goes_on =
+-- the first place of a new text at or after an offset
+abbrev pub place_after : Data → Editor → List ℕ → ℕ → ℕ
+place_after d e text offset = place_from (rows_of d e text) offset
+
+-- the editor once the text was edited: `content` with its past and future, and the cursor at the first place at or after `offset`.
+-- `goes_on`: the edit goes on with the undo group before; else it begins one
+abbrev pub with_edit : Data → Editor → Edited → ℕ → Bool → Editor
+with_edit d e content offset goes_on =
     let n = length e.content.past in
     record e {
       content = content;
-      place = place;
+      place = place_after d e content.text offset;
       mark = None;
       soft = softness.Off;
       seek = seeks.Off;
@@ -155,31 +158,17 @@ with_edit e content place goes_on =
       changed = true;
     }
 
--- the first place of a new text at or after an offset
-abbrev pub place_after : Data → Editor → List ℕ → ℕ → ℕ
-place_after d e text offset = place_from (rows_of d e text) offset
-
--- bytes are inserted at an offset; the cursor goes to the first place at or after their end
-abbrev pub with_insertion_at : Data → Editor → ℕ → List ℕ → Bool → Editor
-with_insertion_at d e at new goes_on =
-    let after = place_after d e (splice e.content.text at at new) (at + length new) in
-    with_edit e (inserted e.content at new e.place after) after goes_on
-
 -- bytes are inserted at the place
 abbrev pub with_insertion : Data → Editor → List ℕ → Bool → Editor
-with_insertion d e new goes_on = with_insertion_at d e e.place new goes_on
+with_insertion d e new goes_on = with_edit d e (insertion (rows_of d e) e.content e.place new e.place) (e.place + length new) goes_on
 
 -- the bytes from `start` to `stop` are removed
 abbrev pub with_removal : Data → Editor → ℕ → ℕ → Bool → Editor
-with_removal d e start stop goes_on =
-    let after = place_after d e (splice e.content.text start stop []) start in
-    with_edit e (removed e.content start stop e.place after) after goes_on
+with_removal d e start stop goes_on = with_edit d e (removal (rows_of d e) e.content start stop e.place) start goes_on
 
--- the bytes from `start` to `stop` are removed, and then others, if there are any, are inserted where they stood: edits of one undo
--- group
+-- the bytes from `start` to `stop` give way to others: edits of one undo group
 abbrev pub with_exchange : Data → Editor → ℕ → ℕ → List ℕ → Editor
-with_exchange d e start stop [] = with_removal d e start stop false
-with_exchange d e start stop (b ∷ bs) = with_insertion_at d (with_removal d e start stop false) start (b ∷ bs) true
+with_exchange d e start stop new = with_edit d e (exchange (rows_of d e) e.content start stop new e.place) (start + length new) false
 
 -- ---- undo and redo
 
@@ -200,13 +189,13 @@ after_redo e (edit ∷ future) = with_step e (redone e.content) edit.after.place
 
 -- one edit is undone, or redone
 abbrev pub after_step : HistoryStep → Editor → Editor
-after_step steps.Undo e = after_undo e e.content.past
-after_step steps.Redo e = after_redo e e.content.future
+after_step Undo e = after_undo e e.content.past
+after_step Redo e = after_redo e e.content.future
 
 -- the message where there is no edit to undo, or to redo
 abbrev pub nothing_left : HistoryStep → Message
-nothing_left steps.Undo = messages.NothingToUndo
-nothing_left steps.Redo = messages.NothingToRedo
+nothing_left Undo = messages.NothingToUndo
+nothing_left Redo = messages.NothingToRedo
 
 -- ---- keys that do not edit
 

@@ -9,7 +9,7 @@ pub use Rattle.bx_document.specs.Drawing.{row_columns, side_by_side, region_colu
 use Rattle.bx_grid.specs.Columns.{blank}
 use Rattle.bx_grid.specs.Picture.{PictureState}
 use Rattle.bx_ucd.specs.Data.{Data}
-use Rattle.bx_editor.specs.Editor.{Editor, rows, text_height}
+use Rattle.bx_editor.specs.Editor.{Editor, rows, text_height, with_top}
 use Rattle.bx_editor.specs.Replacing.{seen}
 use Rattle.bx_editor.specs.Status.{status_columns}
 
@@ -35,6 +35,10 @@ picture d e top = if e.ended then blank_picture e.height e.width else text_pictu
 -- the top nearest to the old one that makes the cursor's row visible
 abbrev pub next_top : Data → Editor → ℕ → ℕ
 next_top d e top = if e.ended then top else follow (rows d e) top e.place (text_height e.height)
+
+-- the editor scrolled to its cursor: by the fewest rows that make the cursor's row visible
+abbrev pub scrolled : Data → Editor → Editor
+scrolled d e = with_top e (next_top d e e.top)
 
 -- The cursor of a picture, shown from the row of the offset `top` on, is on the cell of its place. The place is one of the
 -- rows' places, with one slot and one cell, in the row that it falls in. That row is visible, and the cursor is in it, in

@@ -18,7 +18,7 @@ use crate::questions::{
     named, shortened,
 };
 use crate::undo_groups::Kind;
-use bx_common::OutOfMemory;
+use bx_common::{OutOfMemory, Range};
 use bx_ucd::BidiData;
 
 /// The most characters of the answer to a question: `longest_line` and `longest_code` of specs/Asking.antt, where their reasons
@@ -141,7 +141,7 @@ impl<D: BidiData + Drop> Editor<D> {
         }) }
         ensures err { OnErr result (self.new ≡ self.old) }
     {
-        let (start, stop) = self.region();
+        let Range { start, stop } = self.region();
         match closing(letter) {
             Some(closer) if start != stop => self.wrap(c, closer),
             _ => self.put_character(c),

@@ -12,7 +12,7 @@ ghost use Rattle.bx_editor.specs.declared.undo_groups.typing.Removal.{Removal};
 
 use crate::editor::Editor;
 use crate::undo_groups::Removal;
-use bx_common::OutOfMemory;
+use bx_common::{OutOfMemory, Range};
 use bx_ucd::BidiData;
 use bx_view::{Logical, Move};
 
@@ -80,7 +80,7 @@ impl<D: BidiData + Drop> Editor<D> {
         }) }
         ensures err { OnErr result (self.new ≡ self.old) }
     {
-        let (start, stop) = self.region();
+        let Range { start, stop } = self.region();
         self.remove(start, stop, false)
     }
 

@@ -8,7 +8,7 @@ ghost use Rattle.bx_editor.specs.Region.{region};
 use crate::editor::Editor;
 use crate::message::Message;
 use crate::undo_groups::{Kind, Typing};
-use bx_common::OutOfMemory;
+use bx_common::{OutOfMemory, Range};
 use bx_ucd::BidiData;
 use std::mem;
 
@@ -57,7 +57,7 @@ impl<D: BidiData + Drop> Editor<D> {
         }) }
         ensures err { OnErr result (self.new ≡ self.old) }
     {
-        let (start, stop) = self.region();
+        let Range { start, stop } = self.region();
         self.past.undo_groups.reserve()?;
         let n = self.document.past_len();
         let Some(place) = self.document.replace(start, stop, new, self.cursor.place)? else {
@@ -114,7 +114,7 @@ impl<D: BidiData + Drop> Editor<D> {
         }) }
         ensures err { OnErr result (self.new ≡ self.old) }
     {
-        let (start, stop) = self.region();
+        let Range { start, stop } = self.region();
         let is_crlf = if self.is_selection() {
             self.document.has_crlf_first_without(start, stop)
         } else {

@@ -7,7 +7,7 @@ ghost use Rattle.bx_editor.specs.Region.{after_copy, after_cut, after_mark, held
 use crate::cursor::Soft;
 use crate::editor::Editor;
 use crate::message::Message;
-use bx_common::OutOfMemory;
+use bx_common::{OutOfMemory, Range};
 use bx_ucd::BidiData;
 
 /// Whether the mark is at the place.
@@ -57,27 +57,32 @@ impl<D: BidiData + Drop> Editor<D> {
         self.reset_after_key();
     }
 
-    /// The offsets of the region's start and end: the mark and the place in order. Equal if there is no mark.
-    pub(crate) fn region(&self) -> (usize, usize)
-        ensures region { result ≡ region self.now.editor }
-        ensures range { IsRange self.now.editor.content.text result.0 result.1 }
+    /// The region, between the mark and the place, whichever comes first. Empty if there is no mark.
+    pub(crate) fn region(&self) -> Range
+        ensures start { result.start ≡ (region self.now.editor).0 }
+        ensures stop { result.stop ≡ (region self.now.editor).1 }
+        ensures range { IsRange self.now.editor.content.text result.start result.stop }
     {
         // `len` promises that the text is UTF-8.
         let _utf8 = self.document.len();
         let mark = self.cursor.mark.unwrap_or(self.cursor.place);
-        (mark.min(self.cursor.place), mark.max(self.cursor.place))
+        Range {
+            start: mark.min(self.cursor.place),
+            stop: mark.max(self.cursor.place),
+        }
     }
 
-    /// The offsets of the text that Cut takes: the region, or the line if the region is empty.
-    fn taken(&self) -> (usize, usize)
-        ensures taken { result ≡ taken (D.data self.now.tables) self.now.editor }
-        ensures range { IsRange self.now.editor.content.text result.0 result.1 }
+    /// The part of the text that Cut takes: the region, or the line if the region is empty.
+    fn taken(&self) -> Range
+        ensures start { result.start ≡ (taken (D.data self.now.tables) self.now.editor).0 }
+        ensures stop { result.stop ≡ (taken (D.data self.now.tables) self.now.editor).1 }
+        ensures range { IsRange self.now.editor.content.text result.start result.stop }
     {
-        let (start, stop) = self.region();
-        if start == stop {
+        let region = self.region();
+        if region.start == region.stop {
             return self.document.line_of(self.cursor.place);
         }
-        (start, stop)
+        region
     }
 
     /// Makes the bytes from `start` to `stop` the held text, removes the mark, and sets the message.
@@ -104,11 +109,11 @@ impl<D: BidiData + Drop> Editor<D> {
         }) }
         ensures err { OnErr result (self.new ≡ self.old) }
     {
-        let (start, stop) = self.region();
+        let Range { start, stop } = self.region();
         if start != stop {
             return self.hold(start, stop, Message::Copied);
         }
-        let (start, stop) = self.document.line_of(self.cursor.place);
+        let Range { start, stop } = self.document.line_of(self.cursor.place);
         if start != stop {
             return self.hold(start, stop, Message::LineCopied);
         }
@@ -125,7 +130,7 @@ impl<D: BidiData + Drop> Editor<D> {
         }) }
         ensures err { OnErr result (self.new ≡ self.old) }
     {
-        let (start, stop) = self.taken();
+        let Range { start, stop } = self.taken();
         if start == stop {
             return self.copy();
         }

@@ -14,7 +14,7 @@ use crate::editor::Editor;
 use crate::message::Message;
 use crate::query::reading_of;
 use crate::search_state::SearchState;
-use bx_common::OutOfMemory;
+use bx_common::{OutOfMemory, Range};
 use bx_find::Query;
 use bx_ucd::BidiData;
 
@@ -43,13 +43,16 @@ impl<D: BidiData + Drop> Editor<D> {
             .match_end(reading_of(self.aim), &query, self.at)
     }
 
-    /// The offsets of the part of the text in the other rendition: the units of the match that is shown, else the region. Allocates
-    /// nothing.
-    pub(crate) fn seen(&self) -> (usize, usize)
-        ensures { result ≡ seen (D.data self.now.tables) self.now.editor }
+    /// The part of the text in the other rendition: the units of the match that is shown, else the region. Allocates nothing.
+    pub(crate) fn seen(&self) -> Range
+        ensures start { result.start ≡ (seen (D.data self.now.tables) self.now.editor).0 }
+        ensures stop { result.stop ≡ (seen (D.data self.now.tables) self.now.editor).1 }
     {
         match self.cursor.seek {
-            SearchState::Replacing => (self.cursor.place, self.match_stop()),
+            SearchState::Replacing => Range {
+                start: self.cursor.place,
+                stop: self.match_stop(),
+            },
             _ => self.region(),
         }
     }

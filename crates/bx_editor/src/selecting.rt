@@ -5,6 +5,7 @@ ghost use Rattle.bx_editor.specs.Region.{after_select, aged, is_selection, is_so
 
 use crate::cursor::Soft;
 use crate::editor::Editor;
+use bx_common::Range;
 use bx_keys::Key;
 use bx_ucd::BidiData;
 
@@ -77,7 +78,7 @@ impl<D: BidiData + Drop> Editor<D> {
     pub(crate) fn is_selection(&self) -> bool
         ensures { result ≡ is_selection self.now.editor }
     {
-        let (start, stop) = self.region();
+        let Range { start, stop } = self.region();
         is_soft(self.cursor.soft) && start != stop
     }
 }

@@ -5,7 +5,7 @@ ghost use Rattle.bx_editor.specs.Asking.{after_wrapping, cursor_end, spans_lines
 
 use crate::editor::Editor;
 use crate::message::Message;
-use bx_common::OutOfMemory;
+use bx_common::{OutOfMemory, Range};
 use bx_document::RegionEnd;
 use bx_ucd::BidiData;
 
@@ -14,7 +14,7 @@ impl<D: BidiData + Drop> Editor<D> {
     fn spans_lines(&self) -> Result<bool, OutOfMemory>
         ensures { IfOk result (λ spans. spans ≡ spans_lines (D.data self.now.tables) self.now.editor) }
     {
-        let (start, stop) = self.region();
+        let Range { start, stop } = self.region();
         let region = self.document.copy(start, stop)?;
         let document = &self.document;
         Ok(region.as_str().chars().any(|c| document.separates(c)))
@@ -24,8 +24,7 @@ impl<D: BidiData + Drop> Editor<D> {
     fn cursor_end(&self) -> RegionEnd
         ensures { result ≡ cursor_end self.now.editor }
     {
-        let (start, _) = self.region();
-        if self.cursor.place == start {
+        if self.cursor.place == self.region().start {
             RegionEnd::Start
         } else {
             RegionEnd::Stop
@@ -44,7 +43,7 @@ impl<D: BidiData + Drop> Editor<D> {
             self.tell(Message::MoreThanOneLine);
             return Ok(());
         }
-        let (start, stop) = self.region();
+        let Range { start, stop } = self.region();
         let end = self.cursor_end();
         // a character has at most four bytes
         let (mut front, mut back) = ([0; 4], [0; 4]);

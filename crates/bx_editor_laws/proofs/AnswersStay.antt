@@ -23,7 +23,8 @@ use Rattle.bx_editor.specs.undo_groups.Groups.{after_insertion, kind_of}
 use Rattle.bx_editor.specs.declared.undo_groups.typing.Typing.{Typing}
 use Rattle.bx_text.specs.Edits.{fits, fits_both}
 use Rattle.bx_ucd.specs.Data.{Data}
-use Rattle.bx_document.specs.Drawing.{typed_glyph, typed_glyphs}
+use Rattle.bx_document.specs.Drawing.{typed_glyphs}
+use Rattle.bx_rows.specs.PlainRows.{single_glyph}
 use Rattle.bx_document.specs.Narrow.{IsNarrow}
 use Rattle.bx_editor.specs.Answers.{IsAnswer, limit_of}
 use Rattle.bx_editor.specs.declared.message.Message.TheVariants as messages
@@ -155,8 +156,7 @@ effect-good d fault was e one h = good-as e.ask e.answer (by d fault was e one) 
 
 -- in a search
 exchange-good : (d : Data) (e : Editor) (start stop : ℕ) (new : List ℕ) → Good e → Good (with_exchange d e start stop new)
-exchange-good d e start stop [] h = h
-exchange-good d e start stop (b ∷ bs) h = h
+exchange-good d e start stop new h = h
 
 sought-good : (d : Data) → IsKeptSeeking d Good
 sought-good d = record {
@@ -307,11 +307,11 @@ shown-letters (c ∷ text) h =
     let both = and_parts (is_ascii_printable c) (are_ascii_printable text) h in
     All-cons IsShown (glyph (c ∷ []) 1 false) (letter_glyphs text) (shown-ascii c both.0) (shown-letters text both.1)
 
-shown-typed : (cs : List ℕ) → All IsNarrow cs → All IsShown (map typed_glyph cs)
+shown-typed : (cs : List ℕ) → All IsNarrow cs → All IsShown (map single_glyph cs)
 shown-typed [] all = All-nil IsShown
 shown-typed (c ∷ cs) all =
     let one = All-head IsNarrow c cs all in
-    All-cons IsShown (typed_glyph c) (map typed_glyph cs) (record { one = one.one; columns = one.columns }) (shown-typed cs (All-tail IsNarrow c cs all))
+    All-cons IsShown (single_glyph c) (map single_glyph cs) (record { one = one.one; columns = one.columns }) (shown-typed cs (All-tail IsNarrow c cs all))
 
 shown-prompt : (d : Data) (e : Editor) (text : List ℕ) → are_ascii_printable text ≡ true → Good e → All IsShown (letter_glyphs text ++ typed_glyphs e.answer)
 shown-prompt d e text h good =

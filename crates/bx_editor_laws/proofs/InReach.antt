@@ -28,7 +28,7 @@ use Rattle.bx_editor.specs.declared.cursor.Soft.{Soft}
 use Rattle.bx_editor.specs.declared.cursor.Soft.TheVariants as softness
 use Rattle.bx_editor.specs.Asking.{without_ask, with_wrap}
 use Rattle.bx_editor.specs.Editor.{Editor, after_redo, after_save, after_step, after_undo, cleared, stored_behind, with_exchange}
-use Rattle.bx_editor.specs.Editor.{with_insertion, with_insertion_at, with_removal, by_run, run_length}
+use Rattle.bx_editor.specs.Editor.{with_insertion, with_removal, by_run, run_length}
 use Rattle.bx_editor.specs.Effects.{Effect, Types, BeginsLine, Puts, Removes, RemovesWord, Steps, StepsRun, Goes, GoesByRows, Marks}
 use Rattle.bx_editor.specs.Effects.{Selects}
 use Rattle.bx_editor.specs.Effects.{Unmarks, Copies, Cuts, Seeks, SeeksNext, Saves, Quits, Turns, Helps, AsksLine, AsksName, Tells, Rests}
@@ -118,8 +118,8 @@ module _ (n : ℕ) (d : Data) where
   kept-behind m stored is few =
       let no : nat_lt m n ≡ false = grind (arith, nat_tests, few) in ap (stored_behind m) is ∙ ap (λ b. if b then None else Some n) no
 
-  insertion : (e : Editor) (at : ℕ) (new : List ℕ) (on : Bool) → InPast e → InPast (with_insertion_at d e at new on)
-  insertion e at new on h = (kept-behind (length e.content.past) e.stored h.0 h.1, omega (arith, h.1))
+  insertion : (e : Editor) (new : List ℕ) (on : Bool) → InPast e → InPast (with_insertion d e new on)
+  insertion e new on h = (kept-behind (length e.content.past) e.stored h.0 h.1, omega (arith, h.1))
 
   removal : (e : Editor) (start stop : ℕ) (on : Bool) → InPast e → InPast (with_removal d e start stop on)
   removal e start stop on h = (kept-behind (length e.content.past) e.stored h.0 h.1, omega (arith, h.1))
@@ -130,14 +130,14 @@ module _ (n : ℕ) (d : Data) where
   replacing : (e : Editor) (new : List ℕ) → InPast e → InPast (with_selection_replaced d e new)
   replacing e new h =
       let without = with_removal d e (region e).0 (region e).1 false in
-      insertion without without.place new true (removal e (region e).0 (region e).1 false h)
+      insertion without new true (removal e (region e).0 (region e).1 false h)
 
   putting : (e : Editor) (new : List ℕ) (on : Bool) → InPast e → InPast (put_in d e new on)
   putting e new on h =
       let two = with_selection_replaced d e new in
       let one = with_insertion d e new on in
       either InPast (has_room e new) (if is_selection e then two else one) (record e { message = Some messages.TextFull })
-      (either InPast (is_selection e) two one (replacing e new h) (insertion e e.place new on h)) h
+      (either InPast (is_selection e) two one (replacing e new h) (insertion e new on h)) h
 
   typing-in : (typing : Typing) (e : Editor) (new : List ℕ) (kind : Kind) → InPast e → InPast (typed d typing e new kind)
   typing-in typing e new kind h = putting e new (goes_on typing kind) h
@@ -167,7 +167,7 @@ module _ (n : ℕ) (d : Data) where
 
   exchange : (e : Editor) (start stop : ℕ) (new : List ℕ) → InPast e → InPast (with_exchange d e start stop new)
   exchange e start stop [] h = removal e start stop false h
-  exchange e start stop (b ∷ bs) h = insertion (with_removal d e start stop false) start (b ∷ bs) true (removal e start stop false h)
+  exchange e start stop (b ∷ bs) h = (kept-behind (length e.content.past) e.stored h.0 h.1, omega (arith, h.1))
 
   copying : (P : Editor → Type 0) (e : Editor) → P (record e { mark = None; soft = softness.Off; message = Some messages.NothingToCopy })
       → P (with_held e (bytes_in e (line d e)) messages.LineCopied) → P (with_held e (bytes_in e (region e)) messages.Copied)
@@ -272,7 +272,7 @@ module _ (n : ℕ) (d : Data) where
 
   questions : IsKept d InPast
   questions = record {
-    inserted = λ e new h. insertion e e.place new false h;
+    inserted = λ e new h. insertion e new false h;
     wrapped = wrapping;
     told = λ e message h. h;
     placed = λ e place h. h;

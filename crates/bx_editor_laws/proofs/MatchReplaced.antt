@@ -89,9 +89,7 @@ pub record IsExchanged (d : Data) (e : Editor) (start stop : ℕ) (new : List �
   pub aim_is : now.aim ≡ e.aim
 
 pub exchanged : (d : Data) (e : Editor) (start stop : ℕ) (new : List ℕ) → start ≤ length e.content.text → IsExchanged d e start stop new (with_exchange d e start stop new)
-exchanged d e start stop [] inside =
-    let none : start ≡ start + 0 = omega arith in
-    record { text_is = refl; place_is = ap (place_after d e (splice e.content.text start stop [])) none; aim_is = refl }
+exchanged d e start stop [] inside = record { text_is = refl; place_is = refl; aim_is = refl }
 exchanged d e start stop (b ∷ bs) inside =
     let again = spliced-again e.content.text (b ∷ bs) start stop inside in
     record { text_is = again; place_is = ap (λ text. place_after d e text (start + length (b ∷ bs))) again; aim_is = refl }

@@ -27,11 +27,11 @@ use Rattle.bx_editor.specs.Editor.{Editor, cleared, rows, text_height, with_plac
 use Rattle.bx_editor.specs.Functions.{HasRows}
 use Rattle.bx_editor.specs.Effects.{Before, before, pointed_place}
 use Rattle.bx_editor.specs.Keys.{after_any, after_key}
-use Rattle.bx_editor.specs.Picture.{blank_picture, next_top, text_picture}
+use Rattle.bx_editor.specs.Picture.{blank_picture, next_top, text_picture, scrolled}
 use Rattle.bx_editor.specs.Prompts.{HasOnePrompt}
 use Rattle.bx_editor.specs.Region.{aged, mark_left, soft_left, unselected}
 use Rattle.bx_editor_laws.specs.WorkLaws.{IsFullEnd, own_row}
-use Rattle.bx_editor_laws.specs.PointingLaws.{after_point, cursor_column, cursor_row, followed, PointStays, PointTakesUnits, PointTwiceIsOnce, StandsAt}
+use Rattle.bx_editor_laws.specs.PointingLaws.{after_point, cursor_column, cursor_row, PointStays, PointTakesUnits, PointTwiceIsOnce, StandsAt}
 use Rattle.bx_editor.proofs.InSearch.{any-key, behind}
 use Rattle.bx_editor.proofs.TopOnce.{top-stays}
 
@@ -152,16 +152,16 @@ point-takes-units d e k place column stop c shown low within high shows start up
     let x = at-point d e row c is.0 in
     let there = in-text d e row c high in
     let at : x.place ≡ place = there ∙ leads.place_is in
-    let top : (followed d x).top ≡ first (row_at all (row_of all e.top)) =
+    let top : (scrolled d x).top ≡ first (row_at all (row_of all e.top)) =
     ap (λ b. if b then e.top else follow all e.top x.place t) shown.on ∙ ap (λ p. follow all e.top p t) there
     ∙ (stays-on-top d e has).same e.top row c high in
-    let above : row_of all (followed d x).top ≡ row_of all e.top =
+    let above : row_of all (scrolled d x).top ≡ row_of all e.top =
     ap (row_of all) top ∙ falls-own all _ (rows-rise d e.base e.width some e.content.text has.text) (row_of all e.top) (omega (arith, low, within)) in
     subst (StandsAt d row column place) (sym is.1)
     (record {
       place_is = at;
-      row_is = seen-row d (followed d x) shown.on ∙ ap₂ (λ a b. a - b + 1) (ap (row_of all) at ∙ leads.row_is) above;
-      column_is = seen-column d (followed d x) (record { text = has.text; columns = has.columns }) shown.on ∙ ap (cell_of e.width all) at ∙ leads.column_is;
+      row_is = seen-row d (scrolled d x) shown.on ∙ ap₂ (λ a b. a - b + 1) (ap (row_of all) at ∙ leads.row_is) above;
+      column_is = seen-column d (scrolled d x) (record { text = has.text; columns = has.columns }) shown.on ∙ ap (cell_of e.width all) at ∙ leads.column_is;
     })
 
 -- ---- twice
@@ -191,10 +191,10 @@ module _ (d : Data) (e : Editor) (row column : ℕ) (has : HasRows e) (settled :
 
   -- what is shown after the first Point
   abbrev y : Editor
-  y = followed d x
+  y = scrolled d x
 
   once : after_point d e row column ≡ y
-  once = ap (followed d) (point-off d e row column settled one)
+  once = ap (scrolled d) (point-off d e row column settled one)
 
   -- the same place
   by-end : (over : Bool) → row ≤ t → (p : ℕ) → p ≡ pointed_at e.width all e.top row column
@@ -223,7 +223,7 @@ module _ (d : Data) (e : Editor) (row column : ℕ) (has : HasRows e) (settled :
 
   twice : after_point d y row column ≡ marked z.mark z.soft
   twice =
-      ap (followed d) (point-off d y row column settled (λ on. refl))
+      ap (scrolled d) (point-off d y row column settled (λ on. refl))
       ∙ ap₂ (λ p top. record (marked z.mark z.soft) { place = p; top = top }) same-place same-top
 
   again : after_point d (after_point d e row column) row column ≡ marked z.mark z.soft

@@ -8,7 +8,8 @@ use Rattle.bx_keys.specs.declared.key.Key.TheVariants.{Forward, Point, Select}
 use Rattle.bx_view.specs.TextRows.{TextRow, row_at, text_row_glyphs}
 use Rattle.bx_view_laws.specs.Pointed.{ShowsUnit}
 use Rattle.bx_editor.specs.Editor.{Editor, rows}
-use Rattle.bx_editor_laws.specs.PointingLaws.{after_point, cursor_column, followed, IsShown, PointStays, PointTakesUnits, PointTwiceIsOnce}
+use Rattle.bx_editor.specs.Picture.{scrolled}
+use Rattle.bx_editor_laws.specs.PointingLaws.{after_point, cursor_column, IsShown, PointStays, PointTakesUnits, PointTwiceIsOnce}
 use Rattle.bx_editor.proofs.Computed.{tables, start, after}
 
 -- ---- at the cursor
@@ -59,7 +60,7 @@ the_second_is_shown =
     }
 
 pub its_second_column_leads_to_its_first : PointTakesUnits
-    → let e = after wide_ones (Point 1 5 ∷ []) in (e.place ≡ 4) × (cursor_column tables (followed tables e) ≡ 4)
+    → let e = after wide_ones (Point 1 5 ∷ []) in (e.place ≡ 4) × (cursor_column tables (scrolled tables e) ≡ 4)
 unfolding unicode_segmentation unicode_width digits
 its_second_column_leads_to_its_first law =
     let low : 0 ≤ 0 = omega arith in

@@ -1,9 +1,10 @@
 -- One UndoRun takes back all that a key replaced.
-use Rattle.std.proofs.Common.{◌≡◌, ℕ, suc, ◌+◌, ◌<◌, Bool, true, false, List, [], ◌∷◌, length, Option, Some, None, refl, ap, ◌∙◌, arith, inl, inr, if◌then◌else◌}
+use Rattle.std.proofs.Common.{◌≡◌, ℕ, suc, ◌+◌, ◌<◌, Bool, true, false, List, [], ◌∷◌, length, Option, Some, None, refl, ap, sym, ◌∙◌, arith, inl, inr, if◌then◌else◌}
 use Rattle.std.specs.Prelude.{◌⊎◌}
 use Rattle.bx_keys.specs.declared.key.Key.TheVariants.{UndoRun}
 use Rattle.bx_text.specs.Edits.{Edit, fits}
 use Rattle.bx_editor.specs.undo_groups.Groups.{edited, run_start}
+use Rattle.bx_editor.proofs.TwoEdits.{runs-of-two}
 use Rattle.bx_editor.proofs.undo_groups_lemmas.RunLaws.{edit-is-of-its-run}
 use Rattle.bx_ucd.specs.Data.{Data}
 use Rattle.bx_document.specs.Swapped.{last_stop, swapped}
@@ -25,11 +26,14 @@ goes-on : (numbers : List ℕ) (n : ℕ) → run_start (edited numbers n true) (
 goes-on numbers n = let same : suc n ≡ n + 1 = omega arith in ap (run_start (edited numbers n true)) same ∙ edit-is-of-its-run numbers n true
 
 exchange-begins : (d : Data) (first e : Editor) (start stop : ℕ) (new : List ℕ) → Nothing first e → IsOneRun first (with_exchange d e start stop new)
-exchange-begins d first e start stop [] h = removal-begins d first e start stop h
+exchange-begins d first e start stop [] h =
+    let begun = removal-begins d first e start stop h in record { more = begun.more; over = begun.over; start = begun.start }
 exchange-begins d first e start stop (b ∷ bs) h =
     let without = with_removal d e start stop false in
     let begun = removal-begins d first e start stop h in
-    record { more = suc begun.more; over = begun.over; start = goes-on without.undo_groups (length without.content.past) ∙ begun.start }
+    let past = length without.content.past in
+    let same = ap (λ groups. run_start groups (suc past)) (sym (runs-of-two e.undo_groups (length e.content.past))) in
+    record { more = suc begun.more; over = begun.over; start = same ∙ goes-on without.undo_groups past ∙ begun.start }
 
 -- text and place do not matter behind an edit
 elsewhere : (first : Editor) (n : ℕ) (text other : List ℕ) (place there : ℕ) (past : List Edit) → IsOver first (suc n) text place past
@@ -65,8 +69,7 @@ module _ (d : Data) (first e : Editor) (h : Nothing first e) where
 -- ---- no paste begins
 
 pub exchange-settled : (d : Data) (e : Editor) (start stop : ℕ) (new : List ℕ) → (with_exchange d e start stop new).pasted ≡ e.pasted
-exchange-settled d e start stop [] = refl
-exchange-settled d e start stop (b ∷ bs) = refl
+exchange-settled d e start stop new = refl
 
 pub match-settled : (d : Data) (e : Editor) (o : Option ℕ) → (at_match d e o).pasted ≡ e.pasted
 match-settled d e None = refl

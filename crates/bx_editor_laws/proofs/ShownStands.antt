@@ -209,8 +209,7 @@ module _ (d : Data) (e : Editor) (u : IsUtf8 e.content.text) (unasked : e.ask �
       found (Some at) first = (λ asked. absurd (asked off), (aim, (first.is_match, refl)))
 
   exchange-keeps : (start stop : ℕ) (new : List ℕ) → let now = with_exchange d e start stop new in (now.ask ≡ e.ask) × (now.aim ≡ e.aim)
-  exchange-keeps start stop [] = (refl, refl)
-  exchange-keeps start stop (b ∷ bs) = (refl, refl)
+  exchange-keeps start stop new = (refl, refl)
 
   on-text : (now : Editor) (o : Option ℕ) → (at_match d now o).content ≡ now.content
   on-text now None = refl

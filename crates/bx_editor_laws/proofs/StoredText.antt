@@ -29,7 +29,7 @@ use Rattle.bx_editor.specs.declared.cursor.Soft.{Soft}
 use Rattle.bx_editor.specs.declared.cursor.Soft.TheVariants as softness
 use Rattle.bx_editor.specs.Asking.{without_ask, with_wrap}
 use Rattle.bx_editor.specs.Editor.{Editor, after_redo, after_quit, after_save, after_step, after_undo, at_start, cleared, place_after}
-use Rattle.bx_editor.specs.Editor.{stored_behind, with_exchange, with_insertion, with_insertion_at, with_removal, by_run, is_changed_at}
+use Rattle.bx_editor.specs.Editor.{stored_behind, with_exchange, with_insertion, with_removal, by_run, is_changed_at}
 use Rattle.bx_editor.specs.Editor.{run_goal, run_length}
 use Rattle.bx_editor.specs.Effects.{Effect, Types, BeginsLine, Puts, Removes, RemovesWord, Steps, StepsRun, Goes, GoesByRows, Marks, Selects}
 use Rattle.bx_editor.specs.Effects.{Unmarks, Copies, Cuts, Seeks, SeeksNext, Saves, Quits, Turns, Helps, AsksLine, AsksName, Tells, Rests, Before, before, by}
@@ -66,9 +66,9 @@ either false s p q h k = k
 
 -- ---- edits
 
-insertion : (s : List ℕ) (d : Data) (e : Editor) (at : ℕ) (new : List ℕ) (on : Bool) → Has s e → Has s (with_insertion_at d e at new on)
-insertion s d e at new on h = record {
-  chain = replaced-chain s e.content e.stored at at new e.place ((with_insertion_at d e at new on).place) h.chain;
+insertion : (s : List ℕ) (d : Data) (e : Editor) (new : List ℕ) (on : Bool) → Has s e → Has s (with_insertion d e new on)
+insertion s d e new on h = record {
+  chain = replaced-chain s e.content e.stored e.place e.place new e.place ((with_insertion d e new on).place) h.chain;
   unchanged = λ is. absurd (cc is);
 }
 
@@ -81,14 +81,14 @@ removal s d e start stop on h = record {
 replacing : (s : List ℕ) (d : Data) (e : Editor) (new : List ℕ) → Has s e → Has s (with_selection_replaced d e new)
 replacing s d e new h =
     let without = with_removal d e (region e).0 (region e).1 false in
-    insertion s d without without.place new true (removal s d e (region e).0 (region e).1 false h)
+    insertion s d without new true (removal s d e (region e).0 (region e).1 false h)
 
 putting : (s : List ℕ) (d : Data) (e : Editor) (new : List ℕ) (on : Bool) → Has s e → Has s (put_in d e new on)
 putting s d e new on h =
     let two = with_selection_replaced d e new in
     let one = with_insertion d e new on in
     either (has_room e new) s (if is_selection e then two else one) (record e { message = Some messages.TextFull })
-    (either (is_selection e) s two one (replacing s d e new h) (insertion s d e e.place new on h)) h
+    (either (is_selection e) s two one (replacing s d e new h) (insertion s d e new on h)) h
 
 typing-has : (s : List ℕ) (d : Data) (typing : Typing) (e : Editor) (new : List ℕ) (kind : Kind) → Has s e → Has s (typed d typing e new kind)
 typing-has s d typing e new kind h = putting s d e new (goes_on typing kind) h
@@ -238,7 +238,13 @@ pressed s d fault was e key h =
 
 exchange : (s : List ℕ) (d : Data) (e : Editor) (start stop : ℕ) (new : List ℕ) → Has s e → Has s (with_exchange d e start stop new)
 exchange s d e start stop [] h = removal s d e start stop false h
-exchange s d e start stop (b ∷ bs) h = insertion s d (with_removal d e start stop false) start (b ∷ bs) true (removal s d e start stop false h)
+exchange s d e start stop (b ∷ bs) h =
+    let n = length e.content.past in
+    let cut = with_removal d e start stop false in
+    let two = with_exchange d e start stop (b ∷ bs) in
+    let first = removal s d e start stop false h in
+    let second = replaced-chain s cut.content cut.stored start start (b ∷ bs) cut.place two.place first.chain in
+    record { chain = subst (Chain s two.content) (stored-of-two n e.stored) second; unchanged = λ is. absurd (cc is) }
 
 sought-has : (s : List ℕ) (d : Data) → IsKeptSeeking d (Has s)
 sought-has s d = record {
@@ -287,7 +293,7 @@ wrapping s d e opener closer h =
 
 question : (s : List ℕ) (d : Data) → IsKept d (Has s)
 question s d = record {
-  inserted = λ e new h. insertion s d e e.place new false h;
+  inserted = λ e new h. insertion s d e new false h;
   wrapped = wrapping s d;
   told = λ e message h. h;
   placed = λ e place h. h;

@@ -8,10 +8,10 @@ use Rattle.bx_view.specs.Places.{IsTextPlace}
 use Rattle.bx_view.specs.TextRows.{row_at, row_of}
 use Rattle.bx_view_laws.specs.Pointed.{ShowsUnit, picture_row}
 use Rattle.bx_editor.specs.declared.cursor.Soft.TheVariants as softness
-use Rattle.bx_editor.specs.Editor.{Editor, rows, text_height, with_top}
+use Rattle.bx_editor.specs.Editor.{Editor, rows, text_height}
 use Rattle.bx_editor.specs.Functions.{HasRows}
 use Rattle.bx_editor.specs.Keys.{after_key}
-use Rattle.bx_editor.specs.Picture.{next_top, picture}
+use Rattle.bx_editor.specs.Picture.{picture, scrolled}
 use Rattle.bx_editor.specs.Prompts.{HasOnePrompt}
 use Rattle.bx_editor_laws.specs.WorkLaws.{IsFullEnd, own_row}
 
@@ -39,15 +39,11 @@ PointStays =
 
 -- ---- at a unit
 
--- the editor once the picture's first row is that from which the cursor's row is visible
-abbrev pub followed : Data → Editor → Editor
-followed d e = with_top e (next_top d e e.top)
-
 -- the place is this one, and the picture has the cursor in this row and column
 pub record StandsAt (d : Data) (row column place : ℕ) (new : Editor) : Type 0 where
   pub place_is : new.place ≡ place
-  pub row_is : cursor_row d (followed d new) ≡ row
-  pub column_is : cursor_column d (followed d new) ≡ column
+  pub row_is : cursor_row d (scrolled d new) ≡ row
+  pub column_is : cursor_column d (scrolled d new) ≡ column
 
 -- A Point at any column of a visible unit moves the cursor to that unit: its place is the unit's, and its cell the unit's leftmost, in
 -- the same row of the picture.
@@ -61,7 +57,7 @@ PointTakesUnits =
 
 -- pointing at a cell, and at the same cell of the picture that is then shown
 abbrev pub after_point : Data → Editor → ℕ → ℕ → Editor
-after_point d e row column = followed d (after_key d None e (Point row column))
+after_point d e row column = scrolled d (after_key d None e (Point row column))
 
 -- a second Point at the same cell changes nothing, but that it takes off a selection that was fresh before the first
 pub record IsOnce (d : Data) (e : Editor) (row column : ℕ) : Type 0 where

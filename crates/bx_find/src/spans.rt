@@ -7,7 +7,7 @@ use crate::letters::Reading;
 use crate::query::Query;
 use crate::search::first_match;
 use crate::sought::Sought;
-use bx_common::first_char;
+use bx_common::{Range, first_char};
 use bx_ucd::BidiData;
 use bx_ucd::class::Class;
 
@@ -76,7 +76,7 @@ pub fn match_end<H: Haystack, D: BidiData>(
     next
 }
 
-/// The first match at or after `x`, and its end. From its end on, the next call finds the next of the matches that follow one
+/// The range of the first match at or after `x`. From its end on, the next call finds the next of the matches that follow one
 /// another.
 pub fn first_span<H: Haystack, D: BidiData>(
     haystack: &H,
@@ -84,14 +84,14 @@ pub fn first_span<H: Haystack, D: BidiData>(
     reading: Reading,
     query: &Query,
     x: usize,
-) -> Option<(usize, usize)>
+) -> Option<Range>
     requires { IsCharBoundary (H.text haystack.now) x }
     ensures spans { MatchOption result
         (spans_from (D.data tables.now) reading query.now (H.text haystack.now) x ≡ [])
         (λ s. spans_from (D.data tables.now) reading query.now (H.text haystack.now) x
-        ≡ s ∷ spans_from (D.data tables.now) reading query.now (H.text haystack.now) s.1) }
-    ensures bounds { IfSome result (λ s. IsCharBoundary (H.text haystack.now) s.0 × IsCharBoundary (H.text haystack.now) s.1) }
-    ensures onward { IfSome result (λ s. (x ≤ s.0) × (s.0 < s.1)) }
+        ≡ (s.start, s.stop) ∷ spans_from (D.data tables.now) reading query.now (H.text haystack.now) s.stop) }
+    ensures bounds { IfSome result (λ s. IsCharBoundary (H.text haystack.now) s.start × IsCharBoundary (H.text haystack.now) s.stop) }
+    ensures onward { IfSome result (λ s. (x ≤ s.start) × (s.start < s.stop)) }
 {
     let sought = Sought {
         query,
@@ -100,6 +100,9 @@ pub fn first_span<H: Haystack, D: BidiData>(
     };
     match first_match(haystack, &sought, x) {
         None => None,
-        Some(at) => Some((at, match_end(haystack, tables, reading, query, at))),
+        Some(at) => Some(Range {
+            start: at,
+            stop: match_end(haystack, tables, reading, query, at),
+        }),
     }
 }

@@ -11,6 +11,6 @@ pub use embedding::{
     paragraph_level, sequences, stack_has_room,
 };
 pub use resolve::{
-    Level, Levels, Span, each_in_one_sequence, follow_between, follow_to_end, left_texts_are_flat,
+    Level, Levels, each_in_one_sequence, follow_between, follow_to_end, left_texts_are_flat,
     letters_keep_direction, levels, levels_by_rules,
 };

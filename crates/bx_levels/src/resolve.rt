@@ -23,4 +23,3 @@ pub use edited::{follow_between, follow_to_end};
 pub use laws::{each_in_one_sequence, left_texts_are_flat, letters_keep_direction};
 pub use paragraph::{Level, Levels};
 pub use resolve::levels;
-pub use splice::Span;

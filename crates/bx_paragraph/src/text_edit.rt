@@ -6,8 +6,8 @@ ghost use Rattle.bx_paragraph.specs.Cuts.{AreAsBefore, FollowsEdit, IsStrongIn};
 use crate::cut_off::{is_bare_edit, is_cut_off};
 use crate::direction::Direction;
 use crate::strong::{Strong, first_strong, last_strong};
-use bx_common::OutOfMemory;
-use bx_levels::{Levels, Span, follow_between, follow_to_end};
+use bx_common::{OutOfMemory, Range};
+use bx_levels::{Levels, follow_between, follow_to_end};
 use bx_rows::char_count;
 use bx_ucd::BidiData;
 use std::alloc::{AllocError, Global};
@@ -69,9 +69,9 @@ fn follow_within<D: BidiData>(
     let alloc = *levels.each.allocator();
     let from = &edit.near[before.start..];
     let piece = joined(alloc, from, edit.inserted, &edit.behind[..behind.stop])?;
-    let first = edit.ahead + before.index;
-    let last = edit.ahead + char_count(edit.near) + char_count(edit.removed) + behind.index + 1;
-    follow_between(levels, tables, piece.as_str(), Span { first, last })?;
+    let start = edit.ahead + before.index;
+    let stop = edit.ahead + char_count(edit.near) + char_count(edit.removed) + behind.index + 1;
+    follow_between(levels, tables, piece.as_str(), Range { start, stop })?;
     Ok(true)
 }
 

@@ -52,8 +52,8 @@ pub(crate) fn push_paragraph<D: BidiData>(
     ensures some { OnOk result (length page.old.items < length page.new.items) }
     ensures memory { OnErr result (result ≡ Err PrintError.OutOfMemory) }
 {
-    let (start, stop) = source.index.span(number);
-    let body = source.text.copy_range(start, stop)?;
+    let span = source.index.span(number);
+    let body = source.text.copy_range(span.start, span.stop)?;
     let alloc = *page.allocator();
     let layout = ParagraphLayout::of(alloc, body, source.tables, style.columns, style.base)?;
     push_rows(page, &layout, source.tables, style.marks)

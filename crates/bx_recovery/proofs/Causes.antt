@@ -1,14 +1,15 @@
 -- The causes of a refused opening and of a refused recovery, from the contracts of the calls within.
 use Rattle.std.proofs.Common.{◌≡◌, ◌≤◌, ℕ, List, None, Result, Ok, Err, IfErr, IsErrAnd, IsUtf8, length, subst, sym, ◌∙◌}
 use Rattle.bx_common.specs.Characters.{largest_text}
+use Rattle.bx_command.specs.shared.Tables.{refused_line}
 use Rattle.bx_store.specs.declared.faults.Faults.{Faults}
 use Rattle.bx_recovery.specs.declared.beginning.Beginning.{Beginning}
 use Rattle.bx_recovery.specs.declared.fault.RecoveryFault.{RecoveryFault}
 use Rattle.bx_recovery.specs.declared.fault.RecoveryFault.TheVariants.{Tables, Open, Unwritten, OutOfMemory}
 use Rattle.bx_recovery.specs.Beginnings.{bytes_of}
-use Rattle.bx_recovery.specs.Refusals.{CanOpen, IsFirstCause, IsLaterCause, IsRecoveryCause, IsText, refused_line}
+use Rattle.bx_recovery.specs.Refusals.{CanOpen, IsFirstCause, IsLaterCause, IsRecoveryCause, IsText}
 
-pub can_open : (b : Beginning) (text : List ℕ) → text ≡ bytes_of b.text → refused_line b.unicode ≡ None → length text ≤ largest_text
+pub can_open : (b : Beginning) (text : List ℕ) → text ≡ bytes_of b.text → refused_line b.unicode.now ≡ None → length text ≤ largest_text
     → IsUtf8 text → CanOpen b
 can_open b text is accepted short utf8 = record {
   accepted = accepted;

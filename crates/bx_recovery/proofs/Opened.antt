@@ -4,13 +4,14 @@ use Rattle.std.specs.Prelude.{IfOk, vec_items, unwrap_or}
 use Rattle.std.specs.Global.{Vec}
 use Rattle.bx_keys.specs.Waiting.{keys_from}
 use Rattle.bx_ucd.specs.Data.{Data}
+use Rattle.bx_command.specs.shared.Tables.{AreOfFiles}
 use Rattle.bx_command.specs.declared.shared.unicode.UnicodeFiles.{UnicodeFiles}
 use Rattle.bx_session.specs.Session.{Session, at_opening, clipboard_if, StoreState}
 use Rattle.bx_session.specs.Feeding.{SessionState}
 use Rattle.bx_session.specs.Painting.{QueuesPicture}
 use Rattle.bx_session.specs.Beginning.{Beginning, after_going_to, at_offset, changed_if}
 use Rattle.bx_recovery.specs.declared.replaying.Replayed.{Replayed}
-use Rattle.bx_recovery.specs.Beginnings.{AreOfFiles, IsOpened, bytes_of}
+use Rattle.bx_recovery.specs.Beginnings.{IsOpened, bytes_of}
 use Rattle.bx_recovery.specs.Recovery.{RecoversFrom, Recovers}
 
 pub bytes_or_none : (text : Option (Vec ℕ)) (none result : Vec ℕ) → vec_items none ≡ [] → result ≡ unwrap_or text none → vec_items result ≡ bytes_of text
@@ -60,7 +61,7 @@ reads_all d b =
 
 -- ---- what is recovered
 
-pub recovers_of : {E : Type 0} (b : Beginning) (files : UnicodeFiles) (file : List ℕ) (d : Data) (s : Session) (r : Result Replayed E)
+pub recovers_of : {E : Type 0} (b : Beginning) (files : UnicodeFiles (Vec ℕ)) (file : List ℕ) (d : Data) (s : Session) (r : Result Replayed E)
     (store store' : StoreState) → AreOfFiles d files → IsOpened d b s
     → IfOk r (λ x. RecoversFrom d s b.journal file x store store') → IfOk r (λ x. Recovers b files file x store store')
 recovers_of b files file d s (Err fault) store store' are opened recovers = tt

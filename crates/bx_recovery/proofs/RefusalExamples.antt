@@ -1,6 +1,7 @@
 -- Worked examples: which fault a refused opening tells, each from the law of first causes alone.
 use Rattle.std.proofs.Common.{◌≡◌, ℕ, zero, suc, ◌<◌, true, false, List, [], ◌∷◌, Option, Some, None, ◌⊎◌, ⊎_elim, inl, inr, length}
 use Rattle.std.proofs.Common.{take, IsUtf8, refl, sym, ap, subst, ◌∙◌, arith}
+use Rattle.std.specs.Global.{Vec}
 use Rattle.std.specs.Prelude.{◌&&◌, codes}
 use Rattle.std.specs.Str.{chars, is_utf8}
 use Rattle.std.proofs.lemmas.List.{take_all}
@@ -9,11 +10,12 @@ use Rattle.bx_common.specs.Characters.{is_side, largest_text}
 use Rattle.bx_grid.specs.Picture.{is_size}
 use Rattle.bx_ucd.specs.ClassFile.{class_lines}
 use Rattle.bx_ucd.specs.Lines.{first_refusal, no_memory_in}
-use Rattle.bx_ucd.specs.Reading.{AcceptedBefore, JoiningTexts, bidi_refusal, refusal, texts_of}
+use Rattle.bx_ucd.specs.Reading.{AcceptedBefore, JoiningTexts, bidi_refusal, refusal}
 use Rattle.bx_ucd.specs.declared.error.Cause.TheVariants.{BadLine}
 use Rattle.bx_ucd.specs.declared.error.UcdError.{UcdError}
 use Rattle.bx_ucd.specs.declared.error.UcdFile.{UcdFile}
 use Rattle.bx_ucd.specs.declared.error.UcdFile.TheVariants.{Classes, Brackets, Mirroring, Joining, Characters}
+use Rattle.bx_command.specs.shared.Tables.{NoMemoryInTables, joining_texts, refused_line}
 use Rattle.bx_command.specs.declared.shared.unicode.UnicodeFiles.{UnicodeFiles}
 use Rattle.bx_store.specs.declared.faults.Faults.{Faults}
 use Rattle.bx_editor.specs.Editor.{Causes}
@@ -23,13 +25,13 @@ use Rattle.bx_recovery.specs.declared.beginning.Beginning.{Beginning}
 use Rattle.bx_recovery.specs.declared.fault.RecoveryFault.{RecoveryFault}
 use Rattle.bx_recovery.specs.declared.fault.RecoveryFault.TheVariants.{Tables, Open, Unwritten, OutOfMemory}
 use Rattle.bx_recovery.specs.Beginnings.{bytes_of}
-use Rattle.bx_recovery.specs.Refusals.{CanOpen, IsFirstCause, IsRecoveryCause, NoMemoryInTables, refused_line}
+use Rattle.bx_recovery.specs.Refusals.{CanOpen, IsFirstCause, IsRecoveryCause}
 
 -- ---- Unicode's files come before the text
 
 -- with a refused line the fault is of the tables: that line, or a want of memory; nothing is told of the text
-pub a_refused_line_comes_first : (b : Beginning) (line : UcdError) (fault : RecoveryFault) → refused_line b.unicode ≡ Some line
-    → IsFirstCause b fault → (error : UcdError) × (fault ≡ Tables error) × ((error ≡ line) ⊎ NoMemoryInTables b.unicode error)
+pub a_refused_line_comes_first : (b : Beginning) (line : UcdError) (fault : RecoveryFault) → refused_line b.unicode.now ≡ Some line
+    → IsFirstCause b fault → (error : UcdError) × (fault ≡ Tables error) × ((error ≡ line) ⊎ NoMemoryInTables b.unicode.now error)
 a_refused_line_comes_first b line (Tables error) is cause =
     (error, refl, ⊎_elim (λ told. let e : Some error ≡ Some line = sym told ∙ is in inl (cc e)) inr cause)
 a_refused_line_comes_first b line (Open error) is cause = absurd (let e : None ≡ Some line = sym cause.0 ∙ is in cc e)
@@ -40,8 +42,8 @@ a_refused_line_comes_first b line OutOfMemory is cause = absurd (let e : None �
 abbrev without_a_class : UcdError
 without_a_class = record { file = Classes; line = 1; cause = BadLine }
 
-refuses : (files : UnicodeFiles) → files.classes.now ≡ codes "0041" → refused_line files ≡ Some without_a_class
-refuses files is = ap (λ classes. refusal classes files.brackets.now files.mirroring.now (texts_of files.joining)) is
+refuses : (files : UnicodeFiles (Vec ℕ)) → files.classes.items ≡ codes "0041" → refused_line files ≡ Some without_a_class
+refuses files is = ap (λ classes. refusal classes files.brackets.items files.mirroring.items (joining_texts files.joining)) is
 
 never_accepted : (classes : List ℕ) → classes ≡ codes "0041" → first_refusal Classes (class_lines classes) ≡ None → ⊥
 never_accepted classes is none =
@@ -66,11 +68,11 @@ only_classes_are_read Characters classes brackets mirroring (Some texts) is befo
 
 -- A file of classes with the line 0041 alone, and a text that begins with FF: line 1 of the file of classes is told, or that memory
 -- ran out while it was read.
-pub a_bad_table_and_a_bad_text : (b : Beginning) (rest : List ℕ) (fault : RecoveryFault) → b.unicode.classes.now ≡ codes "0041"
+pub a_bad_table_and_a_bad_text : (b : Beginning) (rest : List ℕ) (fault : RecoveryFault) → b.unicode.now.classes.items ≡ codes "0041"
     → bytes_of b.text ≡ 0xFF ∷ rest → IsFirstCause b fault
     → (fault ≡ Tables without_a_class) ⊎ (fault ≡ Tables (no_memory_in Classes))
 a_bad_table_and_a_bad_text b rest fault is text_is cause =
-    let found = a_refused_line_comes_first b without_a_class fault (refuses b.unicode is) cause in
+    let found = a_refused_line_comes_first b without_a_class fault (refuses b.unicode.now is) cause in
     ⊎_elim (λ line. inl (found.1 ∙ ap Tables line))
     (λ out. let file = only_classes_are_read found.0.file _ _ _ _ is out.1 in inr (found.1 ∙ ap Tables (out.0 ∙ ap no_memory_in file)))
     found.2
@@ -119,7 +121,7 @@ the_window_is_never_told b cause =
 -- ---- where nothing is in the way, only a want of memory is told
 
 abbrev IsMemory : Beginning → RecoveryFault → Type 0
-IsMemory b (Tables error) = NoMemoryInTables b.unicode error
+IsMemory b (Tables error) = NoMemoryInTables b.unicode.now error
 IsMemory b (Open error) = error ≡ text.OutOfMemory
 IsMemory b Unwritten = ⊥
 IsMemory b OutOfMemory = Unit {0}

@@ -2,24 +2,12 @@
 -- session starts with, `s` the session.
 use Rattle.std.specs.Global.{Vec}
 use Rattle.std.specs.Prelude.{◌≡◌, ℕ, List, [], Option, Some, None, option_map, vec_items}
-use Rattle.bx_ucd.specs.Reading.{refusal, class_in_file, bracket_in_file, mirror_in_file, form_if_any, joining_if_any, texts_of}
 use Rattle.bx_ucd.specs.Data.{Data}
-use Rattle.bx_ucd.specs.declared.joining.Form.{Form}
-use Rattle.bx_command.specs.declared.shared.unicode.UnicodeFiles.{UnicodeFiles}
 use Rattle.bx_command.specs.Lines.{start_of_line}
 use Rattle.bx_session.specs.Session.{Session, at_opening}
 use Rattle.bx_session.specs.Painting.{QueuesPicture}
 use Rattle.bx_session.specs.Beginning.{Beginning, at_offset}
 use Rattle.bx_recovery.specs.declared.beginning.Beginning as given
-
--- the tables say of each character, by its code, what Unicode's files say; the files have no bad line
-pub record AreOfFiles (d : Data) (files : UnicodeFiles) : Type 0 where
-  pub accepted : refusal files.classes.now files.brackets.now files.mirroring.now (texts_of files.joining) ≡ None
-  pub classes_are : (code : ℕ) → d.class code ≡ class_in_file files.classes.now code
-  pub brackets_are : (code : ℕ) → d.bracket code ≡ bracket_in_file files.brackets.now code
-  pub mirrors_are : (code : ℕ) → d.mirror code ≡ mirror_in_file files.mirroring.now code
-  pub joining_is : (code : ℕ) → d.joining code ≡ joining_if_any (texts_of files.joining) (class_in_file files.classes.now code) code
-  pub forms_are : (code : ℕ) (form : Form) → d.form code form ≡ form_if_any (texts_of files.joining) code form
 
 -- a file that does not exist is an empty text
 abbrev pub bytes_of : Option (Vec ℕ) → List ℕ

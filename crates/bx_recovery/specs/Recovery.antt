@@ -1,9 +1,11 @@
 -- What an edited file holds, compared with the replay of a journal (`FileText`), and the text that is recovered. Where another
 -- program changed FILE, the text is recovered as a new file. `d` is Unicode's data, `b` what a session starts with (but in
 -- `texts_at_saves` a byte), `s` the session before the journal.
+use Rattle.std.specs.Global.{Vec}
 use Rattle.std.specs.Prelude.{◌≡◌, ◌≢◌, ℕ, Bool, true, false, List, [], ◌∷◌, Contains, length}
 use Rattle.bx_ucd.specs.Data.{Data}
 use Rattle.bx_keys.specs.Waiting.{keys_from}
+use Rattle.bx_command.specs.shared.Tables.{AreOfFiles}
 use Rattle.bx_command.specs.declared.shared.unicode.UnicodeFiles.{UnicodeFiles}
 use Rattle.bx_session.specs.Session.{Session, StoreState, is_save_byte, with_text}
 use Rattle.bx_session.specs.Replaying.{after_journal, after_replay}
@@ -11,7 +13,6 @@ use Rattle.bx_session.specs.Beginning.{Beginning, at_offset, unpainted_at}
 use Rattle.bx_recovery.specs.declared.replaying.FileText.{FileText}
 use Rattle.bx_recovery.specs.declared.replaying.FileText.TheVariants.{Same, Known, Foreign}
 use Rattle.bx_recovery.specs.declared.replaying.Replayed.{Replayed}
-use Rattle.bx_recovery.specs.Beginnings.{AreOfFiles}
 
 -- a text in front of others, if a condition holds
 abbrev pub with_text_if : Bool → List ℕ → List (List ℕ) → List (List ℕ)
@@ -47,7 +48,7 @@ pub record RecoversFrom (d : Data) (s : Session) (journal file : List ℕ) (repl
 
 -- The text recovered from this start and its journal was stored, by tables that agree with these files. `replayed` tells what a file
 -- of the bytes `file` holds, and the number of keys in the journal.
-pub record Recovers (b : Beginning) (files : UnicodeFiles) (file : List ℕ) (replayed : Replayed) (store store' : StoreState) : Type 0 where
+pub record Recovers (b : Beginning) (files : UnicodeFiles (Vec ℕ)) (file : List ℕ) (replayed : Replayed) (store store' : StoreState) : Type 0 where
   pub tables : Data
   pub answers : AreOfFiles tables files
   pub stored : store' ≡ with_text (unpainted_at tables b).editor.content.text store

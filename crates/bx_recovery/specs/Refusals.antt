@@ -1,11 +1,9 @@
 -- Why a session is not opened or recovered: the first cause, in the order of the checks. Unicode's files come first, then the
 -- text's length, its bytes, and the window. Memory can run out at each step, which tells that all before it was accepted. `b` is
 -- what a session starts from.
-use Rattle.std.specs.Prelude.{◌≡◌, ◌≤◌, ◌⊎◌, ℕ, List, Option, None, Some, IsUtf8, length}
+use Rattle.std.specs.Prelude.{◌≡◌, ◌≤◌, ◌⊎◌, ℕ, List, None, Some, IsUtf8, length}
 use Rattle.bx_common.specs.Characters.{largest_text}
-use Rattle.bx_ucd.specs.Reading.{NoMemoryAfter, refusal, texts_of}
-use Rattle.bx_ucd.specs.declared.error.UcdError.{UcdError}
-use Rattle.bx_command.specs.declared.shared.unicode.UnicodeFiles.{UnicodeFiles}
+use Rattle.bx_command.specs.shared.Tables.{NoMemoryInTables, refused_line}
 use Rattle.bx_store.specs.Faults.{with_fault}
 use Rattle.bx_store.specs.declared.faults.Faults.{Faults}
 use Rattle.bx_store.specs.declared.store.StoreFault.{StoreFault}
@@ -15,14 +13,6 @@ use Rattle.bx_recovery.specs.declared.beginning.Beginning.{Beginning}
 use Rattle.bx_recovery.specs.declared.fault.RecoveryFault.{RecoveryFault}
 use Rattle.bx_recovery.specs.declared.fault.RecoveryFault.TheVariants.{Tables, Open, Unwritten, OutOfMemory}
 
--- the first refused line of Unicode's files, with its file, its number and what is wrong with it
-abbrev pub refused_line : UnicodeFiles → Option UcdError
-refused_line files = refusal files.classes.now files.brackets.now files.mirroring.now (texts_of files.joining)
-
--- memory ran out while one of Unicode's files was read, and no line of the files before it is refused
-abbrev pub NoMemoryInTables : UnicodeFiles → UcdError → Type 0
-NoMemoryInTables files error = NoMemoryAfter files.classes.now files.brackets.now files.mirroring.now (texts_of files.joining) error
-
 -- a file of these bytes can be opened as a text
 pub record IsText (bytes : List ℕ) : Type 0 where
   pub short : length bytes ≤ largest_text
@@ -30,13 +20,13 @@ pub record IsText (bytes : List ℕ) : Type 0 where
 
 -- nothing but a want of memory can be in the way: Unicode's files have no refused line, and the file is a text
 pub record CanOpen (b : Beginning) : Type 0 where
-  pub accepted : refused_line b.unicode ≡ None
+  pub accepted : refused_line b.unicode.now ≡ None
   pub text : IsText (bytes_of b.text)
 
 -- the fault tells the first cause why the session is not opened
 abbrev pub IsFirstCause : Beginning → RecoveryFault → Type 0
-IsFirstCause b (Tables error) = (refused_line b.unicode ≡ Some error) ⊎ NoMemoryInTables b.unicode error
-IsFirstCause b (Open error) = (refused_line b.unicode ≡ None) × Causes (bytes_of b.text) b.rows b.cols error
+IsFirstCause b (Tables error) = (refused_line b.unicode.now ≡ Some error) ⊎ NoMemoryInTables b.unicode.now error
+IsFirstCause b (Open error) = (refused_line b.unicode.now ≡ None) × Causes (bytes_of b.text) b.rows b.cols error
 IsFirstCause b OutOfMemory = CanOpen b
 IsFirstCause b Unwritten = ⊥
 

@@ -13,7 +13,7 @@ pub struct Beginning<'a> {
     /// The allocator of the session.
     pub alloc: Global,
     /// Unicode's files.
-    pub unicode: UnicodeFiles<'a>,
+    pub unicode: &'a UnicodeFiles<Vec<u8>>,
     /// The text's bytes; None if the file does not exist, which is an empty text.
     pub text: Option<Vec<u8>>,
     /// The window's rows and columns, each from 1 to 500.

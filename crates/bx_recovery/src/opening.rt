@@ -3,7 +3,8 @@
 ghost use Rattle.std.specs.Prelude.{◌≡◌, IfErr, IfOk, OnErr, OnOk};
 ghost use Rattle.bx_session.specs.Beginning.{after_going_to, changed_if};
 ghost use Rattle.bx_session.specs.Session.{clipboard_if};
-ghost use Rattle.bx_recovery.specs.Beginnings.{AreOfFiles, IsOpened, beginning_of, offset_of};
+ghost use Rattle.bx_command.specs.shared.Tables.{AreOfFiles};
+ghost use Rattle.bx_recovery.specs.Beginnings.{IsOpened, beginning_of, offset_of};
 ghost use Rattle.bx_recovery.specs.Refusals.{CanOpen, IsFirstCause};
 
 use crate::beginning::Beginning;
@@ -24,7 +25,7 @@ fn offset_of(text: &[u8], line: Option<u64>) -> Option<usize>
 ///
 /// Errors, in this order: `Tables`; `Open`; `OutOfMemory`.
 pub fn open(beginning: Beginning<'_>) -> Result<Session<Tables>, RecoveryFault>
-    ensures tables { IfOk result (λ s. AreOfFiles (⟦<Tables as BidiData>⟧.data s.tables) beginning.entry.unicode) }
+    ensures tables { IfOk result (λ s. AreOfFiles (⟦<Tables as BidiData>⟧.data s.tables) beginning.entry.unicode.now) }
     ensures opens { IfOk result (λ s. IsOpened (⟦<Tables as BidiData>⟧.data s.tables) (beginning_of beginning.entry) s.session) }
     ensures openable { OnOk result (CanOpen beginning.entry) }
     ensures refused { IfErr result (IsFirstCause beginning.entry) }
@@ -32,14 +33,7 @@ pub fn open(beginning: Beginning<'_>) -> Result<Session<Tables>, RecoveryFault>
     let alloc = beginning.alloc;
     let (rows, cols, direction) = (beginning.rows, beginning.cols, beginning.direction);
     let (clipboard, unsaved) = (beginning.clipboard, beginning.unsaved);
-    let unicode = beginning.unicode;
-    let tables = Tables::read(
-        alloc,
-        unicode.classes,
-        unicode.brackets,
-        unicode.mirroring,
-        unicode.joining,
-    )?;
+    let tables = beginning.unicode.tables(alloc)?;
     let text = beginning.text.unwrap_or(Vec::new(alloc));
     let start = offset_of(text.as_slice(), beginning.line);
     let mut session = Session::open(text, tables, rows, cols, direction)?;

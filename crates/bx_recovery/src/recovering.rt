@@ -43,7 +43,7 @@ pub fn recover<S: Store>(
     beginning: Beginning<'_>,
     file: &[u8],
 ) -> Result<Replayed, RecoveryFault>
-    ensures recovers { IfOk result (λ r. Recovers (beginning_of beginning.entry) beginning.entry.unicode file.now r
+    ensures recovers { IfOk result (λ r. Recovers (beginning_of beginning.entry) beginning.entry.unicode.now file.now r
         (store_state S.contents S.faults store.old) (store_state S.contents S.faults store.new)) }
     ensures stored { OnErr result (S.contents store.new ≡ S.contents store.old) }
     ensures openable { OnOk result (CanOpen beginning.entry) }

@@ -176,8 +176,7 @@ module _ (key : Key) where
   letter_kept d e c = kept_if (is_no_letter d c) e _ _ refl refl
 
   exchange_kept : (d : Data) (e : Editor) (start stop : ℕ) (new : List ℕ) → Keeps e (with_exchange d e start stop new)
-  exchange_kept d e start stop [] = refl
-  exchange_kept d e start stop (b ∷ bs) = refl
+  exchange_kept d e start stop new = refl
 
   at_kept : (d : Data) (at : Option ℕ) (e new : Editor) → Keeps e new → Keeps e (at_match d new at)
   at_kept d None e new h = h

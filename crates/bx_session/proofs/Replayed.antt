@@ -16,7 +16,8 @@ use Rattle.bx_editor.specs.Keys.{after_any, after_key}
 use Rattle.bx_editor.specs.Putting.{paste_ended}
 use Rattle.bx_editor.specs.Replay.{after_passed_save}
 use Rattle.bx_session.specs.Laws.{keys_from, after_replaying, ReplaysKeys}
-use Rattle.bx_session.specs.Session.{Session, scrolled, session_after_key}
+use Rattle.bx_editor.specs.Picture.{scrolled}
+use Rattle.bx_session.specs.Session.{Session, session_after_key}
 use Rattle.bx_session.specs.Replaying.{after_all_replayed, after_replay, after_replayed, after_replayed_key, replayed_on}
 use Rattle.bx_session.specs.Replaying.{session_after_replayed, session_scrolled}
 use Rattle.bx_session.specs.Session.{with_painting_owed}

@@ -13,7 +13,8 @@ use Rattle.bx_ucd.specs.Data.{Data}
 use Rattle.bx_session.specs.declared.status.Status.{Status}
 use Rattle.bx_session.specs.declared.status.Refused.{Refused}
 use Rattle.bx_session.specs.declared.status.Refused.TheVariants.{Edit, Paint, Size}
-use Rattle.bx_session.specs.Session.{Session, clip_after, painted_after, painting, picture_of, scrolled, then_clip, with_painting_owed}
+use Rattle.bx_editor.specs.Picture.{scrolled}
+use Rattle.bx_session.specs.Session.{Session, clip_after, painted_after, painting, picture_of, then_clip, with_painting_owed}
 use Rattle.bx_session.specs.Session.{key_of_byte, after_spending, session_after_any, unpainted_after_byte, is_painted, StoreState}
 use Rattle.bx_session.specs.Painting.{FeedPaints, QueuesPicture}
 use Rattle.bx_session.specs.Feeding.{AfterByte, Feeds}

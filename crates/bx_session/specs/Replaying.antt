@@ -13,7 +13,8 @@ use Rattle.bx_editor.specs.Keys.{after_key}
 use Rattle.bx_editor.specs.Putting.{paste_ended}
 use Rattle.bx_editor.specs.Replay.{after_passed_quit, after_passed_save}
 use Rattle.bx_editor.specs.Replay as replay
-use Rattle.bx_session.specs.Session.{Session, after_spending, key_of_byte, scrolled, session_after_key, with_painting_owed}
+use Rattle.bx_editor.specs.Picture.{scrolled}
+use Rattle.bx_session.specs.Session.{Session, after_spending, key_of_byte, session_after_key, with_painting_owed}
 
 -- The effect of a key in a replay. A Save and a Quit end what any key ends, first a paste, and a Save a search and a question too; a
 -- Quit gives up a search or a question. Neither stores a text, nor ends the session. `ask` and `seek` are what stands once a paste has

@@ -12,10 +12,10 @@ use Rattle.bx_store.specs.Faults.{with_fault}
 use Rattle.bx_store.specs.declared.faults.Faults.{Faults}
 use Rattle.bx_ucd.specs.Data.{Data}
 use Rattle.bx_editor.specs.Region.{clip_of}
-use Rattle.bx_editor.specs.Editor.{Editor, at_start, with_size, with_top}
+use Rattle.bx_editor.specs.Editor.{Editor, at_start, with_size}
 use Rattle.bx_editor.specs.Editor as editors
 use Rattle.bx_editor.specs.Keys.{after_key, asks_for_whole, needs_no_painting, is_save, may_refuse}
-use Rattle.bx_editor.specs.Picture.{picture, next_top}
+use Rattle.bx_editor.specs.Picture.{picture, scrolled}
 use Rattle.bx_editor.specs.Putting.{paste_ended}
 
 -- a session, without Unicode's tables
@@ -38,10 +38,6 @@ pub record Session : Type 0 where
 abbrev pub painting : Option PictureState → PictureState → List ℕ
 painting None new = whole_bytes new
 painting (Some old) new = changes_bytes old new
-
--- the editor scrolled to its cursor: by the fewest rows that make the cursor's row visible
-abbrev pub scrolled : Data → Editor → Editor
-scrolled d e = with_top e (next_top d e e.top)
 
 -- the picture of an editor, from the row that is shown first on
 abbrev pub picture_of : Data → Editor → PictureState

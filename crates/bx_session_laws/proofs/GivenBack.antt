@@ -29,7 +29,8 @@ use Rattle.bx_session.specs.declared.status.Status.{Status}
 use Rattle.bx_session.specs.declared.journal.Backlog.{Backlog}
 use Rattle.bx_session.specs.declared.journal.Backlog.TheVariants.{Empty}
 use Rattle.bx_session.specs.Beginning.{Beginning, after_going_to, at_offset, begun, changed_if}
-use Rattle.bx_session.specs.Session.{clipboard_if, Session, at_opening, scrolled, StoreAfter, StoreState, is_save_byte, is_save_key}
+use Rattle.bx_editor.specs.Picture.{scrolled}
+use Rattle.bx_session.specs.Session.{clipboard_if, Session, at_opening, StoreAfter, StoreState, is_save_byte, is_save_key}
 use Rattle.bx_session.specs.Session.{text_to_save}
 use Rattle.bx_session.specs.Journal.{HasKept, RecorderState, is_lost, waiting}
 use Rattle.bx_session.specs.Laws.{after_replaying}

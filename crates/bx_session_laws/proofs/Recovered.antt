@@ -33,7 +33,8 @@ use Rattle.bx_session.specs.declared.status.Status.{Status}
 use Rattle.bx_session.specs.Laws.{after_replaying}
 use Rattle.bx_session_laws.specs.Recovery.{RefusesNoKey, is_point}
 use Rattle.bx_session.specs.Running.{ByteAnswer, FeedsAll, bytes_of}
-use Rattle.bx_session.specs.Session.{StoreState, Session, scrolled}
+use Rattle.bx_editor.specs.Picture.{scrolled}
+use Rattle.bx_session.specs.Session.{StoreState, Session}
 use Rattle.bx_session.specs.Feeding.{Feeds}
 use Rattle.bx_session.specs.Replaying.{after_all_replayed, after_replay, after_replayed, replayed_on}
 use Rattle.bx_session_laws.proofs.KeysAlike.{ended_alike, key_alike}

@@ -11,12 +11,12 @@ use Rattle.bx_editor.specs.declared.undo_groups.typing.Typing.TheVariants as typ
 use Rattle.bx_editor.specs.Editor.{Editor}
 use Rattle.bx_editor.specs.Functions.{HasRows}
 use Rattle.bx_editor.specs.Putting.{ended_with, paste_ended}
-use Rattle.bx_editor.specs.Picture.{next_top}
+use Rattle.bx_editor.specs.Picture.{next_top, scrolled}
 use Rattle.bx_editor.specs.Replay as replay
 use Rattle.bx_editor.specs.declared.search_state.SearchState.{SearchState}
 use Rattle.bx_editor.proofs.TopOnce.{top-stays}
 use Rattle.bx_session.specs.Beginning.{Beginning, after_going_to, at_offset, begun, changed_if}
-use Rattle.bx_session.specs.Session.{clipboard_if, Session, after_spending, at_opening, key_of_byte, scrolled, with_painting_owed}
+use Rattle.bx_session.specs.Session.{clipboard_if, Session, after_spending, at_opening, key_of_byte, with_painting_owed}
 use Rattle.bx_session.specs.Laws.{after_replaying}
 use Rattle.bx_session.specs.Running.{bytes_of}
 use Rattle.bx_session.specs.Replaying.{after_all_replayed, after_replay, after_replayed_key, at_replay_end}

@@ -1,5 +1,5 @@
 -- A key in replacing does the same to two editors of which the same lasts.
-use Rattle.std.proofs.Common.{ℕ, true, false, List, [], ◌∷◌, ◌+◌, length, Option, Some, None, refl, ap, subst, if◌then◌else◌}
+use Rattle.std.proofs.Common.{ℕ, true, false, List, [], ◌∷◌, ◌+◌, length, Option, Some, None, refl, sym, ap, ap₂, subst, if◌then◌else◌}
 use Rattle.std.specs.Prelude.{◌==◌, ◌&&◌, not}
 use Rattle.bx_keys.specs.declared.key.Key.{Key}
 use Rattle.bx_store.specs.declared.store.StoreFault.{StoreFault}
@@ -13,7 +13,7 @@ use Rattle.bx_editor.specs.declared.search_state.SearchPurpose.TheVariants.{Repl
 use Rattle.bx_editor.specs.declared.matches.Landing.{Landing}
 use Rattle.bx_editor.specs.declared.message.Message.TheVariants.{TextFull}
 use Rattle.bx_editor.specs.declared.search_state.SearchState.TheVariants.{Off, Replacing}
-use Rattle.bx_editor.specs.Editor.{Editor, place_after, with_exchange, with_removal}
+use Rattle.bx_editor.specs.Editor.{Editor, place_after, with_exchange}
 use Rattle.bx_editor.specs.Effects.{Before}
 use Rattle.bx_editor.specs.Keys.{Answer, Letter, Shortens, GoesBack, Next, Previous, Replaces, Stays, Ends, answered_match, answered_replacement}
 use Rattle.bx_editor.specs.Putting.{is_paste, only_paste}
@@ -22,22 +22,28 @@ use Rattle.bx_editor.specs.Replacing.{after_showing, asked_at, at_match, match_s
 use Rattle.bx_editor.specs.Search.{longest_query}
 use Rattle.bx_editor.specs.Replacing.{shown_at, with_matches_replaced, with_replacement}
 use Rattle.bx_editor.specs.Search.{is_no_letter, kept, landed, landing_from, lengthened, sought, without_search}
+use Rattle.bx_editor.proofs.TwoEdits.{runs-of-two, stored-of-two}
 use Rattle.bx_session_laws.proofs.Lasting.{Lasting, Serves, lasting, having}
-use Rattle.bx_session_laws.proofs.Alike.{Alike, Edits, either_alike, idle, going_on, pressed_alike, removal_alike}
+use Rattle.bx_session_laws.proofs.Alike.{Alike, Edits, either_alike, idle, going_on, pressed_alike, work}
 
 -- ---- matches give way
 
 exchange_alike : (d : Data) (e f : Editor) (start stop : ℕ) (new : List ℕ)
     → Alike e (with_exchange d e start stop new) (having (lasting e) f) (with_exchange d (having (lasting e) f) start stop new)
-exchange_alike d e f start stop [] = removal_alike d e f start stop false
+exchange_alike d e f start stop [] =
+    let after = place_after d e (splice e.content.text start stop []) start in
+    record { lasts = refl; deeds = Edits start stop [] e.place after false ∷ []; first = refl; other = refl }
 exchange_alike d e f start stop (b ∷ bs) =
-    let cut = with_removal d e start stop false in
-    let after = place_after d cut (splice cut.content.text start start (b ∷ bs)) (start + length (b ∷ bs)) in
+    let g = having (lasting e) f in
+    let n = length e.content.past in
+    let between = place_after d e (splice e.content.text start stop []) start in
+    let two = with_exchange d e start stop (b ∷ bs) in
+    let runs = sym (runs-of-two e.undo_groups n) in
     record {
       lasts = refl;
-      deeds = Edits start stop [] e.place cut.place false ∷ Edits start start (b ∷ bs) cut.place after true ∷ [];
-      first = refl;
-      other = refl;
+      deeds = Edits start stop [] e.place between false ∷ Edits start start (b ∷ bs) between two.place true ∷ [];
+      first = ap₂ (λ rs stored. record (work two) { undo_groups = rs; stored = stored }) runs (sym (stored-of-two n e.stored));
+      other = ap₂ (λ rs stored. record (work (with_exchange d g start stop (b ∷ bs))) { undo_groups = rs; stored = stored }) runs (sym (stored-of-two n f.stored));
     }
 
 matches_alike : (d : Data) (e f : Editor) (stop : ℕ) (new : List ℕ) (n : ℕ)

@@ -12,7 +12,7 @@ use Rattle.bx_ucd.specs.Data.{Data}
 use Rattle.bx_editor.specs.Editor.{Editor, rows, text_height}
 use Rattle.bx_editor.specs.Functions.{HasRows}
 use Rattle.bx_editor.specs.Keys.{after_key, after_press, needs_no_painting}
-use Rattle.bx_editor.specs.Picture.{next_top}
+use Rattle.bx_editor.specs.Picture.{next_top, scrolled}
 use Rattle.bx_editor.specs.PasteLaws.{LooksAs}
 use Rattle.bx_editor.specs.Prompts.{HasOnePrompt}
 use Rattle.bx_editor.proofs.TopOnce.{top-stays}
@@ -23,7 +23,7 @@ use Rattle.bx_session.specs.declared.status.Refused.TheVariants as refused
 use Rattle.bx_session.specs.declared.status.Status.{Status}
 use Rattle.bx_session.specs.Laws.{after_replaying}
 use Rattle.bx_session.specs.Running.{ByteAnswer, FeedsAll, bytes_of}
-use Rattle.bx_session.specs.Session.{StoreState, Session, after_byte, needs_painting, painted_after, scrolled, session_after_any}
+use Rattle.bx_session.specs.Session.{StoreState, Session, after_byte, needs_painting, painted_after, session_after_any}
 use Rattle.bx_session.specs.Feeding.{Feeds}
 use Rattle.bx_session.specs.Replaying.{after_all_replayed, after_replay, replayed_on}
 use Rattle.bx_session.proofs.Leaving.{byte_leaves}

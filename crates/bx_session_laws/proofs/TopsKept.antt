@@ -33,8 +33,7 @@ module _ (top : ℕ) where
   save e (Some fault) h = h
 
   exchange : (d : Data) (e : Editor) (start stop : ℕ) (new : List ℕ) → IsTop e → IsTop (with_exchange d e start stop new)
-  exchange d e start stop [] h = h
-  exchange d e start stop (b ∷ bs) h = h
+  exchange d e start stop new h = h
 
   pressing : (d : Data) → kept_by.IsKeptPressing d IsTop
   pressing d = record {

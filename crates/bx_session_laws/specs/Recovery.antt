@@ -20,7 +20,8 @@ use Rattle.bx_session.specs.Beginning.{Beginning, at_offset, begun, unpainted_at
 use Rattle.bx_session.specs.Journal.{RecorderState, RunsRecorded}
 use Rattle.bx_session.specs.Laws.{after_journal, after_replaying}
 use Rattle.bx_session.specs.Running.{ByteAnswer, FeedsAll, bytes_of}
-use Rattle.bx_session.specs.Session.{StoreState, Session, at_opening, key_of_byte, scrolled}
+use Rattle.bx_editor.specs.Picture.{scrolled}
+use Rattle.bx_session.specs.Session.{StoreState, Session, at_opening, key_of_byte}
 use Rattle.bx_session.specs.Replaying.{after_all_replayed, after_replay, at_replay_end}
 
 -- no key was refused because memory ran out

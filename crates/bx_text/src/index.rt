@@ -15,9 +15,11 @@ mod scan_range;
 mod scanned_text;
 mod splices;
 mod spot;
+mod text_span;
 mod walk;
 
 pub use index::Index;
 pub use laws::{bodies_match_spans, paragraphs_join_to_text};
 pub use scan::{separates, separating};
+pub use text_span::TextSpan;
 pub use walk::ParagraphWalk;

@@ -20,7 +20,8 @@ mod turns;
 pub use change::Change;
 pub use error::TextError;
 pub use index::{
-    Index, ParagraphWalk, bodies_match_spans, paragraphs_join_to_text, separates, separating,
+    Index, ParagraphWalk, TextSpan, bodies_match_spans, paragraphs_join_to_text, separates,
+    separating,
 };
 pub use pairs::EditPlaces;
 pub use pieces::{Buffer, Piece, Pieces, Spares};

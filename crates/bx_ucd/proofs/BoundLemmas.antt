@@ -16,7 +16,7 @@ use Rattle.bx_ucd.specs.Answers.{find_last, given, default, class_by_ranges}
 use Rattle.bx_ucd.specs.Reading.{class_in_file}
 use Rattle.bx_ucd.specs.declared.error.Cause.{Cause}
 use Rattle.bx_ucd.specs.declared.error.Cause.TheVariants.{BadCode, BadRange}
-use Rattle.bx_ucd.specs.declared.codes.Range.{Range}
+use Rattle.bx_ucd.specs.declared.codes.CodeRange.{CodeRange}
 use Rattle.bx_ucd.specs.declared.class.Class.{Class}
 use Rattle.bx_ucd.specs.declared.class.Class.TheVariants.{L}
 use Rattle.bx_ucd.specs.declared.class_file.ClassRange.{ClassRange}
@@ -51,7 +51,7 @@ code_bounded field =
     (digits_value 16 field) refl
 
 between_bounded : (low high : ℕ) (down : Bool) → high ≤ 0x10FFFF
-    → IfOk (let r : Result Range Cause = if down then Err BadRange else Ok (record { low = low; high = high }) in r) (λ range. range.high ≤ 0x10FFFF)
+    → IfOk (let r : Result CodeRange Cause = if down then Err BadRange else Ok (record { low = low; high = high }) in r) (λ range. range.high ≤ 0x10FFFF)
 between_bounded low high true bounded = tt
 between_bounded low high false bounded = bounded
 
@@ -69,7 +69,7 @@ range_bounded (low ∷ [] ∷ high ∷ more ∷ rest) = tt
 range_of_bounded : (field : List ℕ) → IfOk (range_of field) (λ range. range.high ≤ 0x10FFFF)
 range_of_bounded field = range_bounded (slice_split (λ b. b == 0x2E) field)
 
-named_bounded : (range : Range) (class : Result Class Cause) → range.high ≤ 0x10FFFF
+named_bounded : (range : CodeRange) (class : Result Class Cause) → range.high ≤ 0x10FFFF
     → IfOk (let r : Result ClassRange Cause = and_then class (λ c. Ok (record { range = range; class = c })) in r) IsBounded
 named_bounded range (Ok c) bounded = bounded
 named_bounded range (Err cause) bounded = tt

@@ -10,7 +10,7 @@ use Rattle.bx_ucd.specs.Reading.{class_in_file}
 use Rattle.bx_ucd.specs.SmallTables.{class, look_up, rows}
 use Rattle.bx_ucd.specs.declared.class.Class.{Class}
 use Rattle.bx_ucd.specs.declared.class.Class.TheVariants.{L, R}
-use Rattle.bx_ucd.specs.declared.codes.Range.{Range}
+use Rattle.bx_ucd.specs.declared.codes.CodeRange.{CodeRange}
 use Rattle.bx_ucd.specs.declared.class_file.ClassRange.{ClassRange}
 use Rattle.bx_ucd.specs.declared.sample.TheConstants.{CLASSES}
 use Rattle.bx_ucd.proofs.AnswerLemmas.{find_last-cons, class_by_ranges-cons, data_over_defaults}
@@ -18,14 +18,14 @@ use Rattle.bx_ucd.proofs.AnswerLemmas.{find_last-cons, class_by_ranges-cons, dat
 -- ---- ranges with no code in common
 
 -- one ends before the other begins
-abbrev is_apart : Range → Range → Bool
+abbrev is_apart : CodeRange → CodeRange → Bool
 is_apart r s = nat_lt r.high s.low || nat_lt s.high r.low
 
 abbrev are_apart : List ClassRange → Bool
 are_apart [] = true
 are_apart (r ∷ rs) = list_all (λ s. is_apart r.range s.range) rs && are_apart rs
 
-only_one : (r s : Range) (code : ℕ) → is_apart r s ≡ true → covers r code ≡ true → covers s code ≡ false
+only_one : (r s : CodeRange) (code : ℕ) → is_apart r s ≡ true → covers r code ≡ true → covers s code ≡ false
 only_one r s code apart covered = grind arith
 
 -- where a range covers the code, none that is apart from it does

@@ -7,7 +7,7 @@ ghost use Rattle.bx_ucd.specs.ClassFile.{class_among, strong_names, weak_names, 
 ghost use Rattle.bx_ucd.specs.ClassFile.{missing, default_of, class_line};
 
 use crate::class::Class;
-use crate::codes::{Range, range_of};
+use crate::codes::{CodeRange, range_of};
 use crate::error::Cause;
 use crate::file::Entry;
 use crate::lines::{before_comment, is_all_blank, trimmed, without_leading_blanks};
@@ -16,7 +16,7 @@ use crate::parts::{Parts, cut};
 /// A range of codes and their class.
 #[derive(Clone, Copy)]
 pub struct ClassRange {
-    pub range: Range,
+    pub range: CodeRange,
     pub class: Class,
 }
 

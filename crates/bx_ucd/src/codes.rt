@@ -14,7 +14,7 @@ const LAST: u32 = 0x10FFFF;
 
 /// Codes from `low` to `high`, both included.
 #[derive(Clone, Copy)]
-pub struct Range {
+pub struct CodeRange {
     pub low: u32,
     pub high: u32,
 }
@@ -53,13 +53,13 @@ pub fn character_of(field: &[u8]) -> Result<char, Cause>
 }
 
 /// Reads a range: `CODE` or `CODE..CODE`.
-pub fn range_of(field: &[u8]) -> Result<Range, Cause>
+pub fn range_of(field: &[u8]) -> Result<CodeRange, Cause>
     ensures { result ≡ range_of field.now }
 {
     match cut(field, b'.') {
         Parts::One(code) => {
             let code = code_of(code)?;
-            Ok(Range {
+            Ok(CodeRange {
                 low: code,
                 high: code,
             })
@@ -70,7 +70,7 @@ pub fn range_of(field: &[u8]) -> Result<Range, Cause>
             if high < low {
                 return Err(Cause::BadRange);
             }
-            Ok(Range { low, high })
+            Ok(CodeRange { low, high })
         }
         _ => Err(Cause::BadCode),
     }

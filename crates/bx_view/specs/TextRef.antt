@@ -6,9 +6,9 @@ use Rattle.bx_paragraph.specs.BodyRows.{BodyRow, body_rows}
 use Rattle.bx_paragraph.specs.Layout.{LayoutState}
 use Rattle.bx_text.specs.index.Paragraphs.{lengths}
 use Rattle.bx_text.specs.index.Walk.{WalkState}
+use Rattle.bx_text.specs.declared.index.text_span.TextSpan.{TextSpan}
 use Rattle.bx_view.specs.declared.in_row.RowAt.{RowAt}
 use Rattle.bx_view.specs.declared.text_ref.TextRef.{TextRef}
-use Rattle.bx_view.specs.declared.span.TextSpan.{TextSpan}
 use Rattle.bx_view.specs.FoundRow as found
 use Rattle.bx_view.specs.Caching as caching
 use Rattle.bx_view.specs.Caching.{ViewState}

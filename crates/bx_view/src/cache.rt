@@ -5,10 +5,9 @@ ghost use Rattle.bx_common.specs.Characters.{is_side};
 ghost use Rattle.bx_text.specs.Changes.{IsRange};
 ghost use Rattle.bx_view.specs.Caching.{AreCached, FitsLimit, HasBody, Caches, IsCached, cached_bytes, most_cached};
 
-use crate::span::TextSpan;
 use bx_common::{Base, OutOfMemory};
 use bx_paragraph::ParagraphLayout;
-use bx_text::Text;
+use bx_text::{Text, TextSpan};
 use bx_ucd::BidiData;
 use std::alloc::{AllocError, Global};
 use std::marker::Model;

@@ -16,19 +16,18 @@ use crate::placed::first_from;
 use crate::span::paragraph_under;
 use crate::text_ref::TextRef;
 use crate::view::View;
-use bx_common::OutOfMemory;
+use bx_common::{OutOfMemory, Range};
 use bx_paragraph::{LentRow, ParagraphLayout};
 use bx_text::separates;
 use bx_ucd::BidiData;
 
-/// A range of bytes in the body of a cached paragraph, from the offset `start` up to `stop`. It is no plain range, since its offsets
-/// mean nothing without the paragraph.
+/// A range of bytes in the body of a cached paragraph.
 #[derive(Clone, Copy)]
 pub struct CachedRange {
     // the paragraph's index among the cached ones
     cached: usize,
-    start: usize,
-    stop: usize,
+    // offsets of the body
+    range: Range,
 }
 
 /// Whether a text contains a paragraph separator.
@@ -134,11 +133,11 @@ impl View {
             return None;
         }
         let cached = find_in(&self.cache, &mut self.recent, source.text, span)?;
-        Some(CachedRange {
-            cached,
+        let range = Range {
             start: start - span.start,
             stop: stop - span.start,
-        })
+        };
+        Some(CachedRange { cached, range })
     }
 
     /// Applies an edit, which replaces a range with `new`, to the cached paragraph that `cached_range` just found: once the view
@@ -146,18 +145,15 @@ impl View {
     /// character.
     pub fn follow_edit<D: BidiData>(
         &mut self,
-        range: CachedRange,
+        edited: CachedRange,
         new: &str,
         tables: &D,
     ) -> Result<(), OutOfMemory>
         requires data { caching.IsViewBy (D.data tables.now) self.old }
         ensures keeps { caching.Keeps (D.data tables.now) self.old self.new }
     {
-        let CachedRange {
-            cached,
-            start,
-            stop,
-        } = range;
+        let CachedRange { cached, range } = edited;
+        let Range { start, stop } = range;
         if cached >= self.cache.len() || stop < start || has_separator(new, tables) {
             return Ok(());
         }

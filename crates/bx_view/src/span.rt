@@ -4,19 +4,8 @@ ghost use Rattle.bx_text.specs.index.Paragraphs.{lengths, paragraph_of};
 ghost use Rattle.bx_view.specs.TextRef.{IsSpan, bytes, count};
 
 use crate::text_ref::TextRef;
-use bx_text::ParagraphWalk;
+use bx_text::{ParagraphWalk, TextSpan};
 use bx_ucd::BidiData;
-
-/// The body of a paragraph, by its offsets in bytes of the text. It is no plain range, since rows are told by the paragraph's number.
-#[derive(Clone, Copy)]
-pub struct TextSpan {
-    /// The number of the paragraph, from 0.
-    pub number: usize,
-    /// The offset at which the body begins.
-    pub start: usize,
-    /// The offset at which it ends.
-    pub stop: usize,
-}
 
 /// The body of the walk's current paragraph.
 pub fn current_span<D: BidiData>(source: &TextRef<'_, D>, walk: &ParagraphWalk<'_>) -> TextSpan
@@ -27,12 +16,7 @@ pub fn current_span<D: BidiData>(source: &TextRef<'_, D>, walk: &ParagraphWalk<'
 {
     // Only the contract names the text.
     let _ = source;
-    let (start, stop) = walk.span();
-    TextSpan {
-        number: walk.number(),
-        start,
-        stop,
-    }
+    walk.span()
 }
 
 /// The body of paragraph `number`, from 0.
@@ -41,12 +25,7 @@ pub(crate) fn span_of<D: BidiData>(source: &TextRef<'_, D>, number: usize) -> Te
     ensures number { result.number ≡ number }
     ensures is { IsSpan source.now result }
 {
-    let (start, stop) = source.index.span(number);
-    TextSpan {
-        number,
-        start,
-        stop,
-    }
+    source.index.span(number)
 }
 
 /// The body of the paragraph that an offset falls in.
@@ -55,10 +34,5 @@ pub(crate) fn paragraph_under<D: BidiData>(source: &TextRef<'_, D>, offset: usiz
     ensures is { IsSpan source.now result }
     ensures order { result.start ≤ offset }
 {
-    let (number, (start, stop)) = source.index.span_at(offset);
-    TextSpan {
-        number,
-        start,
-        stop,
-    }
+    source.index.span_at(offset)
 }

@@ -7,7 +7,7 @@ ghost use Rattle.bx_view.specs.Top.{is_in};
 use crate::in_row::RowAt;
 use crate::text_ref::TextRef;
 use crate::view::View;
-use bx_common::OutOfMemory;
+use bx_common::{OutOfMemory, Range};
 use bx_paragraph::Slot;
 use bx_ucd::BidiData;
 
@@ -20,20 +20,20 @@ fn keep_in(slots: &mut Vec<Slot>, start: usize, stop: usize)
 }
 
 impl View {
-    /// The slots of a row's units that begin in a part of the text, from the offset `part.0` up to `part.1`, from left to
-    /// right. If the row's paragraph lies outside the part, nothing is computed.
+    /// The slots of a row's units that begin in a part of the text, from left to right. If the row's paragraph lies outside the
+    /// part, nothing is computed.
     pub fn slots_in<D: BidiData>(
         &self,
         source: &TextRef<'_, D>,
         at: RowAt,
-        part: (usize, usize),
+        part: Range,
     ) -> Result<Vec<Slot>, OutOfMemory>
         requires row { Stands source.now self.now at }
-        ensures { OfRow source.now self.now at (λ r. IfOk result (λ v. v.items ≡ slots_in self.now.w part r)) }
+        ensures { OfRow source.now self.now at (λ r. IfOk result (λ v. v.items ≡ slots_in self.now.w (part.start, part.stop) r)) }
     {
         let row = self.row(source, at);
-        let start = part.0.saturating_sub(row.start);
-        let stop = part.1.saturating_sub(row.start);
+        let start = part.start.saturating_sub(row.start);
+        let stop = part.stop.saturating_sub(row.start);
         if start >= stop || row.paragraph.body().len() < start {
             return Ok(Vec::new(*self.cache.allocator()));
         }

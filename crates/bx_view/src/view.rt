@@ -9,11 +9,11 @@ ghost use Rattle.bx_view.specs.TextRows.{row_of};
 
 use crate::cache::{add, cache_limit, find_in, lay_out_in};
 use crate::in_row::RowAt;
-use crate::span::{TextSpan, current_span, paragraph_under};
+use crate::span::{current_span, paragraph_under};
 use crate::text_ref::TextRef;
 use bx_common::{Base, OutOfMemory};
 use bx_paragraph::ParagraphLayout;
-use bx_text::ParagraphWalk;
+use bx_text::{ParagraphWalk, TextSpan};
 use bx_ucd::BidiData;
 use std::alloc::Global;
 use std::marker::Model;

@@ -17,7 +17,8 @@ use Rattle.bx_editor.specs.declared.search_state.SearchState.TheVariants.{Off, B
 use Rattle.bx_editor.specs.Putting.{paste_ended}
 use Rattle.bx_editor.specs.Replay.{after_passed_quit, after_passed_save}
 use Rattle.bx_editor.specs.Replay as replay
-use Rattle.bx_session.specs.Session.{Session, at_opening, after_spending, key_of_byte, session_after_key, scrolled, clipboard_if}
+use Rattle.bx_editor.specs.Picture.{scrolled}
+use Rattle.bx_session.specs.Session.{Session, at_opening, after_spending, key_of_byte, session_after_key, clipboard_if}
 use Rattle.bx_session.specs.Replaying.{after_all_replayed, at_replay_end, after_replay, after_replayed_key, session_after_replayed}
 use Rattle.bx_session.specs.Replaying.{session_replayed_on, session_scrolled}
 use Rattle.bx_session.specs.Painting.{QueuesPicture}

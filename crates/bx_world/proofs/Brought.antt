@@ -17,7 +17,8 @@ use Rattle.bx_view.specs.Top.{follow}
 use Rattle.bx_editor.specs.Editor.{Editor, rows, text_height, with_top}
 use Rattle.bx_session.specs.declared.status.Refused.TheVariants as refused
 use Rattle.bx_session.specs.Session.{Session, key_of_byte, after_spending, session_after_any, unpainted_after_byte, painted_after}
-use Rattle.bx_session.specs.Session.{is_painted, after_byte, scrolled, StoreState, StoreAfter, is_save_key, is_save_byte, text_to_save}
+use Rattle.bx_editor.specs.Picture.{scrolled}
+use Rattle.bx_session.specs.Session.{is_painted, after_byte, StoreState, StoreAfter, is_save_key, is_save_byte, text_to_save}
 use Rattle.bx_session.specs.Laws.{keys_from}
 use Rattle.bx_session.proofs.Input.{keys_of_input}
 use Rattle.bx_session.proofs.Replayed.{rest_from, keys_from_both}

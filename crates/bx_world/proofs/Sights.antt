@@ -11,7 +11,8 @@ use Rattle.bx_grid.proofs.Reading.{reads-append}
 use Rattle.bx_store.specs.declared.store.StoreFault.{StoreFault}
 use Rattle.bx_ucd.specs.Data.{Data}
 use Rattle.bx_session.specs.declared.status.Refused.TheVariants as refused
-use Rattle.bx_session.specs.Session.{Session, after_byte, clip_after, is_painted, key_of_byte, painted_after, painting, scrolled}
+use Rattle.bx_editor.specs.Picture.{scrolled}
+use Rattle.bx_session.specs.Session.{Session, after_byte, clip_after, is_painted, key_of_byte, painted_after, painting}
 use Rattle.bx_session.specs.Session.{then_clip, unpainted_after_byte, unpainted_after_told, StoreState}
 use Rattle.bx_session.specs.Session as sessions
 use Rattle.bx_session.proofs.Pictures.{then_clip_after}

@@ -8,8 +8,8 @@ use Rattle.bx_grid.specs.Terminal.{Terminal, reads}
 use Rattle.bx_ucd.specs.Data.{Data}
 use Rattle.bx_editor.specs.Putting.{paste_ended}
 use Rattle.bx_editor.specs.Replay.{at_replay_end}
-use Rattle.bx_editor.specs.Picture.{picture}
-use Rattle.bx_session.specs.Session.{Session, scrolled, StoreState}
+use Rattle.bx_editor.specs.Picture.{picture, scrolled}
+use Rattle.bx_session.specs.Session.{Session, StoreState}
 use Rattle.bx_session.specs.Replaying.{after_all_replayed}
 use Rattle.bx_session.specs.Running.{ByteAnswer, Turn, TakesTurn, HasRun}
 use Rattle.bx_session.specs.Beginning.{Beginning, IsBegun, at_offset, unpainted_at, begun}

@@ -1,7 +1,7 @@
 //! The editor's command line.
 
 use crate::words::WordFault;
-use bx_command::{Options, UnicodePaths};
+use bx_command::{Options, UnicodeFiles};
 use bx_common::Base;
 use std::alloc::{AllocError, Global};
 
@@ -14,11 +14,11 @@ fn add_option(line: &mut String, name: &str, value: Option<&str>) -> Result<(), 
 }
 
 /// Appends the paths of Unicode's files.
-fn add_paths(line: &mut String, paths: UnicodePaths<'_>) -> Result<(), AllocError> {
+fn add_paths(line: &mut String, paths: &UnicodeFiles<&str>) -> Result<(), AllocError> {
     add_option(line, "classes", Some(paths.classes))?;
     add_option(line, "brackets", Some(paths.brackets))?;
     add_option(line, "mirroring", Some(paths.mirroring))?;
-    match paths.joining {
+    match &paths.joining {
         Some(paths) => {
             add_option(line, "joining", Some(paths.joining))?;
             add_option(line, "characters", Some(paths.characters))
@@ -36,7 +36,7 @@ fn add_options(line: &mut String, options: &Options<'_>) -> Result<(), AllocErro
         Base::Rtl => "rtl",
     };
     write!(line, "{rows} {columns} {direction}")?;
-    add_paths(line, options.unicode)?;
+    add_paths(line, &options.unicode)?;
     for (name, value) in [
         ("file", Some(options.file)),
         ("text", options.text),

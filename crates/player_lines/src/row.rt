@@ -135,13 +135,13 @@ pub fn row_line(alloc: Global, tables: &Tables, fields: &[&str]) -> Result<Strin
     let index = Index::build(alloc, &text, tables)?;
     let mut line = String::new(alloc);
     for paragraph in 0..index.count() {
-        let (start, stop) = index.span(paragraph);
-        let body = text.copy_range(start, stop)?;
+        let span = index.span(paragraph);
+        let body = text.copy_range(span.start, span.stop)?;
         let layout = ParagraphLayout::of(alloc, body, tables, w, base)?;
         if left < layout.row_count() {
             add_units(&mut line, alloc, layout.body(), tables, base, w, left)?;
             line.push('\t')?;
-            add_pictured(&mut line, &layout, tables, start, left)?;
+            add_pictured(&mut line, &layout, tables, span.start, left)?;
             return Ok(line);
         }
         left = left.saturating_sub(layout.row_count());

@@ -1,16 +1,16 @@
 //! The task `opening`: a text is opened and its first picture is painted.
 
-use crate::editor::table_files::TableFiles;
 use crate::editor::typist::Typist;
 use crate::editor::{Measurement, Traffic, outcome_of};
 use crate::outcome::Outcome;
 use anyhow::Result;
+use bx_command::UnicodeFiles;
 use std::time::{CpuClock, Duration};
 
 /// Opens a copy of a text. Returns the number of bytes sent and the time, without the copy, the tables and the closing.
 fn once<R: CpuClock + AllocGlobal>(
     rt: &R,
-    files: &TableFiles,
+    files: &UnicodeFiles<Vec<u8>>,
     text: &str,
 ) -> Result<(usize, Duration)> {
     let copy = String::from_str(rt.alloc(), text)?.into_bytes();
@@ -27,7 +27,7 @@ fn once<R: CpuClock + AllocGlobal>(
 /// Measures the opening of a text, `wanted.times` times, each time in a new session.
 pub(crate) fn run<R: CpuClock + AllocGlobal>(
     rt: &R,
-    files: &TableFiles,
+    files: &UnicodeFiles<Vec<u8>>,
     wanted: Measurement,
     name: &str,
 ) -> Result<Outcome> {

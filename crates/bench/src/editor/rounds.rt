@@ -1,11 +1,11 @@
 //! The tasks done by keys: rounds in the middle of a text, all in one session.
 
-use crate::editor::table_files::TableFiles;
 use crate::editor::task::Task;
 use crate::editor::typist::Typist;
 use crate::editor::{Measurement, Traffic, outcome_of};
 use crate::outcome::Outcome;
 use anyhow::Result;
+use bx_command::UnicodeFiles;
 use std::time::{CpuClock, Duration};
 
 /// Goes to the middle of a text of `length` bytes and runs the task `wanted.times` times. Returns their processor time.
@@ -28,7 +28,7 @@ fn rounds<R: CpuClock>(
 /// The traffic and the time of a task's rounds.
 fn measure<R: CpuClock + AllocGlobal>(
     rt: &R,
-    files: &TableFiles,
+    files: &UnicodeFiles<Vec<u8>>,
     task: Task,
     wanted: Measurement,
     text: String,
@@ -44,7 +44,7 @@ fn measure<R: CpuClock + AllocGlobal>(
 /// Measures a task, `wanted.times` times.
 pub(crate) fn run<R: CpuClock + AllocGlobal>(
     rt: &R,
-    files: &TableFiles,
+    files: &UnicodeFiles<Vec<u8>>,
     task: Task,
     wanted: Measurement,
     name: &str,

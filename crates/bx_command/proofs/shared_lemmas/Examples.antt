@@ -1,5 +1,6 @@
 -- Worked examples: what options give, from what their clauses say alone, whatever clap matched.
 use Rattle.std.proofs.Common.{◌≡◌, ℕ, List, refl, ap, ◌∙◌, arith, slice_index}
+use Rattle.std.specs.Borrow.{Bor}
 use Rattle.std.specs.Prelude.{codes, Option, Some, None}
 use Rattle.std.specs.Str.Parse.{digits_value, without_leading_plus}
 use Rattle.clap.specs.Words.{Row}
@@ -7,10 +8,7 @@ use Rattle.bx_common.specs.Directions.{word_of}
 use Rattle.bx_common.specs.declared.base.Base.{Base}
 use Rattle.bx_common.specs.declared.base.Base.TheVariants.{Auto, Ltr, Rtl}
 use Rattle.bx_command.specs.shared.Arguments.{GivesDirection, GivesPaths, IsSideIn, value_in}
-use Rattle.bx_command.specs.shared.Files.{AreLent}
-use Rattle.bx_command.specs.declared.shared.unicode.UnicodeBytes.{UnicodeBytes}
 use Rattle.bx_command.specs.declared.shared.unicode.UnicodeFiles.{UnicodeFiles}
-use Rattle.bx_command.specs.declared.shared.unicode.UnicodePaths.{UnicodePaths}
 
 same_text : (option : Option (List ℕ)) (left right : List ℕ) → option ≡ Some left → option ≡ Some right → left ≡ right
 same_text option left right a b = cc
@@ -42,13 +40,8 @@ no_text : (option : Option (List ℕ)) (text : List ℕ) → option ≡ None →
 no_text option text none some = absurd (cc)
 
 -- without --brackets there are no paths
-pub brackets_are_required : (rows : List Row) (paths : Option UnicodePaths) → GivesPaths rows paths
+pub brackets_are_required : (rows : List Row) (paths : Option (UnicodeFiles (Bor (List ℕ)))) → GivesPaths rows paths
     → value_in rows (codes "brackets") ≡ None → paths ≡ None
 brackets_are_required rows None given missing = refl
 brackets_are_required rows (Some paths) given missing =
     absurd (no_text (value_in rows (codes "brackets")) paths.brackets.now missing given.brackets)
-
--- the mirrors are lent from the bytes of the mirrors
-pub mirrors_are_lent : (bytes : UnicodeBytes) (files : UnicodeFiles) (text : List ℕ) → AreLent bytes files → bytes.mirroring.items ≡ text
-    → files.mirroring.now ≡ text
-mirrors_are_lent bytes files text lent is = lent.mirroring ∙ is

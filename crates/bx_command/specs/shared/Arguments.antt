@@ -1,5 +1,6 @@
 -- What the options of a command line say.
 use Rattle.std.specs.Prelude.{◌≡◌, ◌≢◌, ◌⊎◌, Bool, true, false, ℕ, List, Option, Some, None, MatchOption, codes}
+use Rattle.std.specs.Borrow.{Bor}
 use Rattle.std.specs.Str.{bytes_eq}
 use Rattle.std.specs.Str.Parse.{IsNumeral, digits_value, without_leading_plus}
 use Rattle.clap.specs.Words.{Row, first_of, found_of, rows_of}
@@ -7,8 +8,8 @@ use Rattle.clap.specs.declared.parser.matches.ArgMatches.{ArgMatches}
 use Rattle.bx_common.specs.Directions.{word_of}
 use Rattle.bx_common.specs.Characters.{is_side}
 use Rattle.bx_common.specs.declared.base.Base.{Base}
-use Rattle.bx_command.specs.declared.shared.unicode.JoiningPaths.{JoiningPaths}
-use Rattle.bx_command.specs.declared.shared.unicode.UnicodePaths.{UnicodePaths}
+use Rattle.bx_command.specs.declared.shared.unicode.JoiningFiles.{JoiningFiles}
+use Rattle.bx_command.specs.declared.shared.unicode.UnicodeFiles.{UnicodeFiles}
 
 -- what clap found: a row for each option that is given or has a default
 abbrev pub rows_in : ArgMatches → List Row
@@ -46,20 +47,20 @@ GivesDirection rows direction =
     (λ base. value_in rows (codes "direction") ≡ Some (word_of base))
 
 -- the values of --joining and --characters; none if one of them is missing
-abbrev pub GivesJoining : List Row → Option JoiningPaths → Type 0
+abbrev pub GivesJoining : List Row → Option (JoiningFiles (Bor (List ℕ))) → Type 0
 GivesJoining rows paths =
     MatchOption paths ((value_in rows (codes "joining") ≡ None) ⊎ (value_in rows (codes "characters") ≡ None))
     (λ p. (value_in rows (codes "joining") ≡ Some p.joining.now) × (value_in rows (codes "characters") ≡ Some p.characters.now))
 
 -- each path is the value of the option of its name
-pub record ArePathsIn (rows : List Row) (paths : UnicodePaths) : Type 0 where
+pub record ArePathsIn (rows : List Row) (paths : UnicodeFiles (Bor (List ℕ))) : Type 0 where
   pub classes : value_in rows (codes "classes") ≡ Some paths.classes.now
   pub brackets : value_in rows (codes "brackets") ≡ Some paths.brackets.now
   pub mirroring : value_in rows (codes "mirroring") ≡ Some paths.mirroring.now
   pub joining : GivesJoining rows paths.joining
 
 -- these paths; none if one of the three that are required is missing
-abbrev pub GivesPaths : List Row → Option UnicodePaths → Type 0
+abbrev pub GivesPaths : List Row → Option (UnicodeFiles (Bor (List ℕ))) → Type 0
 GivesPaths rows paths =
     MatchOption paths
     ((value_in rows (codes "classes") ≡ None) ⊎ ((value_in rows (codes "brackets") ≡ None) ⊎ (value_in rows (codes "mirroring") ≡ None)))

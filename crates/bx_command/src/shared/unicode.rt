@@ -1,72 +1,38 @@
-//! Unicode's files: the options that name them, their paths and their bytes.
+//! Unicode's files: the options that name them, their paths and bytes, and the tables read from them.
 
-ghost use Rattle.std.specs.Prelude.{◌≡◌, IfOk};
+ghost use Rattle.std.specs.Prelude.{◌≡◌, ◌⊎◌, Some, IfErr, IfOk};
 ghost use Rattle.clap.specs.Words.{app_of, rule_of};
 ghost use Rattle.bx_command.specs.shared.Arguments.{GivesJoining, GivesPaths, rows_in};
-ghost use Rattle.bx_command.specs.shared.Files.{AreLent, kept_pair, lent_pair};
 ghost use Rattle.bx_command.specs.shared.Rules.{bound, option_rule, required, table_rules, with_rules};
+ghost use Rattle.bx_command.specs.shared.Tables.{AreOfFiles, NoMemoryInTables, joining_texts, refused_line};
+ghost use Rattle.bx_ucd.specs.Reading.{texts_of};
 
 use crate::shared::arguments::{option, value_of};
 use crate::shared::files::{FileFault, bytes_of};
-use bx_ucd::JoiningFiles;
+use bx_ucd::{BidiData, Tables, UcdError};
 use clap::{Arg, ArgMatches, Command};
 use std::alloc::{AllocError, Global};
 
-/// The paths of the two files by which letters are joined.
-#[derive(Clone, Copy)]
-pub struct JoiningPaths<'a> {
+/// The two files by which letters are joined, each as a `T`: its path or its bytes.
+#[derive(Drop)]
+pub struct JoiningFiles<T> {
     /// ArabicShaping.txt
-    pub joining: &'a str,
+    pub joining: T,
     /// UnicodeData.txt
-    pub characters: &'a str,
+    pub characters: T,
 }
 
-/// The paths of Unicode's files.
-#[derive(Clone, Copy)]
-pub struct UnicodePaths<'a> {
-    /// DerivedBidiClass.txt
-    pub classes: &'a str,
-    /// BidiBrackets.txt
-    pub brackets: &'a str,
-    /// BidiMirroring.txt
-    pub mirroring: &'a str,
-    /// None if letters are not joined.
-    pub joining: Option<JoiningPaths<'a>>,
-}
-
-/// The bytes of Unicode's files, lent.
-#[derive(Clone, Copy)]
-pub struct UnicodeFiles<'a> {
-    /// DerivedBidiClass.txt
-    pub classes: &'a [u8],
-    /// BidiBrackets.txt
-    pub brackets: &'a [u8],
-    /// BidiMirroring.txt
-    pub mirroring: &'a [u8],
-    /// None if letters are not joined.
-    pub joining: Option<JoiningFiles<'a>>,
-}
-
-/// The bytes of the two files by which letters are joined.
+/// Unicode's files, each as a `T`: its path or its bytes.
 #[derive(Drop)]
-struct JoiningBytes {
-    /// Of ArabicShaping.txt.
-    joining: Vec<u8>,
-    /// Of UnicodeData.txt.
-    characters: Vec<u8>,
-}
-
-/// The bytes of Unicode's files.
-#[derive(Drop)]
-pub struct UnicodeBytes {
-    /// Of DerivedBidiClass.txt.
-    classes: Vec<u8>,
-    /// Of BidiBrackets.txt.
-    brackets: Vec<u8>,
-    /// Of BidiMirroring.txt.
-    mirroring: Vec<u8>,
+pub struct UnicodeFiles<T> {
+    /// DerivedBidiClass.txt
+    pub classes: T,
+    /// BidiBrackets.txt
+    pub brackets: T,
+    /// BidiMirroring.txt
+    pub mirroring: T,
     /// None if letters are not joined.
-    joining: Option<JoiningBytes>,
+    pub joining: Option<JoiningFiles<T>>,
 }
 
 /// An option that names a file, which must be given.
@@ -96,20 +62,20 @@ pub fn with_tables<'a>(command: Command<'a>, alloc: Global) -> Result<Command<'a
 }
 
 /// The paths of the two files by which letters are joined; None if one of them is missing.
-fn joining_paths_of<'a>(matches: &ArgMatches<'a>) -> Option<JoiningPaths<'a>>
+fn joining_paths_of<'a>(matches: &ArgMatches<'a>) -> Option<JoiningFiles<&'a str>>
     ensures { GivesJoining (rows_in matches.now) result }
 {
-    Some(JoiningPaths {
+    Some(JoiningFiles {
         joining: value_of(matches, "joining")?,
         characters: value_of(matches, "characters")?,
     })
 }
 
 /// The paths of Unicode's files, from their options; None if a required one is missing.
-pub fn paths_of<'a>(matches: &ArgMatches<'a>) -> Option<UnicodePaths<'a>>
+pub fn paths_of<'a>(matches: &ArgMatches<'a>) -> Option<UnicodeFiles<&'a str>>
     ensures { GivesPaths (rows_in matches.now) result }
 {
-    Some(UnicodePaths {
+    Some(UnicodeFiles {
         classes: value_of(matches, "classes")?,
         brackets: value_of(matches, "brackets")?,
         mirroring: value_of(matches, "mirroring")?,
@@ -117,54 +83,52 @@ pub fn paths_of<'a>(matches: &ArgMatches<'a>) -> Option<UnicodePaths<'a>>
     })
 }
 
-impl JoiningBytes {
-    /// Reads both files.
-    fn read<'a>(rt: &HostRuntime, paths: JoiningPaths<'a>) -> Result<JoiningBytes, FileFault<'a>> {
-        Ok(JoiningBytes {
-            joining: bytes_of(rt, paths.joining)?,
-            characters: bytes_of(rt, paths.characters)?,
-        })
-    }
-
-    /// Borrows their bytes.
-    fn lend(&self) -> JoiningFiles<'_>
-        ensures { lent_pair result ≡ kept_pair self.now }
-    {
-        JoiningFiles {
-            joining: self.joining.as_slice(),
-            characters: self.characters.as_slice(),
-        }
-    }
+/// The two files by which letters are joined, as `Tables::read` takes them.
+fn lent(files: &Option<JoiningFiles<Vec<u8>>>) -> Option<bx_ucd::JoiningFiles<'_>>
+    ensures { texts_of result ≡ joining_texts files.now }
+{
+    let files = files.as_ref()?;
+    Some(bx_ucd::JoiningFiles {
+        joining: files.joining.as_slice(),
+        characters: files.characters.as_slice(),
+    })
 }
 
-impl UnicodeBytes {
+impl UnicodeFiles<Vec<u8>> {
     /// Reads the files at these paths, in the order of the fields.
     ///
     /// Errors: the fault of the first file that cannot be read.
     pub fn read<'a>(
         rt: &HostRuntime,
-        paths: UnicodePaths<'a>,
-    ) -> Result<UnicodeBytes, FileFault<'a>> {
-        Ok(UnicodeBytes {
+        paths: &UnicodeFiles<&'a str>,
+    ) -> Result<UnicodeFiles<Vec<u8>>, FileFault<'a>> {
+        Ok(UnicodeFiles {
             classes: bytes_of(rt, paths.classes)?,
             brackets: bytes_of(rt, paths.brackets)?,
             mirroring: bytes_of(rt, paths.mirroring)?,
-            joining: match paths.joining {
-                Some(paths) => Some(JoiningBytes::read(rt, paths)?),
+            joining: match &paths.joining {
+                Some(paths) => Some(JoiningFiles {
+                    joining: bytes_of(rt, paths.joining)?,
+                    characters: bytes_of(rt, paths.characters)?,
+                }),
                 None => None,
             },
         })
     }
 
-    /// Borrows the files' bytes.
-    pub fn lend(&self) -> UnicodeFiles<'_>
-        ensures { AreLent self.now result }
+    /// Reads the tables from the files' bytes.
+    ///
+    /// Errors: the first malformed line; or a failed allocation, with the file that was being read.
+    pub fn tables(&self, alloc: Global) -> Result<Tables, UcdError>
+        ensures accepted { IfOk result (λ t. AreOfFiles (⟦<Tables as BidiData>⟧.data t) self.now) }
+        ensures refused { IfErr result (λ e. (refused_line self.now ≡ Some e) ⊎ NoMemoryInTables self.now e) }
     {
-        UnicodeFiles {
-            classes: self.classes.as_slice(),
-            brackets: self.brackets.as_slice(),
-            mirroring: self.mirroring.as_slice(),
-            joining: self.joining.as_ref().map(|bytes| bytes.lend()),
-        }
+        Tables::read(
+            alloc,
+            self.classes.as_slice(),
+            self.brackets.as_slice(),
+            self.mirroring.as_slice(),
+            lent(&self.joining),
+        )
     }
 }

@@ -7,8 +7,8 @@ ghost use Rattle.bx_levels.specs.resolve.Edited.{FollowsBetween, FollowsToEnd};
 
 use crate::resolve::paragraph::{Level, Levels};
 use crate::resolve::resolve::levels;
-use crate::resolve::splice::{Span, replace_span};
-use bx_common::{Base, OutOfMemory};
+use crate::resolve::splice::replace_span;
+use bx_common::{Base, OutOfMemory, Range};
 use bx_ucd::BidiData;
 use std::alloc::Global;
 
@@ -31,22 +31,22 @@ fn piece_levels<D: BidiData>(
 }
 
 /// Updates the levels of a text after an edit between two strong characters (L, R or AL). `piece` is the new text from the
-/// first of them through the second, and `span` has the indexes in the old text from the first through the second.
+/// first of them through the second, and `span` has the indexes of their characters in the old text, from the first through the second.
 ///
 /// Errors: `OutOfMemory`; the levels are unchanged.
 pub fn follow_between<D: BidiData>(
     levels: &mut Levels,
     tables: &D,
     piece: &str,
-    span: Span,
+    span: Range,
 ) -> Result<(), OutOfMemory>
     requires low { levels.old.paragraph ≤ 1 }
-    requires ordered { span.first ≤ span.last }
-    requires inside { span.last ≤ length levels.old.each.items }
+    requires ordered { span.start ≤ span.stop }
+    requires inside { span.stop ≤ length levels.old.each.items }
     ensures paragraph { levels.new.paragraph ≡ levels.old.paragraph }
-    ensures each { OnOk result (levels.new.each.items ≡ splice levels.old.each.items span.first span.last
+    ensures each { OnOk result (levels.new.each.items ≡ splice levels.old.each.items span.start span.stop
         (paragraph_levels (D.data tables.now) levels.old.paragraph (chars piece.now))) }
-    ensures law { OnOk result (FollowsBetween (D.data tables.now) (chars piece.now) span.first span.last
+    ensures law { OnOk result (FollowsBetween (D.data tables.now) (chars piece.now) span.start span.stop
         levels.old levels.new) }
     ensures err { OnErr result (levels.new.each.items ≡ levels.old.each.items) }
 {
@@ -75,7 +75,8 @@ pub fn follow_to_end<D: BidiData>(
     ensures law { OnOk result (FollowsToEnd (D.data tables.now) (chars piece.now) first levels.old levels.new) }
     ensures err { OnErr result (levels.new.each.items ≡ levels.old.each.items) }
 {
-    let last = levels.each.len();
-    follow_between(levels, tables, piece, Span { first, last })?;
+    let stop = levels.each.len();
+    let span = Range { start: first, stop };
+    follow_between(levels, tables, piece, span)?;
     Ok(())
 }

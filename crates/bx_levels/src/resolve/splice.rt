@@ -3,15 +3,8 @@ ghost use Rattle.std.specs.Prelude.{◌≡◌, ◌≤◌, OnErr, OnOk, length};
 ghost use Rattle.std.specs.List.{splice};
 
 use crate::resolve::paragraph::Level;
+use bx_common::Range;
 use std::alloc::AllocError;
-
-/// A span of character indexes, `first..last`.
-#[derive(Clone, Copy)]
-pub struct Span {
-    pub first: usize,
-    /// The index after the last one.
-    pub last: usize,
-}
 
 /// Reserves room for `more` levels, and grows by an eighth at least, so that consecutive edits rarely reallocate.
 fn make_room(levels: &mut Vec<Level>, more: usize) -> Result<(), AllocError>
@@ -27,15 +20,15 @@ fn make_room(levels: &mut Vec<Level>, more: usize) -> Result<(), AllocError>
 /// Replaces the levels of a span. After an error the levels are unchanged.
 pub fn replace_span(
     levels: &mut Vec<Level>,
-    span: Span,
+    span: Range,
     found: Vec<Level>,
 ) -> Result<(), AllocError>
-    requires ordered { span.first ≤ span.last }
-    requires inside { span.last ≤ length levels.old.items }
-    ensures ok { OnOk result (levels.new.items ≡ splice levels.old.items span.first span.last found.items) }
+    requires ordered { span.start ≤ span.stop }
+    requires inside { span.stop ≤ length levels.old.items }
+    ensures ok { OnOk result (levels.new.items ≡ splice levels.old.items span.start span.stop found.items) }
     ensures err { OnErr result (levels.new.items ≡ levels.old.items) }
 {
-    make_room(levels, found.len().saturating_sub(span.last - span.first))?;
-    let _gone = levels.splice(span.first..span.last, found)?;
+    make_room(levels, found.len().saturating_sub(span.stop - span.start))?;
+    let _gone = levels.splice(span.start..span.stop, found)?;
     Ok(())
 }

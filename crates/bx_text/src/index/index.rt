@@ -20,6 +20,7 @@ use crate::index::rescan::replace;
 use crate::index::scan::paragraph_from;
 use crate::index::scan_range::{ScanRange, range_to_end};
 use crate::index::scanned_text::ScannedText;
+use crate::index::text_span::TextSpan;
 use crate::index::walk::ParagraphWalk;
 use crate::{Change, Text};
 use bx_common::{LARGEST_TEXT, OutOfMemory};
@@ -232,30 +233,45 @@ impl Index {
         self.front.size().0 + 1
     }
 
-    /// The number of the paragraph, from 0, that an offset in bytes falls in, which is the last that begins at or before it, and the
-    /// offsets of its body's start and end. Takes one search.
-    pub fn span_at(&self, offset: usize) -> (usize, (usize, usize))
-        ensures number { result.0 ≡ paragraph_of self.now.paragraphs offset }
-        ensures span { slice_get (spans self.now.paragraphs) result.0 ≡ Some result.1 }
+    /// The body of the paragraph that an offset in bytes falls in, which is the last that begins at or before it. Takes one search.
+    pub fn span_at(&self, offset: usize) -> TextSpan
+        ensures number { result.number ≡ paragraph_of self.now.paragraphs offset }
+        ensures span { slice_get (spans self.now.paragraphs) result.number ≡ Some (result.start, result.stop) }
     {
         let span = self.front.find(offset);
-        let start = span.start;
         let Some(end) = span.end else {
-            return (span.number, (start, start + self.last as usize));
+            return TextSpan {
+                number: span.number,
+                start: span.start,
+                stop: span.start + self.last as usize,
+            };
         };
-        (span.number, (start, end - span.separator))
+        TextSpan {
+            number: span.number,
+            start: span.start,
+            stop: end - span.separator,
+        }
     }
 
-    /// Offsets of the start and the end of the body of paragraph `number`, from 0, in bytes.
-    pub fn span(&self, number: usize) -> (usize, usize)
+    /// The body of paragraph `number`, from 0.
+    pub fn span(&self, number: usize) -> TextSpan
         requires { number < length self.now.paragraphs }
-        ensures { slice_get (spans self.now.paragraphs) number ≡ Some result }
+        ensures number { result.number ≡ number }
+        ensures span { slice_get (spans self.now.paragraphs) number ≡ Some (result.start, result.stop) }
     {
         match self.front.get(number) {
-            Some((start, paragraph)) => (start, start + paragraph.body as usize),
+            Some((start, paragraph)) => TextSpan {
+                number,
+                start,
+                stop: start + paragraph.body as usize,
+            },
             None => {
                 let start = self.front.size().1;
-                (start, start + self.last as usize)
+                TextSpan {
+                    number,
+                    start,
+                    stop: start + self.last as usize,
+                }
             }
         }
     }

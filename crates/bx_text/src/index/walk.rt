@@ -10,6 +10,7 @@ ghost use Rattle.bx_text.specs.index.Spots.{closed};
 use crate::index::blocks::Blocks;
 use crate::index::lengths::Lengths;
 use crate::index::spot::{Spot, next_spot, paragraph_at, previous_spot, spot_of};
+use crate::index::text_span::TextSpan;
 use std::marker::Model;
 
 /// A walk over the paragraphs of a text. It goes from one to the next or the previous one, at a cost that does not grow
@@ -68,11 +69,16 @@ impl<'a> ParagraphWalk<'a> {
         self.spot.number
     }
 
-    /// Offsets of the start and the end of the paragraph's body, in bytes.
-    pub fn span(&self) -> (usize, usize)
-        ensures { slice_get (spans self.now.paragraphs) self.now.number ≡ Some result }
+    /// The body of the paragraph.
+    pub fn span(&self) -> TextSpan
+        ensures number { result.number ≡ self.now.number }
+        ensures span { slice_get (spans self.now.paragraphs) self.now.number ≡ Some (result.start, result.stop) }
     {
-        (self.start, self.start + self.here.body as usize)
+        TextSpan {
+            number: self.spot.number,
+            start: self.start,
+            stop: self.start + self.here.body as usize,
+        }
     }
 
     /// Length in bytes of the separator that ends the paragraph, 0 for the text's last.

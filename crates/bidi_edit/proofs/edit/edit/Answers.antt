@@ -14,7 +14,7 @@ returns-in_err-session-clause-refused g c =
 pub returns-clause-runs : goal.returns-clause-runs
 returns-clause-runs g c =
     let b = c.args.beginning in
-    edits_of g.V.Device.did g.V.Device.obeyed g.V.Device.stored _ (beginning_of b) b.unicode (ucd c.in_ok-session.session.tables)
+    edits_of g.V.Device.did g.V.Device.obeyed g.V.Device.stored _ (beginning_of b) b.unicode.now (ucd c.in_ok-session.session.tables)
     c.in_ok-session.session.session _ _ c.resume-changes.result c.in_ok-session.ensures.tables c.in_ok-session.ensures.opens
     c.resume-changes.ensures.runs
 

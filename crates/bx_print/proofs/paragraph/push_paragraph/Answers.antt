@@ -12,8 +12,8 @@ returns-clause-lines g c =
     let style = c.args.style in
     let lines = body_lines ucd style.marks in
     let laid = c.in_ok-layout.ensures in
-    let span = paragraph-span ucd text c.args.source.now.index.now.paragraphs c.args.number c.span-start.result.0 c.span-start.result.1 c.args.source.now.utf8
-    c.requires.number c.args.source.now.indexed c.span-start.ensures in
+    let span = paragraph-span ucd text c.args.source.now.index.now.paragraphs c.args.number c.span-span.result.start c.span-span.result.stop c.args.source.now.utf8
+    c.requires.number c.args.source.now.indexed c.span-span.ensures.span in
     let same : lines l.base l.w l.body ≡ lines style.base style.columns (body_at ucd text c.args.number) =
     ap (λ b. lines b l.w l.body) laid.base ∙ ap (λ w. lines style.base w l.body) laid.w
     ∙ ap (lines style.base style.columns) (laid.body ∙ c.in_ok-body.ensures.bytes ∙ span.body) in

@@ -4,24 +4,17 @@ use Rattle.bx_session.specs.Feeding.{SessionState}
 use Rattle.bx_recovery.proofs.TablesData.{ucd}
 use Rattle.bx_recovery.proofs.Causes.{can_open, ran_out}
 use Rattle.bx_recovery.proofs.Opened.{bytes_or_none, opened_is}
-use Rattle.bx_recovery.specs.Beginnings.{AreOfFiles, beginning_of, offset_of}
+use Rattle.bx_command.specs.shared.Tables.{AreOfFiles}
+use Rattle.bx_recovery.specs.Beginnings.{beginning_of, offset_of}
 use Rattle.bx_recovery.specs.declared.fault.RecoveryFault.TheVariants.{OutOfMemory}
 use Rattle.bx_recovery.proofs.opening.open.Goals as goal
 
 pub returns-clause-tables : goal.returns-clause-tables
 returns-clause-tables c =
     let b = c.args.beginning in
-    let are : AreOfFiles (ucd c.in_ok-tables.tables) b.unicode = record {
-      accepted = c.in_ok-tables.ensures.accepted;
-      classes_are = c.in_ok-tables.ensures.classes;
-      brackets_are = c.in_ok-tables.ensures.brackets;
-      mirrors_are = c.in_ok-tables.ensures.mirrors;
-      joining_is = c.in_ok-tables.ensures.joining;
-      forms_are = c.in_ok-tables.ensures.forms;
-    } in
     let stays = ap (λ (s : SessionState Tables). s.tables) c.in_ok-session.ensures.ok in
     let kept = ap (λ (s : SessionState Tables). s.tables) c.in_ok-prepare.ensures.ok ∙ stays in
-    subst (λ (t : Tables). AreOfFiles (ucd t) b.unicode) (sym kept) are
+    subst (λ (t : Tables). AreOfFiles (ucd t) b.unicode.now) (sym kept) c.in_ok-tables.ensures.accepted
 
 pub returns-clause-opens : goal.returns-clause-opens
 returns-clause-opens c =
@@ -36,7 +29,7 @@ pub returns-clause-openable : goal.returns-clause-openable
 returns-clause-openable c =
     let b = c.args.beginning in
     let text_is = bytes_or_none b.text c.new.result c.unwrap_or-text.result c.new.ensures.items c.unwrap_or-text.ensures in
-    can_open b _ text_is c.in_ok-tables.ensures.accepted c.in_ok-session.ensures.short c.in_ok-session.ensures.utf8
+    can_open b _ text_is c.in_ok-tables.ensures.accepted.accepted c.in_ok-session.ensures.short c.in_ok-session.ensures.utf8
 
 pub returns-in_err-prepare-clause-refused : goal.returns-in_err-prepare-clause-refused
 returns-in_err-prepare-clause-refused c =
@@ -44,4 +37,4 @@ returns-in_err-prepare-clause-refused c =
     let text_is = bytes_or_none b.text c.new.result c.unwrap_or-text.result c.new.ensures.items c.unwrap_or-text.ensures in
     let out : c.in_err-prepare.field-0.0 ≡ OutOfMemory = cc c.in_err-prepare.ensures.err in
     ran_out b c.from_residual-in_err-prepare.result _ c.from_residual-in_err-prepare.ensures.1 out
-    (can_open b _ text_is c.in_ok-tables.ensures.accepted c.in_ok-session.ensures.short c.in_ok-session.ensures.utf8)
+    (can_open b _ text_is c.in_ok-tables.ensures.accepted.accepted c.in_ok-session.ensures.short c.in_ok-session.ensures.utf8)

@@ -7,7 +7,7 @@ use Rattle.bx_recovery.proofs.recovering.recover.Goals as goal
 pub returns-clause-recovers : goal.returns-clause-recovers
 returns-clause-recovers g c =
     let b = c.args.beginning in
-    recovers_of (beginning_of b) b.unicode c.args.file.now (ucd c.in_ok-session.session.tables) c.in_ok-session.session.session
+    recovers_of (beginning_of b) b.unicode.now c.args.file.now (ucd c.in_ok-session.session.tables) c.in_ok-session.session.session
     c.store_replayed-replayed.result _ _ c.in_ok-session.ensures.tables c.in_ok-session.ensures.opens c.store_replayed-replayed.ensures.recovers
 
 pub returns-clause-refused : goal.returns-clause-refused

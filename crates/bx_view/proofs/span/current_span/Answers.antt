@@ -8,6 +8,6 @@ returns-clause-is g c =
     let s = c.args.source.now in
     let ucd = g.D.BidiData.data s.tables.now in
     let text = s.text.now.edited.text in
-    subst (λ n. IsSpan ucd text n c.span-start.result.0 c.span-start.result.1) (sym c.number.ensures.number)
-    (paragraph-span ucd text c.args.walk.now.paragraphs c.args.walk.now.number c.span-start.result.0 c.span-start.result.1 s.utf8 c.requires.number
-    c.requires.walk c.span-start.ensures)
+    subst (λ n. IsSpan ucd text n c.span.result.start c.span.result.stop) (sym c.span.ensures.number)
+    (paragraph-span ucd text c.args.walk.now.paragraphs c.args.walk.now.number c.span.result.start c.span.result.stop s.utf8 c.requires.number
+    c.requires.walk c.span.ensures.span)

@@ -15,21 +15,21 @@ pub returns-in-Some : goal.returns-in-Some
 returns-in-Some g c =
     let same = lent c.source-source.ensures.tables c.source-source.ensures.text c.self.view_is in
     let s = c.source-source.result in
-    let span = subst (λ w. slice_get (spans w.paragraphs) w.number ≡ Some c.span.result) c.walk_at-walk.ensures c.span.ensures in
+    let span = subst (λ w. slice_get (spans w.paragraphs) w.number ≡ Some (c.span.result.start, c.span.result.stop)) c.walk_at-walk.ensures c.span.ensures.span in
     let size = subst (λ w. slice_get (separators w.paragraphs) w.number ≡ Some c.separator.result) c.walk_at-walk.ensures c.separator.ensures in
     ap (λ xs. get_or xs 0 0 == 13) c.as_bytes.ensures.value
     ∙ of-piece (g.D.BidiData.data s.tables.now) s.text.now.edited.text s.index.now.paragraphs s.utf8 s.indexed
-    c.span.result.0 c.span.result.1 c.separator.result span size (omega (arith, c.if-separator-ne2.false))
+    c.span.result.start c.span.result.stop c.separator.result span size (omega (arith, c.if-separator-ne2.false))
     c.in-Some.separator.now c.in-Some.ensures.bytes c.in-Some.ensures.not_empty
     ∙ ap (λ s. has_crlf_first (g.D.BidiData.data s.tables) s.document.content.text) same
 
 pub returns-in-None : goal.returns-in-None
 returns-in-None g c =
     let s = c.source-source.result in
-    let span = subst (λ w. slice_get (spans w.paragraphs) w.number ≡ Some c.span.result) c.walk_at-walk.ensures c.span.ensures in
+    let span = subst (λ w. slice_get (spans w.paragraphs) w.number ≡ Some (c.span.result.start, c.span.result.stop)) c.walk_at-walk.ensures c.span.ensures.span in
     let size = subst (λ w. slice_get (separators w.paragraphs) w.number ≡ Some c.separator.result) c.walk_at-walk.ensures c.separator.ensures in
     let never : false ≡ true =
     c.in-None.ensures.there.1 (piece-there (g.D.BidiData.data s.tables.now) s.text.now.edited.text s.index.now.paragraphs s.utf8
-    s.indexed c.span.result.0 c.span.result.1 c.separator.result span size
+    s.indexed c.span.result.start c.span.result.stop c.separator.result span size
     (omega (arith, c.if-separator-ne2.false))) in
     absurd (cc)

@@ -5,8 +5,8 @@ use Rattle.bx_text.specs.Changes.{IsRange}
 use Rattle.bx_document.specs.Swapped.{last_stop, swapped}
 use Rattle.bx_document.proofs.document.Document.measure.Given as goal
 
-abbrev pub invariant-loop-at : goal.invariant-loop-at
-invariant-loop-at g l = record {
+abbrev pub invariant-loop-found : goal.invariant-loop-found
+invariant-loop-found g l = record {
   range : IsRange l.self.document.content.text l.start l.measure.stop;
   enough : l.measure.count ≤ l.measure.stop;
   fits : l.measure.len ≤ 2 ^ 64 - 1;
@@ -22,5 +22,5 @@ invariant-loop-at g l = record {
       (spans_from (g.D.BidiData.data l.self.tables) l.reading l.query l.self.document.content.text l.start)));
 }
 
-abbrev pub decreases-loop-at : goal.decreases-loop-at
-decreases-loop-at g l = length l.self.document.content.text - l.measure.stop
+abbrev pub decreases-loop-found : goal.decreases-loop-found
+decreases-loop-found g l = length l.self.document.content.text - l.measure.stop

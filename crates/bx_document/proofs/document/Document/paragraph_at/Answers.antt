@@ -10,7 +10,7 @@ overflow_add-result g c =
     let text = s.text.now.edited.text in
     omega (
       arith,
-      there ucd text s.index.now.paragraphs s.utf8 s.indexed c.args.offset c.span_at-number.result.0 c.span_at-number.ensures.number,
+      there ucd text s.index.now.paragraphs s.utf8 s.indexed c.args.offset c.span_at.result.number c.span_at.ensures.number,
       few_lengths ucd text s.utf8,
       ap length s.indexed,
       s.short,

@@ -4,7 +4,7 @@ use Rattle.std.proofs.lemmas.Bool.Decides.{nat_tests}
 use Rattle.bx_text.specs.Edits.{fits, largest_text, splice}
 use Rattle.bx_text.specs.Changes.{IsRange}
 use Rattle.bx_view.specs.Places.{IsTextPlace}
-use Rattle.bx_document.specs.Document.{place_after, replaced_text}
+use Rattle.bx_document.specs.Document.{place_after_removal, replaced_text}
 use Rattle.bx_document.proofs.PlaceAfter.{splice_bytes}
 use Rattle.bx_document.proofs.PlacesKept.{keeps_exchanged}
 use Rattle.bx_document.proofs.ReplacedPlace.{between_bound}
@@ -23,7 +23,7 @@ place_after_both-requires-clause-fits g c =
 
 pub place_after_both-requires-clause-between : goal.place_after_both-requires-clause-between
 place_after_both-requires-clause-between g c =
-    subst (λ s. c.in_ok-between.between ≡ place_after (g.D.BidiData.data s.tables) s.document c.args.start c.args.stop []) (sym c.place_after_removal.ensures.same)
+    subst (λ s. c.in_ok-between.between ≡ place_after_removal (g.D.BidiData.data s.tables) s.document c.args.start c.args.stop) (sym c.place_after_removal.ensures.same)
     c.in_ok-between.ensures.place
 
 pub place_after_both-requires-clause-place : goal.place_after_both-requires-clause-place

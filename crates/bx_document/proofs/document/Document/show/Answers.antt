@@ -49,10 +49,10 @@ returns-clause-drawn g c =
     let was = c.args.grid.now in
     let first = c.first_in-first.result in
     subst (λ s. c.draw_rows.new.grid ≡ record was {
-      columns = shown_columns (g.D.BidiData.data s.tables) s.document first c.args.region c.args.count ++ drop (c.args.count * was.width) was.columns;
+      columns = shown_columns (g.D.BidiData.data s.tables) s.document first (c.args.region.start, c.args.region.stop) c.args.count ++ drop (c.args.count * was.width) was.columns;
     }) same
     (drawn-told ucd i.view c.locate.new.self text c.source-source.result.utf8 c.locate.ensures.keeps located.top c.args.top c.args.place c.from.result
-    first located.above told.top (c.first_in-first.ensures _ told.top) told.above was c.draw_rows.new.grid c.args.region c.args.count
+    first located.above told.top (c.first_in-first.ensures _ told.top) told.above was c.draw_rows.new.grid (c.args.region.start, c.args.region.stop) c.args.count
     (c.in_ok-draw_rows.ensures.drawn _ told.top))
 
 pub returns-clause-row : goal.returns-clause-row

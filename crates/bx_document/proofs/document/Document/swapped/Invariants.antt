@@ -4,8 +4,8 @@ use Rattle.bx_find.specs.Matches.{spans_from}
 use Rattle.bx_document.specs.Swapped.{swapped}
 use Rattle.bx_document.proofs.document.Document.swapped.Given as goal
 
-abbrev pub invariant-loop-at : goal.invariant-loop-at
-invariant-loop-at g l = record {
+abbrev pub invariant-loop-found : goal.invariant-loop-found
+invariant-loop-found g l = record {
   bounds : IsCharBoundary l.self.document.content.text l.from;
   whole : string_bytes l.copy ++ swapped l.from l.self.document.content.text l.other
       (spans_from (g.D.BidiData.data l.self.tables) l.reading l.query l.self.document.content.text l.from)
@@ -13,5 +13,5 @@ invariant-loop-at g l = record {
       (spans_from (g.D.BidiData.data l.self.tables) l.reading l.query l.self.document.content.text l.start);
 }
 
-abbrev pub decreases-loop-at : goal.decreases-loop-at
-decreases-loop-at g l = length l.self.document.content.text - l.from
+abbrev pub decreases-loop-found : goal.decreases-loop-found
+decreases-loop-found g l = length l.self.document.content.text - l.from

@@ -1,4 +1,4 @@
-use Rattle.std.proofs.Common.{◌≡◌, ◌+◌, ◌-◌, ◌*◌, ◌≤◌, ◌∙◌, ◌++◌, List, IsUtf8, ap, ap₂, arith, replicate, string_bytes, subst, sym, take}
+use Rattle.std.proofs.Common.{◌≡◌, ℕ, ◌+◌, ◌-◌, ◌*◌, ◌≤◌, ◌∙◌, ◌++◌, List, IsUtf8, ap, ap₂, arith, replicate, string_bytes, subst, sym, take}
 use Rattle.std.specs.Prelude.{if◌then◌else◌}
 use Rattle.bx_grid.specs.Columns.{blank}
 use Rattle.bx_grid.specs.Grid.{GridState}
@@ -58,8 +58,8 @@ returns-clause-picture g c =
     })) c.show.ensures.same c.in_ok-put_status.ensures.status in
     let high = c.requires.height ∙ sym (ap (λ s. s.editor.height) c.self.view_is) in
     let wide = ap (λ x. x.width) drawn ∙ c.requires.width ∙ sym (ap (λ s. s.editor.width) c.self.view_is) in
-    let part = c.seen-region.result in
-    let told : part ≡ seen d e = c.seen-region.ensures ∙ ap (λ s. seen (g.D.BidiData.data s.tables) s.editor) (sym c.self.view_is) in
+    let part : ℕ × ℕ = (c.seen-region.result.start, c.seen-region.result.stop) in
+    let told : part ≡ seen d e = ap₂ (λ (a b : ℕ). (a, b)) c.seen-region.ensures.start c.seen-region.ensures.stop ∙ ap (λ s. seen (g.D.BidiData.data s.tables) s.editor) (sym c.self.view_is) in
     let front = drawn-front was mid (shown_columns d i.document.document top part n) n (omega (arith, high, c.text_height-count.ensures.inside))
     c.height-height.ensures.sized c.put_status.ensures.sized drawn in
     let shown : take (text_height i.height * i.document.document.w) mid.columns

@@ -10,5 +10,5 @@ returns-clause-ok c =
     let made = c.in_ok-_gone.ensures.items in
     let found : made.1 ≡ c.args.found.items =
     sym (map-id made.1) ∙ items_from_drains made.1 (made.3.1.0, made.3.1.1, λ _. (made.3.0, made.3.1.2)) (YieldsList-from_vec c.args.found.items made.2.0 (made.2.1 ∙ c.args.found.ok.0)) in
-    made.4 ∙ ap (λ xs. splice c.make_room.new.levels.items c.args.span.first c.args.span.last xs) found
-    ∙ ap (λ ls. splice ls c.args.span.first c.args.span.last c.args.found.items) c.make_room.ensures
+    made.4 ∙ ap (λ xs. splice c.make_room.new.levels.items c.args.span.start c.args.span.stop xs) found
+    ∙ ap (λ ls. splice ls c.args.span.start c.args.span.stop c.args.found.items) c.make_room.ensures

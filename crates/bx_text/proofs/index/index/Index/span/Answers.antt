@@ -24,14 +24,14 @@ pub overflow_add-result-in-None : goal.overflow_add-result-in-None
 overflow_add-result-in-None c =
     omega (arith, c.size-start.ensures.bytes, total_push (flat c.self.inside.front.blocks) (unended c.self.inside.last), c.self.invariant.short)
 
-pub returns-in-Some : goal.returns-in-Some
-returns-in-Some c =
+pub returns-in-Some-clause-span : goal.returns-in-Some-clause-span
+returns-in-Some-clause-span c =
     sym (ap (λ (s : IndexState). slice_get (spans s.paragraphs) c.args.number) c.self.view_is)
     ∙ span_of (flat c.self.inside.front.blocks) (unended c.self.inside.last) c.in-Some.paragraph c.args.number c.in-Some.start c.in-Some.ensures.0
     c.in-Some.ensures.1 c.in-Some.ensures.2
 
-pub returns-in-None : goal.returns-in-None
-returns-in-None c =
+pub returns-in-None-clause-span : goal.returns-in-None-clause-span
+returns-in-None-clause-span c =
     let last : c.args.number ≡ length (flat c.self.inside.front.blocks) =
     omega (
       arith,

@@ -12,8 +12,8 @@ overflow_add-result c =
     let behind = behind_is (closed w.blocks.now.blocks w.last) w.spot.number w.start w.here inside c.self.invariant.begins c.self.invariant.is in
     omega (arith, behind, c.self.invariant.short)
 
-pub returns : goal.returns
-returns c =
+pub returns-clause-span : goal.returns-clause-span
+returns-clause-span c =
     let w = c.self.inside in
     let inside = number_inside w.blocks.now.blocks w.last w.spot c.self.invariant.stands in
     sym (ap (λ (s : WalkState). slice_get (spans s.paragraphs) s.number) c.self.view_is)
