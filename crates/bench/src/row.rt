@@ -10,7 +10,7 @@ use crate::visual::leftmost;
 use anyhow::{Context, Result, bail};
 use bx_common::Base;
 use bx_levels::levels;
-use bx_rows::{LaidRow, Lines, row_starts};
+use bx_rows::{Lines, RowLayout, row_starts};
 use bx_ucd::{BidiData, Tables, sample_tables};
 use std::alloc::Global;
 use std::time::CpuClock;
@@ -42,7 +42,7 @@ impl Part {
 }
 
 /// Runs a part of a row once. Returns the number of units, levels or glyphs, or the leftmost unit.
-fn once<D: BidiData>(alloc: Global, part: Part, row: &LaidRow<'_, '_, D>) -> Result<usize> {
+fn once<D: BidiData>(alloc: Global, part: Part, row: &RowLayout<'_, '_, D>) -> Result<usize> {
     match part {
         Part::Units => Ok(row.lines.units(alloc, row.number)?.len()),
         Part::Levels => Ok(row.lines.levels(alloc, row.number, &row.units)?.len()),

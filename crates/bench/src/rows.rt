@@ -8,7 +8,7 @@ use crate::outcome::{Outcome, number};
 use crate::texts::repeated;
 use anyhow::{Result, bail};
 use bx_common::Base;
-use bx_paragraph::{LentRow, ParagraphLayout};
+use bx_paragraph::{LayoutRowRef, ParagraphLayout};
 use bx_ucd::{BidiData, sample_tables};
 use std::alloc::Global;
 use std::time::CpuClock;
@@ -30,7 +30,7 @@ fn each_row<D: BidiData>(layout: &ParagraphLayout, tables: &D, are_drawn: bool) 
 {
     let mut count: usize = 0;
     for number in 0..layout.row_count() {
-        let row = LentRow {
+        let row = LayoutRowRef {
             paragraph: layout,
             tables,
             number,

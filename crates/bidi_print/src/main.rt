@@ -1,7 +1,7 @@
 //! Prints a text to standard output, one line for each row that UAX #9 gives.
 //!
 //! `bidi_print [--cols N] [--direction auto|ltr|rtl] [--marks] --classes F --brackets F --mirroring F
-//! [--joining F --characters F] FILE`. With `--marks` a mark is printed as its letter in brackets, else not at all. Exit status
+//! [--joining F --characters F] FILE`. With `--marks` a placeholder is printed as its letter in brackets, else not at all. Exit status
 //! 0: all was written; 1: a fault, with a line on standard error; 2: the command line was refused, and standard error says why.
 #![tactic(auto)]
 

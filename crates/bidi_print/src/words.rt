@@ -4,7 +4,7 @@ use bx_command::{
     UnicodeFiles, direction, direction_of, flag, is_given, missing_value, paths_of, side, side_of,
     value_of, with_tables,
 };
-use bx_print::{Marks, Style};
+use bx_print::{Placeholders, Style};
 use clap::{Arg, ArgMatches, Command};
 use std::alloc::{AllocError, Global};
 use std::convert::AsStr;
@@ -38,12 +38,12 @@ fn command<'a>(alloc: Global) -> Result<Command<'a>, AllocError> {
         .arg(file(alloc))
 }
 
-/// How marks are printed, by the flag `--marks`.
-fn marks_of(matches: &ArgMatches<'_>) -> Marks {
+/// How placeholders are printed, by the flag `--marks`.
+fn placeholders_of(matches: &ArgMatches<'_>) -> Placeholders {
     if is_given(matches, "marks") {
-        Marks::Bracketed
+        Placeholders::Bracketed
     } else {
-        Marks::LeftOut
+        Placeholders::LeftOut
     }
 }
 
@@ -51,12 +51,12 @@ fn marks_of(matches: &ArgMatches<'_>) -> Marks {
 fn options_of<'a>(matches: &ArgMatches<'a>) -> Option<Options<'a>> {
     let columns = side_of(matches, "cols")?;
     let base = direction_of(matches)?;
-    let marks = marks_of(matches);
+    let placeholders = placeholders_of(matches);
     Some(Options {
         style: Style {
             base,
             columns,
-            marks,
+            placeholders,
         },
         unicode: paths_of(matches)?,
         file: value_of(matches, "file")?,

@@ -15,7 +15,7 @@ use crate::document::Document;
 use crate::drawing::draw_glyphs;
 use bx_common::{Base, OutOfMemory};
 use bx_grid::Grid;
-use bx_paragraph::{LentRow, ParagraphLayout};
+use bx_paragraph::{LayoutRowRef, ParagraphLayout};
 use bx_rows::{Drawn, RowPicture};
 use bx_ucd::BidiData;
 use std::alloc::{AllocError, Global};
@@ -91,7 +91,7 @@ fn text_and_query<'a, D: BidiData>(
 {
     // `row_count` promises that a body has a row.
     let _rows = query.row_count();
-    let row = LentRow {
+    let row = LayoutRowRef {
         paragraph: query,
         tables,
         number: 0,

@@ -9,13 +9,13 @@ ghost use Rattle.bx_grid.specs.Seen.{seen, all_seen};
 ghost use Rattle.bx_grid.specs.Picture.{is_size};
 ghost use Rattle.bx_common.specs.Characters.{largest_side};
 
-use crate::borrowed_row::BorrowedRow;
 use crate::codes::{blank_codes, note_codes, set_column};
 use crate::column::Column;
 use crate::columns::{are_blank, blank_columns, put_over_blanks};
 use crate::error::GridError;
 use crate::glyph_run::GlyphRun;
 use crate::glyph_text::SHORT;
+use crate::grid_row_ref::GridRowRef;
 use bx_common::{OutOfMemory, is_side, run_width};
 use std::alloc::{AllocError, Global};
 use std::marker::Model;
@@ -163,7 +163,7 @@ impl Grid {
     }
 
     /// A row, from 0.
-    pub fn row(&self, row: u16) -> BorrowedRow<'_>
+    pub fn row(&self, row: u16) -> GridRowRef<'_>
         requires { row < self.now.height }
         ensures row { result ≡ take self.now.width (drop (row * self.now.width) self.now.columns) }
         ensures width { length result ≡ self.now.width }
@@ -172,7 +172,7 @@ impl Grid {
     {
         let start = row as usize * self.width as usize;
         let stop = start + self.width as usize;
-        BorrowedRow::new(&self.columns[start..stop], &self.codes[start..stop])
+        GridRowRef::new(&self.columns[start..stop], &self.codes[start..stop])
     }
 
     /// Number of rows, from 1 to 500.

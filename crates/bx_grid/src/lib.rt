@@ -14,7 +14,6 @@ ghost use Rattle.bx_grid.specs.Picture.{IsIdle, PictureState};
 ghost use Rattle.bx_grid.specs.Grid.{AreWholeTokens, IsPicture};
 ghost use Rattle.bx_grid.specs.Terminal.{Terminal, reads, run_ended};
 
-mod borrowed_row;
 mod codes;
 mod column;
 mod columns;
@@ -23,11 +22,11 @@ mod error;
 mod glyph_run;
 mod glyph_text;
 mod grid;
+mod grid_row_ref;
 mod picture;
 mod rows;
 mod turning;
 
-pub use borrowed_row::BorrowedRow;
 pub use column::{Column, all_same};
 pub use columns::{fill_blank, put_glyphs};
 pub use command::Command;
@@ -35,6 +34,7 @@ pub use error::GridError;
 pub use glyph_run::GlyphRun;
 pub use glyph_text::GlyphText;
 pub use grid::{Cell, Grid};
+pub use grid_row_ref::GridRowRef;
 pub use picture::Picture;
 
 /// Two pictures of one size differ in whole glyphs: a column that both have belongs to a glyph that both have as a whole,

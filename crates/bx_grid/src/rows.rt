@@ -6,17 +6,17 @@ ghost use Rattle.bx_grid.specs.Columns.{Col, blank};
 ghost use Rattle.bx_grid.specs.Grid.{AreSameAround, paste};
 ghost use Rattle.bx_grid.specs.Seen.{all_seen};
 
-use crate::borrowed_row::BorrowedRow;
 use crate::codes::note_codes;
 use crate::column::Column;
 use crate::columns::fill_blank;
 use crate::grid::Grid;
+use crate::grid_row_ref::GridRowRef;
 use bx_common::OutOfMemory;
 use std::alloc::{AllocError, Global};
 
 impl Grid {
     /// The row of a grid that has no other.
-    fn only_row(&self) -> BorrowedRow<'_>
+    fn only_row(&self) -> GridRowRef<'_>
         requires one { self.now.height ≡ 1 }
         ensures row { result ≡ self.now.columns }
         ensures filled { length self.now.columns ≡ self.now.width }

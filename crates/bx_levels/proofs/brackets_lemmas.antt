@@ -8,6 +8,6 @@ pub mod Closers
 pub mod Insert
 pub mod Nested
 pub mod Neighbours
-pub mod Marks
+pub mod Nsms
 pub mod Context
 pub mod ClearRanges

@@ -15,7 +15,7 @@ pub mod PlainPairs
 pub mod PlainLengths
 pub mod PlainTypes
 pub mod PairTypes
-pub mod RightMarks
+pub mod RightNsms
 pub mod RightLevels
 pub mod RightTypes
 pub mod PlainLevels

@@ -12,7 +12,7 @@ ghost use Rattle.bx_paint.specs.Painting.{rows_sent};
 
 use crate::numbers::{write_column_number, write_line_number};
 use crate::output::Output;
-use bx_grid::{BorrowedRow, Column, GlyphText, Grid};
+use bx_grid::{Column, GlyphText, Grid, GridRowRef};
 use std::alloc::AllocError;
 
 /// Moves the cursor to a row and a column, from 0.
@@ -70,7 +70,7 @@ fn write_glyph(
 }
 
 /// Whether the first `count` columns of both are the same, or all if there are fewer. Codes alone often tell that they differ.
-fn is_same_front(old: &BorrowedRow<'_>, new: &BorrowedRow<'_>, count: u16) -> bool
+fn is_same_front(old: &GridRowRef<'_>, new: &GridRowRef<'_>, count: u16) -> bool
     ensures { result ≡ are_equal (take count old.now) (take count new.now) }
 {
     let count = count as usize;
@@ -81,7 +81,7 @@ fn is_same_front(old: &BorrowedRow<'_>, new: &BorrowedRow<'_>, count: u16) -> bo
 }
 
 /// Whether the new columns begin with a glyph that differs in some column from the old ones.
-fn is_sent(old: &BorrowedRow<'_>, new: &BorrowedRow<'_>) -> bool
+fn is_sent(old: &GridRowRef<'_>, new: &GridRowRef<'_>) -> bool
     ensures { result ≡ spec.is_sent old.now new.now }
 {
     match new.columns().first() {
@@ -102,8 +102,8 @@ fn write_column(
     row: u16,
     column: u16,
     pen: Pen,
-    old: &BorrowedRow<'_>,
-    new: &BorrowedRow<'_>,
+    old: &GridRowRef<'_>,
+    new: &GridRowRef<'_>,
 ) -> Result<Pen, AllocError>
     requires small { (row < 65535) × (column < 65535) }
     ensures bytes { OnOk result (out.new.painting ≡ out.old.painting ++ (column_sent row column pen.near pen.negative old.now new.now).bytes) }
@@ -133,8 +133,8 @@ fn write_at(
     row: u16,
     index: usize,
     pen: Pen,
-    old: &BorrowedRow<'_>,
-    new: &BorrowedRow<'_>,
+    old: &GridRowRef<'_>,
+    new: &GridRowRef<'_>,
 ) -> Result<Pen, AllocError>
     requires small { (row < 65535) × (length new.now < 65535) }
     requires same { length old.now ≡ length new.now }
@@ -167,8 +167,8 @@ fn write_columns(
     out: &mut Output,
     row: u16,
     negative: bool,
-    old: &BorrowedRow<'_>,
-    new: &BorrowedRow<'_>,
+    old: &GridRowRef<'_>,
+    new: &GridRowRef<'_>,
 ) -> Result<bool, AllocError>
     requires small { (row < 65535) × (length new.now < 65535) }
     requires same { length old.now ≡ length new.now }
@@ -243,8 +243,8 @@ fn write_row(
     out: &mut Output,
     row: u16,
     negative: bool,
-    old: &BorrowedRow<'_>,
-    new: &BorrowedRow<'_>,
+    old: &GridRowRef<'_>,
+    new: &GridRowRef<'_>,
 ) -> Result<bool, AllocError>
     requires small { (row < 65535) × (length new.now < 65535) }
     requires same { length old.now ≡ length new.now }
@@ -279,7 +279,7 @@ pub fn write_rows(out: &mut Output, old: &Grid, new: &Grid) -> Result<bool, Allo
 /// Sends all rows of a grid over blanks. `blanks` is one row of them.
 pub fn write_over_blanks(
     out: &mut Output,
-    blanks: &BorrowedRow<'_>,
+    blanks: &GridRowRef<'_>,
     new: &Grid,
 ) -> Result<bool, AllocError>
     requires { blanks.now ≡ replicate new.now.width blank }

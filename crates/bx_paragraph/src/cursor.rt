@@ -1,11 +1,11 @@
 //! The cursor's places in a row, and the moves among them.
 ghost use Rattle.std.specs.Prelude.{◌≡◌, ◌++◌, ◌∷◌, [], true, false, IfOk, map};
 ghost use Rattle.bx_paragraph.specs.BodyRows.{last_of, offsets_of};
-ghost use Rattle.bx_paragraph.specs.LentRow.{row};
+ghost use Rattle.bx_paragraph.specs.LayoutRowRef.{row};
 ghost use Rattle.bx_paragraph.specs.Slots.{beside, covering, entry, or_else};
 ghost use Rattle.bx_paragraph.specs.Slots.{reading_end, reading_start, slot_offsets, toward};
 
-use crate::lent_row::LentRow;
+use crate::layout_row_ref::LayoutRowRef;
 use crate::moves::{Visual, opposite, reading_side};
 use crate::reading::{covering_in, first_in, last_offset, next_in, offsets_toward};
 use bx_common::OutOfMemory;
@@ -36,10 +36,10 @@ fn place_offsets(
     Ok(offsets)
 }
 
-impl<'a, 't, D: BidiData> LentRow<'a, 't, D> {
+impl<'a, 't, D: BidiData> LayoutRowRef<'a, 't, D> {
     /// The offsets of the row's places in text order, in bytes of the body: the start of each unit, and in the last row the
     /// body's end.
-    #[tactic(auto, using(crate::proofs::LentRows::lent_offsets))]
+    #[tactic(auto, using(crate::proofs::LayoutRowRefs::lent_offsets))]
     pub fn offsets(&self) -> Result<Vec<usize>, OutOfMemory>
         ensures { IfOk result (λ v. v.items ≡ offsets_of (row self.now)) }
     {

@@ -12,7 +12,7 @@ mod edited_rows;
 mod in_place;
 mod laws;
 mod layout;
-mod lent_row;
+mod layout_row_ref;
 mod moves;
 mod reading;
 mod row_edit;
@@ -24,7 +24,7 @@ mod text_edit;
 
 pub use laws::rows_before_stay;
 pub use layout::ParagraphLayout;
-pub use lent_row::LentRow;
+pub use layout_row_ref::LayoutRowRef;
 pub use moves::{Visual, reading_side};
 pub use slots::Slot;
 pub use standing::Standing;

@@ -1,21 +1,21 @@
-//! What is read of a lent row: the row laid out, its slots and its glyphs.
+//! What is read of a row of a layout: the row laid out, its slots and its glyphs.
 ghost use Rattle.std.specs.Prelude.{◌≡◌, ◌+◌, ◌==◌, All, IfOk, IsPermutation, length, map, sum_by, true};
 ghost use Rattle.std.specs.Cow.{cow_str_bytes};
 ghost use Rattle.bx_common.specs.Glyphs.{is_one_glyph, run_width};
 ghost use Rattle.bx_common.specs.Characters.{is_side};
 ghost use Rattle.bx_rows.specs.Shown.{glyph_of};
 ghost use Rattle.bx_paragraph.specs.BodyRows.{offsets_of, row_glyphs, row_own_glyphs};
-ghost use Rattle.bx_paragraph.specs.LaidRows.{body_row};
-ghost use Rattle.bx_paragraph.specs.LentRow.{row};
+ghost use Rattle.bx_paragraph.specs.RowLayouts.{body_row};
+ghost use Rattle.bx_paragraph.specs.LayoutRowRef.{row};
 ghost use Rattle.bx_paragraph.specs.Slots.{row_slots};
 
-use crate::lent_row::LentRow;
+use crate::layout_row_ref::LayoutRowRef;
 use crate::slots::{Slot, row_slots};
 use bx_common::OutOfMemory;
-use bx_rows::{LaidRow, RowPicture};
+use bx_rows::{RowLayout, RowPicture};
 use bx_ucd::BidiData;
 
-impl<'a, 't, D: BidiData> LentRow<'a, 't, D> {
+impl<'a, 't, D: BidiData> LayoutRowRef<'a, 't, D> {
     /// Whether this is the paragraph's last row.
     pub(crate) fn is_last(&self) -> bool
         ensures { result ≡ (self.now.number + 1 == length self.now.paragraph.now.starts) }
@@ -25,7 +25,7 @@ impl<'a, 't, D: BidiData> LentRow<'a, 't, D> {
     }
 
     /// The row laid out.
-    fn laid(&self) -> Result<LaidRow<'a, 't, D>, OutOfMemory>
+    fn laid(&self) -> Result<RowLayout<'a, 't, D>, OutOfMemory>
         ensures row { IfOk result (λ r. body_row r (self.now.number + 1 == length self.now.paragraph.now.starts) ≡ row self.now) }
         ensures w { IfOk result (λ r. r.lines.w ≡ self.now.paragraph.now.w) }
         ensures side { IfOk result (λ r. is_side r.lines.w ≡ true) }
@@ -37,7 +37,7 @@ impl<'a, 't, D: BidiData> LentRow<'a, 't, D> {
     }
 
     /// The row laid out, and its slots from left to right.
-    pub(crate) fn laid_slots(&self) -> Result<(LaidRow<'a, 't, D>, Vec<Slot>), OutOfMemory>
+    pub(crate) fn laid_slots(&self) -> Result<(RowLayout<'a, 't, D>, Vec<Slot>), OutOfMemory>
         ensures row { IfOk result (λ r. body_row r.0 (self.now.number + 1 == length self.now.paragraph.now.starts) ≡ row self.now) }
         ensures slots { IfOk result (λ r. r.1.items ≡ row_slots self.now.paragraph.now.w (row self.now)) }
         ensures once { IfOk result (λ r. IsPermutation (offsets_of (row self.now)) (map (λ s. s.offset) r.1.items)) }
@@ -57,7 +57,7 @@ impl<'a, 't, D: BidiData> LentRow<'a, 't, D> {
     }
 
     /// The row's glyphs from left to right, blanks included.
-    #[tactic(auto, using(crate::proofs::LentRows::lent_glyphs))]
+    #[tactic(auto, using(crate::proofs::LayoutRowRefs::lent_glyphs))]
     pub fn picture(&self) -> Result<RowPicture<'a>, OutOfMemory>
         ensures picture { IfOk result (λ p. map glyph_of p.glyphs.items ≡ row_glyphs (D.data self.now.tables.now) self.now.paragraph.now.w (row self.now)) }
         ensures glyphs { IfOk result (λ p. All (λ g. is_one_glyph (cow_str_bytes g.text) ≡ true) p.glyphs.items) }

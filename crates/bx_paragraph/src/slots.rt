@@ -1,12 +1,12 @@
 //! The slots of a row, which are the positions of the cursor in it, from its units.
 ghost use Rattle.std.specs.Prelude.{◌≡◌, ◌≤◌, ◌<◌, ◌+◌, ◌++◌, ◌∷◌, [], true, false, All, IfOk, OnOk, length, map};
 ghost use Rattle.bx_common.specs.Characters.{is_side, largest_side};
-ghost use Rattle.bx_paragraph.specs.LaidRows.{body_row};
+ghost use Rattle.bx_paragraph.specs.RowLayouts.{body_row};
 ghost use Rattle.bx_paragraph.specs.OrderedColumns.{ordered_columns};
 ghost use Rattle.bx_paragraph.specs.Slots.{extent_of, row_slots, side_by_side};
 
 use bx_common::OutOfMemory;
-use bx_rows::{LaidRow, Unit, unit_columns, visual};
+use bx_rows::{RowLayout, Unit, unit_columns, visual};
 use bx_ucd::BidiData;
 use std::alloc::{AllocError, Global};
 
@@ -72,7 +72,7 @@ fn push_end(
 /// A row's slots from left to right. `is_last`: it is the paragraph's last row.
 pub(crate) fn row_slots<D: BidiData>(
     alloc: Global,
-    row: &LaidRow<'_, '_, D>,
+    row: &RowLayout<'_, '_, D>,
     is_last: bool,
 ) -> Result<Vec<Slot>, OutOfMemory>
     requires { is_side row.now.lines.w ≡ true }

@@ -1,9 +1,9 @@
 //! The position of a place in its row, for the cursor and the status row.
 ghost use Rattle.std.specs.Prelude.{◌≡◌, IfOk, count_by, nat_lt};
-ghost use Rattle.bx_paragraph.specs.LentRow.{row};
+ghost use Rattle.bx_paragraph.specs.LayoutRowRef.{row};
 ghost use Rattle.bx_paragraph.specs.Slots.{column_of};
 
-use crate::lent_row::LentRow;
+use crate::layout_row_ref::LayoutRowRef;
 use crate::reading::column_in;
 use bx_common::OutOfMemory;
 use bx_rows::Unit;
@@ -25,7 +25,7 @@ fn count_before(units: &[Unit], offset: usize) -> usize
     units.iter().filter(|u| u.start < offset).count()
 }
 
-impl<'a, 't, D: BidiData> LentRow<'a, 't, D> {
+impl<'a, 't, D: BidiData> LayoutRowRef<'a, 't, D> {
     /// The position in the row of the place at an offset of the body, in bytes.
     pub fn standing(&self, offset: usize) -> Result<Standing, OutOfMemory>
         ensures column { IfOk result (λ s. s.column ≡ column_of self.now.paragraph.now.w (row self.now) offset) }

@@ -12,4 +12,4 @@ mod style;
 
 pub use error::PrintError;
 pub use printing::print;
-pub use style::{Marks, Style};
+pub use style::{Placeholders, Style};

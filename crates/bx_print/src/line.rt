@@ -3,22 +3,26 @@ ghost use Rattle.std.specs.Prelude.{◌≡◌, ◌≤◌, ◌++◌, OnOk, flat_m
 ghost use Rattle.bx_rows.specs.Shown.{glyph_of};
 ghost use Rattle.bx_print.specs.Page.{glyph_bytes, line, trimmed};
 
-use crate::style::Marks;
+use crate::style::Placeholders;
 use bx_rows::{Drawn, RowPicture};
 use std::alloc::AllocError;
 
 /// Appends the printed bytes of a glyph.
-fn push_glyph(page: &mut Vec<u8>, glyph: &Drawn<'_>, marks: Marks) -> Result<(), AllocError>
-    ensures { OnOk result (page.new.items ≡ page.old.items ++ glyph_bytes marks (glyph_of glyph.now)) }
+fn push_glyph(
+    page: &mut Vec<u8>,
+    glyph: &Drawn<'_>,
+    placeholders: Placeholders,
+) -> Result<(), AllocError>
+    ensures { OnOk result (page.new.items ≡ page.old.items ++ glyph_bytes placeholders (glyph_of glyph.now)) }
 {
     let text = glyph.text.as_str().as_bytes();
     if !glyph.negative {
         page.extend_from_slice(text)?;
         return Ok(());
     }
-    match marks {
-        Marks::LeftOut => Ok(()),
-        Marks::Bracketed => {
+    match placeholders {
+        Placeholders::LeftOut => Ok(()),
+        Placeholders::Bracketed => {
             page.push(b'[')?;
             page.extend_from_slice(text)?;
             page.push(b']')?;
@@ -43,11 +47,15 @@ fn trimmed_len(bytes: &[u8]) -> usize
 }
 
 /// Appends the printed bytes of a row's glyphs.
-fn push_glyphs(page: &mut Vec<u8>, glyphs: &[Drawn<'_>], marks: Marks) -> Result<(), AllocError>
-    ensures { OnOk result (page.new.items ≡ page.old.items ++ flat_map (glyph_bytes marks) (map glyph_of glyphs.now)) }
+fn push_glyphs(
+    page: &mut Vec<u8>,
+    glyphs: &[Drawn<'_>],
+    placeholders: Placeholders,
+) -> Result<(), AllocError>
+    ensures { OnOk result (page.new.items ≡ page.old.items ++ flat_map (glyph_bytes placeholders) (map glyph_of glyphs.now)) }
 {
     for glyph in glyphs {
-        push_glyph(page, glyph, marks)?;
+        push_glyph(page, glyph, placeholders)?;
     }
     Ok(())
 }
@@ -56,12 +64,12 @@ fn push_glyphs(page: &mut Vec<u8>, glyphs: &[Drawn<'_>], marks: Marks) -> Result
 pub(crate) fn push_line(
     page: &mut Vec<u8>,
     picture: &RowPicture<'_>,
-    marks: Marks,
+    placeholders: Placeholders,
 ) -> Result<(), AllocError>
-    ensures { OnOk result (page.new.items ≡ page.old.items ++ line marks (map glyph_of picture.now.glyphs.items)) }
+    ensures { OnOk result (page.new.items ≡ page.old.items ++ line placeholders (map glyph_of picture.now.glyphs.items)) }
 {
     let start = page.len();
-    push_glyphs(page, &picture.glyphs, marks)?;
+    push_glyphs(page, &picture.glyphs, placeholders)?;
     let len = trimmed_len(&page[start..]);
     page.truncate(start + len);
     Ok(())

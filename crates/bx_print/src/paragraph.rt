@@ -6,8 +6,8 @@ ghost use Rattle.bx_print.specs.BodyLines.{body_lines};
 
 use crate::error::PrintError;
 use crate::line::push_line;
-use crate::style::{Marks, Style};
-use bx_paragraph::{LentRow, ParagraphLayout};
+use crate::style::{Placeholders, Style};
+use bx_paragraph::{LayoutRowRef, ParagraphLayout};
 use bx_ucd::BidiData;
 use bx_view::TextRef;
 
@@ -16,16 +16,16 @@ fn push_rows<D: BidiData>(
     page: &mut Vec<u8>,
     layout: &ParagraphLayout,
     tables: &D,
-    marks: Marks,
+    placeholders: Placeholders,
 ) -> Result<(), PrintError>
     requires { IsLayoutBy (D.data tables.now) layout.now }
     ensures lines { OnOk result (page.new.items ≡ page.old.items
-        ++ body_lines (D.data tables.now) marks layout.now.base layout.now.w layout.now.body) }
+        ++ body_lines (D.data tables.now) placeholders layout.now.base layout.now.w layout.now.body) }
     ensures some { OnOk result (length page.old.items < length page.new.items) }
     ensures memory { OnErr result (result ≡ Err PrintError.OutOfMemory) }
 {
     for row in 0..layout.row_count() {
-        let lent = LentRow {
+        let lent = LayoutRowRef {
             paragraph: layout,
             tables,
             number: row,
@@ -33,7 +33,7 @@ fn push_rows<D: BidiData>(
         };
         let picture = lent.picture()?;
         page.extend_from_slice(b"\n")?;
-        push_line(page, &picture, marks)?;
+        push_line(page, &picture, placeholders)?;
     }
     Ok(())
 }
@@ -48,7 +48,7 @@ pub(crate) fn push_paragraph<D: BidiData>(
     requires number { number < count source.now }
     ensures lines { OnOk result (page.new.items ≡ page.old.items
         ++ body_lines (D.data source.now.tables.now)
-        style.marks style.base style.columns (body_at source.now number)) }
+        style.placeholders style.base style.columns (body_at source.now number)) }
     ensures some { OnOk result (length page.old.items < length page.new.items) }
     ensures memory { OnErr result (result ≡ Err PrintError.OutOfMemory) }
 {
@@ -56,5 +56,5 @@ pub(crate) fn push_paragraph<D: BidiData>(
     let body = source.text.copy_range(span.start, span.stop)?;
     let alloc = *page.allocator();
     let layout = ParagraphLayout::of(alloc, body, source.tables, style.columns, style.base)?;
-    push_rows(page, &layout, source.tables, style.marks)
+    push_rows(page, &layout, source.tables, style.placeholders)
 }

@@ -25,9 +25,9 @@ fn print_paragraphs<D: BidiData, W: Write>(
 ) -> Result<(), PrintError>
     requires empty { pending.old.items ≡ [] }
     ensures page { OnOk result (Appends (W.contents writer.old) (W.contents writer.new)
-        (page (D.data source.now.tables.now) style.marks style.base style.columns (bytes source.now))) }
+        (page (D.data source.now.tables.now) style.placeholders style.base style.columns (bytes source.now))) }
     ensures front { WritesFront
-        (page (D.data source.now.tables.now) style.marks style.base style.columns (bytes source.now))
+        (page (D.data source.now.tables.now) style.placeholders style.base style.columns (bytes source.now))
         (W.contents writer.old) (W.contents writer.new) }
     ensures cause { IsErrOf result PrintError.TooLong → ⊥ }
 {
@@ -54,9 +54,9 @@ pub fn print<D: BidiData, W: Write>(
     writer: &mut W,
 ) -> Result<(), PrintError>
     ensures page { OnOk result (Appends (W.contents writer.old) (W.contents writer.new)
-        (page (D.data tables.now) style.marks style.base style.columns (string_bytes text))) }
+        (page (D.data tables.now) style.placeholders style.base style.columns (string_bytes text))) }
     ensures front { WritesFront
-        (page (D.data tables.now) style.marks style.base style.columns (string_bytes text))
+        (page (D.data tables.now) style.placeholders style.base style.columns (string_bytes text))
         (W.contents writer.old) (W.contents writer.new) }
     ensures too_long { IsErrOf result PrintError.TooLong ↔ (largest_text < length (string_bytes text)) }
     ensures unwritten { IsErrOf result PrintError.TooLong → W.contents writer.new ≡ W.contents writer.old }

@@ -1,12 +1,12 @@
-//! Options of printing, such as how marks are printed.
+//! Options of printing, such as how placeholders are printed.
 ghost use Rattle.std.specs.Prelude.{◌≡◌, true};
 ghost use Rattle.bx_common.specs.Characters.{is_side};
 
 use bx_common::Base;
 
-/// How a mark is printed: the letter, in negative image on a screen, for a character with no visible form of its own.
+/// How a placeholder is printed: the letter, in negative image on a screen, for a character with no visible form of its own.
 #[derive(Clone, Copy)]
-pub enum Marks {
+pub enum Placeholders {
     /// Omitted.
     LeftOut,
     /// As its letter in brackets.
@@ -20,7 +20,7 @@ pub struct Style {
     pub base: Base,
     /// The columns of a row, from 1 to 500.
     pub columns: u16,
-    /// How marks are printed.
-    pub marks: Marks,
+    /// How placeholders are printed.
+    pub placeholders: Placeholders,
     ghost has_columns: { is_side columns ≡ true },
 }

@@ -15,9 +15,9 @@ use crate::cells::Face;
 use crate::drawn::{Drawn, RowPicture};
 use crate::joined_text::joined;
 use crate::joining::{TextAt, has_forms};
-use crate::laid_row::LaidRow;
 use crate::lines::Lines;
 use crate::mirrors::{has_mirror, mirrored};
+use crate::row_layout::RowLayout;
 use bx_common::are_ascii_printable;
 use bx_ucd::BidiData;
 use std::alloc::{AllocError, Global};
@@ -202,7 +202,7 @@ fn shown_text<'a, D: BidiData>(
 pub(crate) fn push_unit<'a, D: BidiData>(
     glyphs: &mut Vec<Drawn<'a>>,
     alloc: Global,
-    row: &LaidRow<'a, '_, D>,
+    row: &RowLayout<'a, '_, D>,
     columns: &[u16],
     number: usize,
     at: TextAt<'_, '_>,

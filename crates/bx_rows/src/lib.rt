@@ -10,7 +10,6 @@ mod form_texts;
 mod glyphs;
 mod joined_text;
 mod joining;
-mod laid_row;
 mod level_read;
 mod lines;
 mod mirrors;
@@ -20,6 +19,7 @@ mod picture;
 mod place;
 mod plain_picture;
 mod plain_row;
+mod row_layout;
 mod row_part;
 mod row_scan;
 mod start_search;
@@ -36,9 +36,9 @@ pub use joining::{
     LeveledBody, TextAt, forms_go_by_joining, has_forms, joined_image, joining_is_symmetric,
     shown_form,
 };
-pub use laid_row::LaidRow;
 pub use lines::Lines;
 pub use picture::unit_columns;
+pub use row_layout::RowLayout;
 pub use start_search::{RowStart, row_starts};
 pub use unit_levels::{char_count, each_level};
 pub use visual_order::visual;

@@ -12,7 +12,7 @@ use bx_levels::Levels;
 use bx_ucd::BidiData;
 use std::alloc::AllocError;
 
-/// A paragraph's body with its rows and levels, lent, so that making one for a single row costs nothing.
+/// A paragraph's body with its rows and levels, by reference, so that making one for a single row costs nothing.
 pub struct Lines<'a, 't, D: BidiData> {
     pub body: &'a str,
     /// The start of each row in a window of `w` columns.

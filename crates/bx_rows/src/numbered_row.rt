@@ -8,8 +8,8 @@ ghost use Rattle.bx_rows.specs.Shown.{glyph_of};
 
 use crate::cells::Unit;
 use crate::drawn::RowPicture;
-use crate::laid_row::LaidRow;
 use crate::lines::Lines;
+use crate::row_layout::RowLayout;
 use crate::unit_levels::each_level;
 use bx_common::OutOfMemory;
 use bx_ucd::BidiData;
@@ -35,14 +35,14 @@ impl<'a, 't, D: BidiData> Lines<'a, 't, D> {
     }
 
     /// Row `number`, from 0, laid out. Reads no other row.
-    pub fn row(&self, alloc: Global, number: usize) -> Result<LaidRow<'a, 't, D>, OutOfMemory>
+    pub fn row(&self, alloc: Global, number: usize) -> Result<RowLayout<'a, 't, D>, OutOfMemory>
         requires { number < length self.now.starts.now }
         ensures lines { IfOk result (λ r. r.lines ≡ self.now) }
         ensures number { IfOk result (λ r. r.number ≡ number) }
     {
         let units = self.units(alloc, number)?;
         let levels = self.levels(alloc, number, &units)?;
-        Ok(LaidRow {
+        Ok(RowLayout {
             lines: *self,
             number,
             units,

@@ -9,8 +9,8 @@ ghost use Rattle.bx_rows.specs.Shown.{glyph_of};
 use crate::cells::Unit;
 use crate::drawn::{Drawn, RowPicture};
 use crate::glyphs::{push_unit, with_blanks};
-use crate::laid_row::LaidRow;
 use crate::place::moved;
+use crate::row_layout::RowLayout;
 use crate::visual_order::visual;
 use crate::wrapping::columns_at;
 use bx_common::OutOfMemory;
@@ -38,7 +38,7 @@ pub fn unit_columns(alloc: Global, units: &[Unit], w: u16) -> Result<(Vec<u16>, 
 fn push_units<'a, D: BidiData>(
     glyphs: &mut Vec<Drawn<'a>>,
     alloc: Global,
-    row: &LaidRow<'a, '_, D>,
+    row: &RowLayout<'a, '_, D>,
     columns: &[u16],
     order: &[usize],
 ) -> Result<(), AllocError>
@@ -62,7 +62,7 @@ fn push_units<'a, D: BidiData>(
 /// The glyphs of a row's units in visual order, and the number of their columns.
 fn unit_row<'a, D: BidiData>(
     alloc: Global,
-    row: &LaidRow<'a, '_, D>,
+    row: &RowLayout<'a, '_, D>,
 ) -> Result<(Vec<Drawn<'a>>, u16), OutOfMemory>
     ensures glyphs { IfOk result (λ r. map glyph_of r.0.items ≡ own_glyphs (D.data row.now.lines.tables.now) row.now.lines.w
         row.now.lines.body.now row.now.lines.levels.now.each.items row.now.units.items row.now.levels.items) }
@@ -79,7 +79,7 @@ fn unit_row<'a, D: BidiData>(
 /// The glyphs of a row's units in visual order, and its blanks: at the right in a paragraph of even level, else at the left.
 fn row_glyphs<'a, D: BidiData>(
     alloc: Global,
-    row: &LaidRow<'a, '_, D>,
+    row: &RowLayout<'a, '_, D>,
 ) -> Result<Vec<Drawn<'a>>, OutOfMemory>
     ensures { IfOk result (λ v. map glyph_of v.items ≡ draw (D.data row.now.lines.tables.now) row.now.lines.w
         row.now.lines.body.now row.now.lines.levels.now.paragraph row.now.lines.levels.now.each.items row.now.units.items
@@ -90,7 +90,7 @@ fn row_glyphs<'a, D: BidiData>(
     Ok(with_blanks(alloc, glyphs, blanks, row.lines.levels.paragraph)?)
 }
 
-impl<'a, 't, D: BidiData> LaidRow<'a, 't, D> {
+impl<'a, 't, D: BidiData> RowLayout<'a, 't, D> {
     /// The row's glyphs from left to right, blanks included.
     pub fn picture(&self, alloc: Global) -> Result<RowPicture<'a>, OutOfMemory>
         ensures picture { IfOk result (λ p. map glyph_of p.glyphs.items ≡ glyphs_at self.now.lines self.now.number) }

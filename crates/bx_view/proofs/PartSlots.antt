@@ -6,9 +6,9 @@ use Rattle.std.proofs.lemmas.Bool.Decides.{nat_tests}
 use Rattle.std.proofs.lemmas.List.Elements.{filter_agree}
 use Rattle.bx_ucd.specs.declared.data.BidiData.{Ghosts}
 use Rattle.bx_paragraph.specs.declared.slots.Slot.{Slot}
-use Rattle.bx_paragraph.specs.LentRow.{row}
+use Rattle.bx_paragraph.specs.LayoutRowRef.{row}
 use Rattle.bx_paragraph.specs.Slots.{row_slots}
-use Rattle.bx_paragraph.specs.declared.lent_row.LentRow.{LentRow}
+use Rattle.bx_paragraph.specs.declared.layout_row_ref.LayoutRowRef.{LayoutRowRef}
 use Rattle.bx_view.specs.Placed.{columns, placed}
 use Rattle.bx_view.specs.TextParts.{slots_in}
 use Rattle.bx_view.specs.Top.{is_in}
@@ -52,9 +52,9 @@ none-passes : (P : ℕ → Type 0) (p : Slot → Bool) (ss : List Slot) → ((s 
 none-passes P p [] h a = refl
 none-passes P p (s ∷ ss) h a = none-passes P p ss h a.1 ∙ sym (ap (λ b. cond b (s ∷ filter p ss) (filter p ss)) (h s a.0))
 
--- ---- of a lent row
+-- ---- of a row by reference
 
-module _ {D : Type 0} {g : Ghosts D} (s : LentRow D g) (part : ℕ × ℕ) where
+module _ {D : Type 0} {g : Ghosts D} (s : LayoutRowRef D g) (part : ℕ × ℕ) where
   -- the body lies outside the part
   pub none-told : (part.1 - s.start ≤ part.0 - s.start) ⊎ (length s.paragraph.now.body < part.0 - s.start)
       → [] ≡ slots_in (columns s) part (placed s)

@@ -6,14 +6,14 @@ use Rattle.bx_ucd.specs.declared.data.BidiData.{Ghosts}
 use Rattle.bx_paragraph.specs.declared.moves.Visual.{Visual}
 use Rattle.bx_paragraph.specs.declared.slots.Slot.{Slot}
 use Rattle.bx_paragraph.specs.BodyRows.{last_of, offsets_of}
-use Rattle.bx_paragraph.specs.LentRow.{row}
+use Rattle.bx_paragraph.specs.LayoutRowRef.{row}
 use Rattle.bx_paragraph.specs.Slots.{beside, entry, reading_end, reading_start, row_slots}
 use Rattle.bx_paragraph.proofs.Starts.{row_count}
-use Rattle.bx_paragraph.specs.declared.lent_row.LentRow.{LentRow}
+use Rattle.bx_paragraph.specs.declared.layout_row_ref.LayoutRowRef.{LayoutRowRef}
 use Rattle.bx_view.specs.Placed.{columns}
 use Rattle.bx_view.proofs.Within.{Lies, LiesIn, Within, beside-fits, body-row-lies, end-fits, entry-fits, find-lies, last-fits, slots-fit, start-fits, within-reverse}
 
-module _ {D : Type 0} {g : Ghosts D} (s : LentRow D g) where
+module _ {D : Type 0} {g : Ghosts D} (s : LayoutRowRef D g) where
   abbrev body_length : ℕ
   body_length = length s.paragraph.now.body
 

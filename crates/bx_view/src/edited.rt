@@ -17,7 +17,7 @@ use crate::span::paragraph_under;
 use crate::text_ref::TextRef;
 use crate::view::View;
 use bx_common::{OutOfMemory, Range};
-use bx_paragraph::{LentRow, ParagraphLayout};
+use bx_paragraph::{LayoutRowRef, ParagraphLayout};
 use bx_text::separates;
 use bx_ucd::BidiData;
 
@@ -56,7 +56,7 @@ fn place_in_body<D: BidiData>(
     ensures within { IfOk result (λ o. o ≤ length paragraph.now.body) }
 {
     let row = paragraph.row_of(offset);
-    let lent = LentRow {
+    let lent = LayoutRowRef {
         paragraph,
         tables,
         number: row,

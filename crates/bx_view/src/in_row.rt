@@ -6,7 +6,7 @@ ghost use Rattle.bx_view.specs.TextRows.{first};
 
 use crate::text_ref::TextRef;
 use crate::view::View;
-use bx_paragraph::LentRow;
+use bx_paragraph::LayoutRowRef;
 use bx_ucd::BidiData;
 
 /// A row of a text, found by a view. It is valid until that view searches for another row.
@@ -24,7 +24,11 @@ pub struct RowAt {
 
 impl View {
     /// Lends a row with its paragraph and tables.
-    pub fn row<'t, D: BidiData>(&self, source: &TextRef<'t, D>, at: RowAt) -> LentRow<'_, 't, D>
+    pub fn row<'t, D: BidiData>(
+        &self,
+        source: &TextRef<'t, D>,
+        at: RowAt,
+    ) -> LayoutRowRef<'_, 't, D>
         requires row { Stands source.now self.now at }
         ensures start { result.start ≡ at.start }
         ensures columns { columns result ≡ self.now.w }
@@ -34,7 +38,7 @@ impl View {
         ensures row { OfRow source.now self.now at (λ r. placed result ≡ r) }
     {
         let paragraph = self.paragraph(source, at.paragraph, at.cached);
-        LentRow {
+        LayoutRowRef {
             paragraph,
             tables: source.tables,
             number: at.row,

@@ -6,7 +6,7 @@ ghost use Rattle.bx_view.specs.Placed.{placed};
 ghost use Rattle.bx_view.specs.TextRows.{places_of};
 
 use bx_common::OutOfMemory;
-use bx_paragraph::LentRow;
+use bx_paragraph::LayoutRowRef;
 use bx_ucd::BidiData;
 
 /// The first of `offsets` at or after an offset.
@@ -24,7 +24,7 @@ fn last_at(offsets: &[usize], offset: usize) -> Option<usize>
 }
 
 /// The place at an offset of the paragraph's body, if there is an offset.
-pub fn place_of<D: BidiData>(row: &LentRow<'_, '_, D>, offset: Option<usize>) -> Option<usize>
+pub fn place_of<D: BidiData>(row: &LayoutRowRef<'_, '_, D>, offset: Option<usize>) -> Option<usize>
     requires { IfSome offset (λ o. row.now.start + o < 2 ^ 64) }
     ensures { result ≡ place_in (placed row.now) offset }
 {
@@ -35,7 +35,7 @@ pub fn place_of<D: BidiData>(row: &LentRow<'_, '_, D>, offset: Option<usize>) ->
 }
 
 /// The last place of the row.
-pub fn last_place<D: BidiData>(row: &LentRow<'_, '_, D>) -> Result<usize, OutOfMemory>
+pub fn last_place<D: BidiData>(row: &LayoutRowRef<'_, '_, D>) -> Result<usize, OutOfMemory>
     ensures { IfOk result (λ o. o ≡ row.now.start + last_of (placed row.now).row) }
 {
     let offset = row.last()?;
@@ -44,7 +44,7 @@ pub fn last_place<D: BidiData>(row: &LentRow<'_, '_, D>) -> Result<usize, OutOfM
 
 /// The first place of the row at or after an offset.
 pub(crate) fn first_place_from<D: BidiData>(
-    row: &LentRow<'_, '_, D>,
+    row: &LayoutRowRef<'_, '_, D>,
     offset: usize,
 ) -> Result<Option<usize>, OutOfMemory>
     requires { row.now.start ≤ offset }
@@ -57,7 +57,7 @@ pub(crate) fn first_place_from<D: BidiData>(
 
 /// The last place of the row at or before an offset.
 pub(crate) fn last_place_at<D: BidiData>(
-    row: &LentRow<'_, '_, D>,
+    row: &LayoutRowRef<'_, '_, D>,
     offset: usize,
 ) -> Result<Option<usize>, OutOfMemory>
     requires { row.now.start ≤ offset }

@@ -7,7 +7,7 @@ use crate::words::{WordFault, bytes_of, count_of, field, side_of};
 use crate::writing::{add_blank, add_bytes, add_none};
 use bx_common::{Base, is_side};
 use bx_levels::{Levels, levels};
-use bx_paragraph::{LentRow, ParagraphLayout};
+use bx_paragraph::{LayoutRowRef, ParagraphLayout};
 use bx_rows::{Unit, units, visual};
 use bx_rows_laws::{row_levels, wrap};
 use bx_text::{Index, Text};
@@ -71,7 +71,10 @@ fn add_units(
 }
 
 /// Appends the glyphs of a row, from left to right.
-fn add_glyphs<D: BidiData>(line: &mut String, row: &LentRow<'_, '_, D>) -> Result<(), WordFault> {
+fn add_glyphs<D: BidiData>(
+    line: &mut String,
+    row: &LayoutRowRef<'_, '_, D>,
+) -> Result<(), WordFault> {
     for glyph in &row.picture()?.glyphs {
         add_blank(line)?;
         add_bytes(line, glyph.text.as_str().as_bytes())?;
@@ -84,7 +87,7 @@ fn add_glyphs<D: BidiData>(line: &mut String, row: &LentRow<'_, '_, D>) -> Resul
 /// Appends the slots of a row, from left to right. The body begins at `start` of the text.
 fn add_slots<D: BidiData>(
     line: &mut String,
-    row: &LentRow<'_, '_, D>,
+    row: &LayoutRowRef<'_, '_, D>,
     start: usize,
 ) -> Result<(), WordFault> {
     for slot in &row.slots()? {
@@ -108,7 +111,7 @@ fn add_pictured<D: BidiData>(
     if number >= layout.row_count() {
         return Ok(());
     }
-    let row = LentRow {
+    let row = LayoutRowRef {
         paragraph: layout,
         tables,
         number,

@@ -12,7 +12,7 @@ use Rattle.bx_ucd.specs.declared.class.Class.{Class}
 use Rattle.bx_ucd.specs.declared.class.Class.TheVariants.{L, R, EN, AN}
 use Rattle.bx_levels.specs.declared.brackets.resolve.Clear.{Clear}
 use Rattle.bx_levels.specs.declared.brackets.resolve.Clears.{Clears}
-use Rattle.bx_levels.specs.brackets.Resolve.{counts_as, opposite, is_left, is_right, change_marks, change_bracket}
+use Rattle.bx_levels.specs.brackets.Resolve.{counts_as, opposite, is_left, is_right, change_nsms, change_bracket}
 use Rattle.bx_levels.specs.brackets.Clear.{IsClear, AreClear, AreSameFrom, between, clear_after}
 
 -- one index more is clear
@@ -45,33 +45,33 @@ some_in d ts a b k h low high e =
     list_any_at (counts_as d) (take (b - a) (drop a ts)) (k - a) L (omega arith) (ap (counts_as d) at ∙ e)
 
 -- a change of a bracket keeps the types before it, and keeps each other type or makes it the direction
-marks_either : (d : Class) (was : List Bool) (ts : List Class) (k : ℕ)
-    → (get_or (change_marks d was ts) k L ≡ get_or ts k L) ⊎ (get_or (change_marks d was ts) k L ≡ d)
-marks_either d [] ts k = inl refl
-marks_either d (false ∷ was) ts k = inl refl
-marks_either d (true ∷ was) [] k = inl refl
-marks_either d (true ∷ was) (t ∷ ts) zero = inr refl
-marks_either d (true ∷ was) (t ∷ ts) (suc k) = marks_either d was ts k
+nsms_either : (d : Class) (was : List Bool) (ts : List Class) (k : ℕ)
+    → (get_or (change_nsms d was ts) k L ≡ get_or ts k L) ⊎ (get_or (change_nsms d was ts) k L ≡ d)
+nsms_either d [] ts k = inl refl
+nsms_either d (false ∷ was) ts k = inl refl
+nsms_either d (true ∷ was) [] k = inl refl
+nsms_either d (true ∷ was) (t ∷ ts) zero = inr refl
+nsms_either d (true ∷ was) (t ∷ ts) (suc k) = nsms_either d was ts k
 
 module _ (d : Class) (was : List Bool) (ts : List Class) (p : ℕ) (h : p < length ts) where
   before_long : length (take p ts) ≡ p
   before_long = omega (arith, length-take p ts)
 
   pub change_before : (k : ℕ) → k < p → get_or (change_bracket d was ts p) k L ≡ get_or ts k L
-  change_before k l = get_or-append (take p ts) (d ∷ change_marks d (drop (p + 1) was) (drop (p + 1) ts)) L k (omega (arith, before_long))
+  change_before k l = get_or-append (take p ts) (d ∷ change_nsms d (drop (p + 1) was) (drop (p + 1) ts)) L k (omega (arith, before_long))
       ∙ get_or-take p ts k L l
 
   change_from : (n k : ℕ) → p + n ≡ k → (get_or (change_bracket d was ts p) k L ≡ get_or ts k L) ⊎ (get_or (change_bracket d was ts p) k L ≡ d)
   change_from zero k e =
       let at : k ≡ length (take p ts) = omega (arith, before_long) in
-      inr (ap (λ i. get_or (change_bracket d was ts p) i L) at ∙ get_or-append_seam (take p ts) d (change_marks d (drop (p + 1) was) (drop (p + 1) ts)) L)
+      inr (ap (λ i. get_or (change_bracket d was ts p) i L) at ∙ get_or-append_seam (take p ts) d (change_nsms d (drop (p + 1) was) (drop (p + 1) ts)) L)
   change_from (suc m) k e =
       let n : k - p ≡ suc m = omega arith in
       let s : p + 1 + m ≡ k = omega arith in
-      let at : get_or (change_bracket d was ts p) k L ≡ get_or (change_marks d (drop (p + 1) was) (drop (p + 1) ts)) m L =
-      get_or-append_right (take p ts) (d ∷ change_marks d (drop (p + 1) was) (drop (p + 1) ts)) p k L before_long (omega arith)
-      ∙ ap (λ i. get_or (d ∷ change_marks d (drop (p + 1) was) (drop (p + 1) ts)) i L) n in
-      elim (marks_either d (drop (p + 1) was) (drop (p + 1) ts) m) [
+      let at : get_or (change_bracket d was ts p) k L ≡ get_or (change_nsms d (drop (p + 1) was) (drop (p + 1) ts)) m L =
+      get_or-append_right (take p ts) (d ∷ change_nsms d (drop (p + 1) was) (drop (p + 1) ts)) p k L before_long (omega arith)
+      ∙ ap (λ i. get_or (d ∷ change_nsms d (drop (p + 1) was) (drop (p + 1) ts)) i L) n in
+      elim (nsms_either d (drop (p + 1) was) (drop (p + 1) ts) m) [
         | inl x ↦ inl (at ∙ x ∙ get_or-drop (p + 1) ts m L ∙ ap (λ i. get_or ts i L) s)
         | inr x ↦ inr (at ∙ x)
       ]

@@ -4,7 +4,7 @@ use Rattle.std.proofs.Common.{false, Option, Some, None, length-append, length-d
 use Rattle.std.proofs.lemmas.List.{reverse-append, take-append-le, take-append-drop, length-take-le}
 use Rattle.bx_ucd.specs.declared.class.Class.{Class}
 use Rattle.bx_ucd.specs.declared.class.Class.TheVariants.{L, R}
-use Rattle.bx_levels.specs.brackets.Resolve.{nearest, is_left, is_right, context_of, change_marks, change_bracket, pair_direction, resolve_in}
+use Rattle.bx_levels.specs.brackets.Resolve.{nearest, is_left, is_right, context_of, change_nsms, change_bracket, pair_direction, resolve_in}
 use Rattle.bx_levels.specs.brackets.Search.{IsPairWithin}
 use Rattle.bx_levels.specs.brackets.Clear.{IsKnown, known_first}
 
@@ -36,19 +36,19 @@ pub context_later : (sos : Class) (ts : List Class) (a o : ℕ) → a ≤ o → 
 context_later sos ts a o h = sym (ap (λ xs. nearest sos (reverse xs)) (take_split a o ts h)
     ∙ ap (nearest sos) (reverse-append (take a ts) (take (o - a) (drop a ts))) ∙ nearest-append sos (reverse (take (o - a) (drop a ts))) (reverse (take a ts)))
 
-marks_length : (d : Class) (was : List Bool) (ts : List Class) → length (change_marks d was ts) ≡ length ts
-marks_length d [] ts = refl
-marks_length d (false ∷ was) ts = refl
-marks_length d (true ∷ was) [] = refl
-marks_length d (true ∷ was) (t ∷ ts) = let h : length (change_marks d was ts) ≡ length ts = marks_length d was ts in omega arith
+nsms_length : (d : Class) (was : List Bool) (ts : List Class) → length (change_nsms d was ts) ≡ length ts
+nsms_length d [] ts = refl
+nsms_length d (false ∷ was) ts = refl
+nsms_length d (true ∷ was) [] = refl
+nsms_length d (true ∷ was) (t ∷ ts) = let h : length (change_nsms d was ts) ≡ length ts = nsms_length d was ts in omega arith
 
 pub change_length : (d : Class) (was : List Bool) (ts : List Class) (p : ℕ) → p < length ts → length (change_bracket d was ts p) ≡ length ts
 change_length d was ts p h =
     let a : length (take p ts) ≡ p = length-take-le p ts (omega arith) in
-    let b : length (change_marks d (drop (p + 1) was) (drop (p + 1) ts)) ≡ length (drop (p + 1) ts) = marks_length d (drop (p + 1) was) (drop (p + 1) ts) in
+    let b : length (change_nsms d (drop (p + 1) was) (drop (p + 1) ts)) ≡ length (drop (p + 1) ts) = nsms_length d (drop (p + 1) was) (drop (p + 1) ts) in
     let c : length (drop (p + 1) ts) ≡ length ts - (p + 1) = length-drop (p + 1) ts in
-    let e : length (change_bracket d was ts p) ≡ length (take p ts) + length (d ∷ change_marks d (drop (p + 1) was) (drop (p + 1) ts)) =
-    length-append (take p ts) (d ∷ change_marks d (drop (p + 1) was) (drop (p + 1) ts)) in
+    let e : length (change_bracket d was ts p) ≡ length (take p ts) + length (d ∷ change_nsms d (drop (p + 1) was) (drop (p + 1) ts)) =
+    length-append (take p ts) (d ∷ change_nsms d (drop (p + 1) was) (drop (p + 1) ts)) in
     omega arith
 
 take_taken : (o p : ℕ) (ts : List Class) → o ≤ p → p ≤ length ts → take o (take p ts) ≡ take o ts
@@ -59,7 +59,7 @@ take_taken o p ts h l =
 take_change : (d : Class) (was : List Bool) (ts : List Class) (p o : ℕ) → o ≤ p → p < length ts → take o (change_bracket d was ts p) ≡ take o ts
 take_change d was ts p o h l =
     let a : length (take p ts) ≡ p = length-take-le p ts (omega arith) in
-    take-append-le o (take p ts) (d ∷ change_marks d (drop (p + 1) was) (drop (p + 1) ts)) (omega arith) ∙ take_taken o p ts h (omega arith)
+    take-append-le o (take p ts) (d ∷ change_nsms d (drop (p + 1) was) (drop (p + 1) ts)) (omega arith) ∙ take_taken o p ts h (omega arith)
 
 take_by : (m : Option Class) (was : List Bool) (pq : ℕ × ℕ) (ts : List Class) → IsPairWithin (length ts) pq
     → take pq.0 (elim m as (λ x. List Class) [ None ↦ ts | Some d ↦ change_bracket d was (change_bracket d was ts pq.0) pq.1 ]) ≡ take pq.0 ts

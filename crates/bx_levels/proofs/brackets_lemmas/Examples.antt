@@ -53,6 +53,6 @@ inner_pair_sees_outer = refl
 pair_of_the_other_direction : resolve_pairs L L (replicate 4 false) ((1, 3) ∷ []) (R ∷ ON ∷ R ∷ ON ∷ []) ≡ R ∷ R ∷ R ∷ R ∷ []
 pair_of_the_other_direction = refl
 
--- ( b ) and two marks
-marks_follow_their_bracket : resolve_pairs L R (false ∷ false ∷ false ∷ true ∷ true ∷ []) ((0, 2) ∷ []) (ON ∷ L ∷ ON ∷ ON ∷ ON ∷ []) ≡ replicate 5 L
-marks_follow_their_bracket = refl
+-- ( b ) and two nonspacing marks
+nsms_follow_their_bracket : resolve_pairs L R (false ∷ false ∷ false ∷ true ∷ true ∷ []) ((0, 2) ∷ []) (ON ∷ L ∷ ON ∷ ON ∷ ON ∷ []) ≡ replicate 5 L
+nsms_follow_their_bracket = refl

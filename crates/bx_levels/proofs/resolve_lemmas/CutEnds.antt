@@ -6,7 +6,7 @@ use Rattle.bx_ucd.specs.declared.class.Class.{Class}
 use Rattle.bx_ucd.specs.declared.class.Class.TheVariants.{L, R, ES, CS, ON}
 use Rattle.bx_ucd.specs.Class.{is_strong, is_neutral, is_nsm}
 use Rattle.bx_levels.specs.resolve.Weak.{at_each, w1, w2, w3, w4, w5, w6, w7, w1_at, w2_at, w3_at, w4_at, w5_at, w6_at, w7_at, weak, is_en, is_et}
-use Rattle.bx_levels.specs.resolve.Weak.{mark_class, nearest_that, number_after, left_number, is_left_or_right, beside, separator, terminator_of}
+use Rattle.bx_levels.specs.resolve.Weak.{nsm_class_at, nearest_that, number_after, left_number, is_left_or_right, beside, separator, terminator_of}
 use Rattle.bx_levels.specs.resolve.Weak.{is_en_past}
 use Rattle.bx_levels.specs.resolve.Neutral.{n1, n2, n1_at, n2_at, side, side_of, agreed, implicit, implicit_at}
 use Rattle.bx_levels.proofs.resolve_lemmas.Cuts.{if_not, strong_no_nsm, strong_no_en, turned_strong}
@@ -56,7 +56,7 @@ module _ (x : Class) (e : is_left_or_right x ≡ true) where
   strong = turned_strong x e
 
   w1_first : (sos : Class) (b a : List Class) → w1_at sos b x a ≡ x
-  w1_first sos b a = if_not (is_nsm x) (mark_class sos b) x (strong_no_nsm x strong)
+  w1_first sos b a = if_not (is_nsm x) (nsm_class_at sos b) x (strong_no_nsm x strong)
 
   w2_first : (sos : Class) (b a : List Class) → w2_at sos b x a ≡ x
   w2_first sos b a = if_not (is_en x) (number_after (nearest_that is_strong sos b)) x (strong_no_en x strong)

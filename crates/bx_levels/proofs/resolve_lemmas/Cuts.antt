@@ -5,7 +5,7 @@ use Rattle.bx_ucd.specs.declared.class.Class.{Class}
 use Rattle.bx_ucd.specs.declared.class.Class.TheVariants.{L, R, AL}
 use Rattle.bx_ucd.specs.Class.{is_strong, is_neutral, is_nsm}
 use Rattle.bx_levels.specs.resolve.Weak.{at_each, w1, w2, w3, w4, w5, w6, w7, w1_at, w2_at, w3_at, w4_at, w5_at, w6_at, w7_at, weak, is_en, is_et}
-use Rattle.bx_levels.specs.resolve.Weak.{mark_class, mark_after, nearest_that, number_after, left_number, is_left_or_right, beside, separator}
+use Rattle.bx_levels.specs.resolve.Weak.{nsm_class_at, nsm_class_after, nearest_that, number_after, left_number, is_left_or_right, beside, separator}
 use Rattle.bx_levels.specs.resolve.Weak.{terminator_of, is_en_past}
 use Rattle.bx_levels.specs.resolve.Neutral.{n1, n2, n1_at, n2_at, side, side_of, agreed, implicit, implicit_at}
 use Rattle.bx_levels.proofs.resolve_lemmas.PlainLengths.{at_each_length}
@@ -119,17 +119,17 @@ turned_by_w6 R e = refl
 turned_by_w6 _ e = absurd (cc)
 
 -- W1
-mark_stops : (sos other x : Class) (c d : List Class) → is_nsm x ≡ false → mark_class sos (c ++ x ∷ d) ≡ mark_class other (c ++ x ∷ [])
-mark_stops sos other x [] d e = if_not (is_nsm x) (mark_class sos d) (mark_after x) e ∙ sym (if_not (is_nsm x) other (mark_after x) e)
-mark_stops sos other x (t ∷ c) d e = ap (λ s. elim (is_nsm t) as (λ z. Class) [ true ↦ s | false ↦ mark_after t ]) (mark_stops sos other x c d e)
+nsm_stops : (sos other x : Class) (c d : List Class) → is_nsm x ≡ false → nsm_class_at sos (c ++ x ∷ d) ≡ nsm_class_at other (c ++ x ∷ [])
+nsm_stops sos other x [] d e = if_not (is_nsm x) (nsm_class_at sos d) (nsm_class_after x) e ∙ sym (if_not (is_nsm x) other (nsm_class_after x) e)
+nsm_stops sos other x (t ∷ c) d e = ap (λ s. elim (is_nsm t) as (λ z. Class) [ true ↦ s | false ↦ nsm_class_after t ]) (nsm_stops sos other x c d e)
 
 w1_cut : (sos other x : Class) → is_strong x ≡ true → (n : ℕ) (whole front back : List Class) → IsCut x n whole front back
     → IsCut x n (w1 sos whole) (w1 sos front) (w1 other back)
 w1_cut sos other x e = cut_each (w1_at sos) (w1_at sos) (w1_at other) x x (λ b t a v. refl)
-    (λ c d t a. ap (λ s. elim (is_nsm t) as (λ z. Class) [ true ↦ s | false ↦ t ]) (mark_stops sos other x c d (strong_no_nsm x e)))
-    (λ b a. if_not (is_nsm x) (mark_class sos b) x (strong_no_nsm x e))
-    (λ b a. if_not (is_nsm x) (mark_class sos b) x (strong_no_nsm x e))
-    (λ b a. if_not (is_nsm x) (mark_class other b) x (strong_no_nsm x e))
+    (λ c d t a. ap (λ s. elim (is_nsm t) as (λ z. Class) [ true ↦ s | false ↦ t ]) (nsm_stops sos other x c d (strong_no_nsm x e)))
+    (λ b a. if_not (is_nsm x) (nsm_class_at sos b) x (strong_no_nsm x e))
+    (λ b a. if_not (is_nsm x) (nsm_class_at sos b) x (strong_no_nsm x e))
+    (λ b a. if_not (is_nsm x) (nsm_class_at other b) x (strong_no_nsm x e))
 
 -- W2 and W7
 nearest_stops : (p : Class → Bool) (sos other x : Class) (c d : List Class) → p x ≡ true

@@ -7,7 +7,7 @@ use Rattle.bx_ucd.specs.declared.class.Class.TheVariants.{L, R, AL, EN, AN, NSM,
 use Rattle.bx_ucd.specs.Class.{is_strong, is_nsm}
 use Rattle.bx_levels.specs.embedding.Sequences.{direction}
 use Rattle.bx_levels.specs.brackets.Pairs.{is_on, pairs}
-use Rattle.bx_levels.specs.brackets.Resolve.{context_of, pair_direction, change_marks, change_bracket, resolve_pair, resolve_pairs}
+use Rattle.bx_levels.specs.brackets.Resolve.{context_of, pair_direction, change_nsms, change_bracket, resolve_pair, resolve_pairs}
 use Rattle.bx_levels.specs.resolve.Weak.{at_each, w1, w2, w3, w4, w5, w6, w1_at, w2_at, w3_at, w4_at, w5_at, w6_at, w7_at, weak, is_left_or_right}
 use Rattle.bx_levels.specs.resolve.Weak.{nearest_that, number_after, left_number}
 use Rattle.bx_levels.specs.resolve.Neutral.{n1, n1_at, n2_at, implicit, implicit_at, rise_even, rise_odd}
@@ -177,19 +177,19 @@ all_free P j (t ∷ ts) (u ∷ us) f h =
     let more : (k : ℕ) → j + suc k ≡ j + 1 + k = λ k. omega arith in
     (λ e. subst P first (f 0 (free_on t u h.0 e)), all_free P (j + 1) ts us (λ k x. subst P (more k) (f (suc k) x)) h.1)
 
-marks_stay : (d : Class) (ts us : List Class) → Stay is_r ts us → Stay is_r ts (change_marks d (map is_nsm ts) us)
-marks_stay d [] us h = h
-marks_stay d (NSM ∷ ts) [] h = h
-marks_stay d (NSM ∷ ts) (u ∷ us) h = ((λ x. absurd (cc), λ x. absurd (cc)), marks_stay d ts us h.1)
-marks_stay d (_ ∷ ts) us h = h
+nsms_stay : (d : Class) (ts us : List Class) → Stay is_r ts us → Stay is_r ts (change_nsms d (map is_nsm ts) us)
+nsms_stay d [] us h = h
+nsms_stay d (NSM ∷ ts) [] h = h
+nsms_stay d (NSM ∷ ts) (u ∷ us) h = ((λ x. absurd (cc), λ x. absurd (cc)), nsms_stay d ts us h.1)
+nsms_stay d (_ ∷ ts) us h = h
 
 bracket_stays : (d : Class) (ts us : List Class) (p : ℕ) → IsFree ts p → Stay is_r ts us → Stay is_r ts (change_bracket d (map is_nsm ts) us p)
 bracket_stays d [] us p f h = absurd f
 bracket_stays d (t ∷ ts) [] p f h = absurd h
-bracket_stays d (t ∷ ts) (u ∷ us) zero f h = (f d, marks_stay d ts us h.1)
+bracket_stays d (t ∷ ts) (u ∷ us) zero f h = (f d, nsms_stay d ts us h.1)
 bracket_stays d (t ∷ ts) (u ∷ us) (suc p) f h =
     let next : suc (p + 1) ≡ suc p + 1 = omega arith in
-    subst (λ n. Stay is_r (t ∷ ts) (u ∷ (take p us ++ d ∷ change_marks d (drop n (is_nsm t ∷ map is_nsm ts)) (drop n (u ∷ us))))) next
+    subst (λ n. Stay is_r (t ∷ ts) (u ∷ (take p us ++ d ∷ change_nsms d (drop n (is_nsm t ∷ map is_nsm ts)) (drop n (u ∷ us))))) next
     (h.0, bracket_stays d ts us p f h.1)
 
 pair_stays : (ts us : List Class) (p : ℕ × ℕ) (m : Option Class) → IsFree ts p.0 → IsFree ts p.1 → Stay is_r ts us

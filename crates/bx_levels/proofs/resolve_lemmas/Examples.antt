@@ -55,8 +55,8 @@ arabic_digits_and_plus : all (0x627 ∷ 49 ∷ 43 ∷ 50 ∷ []) ≡ some (1 ∷
 arabic_digits_and_plus = refl
 
 -- A a(b) U+0301 B
-mark_after_bracket : all (0x5d0 ∷ 32 ∷ 97 ∷ 40 ∷ 98 ∷ 41 ∷ 0x301 ∷ 32 ∷ 0x5d1 ∷ []) ≡ some (1 ∷ 1 ∷ 2 ∷ 2 ∷ 2 ∷ 2 ∷ 2 ∷ 1 ∷ 1 ∷ [])
-mark_after_bracket = refl
+nsm_after_bracket : all (0x5d0 ∷ 32 ∷ 97 ∷ 40 ∷ 98 ∷ 41 ∷ 0x301 ∷ 32 ∷ 0x5d1 ∷ []) ≡ some (1 ∷ 1 ∷ 2 ∷ 2 ∷ 2 ∷ 2 ∷ 2 ∷ 1 ∷ 1 ∷ [])
+nsm_after_bracket = refl
 
 -- a, n times (, A, n times ), A
 abbrev nested_text : ℕ → List ℕ
@@ -99,15 +99,15 @@ arabic_number_before_blank : levels Ltr (0x661 ∷ 32 ∷ 0x5d0 ∷ []) ≡ some
 arabic_number_before_blank = refl
 
 -- RLE a(b) PDF RLO U+0301 PDF: an override made the mark R, so it does not follow its bracket
-mark_under_an_override : all (0x202b ∷ 97 ∷ 40 ∷ 98 ∷ 41 ∷ 0x202c ∷ 0x202e ∷ 0x301 ∷ 0x202c ∷ [])
+nsm_under_an_override : all (0x202b ∷ 97 ∷ 40 ∷ 98 ∷ 41 ∷ 0x202c ∷ 0x202e ∷ 0x301 ∷ 0x202c ∷ [])
     ≡ None ∷ Some 2 ∷ Some 2 ∷ Some 2 ∷ Some 2 ∷ None ∷ None ∷ Some 1 ∷ None ∷ []
-mark_under_an_override = refl
+nsm_under_an_override = refl
 
 -- PDI with no initiator
 pdis_match_nothing : all (replicate 100 0x2069 ++ (97 ∷ [])) ≡ some (replicate 101 0)
 pdis_match_nothing = refl
 
--- X9 keeps letters, numbers, marks, separators and isolates, and removes embeddings, overrides, their ends and BN
+-- X9 keeps letters, numbers, nonspacing marks, separators and isolates, and removes embeddings, overrides, their ends and BN
 classes_kept : map is_kept (L ∷ AN ∷ NSM ∷ B ∷ LRI ∷ FSI ∷ PDI ∷ []) ≡ replicate 7 true
 classes_kept = refl
 

@@ -1,4 +1,4 @@
--- N0 over a list in three parts, whose middle has no bracket, begins with no mark, and ends with a type that has a direction.
+-- N0 over a list in three parts, whose middle has no bracket, begins with no NSM, and ends with a type that has a direction.
 use Rattle.std.proofs.Common.{append_assoc, ◌≡◌, ◌<◌, ◌+◌, ◌-◌, ◌∙◌, ℕ, List, [], ◌∷◌, ◌++◌, length, take, drop, reverse, refl, ap, ap₂, sym, arith, Bool}
 use Rattle.std.proofs.Common.{true, false, Option, Some, None, length-append, length-drop}
 use Rattle.std.specs.Prelude.{◌||◌}
@@ -7,17 +7,17 @@ use Rattle.std.proofs.lemmas.List.{reverse-append, take-append-le, drop-append-l
 use Rattle.std.proofs.lemmas.List.Folds.{list_any-append}
 use Rattle.std.proofs.Math.Seq.{take-append-add, drop-append-add}
 use Rattle.bx_ucd.specs.declared.class.Class.{Class}
-use Rattle.bx_levels.specs.brackets.Resolve.{nearest, counts_as, opposite, pair_direction, change_marks, change_bracket, context_of, resolve_pair}
+use Rattle.bx_levels.specs.brackets.Resolve.{nearest, counts_as, opposite, pair_direction, change_nsms, change_bracket, context_of, resolve_pair}
 use Rattle.bx_levels.proofs.brackets_lemmas.Context.{nearest-append, change_length}
 
-marks_front : (d : Class) (a wr : List Bool) (b r : List Class) → length a ≡ length b → change_marks d (a ++ false ∷ wr) (b ++ r) ≡ change_marks d a b ++ r
-marks_front d [] wr [] r e = refl
-marks_front d [] wr (t ∷ b) r e = absurd (omega arith)
-marks_front d (w ∷ a) wr [] r e = absurd (omega arith)
-marks_front d (false ∷ a) wr (t ∷ b) r e = refl
-marks_front d (true ∷ a) wr (t ∷ b) r e = ap (λ ts. d ∷ ts) (marks_front d a wr b r (omega arith))
+nsms_front : (d : Class) (a wr : List Bool) (b r : List Class) → length a ≡ length b → change_nsms d (a ++ false ∷ wr) (b ++ r) ≡ change_nsms d a b ++ r
+nsms_front d [] wr [] r e = refl
+nsms_front d [] wr (t ∷ b) r e = absurd (omega arith)
+nsms_front d (w ∷ a) wr [] r e = absurd (omega arith)
+nsms_front d (false ∷ a) wr (t ∷ b) r e = refl
+nsms_front d (true ∷ a) wr (t ∷ b) r e = ap (λ ts. d ∷ ts) (nsms_front d a wr b r (omega arith))
 
--- a bracket before a type that was not a mark changes nothing from there on
+-- a bracket before a type that was not NSM changes nothing from there on
 front_change : (d : Class) (wf wr : List Bool) (front r : List Class) (i : ℕ) → length wf ≡ length front → i < length front
     → change_bracket d (wf ++ false ∷ wr) (front ++ r) i ≡ change_bracket d wf front i ++ r
 front_change d wf wr front r i w h =
@@ -26,13 +26,13 @@ front_change d wf wr front r i w h =
     let c : drop (i + 1) (front ++ r) ≡ drop (i + 1) front ++ r = drop-append-le (i + 1) front r (omega arith) in
     let l : length (drop (i + 1) wf) ≡ length wf - (i + 1) = length-drop (i + 1) wf in
     let k : length (drop (i + 1) front) ≡ length front - (i + 1) = length-drop (i + 1) front in
-    let m : change_marks d (drop (i + 1) wf ++ false ∷ wr) (drop (i + 1) front ++ r) ≡ change_marks d (drop (i + 1) wf) (drop (i + 1) front) ++ r =
-    marks_front d (drop (i + 1) wf) wr (drop (i + 1) front) r (omega arith) in
-    ap (λ xs. xs ++ d ∷ change_marks d (drop (i + 1) (wf ++ false ∷ wr)) (drop (i + 1) (front ++ r))) a
-    ∙ ap (λ ws. take i front ++ d ∷ change_marks d ws (drop (i + 1) (front ++ r))) b
-    ∙ ap (λ xs. take i front ++ d ∷ change_marks d (drop (i + 1) wf ++ false ∷ wr) xs) c
+    let m : change_nsms d (drop (i + 1) wf ++ false ∷ wr) (drop (i + 1) front ++ r) ≡ change_nsms d (drop (i + 1) wf) (drop (i + 1) front) ++ r =
+    nsms_front d (drop (i + 1) wf) wr (drop (i + 1) front) r (omega arith) in
+    ap (λ xs. xs ++ d ∷ change_nsms d (drop (i + 1) (wf ++ false ∷ wr)) (drop (i + 1) (front ++ r))) a
+    ∙ ap (λ ws. take i front ++ d ∷ change_nsms d ws (drop (i + 1) (front ++ r))) b
+    ∙ ap (λ xs. take i front ++ d ∷ change_nsms d (drop (i + 1) wf ++ false ∷ wr) xs) c
     ∙ ap (λ xs. take i front ++ d ∷ xs) m
-    ∙ sym (append_assoc (take i front) (d ∷ change_marks d (drop (i + 1) wf) (drop (i + 1) front)) r)
+    ∙ sym (append_assoc (take i front) (d ∷ change_nsms d (drop (i + 1) wf) (drop (i + 1) front)) r)
 
 -- a bracket changes nothing before it
 back_change : (d : Class) (wa wb : List Bool) (a back : List Class) (i : ℕ) → length wa ≡ length a
@@ -43,10 +43,10 @@ back_change d wa wb a back i w =
     let t : take (length a + i) (a ++ back) ≡ a ++ take i back = take-append-add a back i in
     let b : drop (length a + i + 1) (wa ++ wb) ≡ drop (i + 1) wb = ap (λ j. drop j (wa ++ wb)) k ∙ drop-append-add wa wb (i + 1) in
     let c : drop (length a + i + 1) (a ++ back) ≡ drop (i + 1) back = ap (λ j. drop j (a ++ back)) n ∙ drop-append-add a back (i + 1) in
-    ap (λ xs. xs ++ d ∷ change_marks d (drop (length a + i + 1) (wa ++ wb)) (drop (length a + i + 1) (a ++ back))) t
-    ∙ ap (λ ws. (a ++ take i back) ++ d ∷ change_marks d ws (drop (length a + i + 1) (a ++ back))) b
-    ∙ ap (λ xs. (a ++ take i back) ++ d ∷ change_marks d (drop (i + 1) wb) xs) c
-    ∙ append_assoc a (take i back) (d ∷ change_marks d (drop (i + 1) wb) (drop (i + 1) back))
+    ap (λ xs. xs ++ d ∷ change_nsms d (drop (length a + i + 1) (wa ++ wb)) (drop (length a + i + 1) (a ++ back))) t
+    ∙ ap (λ ws. (a ++ take i back) ++ d ∷ change_nsms d ws (drop (length a + i + 1) (a ++ back))) b
+    ∙ ap (λ xs. (a ++ take i back) ++ d ∷ change_nsms d (drop (i + 1) wb) xs) c
+    ∙ append_assoc a (take i back) (d ∷ change_nsms d (drop (i + 1) wb) (drop (i + 1) back))
 
 -- both brackets in front
 abbrev pub changed : Option Class → List Bool → ℕ → ℕ → List Class → List Class

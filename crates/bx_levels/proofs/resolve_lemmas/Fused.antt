@@ -16,11 +16,11 @@ use Rattle.bx_levels.specs.declared.resolve.before.Terminators.{Terminators}
 use Rattle.bx_levels.specs.declared.resolve.before.Terminators.TheVariants.{Numbers, Neutrals, Undecided}
 use Rattle.bx_levels.specs.resolve.Weak.{w1, w2, w3, w4, w5, w6, w7, weak, w3_at, w6_at, is_en, is_an, is_et, is_left_or_right, beside, separator, is_en_past}
 use Rattle.bx_levels.specs.resolve.Weak.{number_after, left_number, terminator_of}
-use Rattle.bx_levels.specs.resolve.Turns.{after_w1, after_w2, after_w4, after_w6, after_w7, begin, decided, is_separator, is_settled, left_number_by, mark_next}
+use Rattle.bx_levels.specs.resolve.Turns.{after_w1, after_w2, after_w4, after_w6, after_w7, begin, decided, is_separator, is_settled, left_number_by, nsm_class_next}
 use Rattle.bx_levels.specs.resolve.Turns.{neighbour_of, next, number_by, rest_after_w3, strong_next, strong_of, terminator_by, terminators_next, written}
 use Rattle.bx_levels.specs.resolve.Neutral.{n1, n2, n2_at}
 use Rattle.bx_levels.specs.resolve.Kept.{taken, all_taken}
-use Rattle.bx_levels.proofs.resolve_lemmas.Run.{run, w1_run, w2_run, n1_run, next_mark, out_mark, next_strong, out_number, next_beside, out_separator, next_past}
+use Rattle.bx_levels.proofs.resolve_lemmas.Run.{run, w1_run, w2_run, n1_run, next_nsm_class, out_nsm_class, next_strong, out_number, next_beside, out_separator, next_past}
 use Rattle.bx_levels.proofs.resolve_lemmas.Run.{out_terminator, next_side, out_left, w4_run, w5_run, w7_run, next_neutral, out_neutral}
 
 map_run : {S : Type 0} (next : S → Class → S) (out : S → Class → List Class → Class) (f : Class → Class) (s : S) (ts : List Class)
@@ -46,14 +46,14 @@ module _ {S U : Type 0} (n : S → Class → S) (o : S → Class → List Class 
 
 -- W1, W2 and W3
 abbrev pub next_first : Class × Class → Class → Class × Class
-next_first (s, u) t = (next_mark s t, next_strong u (after_w1 s t))
+next_first (s, u) t = (next_nsm_class s t, next_strong u (after_w1 s t))
 
 abbrev pub out_first : Class × Class → Class → List Class → Class
 out_first (s, u) t a = w3_at (out_number u (after_w1 s t) a)
 
 pub first_run : (sos : Class) (ts : List Class) → w3 (w2 sos (w1 sos ts)) ≡ run next_first out_first (sos, sos) ts
-first_run sos ts = ap (λ xs. w3 (w2 sos xs)) (w1_run sos ts) ∙ ap w3 (w2_run sos (run next_mark out_mark sos ts))
-    ∙ ap w3 (run_run next_mark out_mark next_strong out_number after_w1 (λ s t a. refl) sos sos ts) ∙ map_run _ _ w3_at (sos, sos) ts
+first_run sos ts = ap (λ xs. w3 (w2 sos xs)) (w1_run sos ts) ∙ ap w3 (w2_run sos (run next_nsm_class out_nsm_class sos ts))
+    ∙ ap w3 (run_run next_nsm_class out_nsm_class next_strong out_number after_w1 (λ s t a. refl) sos sos ts) ∙ map_run _ _ w3_at (sos, sos) ts
 
 -- N1, and N2 where an embedding direction is given
 abbrev pub out_taken : Option Class → Class → Class → Class → List Class → Class
@@ -124,11 +124,11 @@ strong_is strong _ = refl
 third_is : (strong t : Class) → w3_at (elim (is_en t) as (λ _. Class) [ true ↦ number_after strong | false ↦ t ]) ≡ w3_at (after_w2 (strong_of strong) t)
 third_is strong t = ap (λ n. w3_at (elim (is_en t) as (λ _. Class) [ true ↦ n | false ↦ t ])) (number_is strong)
 
-third_list : (mark strong : Class) (ts : List Class) → run next_first out_first (mark, strong) ts ≡ rest_after_w3 mark (strong_of strong) ts
-third_list mark strong [] = refl
-third_list mark strong (t ∷ ts) =
-    let first : Class = after_w1 mark t in
-    let m : Class = mark_next mark t in
+third_list : (nsm_class strong : Class) (ts : List Class) → run next_first out_first (nsm_class, strong) ts ≡ rest_after_w3 nsm_class (strong_of strong) ts
+third_list nsm_class strong [] = refl
+third_list nsm_class strong (t ∷ ts) =
+    let first : Class = after_w1 nsm_class t in
+    let m : Class = nsm_class_next nsm_class t in
     ap (λ u. u ∷ run next_first out_first (m, next_strong strong first) ts) (third_is strong first)
     ∙ ap (λ r. w3_at (after_w2 (strong_of strong) first) ∷ r)
     (third_list m (next_strong strong first) ts ∙ ap (λ u. rest_after_w3 m u ts) (strong_is strong first))
@@ -247,15 +247,15 @@ seventh_is side _ strong h = refl
 abbrev last_rules : Class → Bool → Class → List Class → List Class
 last_rules b past side ts = run next_side out_left side (map w6_at (run next_past out_terminator past (run next_beside out_separator b ts)))
 
-all_from : (mark : Class) (strong : Strong) (b : Class) (known : Terminators) (past : Bool) (side : Class) (ts : List Class)
-    → left_number side ≡ left_number_by strong → Agrees known past (is_en_past (rest_after_w3 mark strong ts))
-    → last_rules b past side (rest_after_w3 mark strong ts)
-    ≡ go next written (record { mark = mark; strong = strong; neighbour = neighbour_of b; terminators = known }) ts
-all_from mark strong b known past side [] h k = refl
-all_from mark strong b known past side (t ∷ ts) h k =
-    let x : Class = w3_at (after_w2 strong (after_w1 mark t)) in
-    let m : Class = mark_next mark t in
-    let n : Strong = strong_next strong (after_w1 mark t) in
+all_from : (nsm_class : Class) (strong : Strong) (b : Class) (known : Terminators) (past : Bool) (side : Class) (ts : List Class)
+    → left_number side ≡ left_number_by strong → Agrees known past (is_en_past (rest_after_w3 nsm_class strong ts))
+    → last_rules b past side (rest_after_w3 nsm_class strong ts)
+    ≡ go next written (record { nsm_class = nsm_class; strong = strong; neighbour = neighbour_of b; terminators = known }) ts
+all_from nsm_class strong b known past side [] h k = refl
+all_from nsm_class strong b known past side (t ∷ ts) h k =
+    let x : Class = w3_at (after_w2 strong (after_w1 nsm_class t)) in
+    let m : Class = nsm_class_next nsm_class t in
+    let n : Strong = strong_next strong (after_w1 nsm_class t) in
     let r : List Class = rest_after_w3 m n ts in
     let f : Class = separator b x (beside r) in
     let g : Class = after_w4 x (neighbour_of b) (beside r) in
@@ -266,7 +266,7 @@ all_from mark strong b known past side (t ∷ ts) h k =
     sixth_is known past x f r (et_of b x (beside r)) k ∙ ap (λ y. after_w6 (terminators_next known y r) y) four in
     let agrees : Agrees u (next_past past g) (is_en_past r) =
     subst (λ y. Agrees (terminators_next known y r) (next_past past y) (is_en_past r)) four (agrees_next known past x f r (et_of b x (beside r)) k) in
-    let sides : left_number (next_side side w) ≡ left_number_by n = side_is side strong u (neighbour_of b) (beside r) (after_w1 mark t) h in
+    let sides : left_number (next_side side w) ≡ left_number_by n = side_is side strong u (neighbour_of b) (beside r) (after_w1 nsm_class t) h in
     ap (λ y. out_left side y [] ∷ last_rules x (next_past past f) (next_side side y) r) six
     ∙ ap (λ y. out_left side w [] ∷ last_rules x (next_past past y) (next_side side w) r) four
     ∙ ap (λ y. y ∷ last_rules x (next_past past g) (next_side side w) r) (seventh_is side w n sides)
@@ -297,25 +297,25 @@ et_not_strong strong R e = absurd (cc)
 et_not_strong strong AL e = absurd (cc)
 et_not_strong strong _ e = refl
 
-pub past_et : (mark : Class) (strong : Strong) (ts : List Class) (i : ℕ) → i < length ts → is_et (w3_at (after_w2 strong (after_w1 mark (get_or ts i L)))) ≡ true
-    → is_en_past (rest_after_w3 mark strong (drop i ts)) ≡ is_en_past (rest_after_w3 (mark_next mark (get_or ts i L)) strong (drop (i + 1) ts))
-past_et mark strong ts i h e =
+pub past_et : (nsm_class : Class) (strong : Strong) (ts : List Class) (i : ℕ) → i < length ts → is_et (w3_at (after_w2 strong (after_w1 nsm_class (get_or ts i L)))) ≡ true
+    → is_en_past (rest_after_w3 nsm_class strong (drop i ts)) ≡ is_en_past (rest_after_w3 (nsm_class_next nsm_class (get_or ts i L)) strong (drop (i + 1) ts))
+past_et nsm_class strong ts i h e =
     let t : Class = get_or ts i L in
-    let m : Class = mark_next mark t in
-    ap is_en_past (at_drop_more (rest_after_w3 mark strong) ts i L h)
-    ∙ past_at (w3_at (after_w2 strong (after_w1 mark t))) (rest_after_w3 m (strong_next strong (after_w1 mark t)) (drop (i + 1) ts)) true e
-    ∙ ap (λ u. is_en_past (rest_after_w3 m u (drop (i + 1) ts))) (et_not_strong strong (after_w1 mark t) e)
+    let m : Class = nsm_class_next nsm_class t in
+    ap is_en_past (at_drop_more (rest_after_w3 nsm_class strong) ts i L h)
+    ∙ past_at (w3_at (after_w2 strong (after_w1 nsm_class t))) (rest_after_w3 m (strong_next strong (after_w1 nsm_class t)) (drop (i + 1) ts)) true e
+    ∙ ap (λ u. is_en_past (rest_after_w3 m u (drop (i + 1) ts))) (et_not_strong strong (after_w1 nsm_class t) e)
 
-pub past_other : (mark : Class) (strong : Strong) (ts : List Class) (i : ℕ) → i < length ts
-    → is_et (w3_at (after_w2 strong (after_w1 mark (get_or ts i L)))) ≡ false
-    → is_en_past (rest_after_w3 mark strong (drop i ts)) ≡ is_en (w3_at (after_w2 strong (after_w1 mark (get_or ts i L))))
-past_other mark strong ts i h e =
+pub past_other : (nsm_class : Class) (strong : Strong) (ts : List Class) (i : ℕ) → i < length ts
+    → is_et (w3_at (after_w2 strong (after_w1 nsm_class (get_or ts i L)))) ≡ false
+    → is_en_past (rest_after_w3 nsm_class strong (drop i ts)) ≡ is_en (w3_at (after_w2 strong (after_w1 nsm_class (get_or ts i L))))
+past_other nsm_class strong ts i h e =
     let t : Class = get_or ts i L in
-    ap is_en_past (at_drop_more (rest_after_w3 mark strong) ts i L h)
-    ∙ past_at (w3_at (after_w2 strong (after_w1 mark t))) (rest_after_w3 (mark_next mark t) (strong_next strong (after_w1 mark t)) (drop (i + 1) ts)) false e
+    ap is_en_past (at_drop_more (rest_after_w3 nsm_class strong) ts i L h)
+    ∙ past_at (w3_at (after_w2 strong (after_w1 nsm_class t))) (rest_after_w3 (nsm_class_next nsm_class t) (strong_next strong (after_w1 nsm_class t)) (drop (i + 1) ts)) false e
 
-pub past_end : (mark : Class) (strong : Strong) (ts : List Class) → is_en_past (rest_after_w3 mark strong (drop (length ts) ts)) ≡ false
-past_end mark strong ts = ap (λ xs. is_en_past (rest_after_w3 mark strong xs)) (drop-length ts)
+pub past_end : (nsm_class : Class) (strong : Strong) (ts : List Class) → is_en_past (rest_after_w3 nsm_class strong (drop (length ts) ts)) ≡ false
+past_end nsm_class strong ts = ap (λ xs. is_en_past (rest_after_w3 nsm_class strong xs)) (drop-length ts)
 
 -- a settled type stays
 settled_written : (before : Before) (t : Class) (rest : List Class) → is_settled t ≡ true → t ≡ written before t rest

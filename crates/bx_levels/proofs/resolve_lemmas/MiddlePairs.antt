@@ -44,7 +44,7 @@ abbrev pub AreApart : ℕ → ℕ → ℕ → Type 0 → List (ℕ × ℕ) → T
 AreApart n k l same [] = Unit {0}
 AreApart n k l same (p ∷ ps) = IsApart n k l same p × AreApart n k l same ps
 
--- the two middles: `mid` has `m` more types than `other`, neither begins with a mark, and after each the nearest direction is `y`
+-- the two middles: `mid` has `m` more types than `other`, neither begins with an NSM, and after each the nearest direction is `y`
 module _ (e sos y : Class) (n l m : ℕ) (wf wm wo wb : List Bool) (mid other : List Class)
     (wf_is : length wf ≡ n) (wb_is : length wb ≡ l) (wm_is : length (false ∷ wm) ≡ length mid) (wo_is : length (false ∷ wo) ≡ length other)
     (more : length mid ≡ length other + m)

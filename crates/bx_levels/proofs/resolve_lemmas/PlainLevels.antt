@@ -195,11 +195,11 @@ map_both f g [] = refl
 map_both f g (x ∷ xs) = ap (λ ws. g (f x) ∷ ws) (map_both f g xs)
 
 -- the types that rule after rule gives
-pub types_from : (ucd : Data) (level : ℕ) (sos eos : Class) (chars : List ℕ) (ts ws ps us : List Class) (marks : List Bool)
-    → ws ≡ weak sos ts → marks ≡ map is_nsm ts
-    → ps ≡ resolve_pairs (direction level) sos marks (pairs ucd chars ws) ws → us ≡ n2 (direction level) (n1 sos eos ps)
+pub types_from : (ucd : Data) (level : ℕ) (sos eos : Class) (chars : List ℕ) (ts ws ps us : List Class) (nsms : List Bool)
+    → ws ≡ weak sos ts → nsms ≡ map is_nsm ts
+    → ps ≡ resolve_pairs (direction level) sos nsms (pairs ucd chars ws) ws → us ≡ n2 (direction level) (n1 sos eos ps)
     → us ≡ sequence_types ucd level sos eos chars ts
-types_from ucd level sos eos chars ts ws ps us marks w m p u =
+types_from ucd level sos eos chars ts ws ps us nsms w m p u =
     let d : Class = direction level in
     let first : ps ≡ resolve_pairs d sos (map is_nsm ts) (pairs ucd chars ws) ws = p ∙ ap (λ x. resolve_pairs d sos x (pairs ucd chars ws) ws) m in
     let second : ps ≡ resolve_pairs d sos (map is_nsm ts) (pairs ucd chars (weak sos ts)) (weak sos ts) = first

@@ -8,10 +8,10 @@ use Rattle.bx_ucd.specs.declared.class.Class.{Class}
 use Rattle.bx_ucd.specs.declared.class.Class.TheVariants.{L, R, AN, EN, ES, ET, CS, NSM, B, S, WS, ON}
 use Rattle.bx_ucd.specs.Class.{is_strong, is_nsm}
 use Rattle.bx_levels.specs.brackets.Pairs.{pairs}
-use Rattle.bx_levels.specs.brackets.Resolve.{counts_as, opposite, context_of, pair_direction, change_marks, change_bracket, resolve_in, resolve_pairs}
+use Rattle.bx_levels.specs.brackets.Resolve.{counts_as, opposite, context_of, pair_direction, change_nsms, change_bracket, resolve_in, resolve_pairs}
 use Rattle.bx_levels.proofs.brackets_lemmas.Context.{change_length}
 use Rattle.bx_levels.specs.resolve.Weak.{at_each, w1, w2, w3, w4, w5, w6, w1_at, w2_at, w3_at, w4_at, w5_at, w6_at, w7_at, weak, is_en, is_an}
-use Rattle.bx_levels.specs.resolve.Weak.{mark_class, nearest_that, number_after, left_number, is_left_or_right, beside, terminator_of, is_en_past}
+use Rattle.bx_levels.specs.resolve.Weak.{nsm_class_at, nearest_that, number_after, left_number, is_left_or_right, beside, terminator_of, is_en_past}
 use Rattle.bx_levels.specs.resolve.Neutral.{n1, n2, n1_at, side, agreed, implicit}
 use Rattle.bx_levels.specs.resolve.Levels.{sequence_levels}
 use Rattle.bx_levels.specs.resolve.Uniform.{is_plain}
@@ -64,22 +64,22 @@ abbrev is_l : Class → Bool
 is_l L = true
 is_l _ = false
 
-mark_unmarked : (b : List Class) → Each is_plain b → is_unmarked (mark_class L b) ≡ true
-mark_unmarked [] h = refl
-mark_unmarked (NSM ∷ b) h = mark_unmarked b h.1
-mark_unmarked (L ∷ b) h = refl
-mark_unmarked (EN ∷ b) h = refl
-mark_unmarked (ES ∷ b) h = refl
-mark_unmarked (ET ∷ b) h = refl
-mark_unmarked (CS ∷ b) h = refl
-mark_unmarked (B ∷ b) h = refl
-mark_unmarked (S ∷ b) h = refl
-mark_unmarked (WS ∷ b) h = refl
-mark_unmarked (ON ∷ b) h = refl
-mark_unmarked (t ∷ b) h = let e : is_plain t ≡ true = h.0 in absurd (cc)
+nsm_class_unmarked : (b : List Class) → Each is_plain b → is_unmarked (nsm_class_at L b) ≡ true
+nsm_class_unmarked [] h = refl
+nsm_class_unmarked (NSM ∷ b) h = nsm_class_unmarked b h.1
+nsm_class_unmarked (L ∷ b) h = refl
+nsm_class_unmarked (EN ∷ b) h = refl
+nsm_class_unmarked (ES ∷ b) h = refl
+nsm_class_unmarked (ET ∷ b) h = refl
+nsm_class_unmarked (CS ∷ b) h = refl
+nsm_class_unmarked (B ∷ b) h = refl
+nsm_class_unmarked (S ∷ b) h = refl
+nsm_class_unmarked (WS ∷ b) h = refl
+nsm_class_unmarked (ON ∷ b) h = refl
+nsm_class_unmarked (t ∷ b) h = let e : is_plain t ≡ true = h.0 in absurd (cc)
 
 w1_turns : (b : List Class) (t : Class) (a : List Class) → Each is_plain b → is_plain t ≡ true → Each is_plain a → is_unmarked (w1_at L b t a) ≡ true
-w1_turns b NSM a hb e ha = mark_unmarked b hb
+w1_turns b NSM a hb e ha = nsm_class_unmarked b hb
 w1_turns b L a hb e ha = refl
 w1_turns b EN a hb e ha = refl
 w1_turns b ES a hb e ha = refl
@@ -272,15 +272,15 @@ pub each_append : (p : Class → Bool) (xs ys : List Class) → Each p xs → Ea
 each_append p [] ys h k = k
 each_append p (x ∷ xs) ys h k = (h.0, each_append p xs ys h.1 k)
 
-marks_rest : (was : List Bool) (ts : List Class) → Each is_rest ts → Each is_rest (change_marks L was ts)
-marks_rest [] ts h = h
-marks_rest (false ∷ was) ts h = h
-marks_rest (true ∷ was) [] h = tt
-marks_rest (true ∷ was) (t ∷ ts) h = (refl, marks_rest was ts h.1)
+nsms_rest : (was : List Bool) (ts : List Class) → Each is_rest ts → Each is_rest (change_nsms L was ts)
+nsms_rest [] ts h = h
+nsms_rest (false ∷ was) ts h = h
+nsms_rest (true ∷ was) [] h = tt
+nsms_rest (true ∷ was) (t ∷ ts) h = (refl, nsms_rest was ts h.1)
 
 change_rest : (was : List Bool) (ts : List Class) (p : ℕ) → Each is_rest ts → Each is_rest (change_bracket L was ts p)
-change_rest was ts p h = each_append is_rest (take p ts) (L ∷ change_marks L (drop (p + 1) was) (drop (p + 1) ts)) (each_take is_rest p ts h)
-    (refl, marks_rest (drop (p + 1) was) (drop (p + 1) ts) (each_drop is_rest (p + 1) ts h))
+change_rest was ts p h = each_append is_rest (take p ts) (L ∷ change_nsms L (drop (p + 1) was) (drop (p + 1) ts)) (each_take is_rest p ts h)
+    (refl, nsms_rest (drop (p + 1) was) (drop (p + 1) ts) (each_drop is_rest (p + 1) ts h))
 
 -- types that rest, as many as before
 pub record IsRest (n : ℕ) (ts : List Class) : Type 0 where

@@ -8,10 +8,10 @@ use Rattle.bx_ucd.specs.Data.{Data}
 use Rattle.bx_ucd.specs.declared.class.Class.{Class}
 use Rattle.bx_ucd.specs.declared.class.Class.TheVariants.{L, R, AL, AN, EN, ES, ET, CS, NSM, B, S, WS, ON}
 use Rattle.bx_levels.specs.brackets.Pairs.{is_on, pairs}
-use Rattle.bx_levels.specs.brackets.Resolve.{counts_as, opposite, context_of, pair_direction, change_marks, change_bracket, resolve_in, resolve_pairs}
+use Rattle.bx_levels.specs.brackets.Resolve.{counts_as, opposite, context_of, pair_direction, change_nsms, change_bracket, resolve_in, resolve_pairs}
 use Rattle.bx_ucd.specs.Class.{is_strong, is_nsm}
 use Rattle.bx_levels.specs.resolve.Weak.{w1, w2, w3, w4, w5, w6, w1_at, w2_at, w3_at, w4_at, w5_at, w6_at, w7_at, weak, is_en, is_an}
-use Rattle.bx_levels.specs.resolve.Weak.{is_left_or_right, mark_class, nearest_that, number_after, left_number, beside, terminator_of, is_en_past}
+use Rattle.bx_levels.specs.resolve.Weak.{is_left_or_right, nsm_class_at, nearest_that, number_after, left_number, beside, terminator_of, is_en_past}
 use Rattle.bx_levels.specs.resolve.Weak.{at_each}
 use Rattle.bx_levels.specs.resolve.Neutral.{n2, n1_at, n2_at, side, agreed, rise_odd, implicit, implicit_at}
 use Rattle.bx_levels.specs.resolve.Levels.{sequence_levels}
@@ -20,7 +20,7 @@ use Rattle.bx_levels.proofs.resolve_lemmas.PlainKept.{Each}
 use Rattle.bx_levels.proofs.resolve_lemmas.PlainPairs.{AreInside, pairs_inside}
 use Rattle.bx_levels.proofs.resolve_lemmas.PlainTypes.{each_by_rule, each_map, each_take, each_drop, each_append}
 use Rattle.bx_levels.proofs.resolve_lemmas.PairTypes.{AreOn, HaveEnds, pairs_ends}
-use Rattle.bx_levels.proofs.resolve_lemmas.RightMarks.{AreMarksLow, AreLow, weak_low}
+use Rattle.bx_levels.proofs.resolve_lemmas.RightNsms.{AreNsmsLow, AreLow, weak_low}
 
 -- these classes but NSM; the ones left after W3; the ones left after W6
 abbrev is_unmarked : Class → Bool
@@ -60,21 +60,21 @@ is_rest WS = true
 is_rest ON = true
 is_rest _ = false
 
-mark_unmarked : (b : List Class) → Each is_from_right b → is_unmarked (mark_class R b) ≡ true
-mark_unmarked [] h = refl
-mark_unmarked (NSM ∷ b) h = mark_unmarked b h.1
-mark_unmarked (R ∷ b) h = refl
-mark_unmarked (AL ∷ b) h = refl
-mark_unmarked (EN ∷ b) h = refl
-mark_unmarked (AN ∷ b) h = refl
-mark_unmarked (ES ∷ b) h = refl
-mark_unmarked (ET ∷ b) h = refl
-mark_unmarked (CS ∷ b) h = refl
-mark_unmarked (B ∷ b) h = refl
-mark_unmarked (S ∷ b) h = refl
-mark_unmarked (WS ∷ b) h = refl
-mark_unmarked (ON ∷ b) h = refl
-mark_unmarked (t ∷ b) h = let e : is_from_right t ≡ true = h.0 in absurd (cc)
+nsm_class_unmarked : (b : List Class) → Each is_from_right b → is_unmarked (nsm_class_at R b) ≡ true
+nsm_class_unmarked [] h = refl
+nsm_class_unmarked (NSM ∷ b) h = nsm_class_unmarked b h.1
+nsm_class_unmarked (R ∷ b) h = refl
+nsm_class_unmarked (AL ∷ b) h = refl
+nsm_class_unmarked (EN ∷ b) h = refl
+nsm_class_unmarked (AN ∷ b) h = refl
+nsm_class_unmarked (ES ∷ b) h = refl
+nsm_class_unmarked (ET ∷ b) h = refl
+nsm_class_unmarked (CS ∷ b) h = refl
+nsm_class_unmarked (B ∷ b) h = refl
+nsm_class_unmarked (S ∷ b) h = refl
+nsm_class_unmarked (WS ∷ b) h = refl
+nsm_class_unmarked (ON ∷ b) h = refl
+nsm_class_unmarked (t ∷ b) h = let e : is_from_right t ≡ true = h.0 in absurd (cc)
 
 w1_turns : (b : List Class) (t : Class) (a : List Class) → Each is_from_right b → is_from_right t ≡ true → Each is_from_right a
     → is_unmarked (w1_at R b t a) ≡ true
@@ -85,7 +85,7 @@ w1_turns b AN a hb e ha = refl
 w1_turns b ES a hb e ha = refl
 w1_turns b ET a hb e ha = refl
 w1_turns b CS a hb e ha = refl
-w1_turns b NSM a hb e ha = mark_unmarked b hb
+w1_turns b NSM a hb e ha = nsm_class_unmarked b hb
 w1_turns b B a hb e ha = refl
 w1_turns b S a hb e ha = refl
 w1_turns b WS a hb e ha = refl
@@ -262,50 +262,50 @@ are_on (t ∷ ts) before j rs l e =
     let long : length (before ++ rise_odd t ∷ []) ≡ j + 1 = length_push before (rise_odd t) ∙ ap (λ n. n + 1) l in
     (λ on. here ∙ on_low t on, are_on ts (before ++ rise_odd t ∷ []) (j + 1) rs long (append_assoc before (rise_odd t ∷ []) (rises ts) ∙ e))
 
-abbrev no_marks : List Bool
-no_marks = []
+abbrev no_nsms : List Bool
+no_nsms = []
 
-drop_none : (n : ℕ) → drop n no_marks ≡ no_marks
-drop_none n = drop_all n no_marks (omega arith)
+drop_none : (n : ℕ) → drop n no_nsms ≡ no_nsms
+drop_none n = drop_all n no_nsms (omega arith)
 
-low_at : (was : List Bool) (rs : List ℕ) (p : ℕ) → AreLow was rs → p < length rs → get_or rs p 1 ≡ 0 → AreMarksLow (drop (p + 1) was) (drop (p + 1) rs)
-low_at [] rs p a h e = let none : drop (p + 1) no_marks ≡ no_marks = drop_none (p + 1) in subst (λ ws. AreMarksLow ws (drop (p + 1) rs)) (sym none) tt
+low_at : (was : List Bool) (rs : List ℕ) (p : ℕ) → AreLow was rs → p < length rs → get_or rs p 1 ≡ 0 → AreNsmsLow (drop (p + 1) was) (drop (p + 1) rs)
+low_at [] rs p a h e = let none : drop (p + 1) no_nsms ≡ no_nsms = drop_none (p + 1) in subst (λ ws. AreNsmsLow ws (drop (p + 1) rs)) (sym none) tt
 low_at (m ∷ was) [] p a h e = absurd (omega arith)
 low_at (m ∷ was) (r ∷ rs) zero a h e = a.0 e
 low_at (m ∷ was) (r ∷ rs) (suc p) a h e =
     let one : suc p + 1 ≡ suc (p + 1) = omega arith in
-    subst (λ n. AreMarksLow (drop n (m ∷ was)) (drop n (r ∷ rs))) (sym one) (low_at was rs p a.1 (omega arith) e)
+    subst (λ n. AreNsmsLow (drop n (m ∷ was)) (drop n (r ∷ rs))) (sym one) (low_at was rs p a.1 (omega arith) e)
 
-marks_rises : (was : List Bool) (ts : List Class) → AreMarksLow was (rises ts) → rises (change_marks R was ts) ≡ rises ts
-marks_rises [] ts h = refl
-marks_rises (false ∷ was) ts h = refl
-marks_rises (true ∷ was) [] h = refl
-marks_rises (true ∷ was) (t ∷ ts) h = ap (λ r. r ∷ rises (change_marks R was ts)) (sym h.0) ∙ ap (λ rs. rise_odd t ∷ rs) (marks_rises was ts h.1)
+nsms_rises : (was : List Bool) (ts : List Class) → AreNsmsLow was (rises ts) → rises (change_nsms R was ts) ≡ rises ts
+nsms_rises [] ts h = refl
+nsms_rises (false ∷ was) ts h = refl
+nsms_rises (true ∷ was) [] h = refl
+nsms_rises (true ∷ was) (t ∷ ts) h = ap (λ r. r ∷ rises (change_nsms R was ts)) (sym h.0) ∙ ap (λ rs. rise_odd t ∷ rs) (nsms_rises was ts h.1)
 
 change_rises : (was : List Bool) (ts : List Class) (p : ℕ) → p < length ts → get_or (rises ts) p 1 ≡ 0
-    → AreMarksLow (drop (p + 1) was) (drop (p + 1) (rises ts)) → rises (change_bracket R was ts p) ≡ rises ts
+    → AreNsmsLow (drop (p + 1) was) (drop (p + 1) (rises ts)) → rises (change_bracket R was ts p) ≡ rises ts
 change_rises was ts p h e a =
     let later : List Class = drop (p + 1) ts in
-    let low : AreMarksLow (drop (p + 1) was) (rises later) = subst (AreMarksLow (drop (p + 1) was)) (drop-map rise_odd (p + 1) ts) a in
+    let low : AreNsmsLow (drop (p + 1) was) (rises later) = subst (AreNsmsLow (drop (p + 1) was)) (drop-map rise_odd (p + 1) ts) a in
     let here : 0 ≡ rise_odd (get_or ts p L) = sym e ∙ get_or-map rise_odd ts p L 1 h in
     let whole : take p ts ++ get_or ts p L ∷ later ≡ ts = ap (λ xs. take p ts ++ xs) (sym (drop_more ts p L h)) ∙ take-append-drop p ts in
-    map-append rise_odd (take p ts) (R ∷ change_marks R (drop (p + 1) was) later)
-    ∙ ap (λ rs. rises (take p ts) ++ 0 ∷ rs) (marks_rises (drop (p + 1) was) later low)
+    map-append rise_odd (take p ts) (R ∷ change_nsms R (drop (p + 1) was) later)
+    ∙ ap (λ rs. rises (take p ts) ++ 0 ∷ rs) (nsms_rises (drop (p + 1) was) later low)
     ∙ ap (λ r. rises (take p ts) ++ r ∷ rises later) here
     ∙ sym (map-append rise_odd (take p ts) (get_or ts p L ∷ later))
     ∙ ap rises whole
 
-marks_rest : (was : List Bool) (ts : List Class) → Each is_rest ts → Each is_rest (change_marks R was ts)
-marks_rest [] ts h = h
-marks_rest (false ∷ was) ts h = h
-marks_rest (true ∷ was) [] h = tt
-marks_rest (true ∷ was) (t ∷ ts) h = (refl, marks_rest was ts h.1)
+nsms_rest : (was : List Bool) (ts : List Class) → Each is_rest ts → Each is_rest (change_nsms R was ts)
+nsms_rest [] ts h = h
+nsms_rest (false ∷ was) ts h = h
+nsms_rest (true ∷ was) [] h = tt
+nsms_rest (true ∷ was) (t ∷ ts) h = (refl, nsms_rest was ts h.1)
 
 change_rest : (was : List Bool) (ts : List Class) (p : ℕ) → Each is_rest ts → Each is_rest (change_bracket R was ts p)
 change_rest was ts p h =
-    let marks : List Class = change_marks R (drop (p + 1) was) (drop (p + 1) ts) in
-    let later : Each is_rest marks = marks_rest (drop (p + 1) was) (drop (p + 1) ts) (each_drop is_rest (p + 1) ts h) in
-    each_append is_rest (take p ts) (R ∷ marks) (each_take is_rest p ts h) (refl, later)
+    let nsms : List Class = change_nsms R (drop (p + 1) was) (drop (p + 1) ts) in
+    let later : Each is_rest nsms = nsms_rest (drop (p + 1) was) (drop (p + 1) ts) (each_drop is_rest (p + 1) ts h) in
+    each_append is_rest (take p ts) (R ∷ nsms) (each_take is_rest p ts h) (refl, later)
 
 -- types that rest, and rise as is said
 record IsRest (was : List Bool) (rs : List ℕ) (ts : List Class) : Type 0 where
@@ -317,9 +317,9 @@ one_rest : (was : List Bool) (rs : List ℕ) (ts : List Class) (p : ℕ) → Are
 one_rest was rs ts p a h e r =
     let long : length ts ≡ length rs = sym (length-map ts rise_odd) ∙ ap length r.rise in
     let zero_at : get_or (rises ts) p 1 ≡ 0 = ap (λ xs. get_or xs p 1) r.rise ∙ e in
-    let marks : AreMarksLow (drop (p + 1) was) (drop (p + 1) (rises ts)) =
-    subst (λ xs. AreMarksLow (drop (p + 1) was) (drop (p + 1) xs)) (sym r.rise) (low_at was rs p a h e) in
-    record { each = change_rest was ts p r.each; rise = change_rises was ts p (omega arith) zero_at marks ∙ r.rise }
+    let nsms : AreNsmsLow (drop (p + 1) was) (drop (p + 1) (rises ts)) =
+    subst (λ xs. AreNsmsLow (drop (p + 1) was) (drop (p + 1) xs)) (sym r.rise) (low_at was rs p a h e) in
+    record { each = change_rest was ts p r.each; rise = change_rises was ts p (omega arith) zero_at nsms ∙ r.rise }
 
 resolve_by : (was : List Bool) (rs : List ℕ) (p : ℕ × ℕ) (ts : List Class) (m : Option Class) → (m ≡ None) ⊎ (m ≡ Some R) → AreLow was rs → p.0 < p.1
     → p.1 < length rs → get_or rs p.0 1 ≡ 0 → get_or rs p.1 1 ≡ 0 → IsRest was rs ts

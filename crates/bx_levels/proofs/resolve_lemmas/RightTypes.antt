@@ -4,7 +4,7 @@ use Rattle.std.specs.Prelude.{◌&&◌}
 use Rattle.bx_ucd.specs.Data.{Data}
 use Rattle.bx_ucd.specs.declared.class.Class.{Class}
 use Rattle.bx_ucd.specs.declared.class.Class.TheVariants.{R, AL, AN, EN, ES, ET, CS, NSM, B, S, WS, ON}
-use Rattle.bx_levels.specs.resolve.Weak.{w1, w2, w3, w4, w5, w6, w1_at, w2_at, w3_at, w4_at, w5_at, w6_at, w7_at, weak, is_en, is_an, mark_class, beside}
+use Rattle.bx_levels.specs.resolve.Weak.{w1, w2, w3, w4, w5, w6, w1_at, w2_at, w3_at, w4_at, w5_at, w6_at, w7_at, weak, is_en, is_an, nsm_class_at, beside}
 use Rattle.bx_levels.specs.resolve.Weak.{terminator_of, is_en_past}
 use Rattle.bx_levels.specs.resolve.Neutral.{implicit}
 use Rattle.bx_levels.specs.resolve.Levels.{sequence_levels}
@@ -46,23 +46,23 @@ is_rest WS = true
 is_rest ON = true
 is_rest _ = false
 
-mark_unmarked : (b : List Class) → Each is_plain_right b → is_unmarked (mark_class R b) ≡ true
-mark_unmarked [] h = refl
-mark_unmarked (NSM ∷ b) h = mark_unmarked b h.1
-mark_unmarked (R ∷ b) h = refl
-mark_unmarked (AL ∷ b) h = refl
-mark_unmarked (ES ∷ b) h = refl
-mark_unmarked (ET ∷ b) h = refl
-mark_unmarked (CS ∷ b) h = refl
-mark_unmarked (B ∷ b) h = refl
-mark_unmarked (S ∷ b) h = refl
-mark_unmarked (WS ∷ b) h = refl
-mark_unmarked (ON ∷ b) h = refl
-mark_unmarked (t ∷ b) h = let e : is_plain_right t ≡ true = h.0 in absurd (cc)
+nsm_class_unmarked : (b : List Class) → Each is_plain_right b → is_unmarked (nsm_class_at R b) ≡ true
+nsm_class_unmarked [] h = refl
+nsm_class_unmarked (NSM ∷ b) h = nsm_class_unmarked b h.1
+nsm_class_unmarked (R ∷ b) h = refl
+nsm_class_unmarked (AL ∷ b) h = refl
+nsm_class_unmarked (ES ∷ b) h = refl
+nsm_class_unmarked (ET ∷ b) h = refl
+nsm_class_unmarked (CS ∷ b) h = refl
+nsm_class_unmarked (B ∷ b) h = refl
+nsm_class_unmarked (S ∷ b) h = refl
+nsm_class_unmarked (WS ∷ b) h = refl
+nsm_class_unmarked (ON ∷ b) h = refl
+nsm_class_unmarked (t ∷ b) h = let e : is_plain_right t ≡ true = h.0 in absurd (cc)
 
 w1_turns : (b : List Class) (t : Class) (a : List Class) → Each is_plain_right b → is_plain_right t ≡ true → Each is_plain_right a
     → is_unmarked (w1_at R b t a) ≡ true
-w1_turns b NSM a hb e ha = mark_unmarked b hb
+w1_turns b NSM a hb e ha = nsm_class_unmarked b hb
 w1_turns b R a hb e ha = refl
 w1_turns b AL a hb e ha = refl
 w1_turns b ES a hb e ha = refl

@@ -4,7 +4,7 @@ use Rattle.std.proofs.lemmas.List.{at_drop_more, take_more, take_more_set, drop-
 use Rattle.bx_ucd.specs.declared.class.Class.{Class}
 use Rattle.bx_ucd.specs.declared.class.Class.TheVariants.{L}
 use Rattle.bx_ucd.specs.Class.{is_strong, is_nsm, is_neutral}
-use Rattle.bx_levels.specs.resolve.Weak.{at_each, w1_at, w2_at, w4_at, mark_class, mark_after, is_en, nearest_that, number_after, beside}
+use Rattle.bx_levels.specs.resolve.Weak.{at_each, w1_at, w2_at, w4_at, nsm_class_at, nsm_class_after, is_en, nearest_that, number_after, beside}
 use Rattle.bx_levels.specs.resolve.Weak.{separator, w5_at, w7_at, is_en_past, is_et, terminator_of, is_left_or_right, left_number}
 use Rattle.bx_levels.specs.resolve.Neutral.{n1_at, side, side_of, agreed}
 
@@ -43,14 +43,14 @@ module _ {S : Type 0} (next : S → Class → S) (out : S → Class → List Cla
       in let f : rule b t ts
       ≡ out (state b) t ts = k b t ts in let g : state (t ∷ b) ≡ next (state b) t = h b t in cc
 
-abbrev pub next_mark : Class → Class → Class
-next_mark s t = elim (is_nsm t) [ true ↦ s | false ↦ mark_after t ]
+abbrev pub next_nsm_class : Class → Class → Class
+next_nsm_class s t = elim (is_nsm t) [ true ↦ s | false ↦ nsm_class_after t ]
 
-abbrev pub out_mark : Class → Class → List Class → Class
-out_mark s t a = elim (is_nsm t) [ true ↦ s | false ↦ t ]
+abbrev pub out_nsm_class : Class → Class → List Class → Class
+out_nsm_class s t a = elim (is_nsm t) [ true ↦ s | false ↦ t ]
 
-pub w1_run : (sos : Class) (ts : List Class) → at_each (w1_at sos) [] ts ≡ run next_mark out_mark sos ts
-w1_run sos ts = at_each-run next_mark out_mark (w1_at sos) (mark_class sos) (λ b t. refl) (λ b t a. refl) [] ts
+pub w1_run : (sos : Class) (ts : List Class) → at_each (w1_at sos) [] ts ≡ run next_nsm_class out_nsm_class sos ts
+w1_run sos ts = at_each-run next_nsm_class out_nsm_class (w1_at sos) (nsm_class_at sos) (λ b t. refl) (λ b t a. refl) [] ts
 
 abbrev pub next_strong : Class → Class → Class
 next_strong s t = elim (is_strong t) [ true ↦ t | false ↦ s ]

@@ -25,7 +25,7 @@ AreSameFrom n old new = (k : ℕ) → n ≤ k → slice_index_or new k L ≡ sli
 abbrev pub between : Clear → ℕ → ℕ → Clear
 between c from to = record { from = max c.from from; to = min c.to to }
 
--- the ranges that stay clear after the brackets of a pair, with the marks behind them, took the direction `d`: `from..to` is between them
+-- the ranges that stay clear after the brackets of a pair, with the NSMs after them, took the direction `d`: `from..to` is between them
 abbrev pub clear_after : Class → Class → Clears → ℕ → ℕ → Clears
 clear_after embedding d c from to = elim (counts_as embedding d) [
   | true ↦ record c { embedding = between c.embedding from to }

@@ -46,15 +46,15 @@ pair_direction embedding context inside = elim (list_any (counts_as embedding) i
 
 -- N0: characters that were NSM before W1 and directly follow a changed bracket change with it. `was` tells of each character whether it
 -- was NSM before W1, `d` is the bracket's direction
-abbrev pub change_marks : Class → List Bool → List Class → List Class
-change_marks d [] ts = ts
-change_marks d (false ∷ was) ts = ts
-change_marks d (true ∷ was) [] = []
-change_marks d (true ∷ was) (t ∷ ts) = d ∷ change_marks d was ts
+abbrev pub change_nsms : Class → List Bool → List Class → List Class
+change_nsms d [] ts = ts
+change_nsms d (false ∷ was) ts = ts
+change_nsms d (true ∷ was) [] = []
+change_nsms d (true ∷ was) (t ∷ ts) = d ∷ change_nsms d was ts
 
--- the types after the bracket at index `p` and the marks behind it took the direction `d`
+-- the types after the bracket at index `p` and the NSMs after it took the direction `d`
 abbrev pub change_bracket : Class → List Bool → List Class → ℕ → List Class
-change_bracket d was ts p = take p ts ++ d ∷ change_marks d (drop (p + 1) was) (drop (p + 1) ts)
+change_bracket d was ts p = take p ts ++ d ∷ change_nsms d (drop (p + 1) was) (drop (p + 1) ts)
 
 -- the types after a pair, the indexes of its opener and its closer, is resolved in a context
 abbrev pub resolve_in : Class → Class → List Bool → ℕ × ℕ → List Class → List Class

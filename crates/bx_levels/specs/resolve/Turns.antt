@@ -10,15 +10,15 @@ use Rattle.bx_levels.specs.declared.resolve.before.Neighbour.{Neighbour}
 use Rattle.bx_levels.specs.declared.resolve.before.Neighbour.TheVariants.{EuropeanNumber, ArabicNumber, Other}
 use Rattle.bx_levels.specs.declared.resolve.before.Terminators.{Terminators}
 use Rattle.bx_levels.specs.declared.resolve.before.Terminators.TheVariants.{Numbers, Neutrals, Undecided}
-use Rattle.bx_levels.specs.resolve.Weak.{is_en, is_et, mark_after, w3_at, beside, is_en_past, w6_at}
+use Rattle.bx_levels.specs.resolve.Weak.{is_en, is_et, nsm_class_after, w3_at, beside, is_en_past, w6_at}
 use Rattle.bx_ucd.specs.Class.{is_nsm}
 
--- the type after W1, where an NSM becomes `mark`, and the `mark` of the next step
+-- the type after W1, where an NSM becomes `nsm_class`, and the `nsm_class` of the next step
 abbrev pub after_w1 : Class → Class → Class
-after_w1 mark t = elim (is_nsm t) [ true ↦ mark | false ↦ t ]
+after_w1 nsm_class t = elim (is_nsm t) [ true ↦ nsm_class | false ↦ t ]
 
-abbrev pub mark_next : Class → Class → Class
-mark_next mark t = elim (is_nsm t) [ true ↦ mark | false ↦ mark_after t ]
+abbrev pub nsm_class_next : Class → Class → Class
+nsm_class_next nsm_class t = elim (is_nsm t) [ true ↦ nsm_class | false ↦ nsm_class_after t ]
 
 -- sos as a strong type
 abbrev pub strong_of : Class → Strong
@@ -41,10 +41,10 @@ number_by _ = EN
 abbrev pub after_w2 : Strong → Class → Class
 after_w2 strong t = elim (is_en t) [ true ↦ number_by strong | false ↦ t ]
 
--- the types after W3 of the rest, where an NSM at its start becomes `mark` and the nearest strong type before it is `strong`
+-- the types after W3 of the rest, where an NSM at its start becomes `nsm_class` and the nearest strong type before it is `strong`
 abbrev pub rest_after_w3 : Class → Strong → List Class → List Class
-rest_after_w3 mark strong [] = []
-rest_after_w3 mark strong (t ∷ ts) = w3_at (after_w2 strong (after_w1 mark t)) ∷ rest_after_w3 (mark_next mark t) (strong_next strong (after_w1 mark t)) ts
+rest_after_w3 nsm_class strong [] = []
+rest_after_w3 nsm_class strong (t ∷ ts) = w3_at (after_w2 strong (after_w1 nsm_class t)) ∷ rest_after_w3 (nsm_class_next nsm_class t) (strong_next strong (after_w1 nsm_class t)) ts
 
 -- what a type after W3 is to a separator behind it
 abbrev pub neighbour_of : Class → Neighbour
@@ -95,9 +95,9 @@ after_w7 strong t = elim (is_en t) [ true ↦ left_number_by strong | false ↦ 
 
 -- the state before the first character, where sos counts as the type before it
 abbrev pub begin : Class → Before
-begin sos = record { mark = sos; strong = strong_of sos; neighbour = Other; terminators = Undecided }
+begin sos = record { nsm_class = sos; strong = strong_of sos; neighbour = Other; terminators = Undecided }
 
--- the step of a type `t` after W4, where `behind` has the types after W3 that follow it, and `before` already has the mark and the strong
+-- the step of a type `t` after W4, where `behind` has the types after W3 that follow it, and `before` already has `nsm_class` and the strong
 -- type of the next step: the next state, and the type written
 abbrev pub next_fourth : Before → Class → List Class → Before
 next_fourth before t behind = record before { terminators = terminators_next before.terminators t behind }
@@ -115,15 +115,15 @@ written_third before t behind = written_fourth before (after_w4 t before.neighbo
 
 -- the type `t` after W3
 abbrev pub third : Before → Class → Class
-third before t = w3_at (after_w2 before.strong (after_w1 before.mark t))
+third before t = w3_at (after_w2 before.strong (after_w1 before.nsm_class t))
 
--- the state with the mark and the strong type of the next step, after the type `t`
+-- the state with `nsm_class` and the strong type of the next step, after the type `t`
 abbrev pub moved : Before → Class → Before
-moved before t = record before { mark = mark_next before.mark t; strong = strong_next before.strong (after_w1 before.mark t) }
+moved before t = record before { nsm_class = nsm_class_next before.nsm_class t; strong = strong_next before.strong (after_w1 before.nsm_class t) }
 
 -- the types `rest` after W3, before which the state is `before`
 abbrev pub thirds : Before → List Class → List Class
-thirds before rest = rest_after_w3 before.mark before.strong rest
+thirds before rest = rest_after_w3 before.nsm_class before.strong rest
 
 -- the whole step of a type `t` with the types `rest` behind it: the next state, and the type written
 abbrev pub next : Before → Class → List Class → Before

@@ -33,20 +33,20 @@ nearest_that p sos [] = sos
 nearest_that p sos (t ∷ ts) = elim (p t) [ true ↦ t | false ↦ nearest_that p sos ts ]
 
 -- W1: an NSM takes the type of the previous character, or ON after an isolate initiator or PDI
-abbrev pub mark_after : Class → Class
-mark_after LRI = ON
-mark_after RLI = ON
-mark_after FSI = ON
-mark_after PDI = ON
-mark_after t = t
+abbrev pub nsm_class_after : Class → Class
+nsm_class_after LRI = ON
+nsm_class_after RLI = ON
+nsm_class_after FSI = ON
+nsm_class_after PDI = ON
+nsm_class_after t = t
 
 -- the type of an NSM, by the nearest character before it that is not an NSM
-abbrev pub mark_class : Class → List Class → Class
-mark_class sos [] = sos
-mark_class sos (t ∷ before) = elim (is_nsm t) [ true ↦ mark_class sos before | false ↦ mark_after t ]
+abbrev pub nsm_class_at : Class → List Class → Class
+nsm_class_at sos [] = sos
+nsm_class_at sos (t ∷ before) = elim (is_nsm t) [ true ↦ nsm_class_at sos before | false ↦ nsm_class_after t ]
 
 abbrev pub w1_at : Class → List Class → Class → List Class → Class
-w1_at sos before t after = elim (is_nsm t) [ true ↦ mark_class sos before | false ↦ t ]
+w1_at sos before t after = elim (is_nsm t) [ true ↦ nsm_class_at sos before | false ↦ t ]
 
 -- W2: an EN changes to AN if the first strong type before it is AL
 abbrev pub number_after : Class → Class

@@ -118,7 +118,7 @@ pub fn pairs<D: BidiData>(
 /// Resolves the bracket pairs of a sequence in place, pair by pair (N0). `types` are the types after W7; W3 leaves no AL,
 /// and an AL passed in counts as neither direction. `was_nsm` tells which characters were NSM before W1, and `sos` is the
 /// type before the sequence, whose level is `level`.
-#[tactic(auto, using(crate::proofs::brackets_lemmas::Marks::pairs_more, crate::proofs::brackets_lemmas::Marks::pairs_all, crate::proofs::brackets_lemmas::Context::first_known))]
+#[tactic(auto, using(crate::proofs::brackets_lemmas::Nsms::pairs_more, crate::proofs::brackets_lemmas::Nsms::pairs_all, crate::proofs::brackets_lemmas::Context::first_known))]
 pub fn resolve_pairs(
     types: &mut [Class],
     was_nsm: &[bool],

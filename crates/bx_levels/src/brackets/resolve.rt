@@ -81,7 +81,7 @@ fn between(clear: Clear, from: usize, to: usize) -> Clear
 }
 
 /// The direction of the last type that counts as L or R, or `sos` if there is none.
-#[tactic(auto, using(crate::proofs::brackets_lemmas::Marks::nearest_left, crate::proofs::brackets_lemmas::Marks::nearest_right, crate::proofs::brackets_lemmas::Marks::nearest_none, crate::proofs::brackets_lemmas::Marks::take_it))]
+#[tactic(auto, using(crate::proofs::brackets_lemmas::Nsms::nearest_left, crate::proofs::brackets_lemmas::Nsms::nearest_right, crate::proofs::brackets_lemmas::Nsms::nearest_none, crate::proofs::brackets_lemmas::Nsms::take_it))]
 fn nearest(sos: Class, types: &[Class]) -> Class
     ensures { result ≡ nearest sos (reverse types.now) }
 {
@@ -151,8 +151,8 @@ fn pair_direction(
     }
 }
 
-/// Sets the type of the bracket at index `p` and of the marks after it to `d`. Returns the index behind the last one changed.
-#[tactic(auto, using(crate::proofs::brackets_lemmas::Marks::marks_more, crate::proofs::brackets_lemmas::Marks::marks_stop, crate::proofs::brackets_lemmas::Marks::marks_all, crate::proofs::brackets_lemmas::Marks::marks_start))]
+/// Sets the type of the bracket at index `p` and of the NSMs after it to `d`. Returns the index behind the last one changed.
+#[tactic(auto, using(crate::proofs::brackets_lemmas::Nsms::nsms_more, crate::proofs::brackets_lemmas::Nsms::nsms_stop, crate::proofs::brackets_lemmas::Nsms::nsms_all, crate::proofs::brackets_lemmas::Nsms::nsms_start))]
 fn change_bracket(types: &mut [Class], was_nsm: &[bool], d: Class, p: usize) -> usize
     requires within { p < length types.old }
     requires as_long { length was_nsm.now ≡ length types.old }
@@ -169,7 +169,7 @@ fn change_bracket(types: &mut [Class], was_nsm: &[bool], d: Class, p: usize) -> 
     types.len()
 }
 
-/// The ranges that stay clear after the brackets of a pair, with the marks behind them, took the direction `d`: `from..to` is
+/// The ranges that stay clear after the brackets of a pair, with the NSMs after them, took the direction `d`: `from..to` is
 /// between them.
 fn clear_after(embedding: Class, d: Class, clears: Clears, from: usize, to: usize) -> Clears
     ensures { result ≡ clear_after embedding d clears from to }

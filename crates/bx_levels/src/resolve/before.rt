@@ -3,11 +3,11 @@
 ghost use Rattle.std.specs.Prelude.{◌≡◌, List, true};
 ghost use Rattle.bx_ucd.specs.declared.class.Class.{Class};
 ghost use Rattle.bx_levels.specs.resolve.Weak.{beside, is_en_past, w3_at};
-ghost use Rattle.bx_levels.specs.resolve.Turns.{after_w1, after_w2, after_w4, after_w7, begin, decided, is_separator, is_settled, mark_next, neighbour_of, next};
+ghost use Rattle.bx_levels.specs.resolve.Turns.{after_w1, after_w2, after_w4, after_w7, begin, decided, is_separator, is_settled, nsm_class_next, neighbour_of, next};
 ghost use Rattle.bx_levels.specs.resolve.Turns.{next_fourth, next_third, number_by, rest_after_w3, strong_next, strong_of, terminator_by, thirds};
 ghost use Rattle.bx_levels.specs.resolve.Turns.{written, written_fourth, written_third};
 
-use crate::resolve::weak::mark_after;
+use crate::resolve::weak::nsm_class_after;
 use bx_ucd::Class;
 
 /// The nearest strong type before a character (W2, W7): L, R or AL.
@@ -41,7 +41,7 @@ pub enum Terminators {
 #[derive(Clone, Copy)]
 pub struct Before {
     /// The type that an NSM takes (W1).
-    mark: Class,
+    nsm_class: Class,
     strong: Strong,
     neighbour: Neighbour,
     terminators: Terminators,
@@ -81,23 +81,23 @@ fn strong_next(strong: Strong, t: Class) -> Strong
     }
 }
 
-/// The type after W1, where an NSM takes the type `mark`.
-fn after_w1(mark: Class, t: Class) -> Class
-    ensures { result ≡ after_w1 mark t }
+/// The type after W1, where an NSM takes the type `nsm_class`.
+fn after_w1(nsm_class: Class, t: Class) -> Class
+    ensures { result ≡ after_w1 nsm_class t }
 {
     match t {
-        Class::NSM => mark,
+        Class::NSM => nsm_class,
         _ => t,
     }
 }
 
-/// The type that an NSM behind `t` takes; at `t` it would take `mark`.
-fn mark_next(mark: Class, t: Class) -> Class
-    ensures { result ≡ mark_next mark t }
+/// The type that an NSM after `t` takes; at `t` it would take `nsm_class`.
+fn nsm_class_next(nsm_class: Class, t: Class) -> Class
+    ensures { result ≡ nsm_class_next nsm_class t }
 {
     match t {
-        Class::NSM => mark,
-        _ => mark_after(t),
+        Class::NSM => nsm_class,
+        _ => nsm_class_after(t),
     }
 }
 
@@ -152,30 +152,36 @@ fn is_separator(t: Class) -> bool
     }
 }
 
-/// The type after W3 of the first of the types `rest`, which no rule has changed yet, or ON at the end. `mark` and `strong` are
+/// The type after W3 of the first of the types `rest`, which no rule has changed yet, or ON at the end. `nsm_class` and `strong` are
 /// those of the state before it.
-fn beside_ahead(mark: Class, strong: Strong, rest: &[Class]) -> Class
-    ensures { result ≡ beside (rest_after_w3 mark strong rest.now) }
+fn beside_ahead(nsm_class: Class, strong: Strong, rest: &[Class]) -> Class
+    ensures { result ≡ beside (rest_after_w3 nsm_class strong rest.now) }
 {
     match rest {
         [] => Class::ON,
-        [t, ..] => after_w3(after_w2(strong, after_w1(mark, *t))),
+        [t, ..] => after_w3(after_w2(strong, after_w1(nsm_class, *t))),
     }
 }
 
 /// The type after W4 of a type after W3. Only a separator behind a number looks ahead, into `rest`, before which the state has
-/// `mark` and `strong`.
-fn after_w4(t: Class, neighbour: Neighbour, mark: Class, strong: Strong, rest: &[Class]) -> Class
-    ensures { result ≡ after_w4 t neighbour (beside (rest_after_w3 mark strong rest.now)) }
+/// `nsm_class` and `strong`.
+fn after_w4(
+    t: Class,
+    neighbour: Neighbour,
+    nsm_class: Class,
+    strong: Strong,
+    rest: &[Class],
+) -> Class
+    ensures { result ≡ after_w4 t neighbour (beside (rest_after_w3 nsm_class strong rest.now)) }
 {
     match (t, neighbour) {
         (Class::ES | Class::CS, Neighbour::EuropeanNumber) => {
-            match beside_ahead(mark, strong, rest) {
+            match beside_ahead(nsm_class, strong, rest) {
                 Class::EN => Class::EN,
                 _ => t,
             }
         }
-        (Class::CS, Neighbour::ArabicNumber) => match beside_ahead(mark, strong, rest) {
+        (Class::CS, Neighbour::ArabicNumber) => match beside_ahead(nsm_class, strong, rest) {
             Class::AN => Class::AN,
             _ => t,
         },
@@ -183,31 +189,36 @@ fn after_w4(t: Class, neighbour: Neighbour, mark: Class, strong: Strong, rest: &
     }
 }
 
-/// Whether the first of `types` that is not ET after W3 is EN after W3. `mark` and `strong` are those of the state before
+/// Whether the first of `types` that is not ET after W3 is EN after W3. `nsm_class` and `strong` are those of the state before
 /// `types`; `strong` stays the same over the run, since no type before that one is strong.
 #[tactic(auto, using(crate::proofs::resolve_lemmas::Fused::past_et, crate::proofs::resolve_lemmas::Fused::past_other, crate::proofs::resolve_lemmas::Fused::past_end))]
-fn is_en_ahead(mark: Class, strong: Strong, types: &[Class]) -> bool
-    ensures { result ≡ is_en_past (rest_after_w3 mark strong types.now) }
+fn is_en_ahead(nsm_class: Class, strong: Strong, types: &[Class]) -> bool
+    ensures { result ≡ is_en_past (rest_after_w3 nsm_class strong types.now) }
 {
-    let mut mark = mark;
+    let mut nsm_class = nsm_class;
     for t in types {
-        let third = after_w3(after_w2(strong, after_w1(mark, *t)));
+        let third = after_w3(after_w2(strong, after_w1(nsm_class, *t)));
         if third != Class::ET {
             return third == Class::EN;
         }
-        mark = mark_next(mark, *t);
+        nsm_class = nsm_class_next(nsm_class, *t);
     }
     false
 }
 
 /// What the ET of a run become. Only where that is undecided are the types behind (`rest`) looked at.
-fn decided(terminators: Terminators, mark: Class, strong: Strong, rest: &[Class]) -> Terminators
-    ensures { result ≡ decided terminators (is_en_past (rest_after_w3 mark strong rest.now)) }
+fn decided(
+    terminators: Terminators,
+    nsm_class: Class,
+    strong: Strong,
+    rest: &[Class],
+) -> Terminators
+    ensures { result ≡ decided terminators (is_en_past (rest_after_w3 nsm_class strong rest.now)) }
 {
     match terminators {
         Terminators::Numbers | Terminators::Neutrals => terminators,
         Terminators::Undecided => {
-            if is_en_ahead(mark, strong, rest) {
+            if is_en_ahead(nsm_class, strong, rest) {
                 Terminators::Numbers
             } else {
                 Terminators::Neutrals
@@ -242,7 +253,7 @@ impl Before {
         ensures { result ≡ begin sos }
     {
         Before {
-            mark: sos,
+            nsm_class: sos,
             strong: strong_of(sos),
             neighbour: Neighbour::Other,
             terminators: Terminators::Undecided,
@@ -255,13 +266,13 @@ impl Before {
         requires { is_settled t ≡ true }
         ensures { (rest : List Class) → self.new ≡ next self.old t rest }
     {
-        self.mark = t;
+        self.nsm_class = t;
         self.strong = strong_next(self.strong, t);
         self.neighbour = Neighbour::Other;
         self.terminators = Terminators::Undecided;
     }
 
-    /// Takes a type after W4, with `rest` behind it, where `mark` and `strong` are already those of the next step. Returns the type
+    /// Takes a type after W4, with `rest` behind it, where `nsm_class` and `strong` are already those of the next step. Returns the type
     /// after W7.
     #[inline(always)]
     fn take_fourth(&mut self, t: Class, rest: &[Class]) -> Class
@@ -270,7 +281,7 @@ impl Before {
     {
         match t {
             Class::ET => {
-                self.terminators = decided(self.terminators, self.mark, self.strong, rest);
+                self.terminators = decided(self.terminators, self.nsm_class, self.strong, rest);
                 after_w7(self.strong, terminator_by(self.terminators))
             }
             Class::EN => {
@@ -288,14 +299,14 @@ impl Before {
         }
     }
 
-    /// Takes a type after W3, with `rest` behind it, where `mark` and `strong` are already those of the next step. Returns the type
+    /// Takes a type after W3, with `rest` behind it, where `nsm_class` and `strong` are already those of the next step. Returns the type
     /// after W7.
     #[inline(always)]
     fn take_separator(&mut self, t: Class, rest: &[Class]) -> Class
         ensures written { result ≡ written_third self.old t (thirds self.old rest.now) }
         ensures next { self.new ≡ next_third self.old t (thirds self.old rest.now) }
     {
-        let fourth = after_w4(t, self.neighbour, self.mark, self.strong, rest);
+        let fourth = after_w4(t, self.neighbour, self.nsm_class, self.strong, rest);
         self.neighbour = neighbour_of(t);
         self.take_fourth(fourth, rest)
     }
@@ -319,9 +330,9 @@ impl Before {
         ensures written { result ≡ written self.old t rest.now }
         ensures next { self.new ≡ next self.old t rest.now }
     {
-        let first = after_w1(self.mark, t);
+        let first = after_w1(self.nsm_class, t);
         let third = after_w3(after_w2(self.strong, first));
-        self.mark = mark_next(self.mark, t);
+        self.nsm_class = nsm_class_next(self.nsm_class, t);
         self.strong = strong_next(self.strong, first);
         self.take_third(third, rest)
     }

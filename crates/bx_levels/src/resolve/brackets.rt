@@ -114,8 +114,8 @@ pub(crate) fn resolve_brackets_of<D: BidiData>(
     ends: Ends,
 ) -> Result<(), OutOfMemory>
     requires small { length types.old ≤ 2 ^ 32 }
-    requires marks { length scratch.old.marks.items ≡ length types.old }
-    ensures { OnOk result (types.new ≡ resolve_pairs (direction ends.level) ends.sos scratch.old.marks.items
+    requires nsms { length scratch.old.nsms.items ≡ length types.old }
+    ensures { OnOk result (types.new ≡ resolve_pairs (direction ends.level) ends.sos scratch.old.nsms.items
         (pairs (D.data tables.now) (chars body.now) types.old) types.old) }
 {
     if !may_have_brackets(types) {
@@ -138,8 +138,8 @@ pub(crate) fn resolve_brackets_in<D: BidiData>(
 ) -> Result<(), OutOfMemory>
     requires as_long { length body.old ≡ length sequence.kept.now }
     requires small { length types.old ≤ 2 ^ 32 }
-    requires marks { length scratch.old.marks.items ≡ length types.old }
-    ensures types { OnOk result (types.new ≡ resolve_pairs (direction sequence.entry.ends.level) sequence.entry.ends.sos scratch.old.marks.items
+    requires nsms { length scratch.old.nsms.items ≡ length types.old }
+    ensures types { OnOk result (types.new ≡ resolve_pairs (direction sequence.entry.ends.level) sequence.entry.ends.sos scratch.old.nsms.items
         (pairs (D.data tables.now) (chars_at body.old (sequence_indexes sequence.entry)) types.old) types.old) }
     ensures body { body.new ≡ body.old }
 {

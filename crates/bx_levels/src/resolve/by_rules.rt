@@ -12,7 +12,7 @@ use crate::resolve::at_indexes::{chars_at, types_at, write_levels};
 use crate::resolve::body::{chars_of, classes_of};
 use crate::resolve::neutral::{implicit, n1, n2};
 use crate::resolve::paragraph::{Level, Levels};
-use crate::resolve::weak::{marks, w1, w2, w3, w4, w5, w6, w7};
+use crate::resolve::weak::{nsms, w1, w2, w3, w4, w5, w6, w7};
 use bx_common::{Base, OutOfMemory};
 use bx_ucd::BidiData;
 use bx_ucd::class::direction;
@@ -36,7 +36,7 @@ fn levels_in<D: BidiData>(
     let (level, sos, eos) = (sequence.level(), sequence.sos(), sequence.eos());
     let chars = chars_at(alloc, chars, sequence.indexes())?;
     let mut types = types_at(alloc, kept, sequence.indexes())?;
-    let was_nsm = marks(alloc, &types)?;
+    let was_nsm = nsms(alloc, &types)?;
     w1(&mut types, sos);
     w2(&mut types, sos);
     w3(&mut types);

@@ -26,32 +26,32 @@ pub struct Ends {
 #[derive(Drop)]
 pub struct Scratch {
     /// Of each character, whether it was an NSM before W1.
-    pub marks: Vec<bool>,
+    pub nsms: Vec<bool>,
     pub search: PairSearch,
 }
 
-/// Marks the types that are NSM.
+/// Nsms the types that are NSM.
 #[tactic(auto, using(crate::proofs::resolve_lemmas::Mapped::mapped_more, crate::proofs::resolve_lemmas::Mapped::mapped_all))]
-fn mark_each(marks: &mut [bool], types: &[Class])
-    requires { length marks.old ≡ length types.now }
-    ensures { marks.new ≡ map is_nsm types.now }
+fn note_each_nsm(nsms: &mut [bool], types: &[Class])
+    requires { length nsms.old ≡ length types.now }
+    ensures { nsms.new ≡ map is_nsm types.now }
 {
     for i in 0..types.len() {
-        marks[i] = matches!(types[i], Class::NSM);
+        nsms[i] = matches!(types[i], Class::NSM);
     }
 }
 
-/// Fills the list with a mark for each type that is NSM. Capacity grows to the need, and by a quarter at least.
-fn note_marks(marks: &mut Vec<bool>, types: &[Class]) -> Result<(), AllocError>
-    ensures { OnOk result (marks.new.items ≡ map is_nsm types.now) }
+/// Notes for each type whether it is NSM. Capacity grows to the need, and by a quarter at least.
+fn note_nsms(nsms: &mut Vec<bool>, types: &[Class]) -> Result<(), AllocError>
+    ensures { OnOk result (nsms.new.items ≡ map is_nsm types.now) }
 {
-    marks.clear();
-    let room = marks.capacity();
+    nsms.clear();
+    let room = nsms.capacity();
     if types.len() > room {
-        marks.reserve_exact(types.len().max(room.saturating_add(room / 4)))?;
+        nsms.reserve_exact(types.len().max(room.saturating_add(room / 4)))?;
     }
-    marks.resize(types.len(), false)?;
-    mark_each(marks.as_mut_slice(), types);
+    nsms.resize(types.len(), false)?;
+    note_each_nsm(nsms.as_mut_slice(), types);
     Ok(())
 }
 
@@ -59,7 +59,7 @@ impl Scratch {
     /// Empty buffers.
     pub fn new(alloc: Global) -> Self {
         Scratch {
-            marks: Vec::new(alloc),
+            nsms: Vec::new(alloc),
             search: PairSearch::new(alloc),
         }
     }
@@ -67,9 +67,9 @@ impl Scratch {
     /// Applies W1 to W7 in place, and records which types were NSM.
     pub fn resolve_weak(&mut self, types: &mut [Class], sos: Class) -> Result<(), AllocError>
         ensures types { OnOk result (types.new ≡ weak sos types.old) }
-        ensures marks { OnOk result (self.new.marks.items ≡ map is_nsm types.old) }
+        ensures nsms { OnOk result (self.new.nsms.items ≡ map is_nsm types.old) }
     {
-        note_marks(&mut self.marks, types)?;
+        note_nsms(&mut self.nsms, types)?;
         weak_in_one_pass(types, sos);
         Ok(())
     }
@@ -77,11 +77,10 @@ impl Scratch {
     /// Resolves the bracket pairs that the search found, in place (N0).
     pub fn resolve_brackets(&self, types: &mut [Class], ends: Ends)
         requires count { length types.old ≡ self.now.search.count }
-        requires marks { length self.now.marks.items ≡ length types.old }
-        ensures { types.new ≡ resolve_pairs (direction ends.level) ends.sos self.now.marks.items self.now.search.progress.pairs types.old }
+        requires nsms { length self.now.nsms.items ≡ length types.old }
+        ensures { types.new ≡ resolve_pairs (direction ends.level) ends.sos self.now.nsms.items self.now.search.progress.pairs types.old }
     {
-        self.search
-            .resolve(types, &self.marks, ends.level, ends.sos);
+        self.search.resolve(types, &self.nsms, ends.level, ends.sos);
     }
 }
 

@@ -1,14 +1,14 @@
 //! The rules for weak types (W1 to W7), each as a pass over a sequence, for `levels_by_rules`. The editor runs `one_pass.rt`.
 ghost use Rattle.std.specs.Prelude.{◌≡◌, IfOk, map};
-ghost use Rattle.bx_levels.specs.resolve.Weak.{is_en_past, left_number, mark_after, number_after, separator, terminator_of, w1, w2, w3, w4, w5, w6, w7};
+ghost use Rattle.bx_levels.specs.resolve.Weak.{is_en_past, left_number, nsm_class_after, number_after, separator, terminator_of, w1, w2, w3, w4, w5, w6, w7};
 ghost use Rattle.bx_ucd.specs.Class.{is_nsm};
 
 use bx_ucd::Class;
 use std::alloc::{AllocError, Global};
 
 /// The type of an NSM after a character of type `t` (W1).
-pub fn mark_after(t: Class) -> Class
-    ensures { result ≡ mark_after t }
+pub fn nsm_class_after(t: Class) -> Class
+    ensures { result ≡ nsm_class_after t }
 {
     match t {
         Class::LRI | Class::RLI | Class::FSI | Class::PDI => Class::ON,
@@ -52,7 +52,7 @@ fn is_en_past(types: &[Class]) -> bool
 }
 
 /// Of each type, whether it is NSM.
-pub fn marks(alloc: Global, types: &[Class]) -> Result<Vec<bool>, AllocError>
+pub fn nsms(alloc: Global, types: &[Class]) -> Result<Vec<bool>, AllocError>
     ensures { IfOk result (λ v. v.items ≡ map is_nsm types.now) }
 {
     types
@@ -66,12 +66,12 @@ pub fn marks(alloc: Global, types: &[Class]) -> Result<Vec<bool>, AllocError>
 pub fn w1(types: &mut [Class], sos: Class)
     ensures { types.new ≡ w1 sos types.old }
 {
-    let mut mark = sos;
+    let mut nsm_class = sos;
     for t in types.iter_mut() {
         if *t == Class::NSM {
-            *t = mark;
+            *t = nsm_class;
         } else {
-            mark = mark_after(*t);
+            nsm_class = nsm_class_after(*t);
         }
     }
 }

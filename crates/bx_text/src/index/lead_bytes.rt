@@ -46,7 +46,7 @@ fn asked_below(bytes: usize) -> u32
 }
 
 /// Sets the flag of a character's first byte, if the character is a separator.
-fn mark<D: BidiData>(flags: &mut [bool; 256], tables: &D, code: u32)
+fn set_flag<D: BidiData>(flags: &mut [bool; 256], tables: &D, code: u32)
     requires { code < 0x110000 }
     ensures len { length flags.new ≡ 256 }
     ensures same { (byte : ℕ) → get_or flags.old byte false ≡ true → get_or flags.new byte false ≡ true }
@@ -67,7 +67,7 @@ pub fn lead_bytes_of<D: BidiData>(tables: &D, bytes: usize) -> LeadBytes
     let limit = asked_below(bytes);
     let mut may_separate = [false; 256];
     for code in 0..limit {
-        mark(&mut may_separate, tables, code);
+        set_flag(&mut may_separate, tables, code);
     }
     for byte in lead_byte(limit) as usize..256 {
         may_separate[byte] = true;

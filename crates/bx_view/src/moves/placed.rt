@@ -8,7 +8,7 @@ ghost use Rattle.bx_view.specs.TextRows.{places_of};
 
 use crate::place_of;
 use bx_common::OutOfMemory;
-use bx_paragraph::{LentRow, Visual, reading_side};
+use bx_paragraph::{LayoutRowRef, Visual, reading_side};
 use bx_ucd::BidiData;
 
 /// The first of `offsets`, which are in order, after an offset.
@@ -27,7 +27,7 @@ fn last_before(offsets: &[usize], offset: usize) -> Option<usize>
 
 /// The place of the slot next to a place's slot on a side; None if the place has the row's last slot on that side.
 pub(crate) fn place_beside<D: BidiData>(
-    row: &LentRow<'_, '_, D>,
+    row: &LayoutRowRef<'_, '_, D>,
     side: Visual,
     place: usize,
 ) -> Result<Option<usize>, OutOfMemory>
@@ -41,7 +41,7 @@ pub(crate) fn place_beside<D: BidiData>(
 
 /// The place at the reading start of the row.
 pub(crate) fn reading_start<D: BidiData>(
-    row: &LentRow<'_, '_, D>,
+    row: &LayoutRowRef<'_, '_, D>,
 ) -> Result<Option<usize>, OutOfMemory>
     ensures { IfOk result (λ o. o ≡ place_in (placed row.now) (reading_start (columns row.now) (placed row.now).row)) }
 {
@@ -51,7 +51,7 @@ pub(crate) fn reading_start<D: BidiData>(
 
 /// The place at the reading end of the row.
 pub(crate) fn reading_end<D: BidiData>(
-    row: &LentRow<'_, '_, D>,
+    row: &LayoutRowRef<'_, '_, D>,
 ) -> Result<Option<usize>, OutOfMemory>
     ensures { IfOk result (λ o. o ≡ place_in (placed row.now) (reading_end (columns row.now) (placed row.now).row)) }
 {
@@ -61,7 +61,7 @@ pub(crate) fn reading_end<D: BidiData>(
 
 /// The place at which a vertical move enters the row in a column, from 1: that of the unit that covers it, else the reading end.
 pub(crate) fn entry<D: BidiData>(
-    row: &LentRow<'_, '_, D>,
+    row: &LayoutRowRef<'_, '_, D>,
     column: u16,
 ) -> Result<Option<usize>, OutOfMemory>
     ensures { IfOk result (λ o. o ≡ entry_in (columns row.now) (placed row.now) column) }
@@ -72,7 +72,7 @@ pub(crate) fn entry<D: BidiData>(
 
 /// Whether the row's paragraph is read toward a side.
 #[tactic(auto, using(bx_paragraph::proofs::LayoutRows::row_level))]
-pub(crate) fn reads_on<D: BidiData>(row: &LentRow<'_, '_, D>, side: Visual) -> bool
+pub(crate) fn reads_on<D: BidiData>(row: &LayoutRowRef<'_, '_, D>, side: Visual) -> bool
     ensures { result ≡ reads_on side (placed row.now).row }
 {
     side == reading_side(row.paragraph.level())
@@ -80,7 +80,7 @@ pub(crate) fn reads_on<D: BidiData>(row: &LentRow<'_, '_, D>, side: Visual) -> b
 
 /// The first place of the row after a place; None if the place is the row's last.
 pub(crate) fn first_place_after<D: BidiData>(
-    row: &LentRow<'_, '_, D>,
+    row: &LayoutRowRef<'_, '_, D>,
     place: usize,
 ) -> Result<Option<usize>, OutOfMemory>
     requires { row.now.start ≤ place }
@@ -93,7 +93,7 @@ pub(crate) fn first_place_after<D: BidiData>(
 
 /// The last place of the row before a place; None if the place is the row's first.
 pub(crate) fn last_place_before<D: BidiData>(
-    row: &LentRow<'_, '_, D>,
+    row: &LayoutRowRef<'_, '_, D>,
     place: usize,
 ) -> Result<Option<usize>, OutOfMemory>
     requires { row.now.start ≤ place }

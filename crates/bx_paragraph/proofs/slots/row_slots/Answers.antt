@@ -1,7 +1,7 @@
 use Rattle.std.proofs.Common.{◌∙◌, ap, arith}
 use Rattle.bx_rows.specs.RowPicture.{columns_used, unit_columns}
 use Rattle.bx_rows.specs.RowLevels.{visual}
-use Rattle.bx_paragraph.specs.LaidRows.{body_row}
+use Rattle.bx_paragraph.specs.RowLayouts.{body_row}
 use Rattle.bx_paragraph.proofs.RowSlots.{room-even, room-odd, side-of, slots-even, slots-odd}
 use Rattle.bx_paragraph.proofs.slots.row_slots.Goals as goal
 

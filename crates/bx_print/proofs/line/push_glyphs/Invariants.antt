@@ -6,5 +6,5 @@ use Rattle.bx_print.proofs.line.push_glyphs.Given as goal
 
 abbrev pub invariant-loop-glyph : goal.invariant-loop-glyph
 invariant-loop-glyph l =
-    l.page.items ++ flat_map (glyph_bytes l.marks) (map glyph_of (drop l.glyph-index l.glyphs))
-    ≡ l.fn.page.items ++ flat_map (glyph_bytes l.marks) (map glyph_of l.glyphs)
+    l.page.items ++ flat_map (glyph_bytes l.placeholders) (map glyph_of (drop l.glyph-index l.glyphs))
+    ≡ l.fn.page.items ++ flat_map (glyph_bytes l.placeholders) (map glyph_of l.glyphs)

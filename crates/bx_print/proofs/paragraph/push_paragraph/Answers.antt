@@ -10,7 +10,7 @@ returns-clause-lines g c =
     let text = c.args.source.now.text.now.edited.text in
     let l = c.in_ok-layout.layout in
     let style = c.args.style in
-    let lines = body_lines ucd style.marks in
+    let lines = body_lines ucd style.placeholders in
     let laid = c.in_ok-layout.ensures in
     let span = paragraph-span ucd text c.args.source.now.index.now.paragraphs c.args.number c.span-span.result.start c.span-span.result.stop c.args.source.now.utf8
     c.requires.number c.args.source.now.indexed c.span-span.ensures.span in

@@ -8,4 +8,4 @@ abbrev pub invariant-loop-row : goal.invariant-loop-row
 invariant-loop-row g l =
     let ucd = g.D.BidiData.data l.tables in
     l.page.items ≡ l.fn.page.items
-    ++ flat_map (body_line ucd l.marks l.layout.w) (take l.row (rows_by ucd l.layout))
+    ++ flat_map (body_line ucd l.placeholders l.layout.w) (take l.row (rows_by ucd l.layout))

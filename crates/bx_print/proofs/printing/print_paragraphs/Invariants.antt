@@ -9,5 +9,5 @@ abbrev pub invariant-loop-number : goal.invariant-loop-number
 invariant-loop-number g l =
     let ucd = g.D.BidiData.data l.source.tables.now in
     (written : List ℕ) × IsSent
-    (lines_of ucd l.style.marks l.style.base l.style.columns)
+    (lines_of ucd l.style.placeholders l.style.base l.style.columns)
     (paragraphs ucd l.source.text.now.edited.text) (g.W.Write.contents l.fn.writer) (g.W.Write.contents l.writer) l.pending.items l.number written

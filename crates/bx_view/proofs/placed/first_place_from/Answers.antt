@@ -1,6 +1,6 @@
 use Rattle.std.proofs.Common.{◌∙◌, ◌-◌, ap, find, nat_le}
 use Rattle.bx_paragraph.specs.BodyRows.{offsets_of}
-use Rattle.bx_paragraph.specs.LentRow.{row}
+use Rattle.bx_paragraph.specs.LayoutRowRef.{row}
 use Rattle.bx_view.proofs.FindPlaces.{moved-from}
 use Rattle.bx_view.proofs.PlacedRows.{found_placed}
 use Rattle.bx_view.proofs.placed.first_place_from.Goals as goal

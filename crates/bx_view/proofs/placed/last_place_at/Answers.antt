@@ -1,6 +1,6 @@
 use Rattle.std.proofs.Common.{◌∙◌, ◌-◌, ap, find, nat_le, reverse}
 use Rattle.bx_paragraph.specs.BodyRows.{offsets_of}
-use Rattle.bx_paragraph.specs.LentRow.{row}
+use Rattle.bx_paragraph.specs.LayoutRowRef.{row}
 use Rattle.bx_view.proofs.FindPlaces.{moved-at-most}
 use Rattle.bx_view.proofs.PlacedRows.{found_back_placed}
 use Rattle.bx_view.proofs.placed.last_place_at.Goals as goal

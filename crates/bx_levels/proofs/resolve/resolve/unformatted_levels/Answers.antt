@@ -23,7 +23,7 @@ returns-clause-each g c =
     let side : Class = c.direction-side.result in
     let types : c.resolve_neutral.new.types ≡ sequence_types ucd c.args.paragraph side side text ts =
     types_from ucd c.args.paragraph side side text ts c.resolve_weak.new.types c.resolve_brackets_of.new.types c.resolve_neutral.new.types
-    c.resolve_weak.new.self.marks.items c.in_ok-resolve_weak.ensures.types c.in_ok-resolve_weak.ensures.marks c.in_ok-resolve_brackets_of.ensures
+    c.resolve_weak.new.self.nsms.items c.in_ok-resolve_weak.ensures.types c.in_ok-resolve_weak.ensures.nsms c.in_ok-resolve_brackets_of.ensures
     c.resolve_neutral.ensures in
     found_from ucd c.args.paragraph text ts c.resolve_neutral.new.types side c.in_ok-each.each.items
     c.requires.classes c.requires.unformatted c.direction-side.ensures types c.in_ok-each.ensures

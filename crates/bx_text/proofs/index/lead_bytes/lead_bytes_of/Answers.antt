@@ -8,12 +8,12 @@ use Rattle.bx_text.proofs.index.lead_bytes.lead_bytes_of.Goals as goal
 
 pub loop-code-preserved : goal.loop-code-preserved
 loop-code-preserved g c = record {
-  len = c.mark.ensures.len;
+  len = c.set_flag.ensures.len;
   asked = λ d s l e. elim (cases_eq d c.loop-code.code) [
     | inl here ↦
-        subst (λ k. IsScalar k → is_separator ((g.D.BidiData.data c.args.tables.now).class k) ≡ true → get_or c.mark.new.flags (lead_of k) false ≡ true)
-        (sym here) c.mark.ensures.marked s e
-    | inr other ↦ c.mark.ensures.same (lead_of d) (c.loop-code.invariant.asked d s (omega arith) e)
+        subst (λ k. IsScalar k → is_separator ((g.D.BidiData.data c.args.tables.now).class k) ≡ true → get_or c.set_flag.new.flags (lead_of k) false ≡ true)
+        (sym here) c.set_flag.ensures.marked s e
+    | inr other ↦ c.set_flag.ensures.same (lead_of d) (c.loop-code.invariant.asked d s (omega arith) e)
   ];
 }
 

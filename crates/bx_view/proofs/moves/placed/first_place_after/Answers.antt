@@ -1,6 +1,6 @@
 use Rattle.std.proofs.Common.{◌∙◌, ◌-◌, ap, find, nat_lt}
 use Rattle.bx_paragraph.specs.BodyRows.{offsets_of}
-use Rattle.bx_paragraph.specs.LentRow.{row}
+use Rattle.bx_paragraph.specs.LayoutRowRef.{row}
 use Rattle.bx_view.proofs.FindPlaces.{moved-behind}
 use Rattle.bx_view.proofs.PlacedRows.{found_placed}
 use Rattle.bx_view.proofs.moves.placed.first_place_after.Goals as goal

@@ -1,6 +1,6 @@
 use Rattle.std.proofs.Common.{◌∙◌, ◌-◌, ap, find, nat_lt, reverse}
 use Rattle.bx_paragraph.specs.BodyRows.{offsets_of}
-use Rattle.bx_paragraph.specs.LentRow.{row}
+use Rattle.bx_paragraph.specs.LayoutRowRef.{row}
 use Rattle.bx_view.proofs.FindPlaces.{moved-before}
 use Rattle.bx_view.proofs.PlacedRows.{found_back_placed}
 use Rattle.bx_view.proofs.moves.placed.last_place_before.Goals as goal

@@ -1,6 +1,6 @@
 use Rattle.std.proofs.Common.{◌∙◌, ap, ap₂}
 use Rattle.bx_paragraph.specs.BodyRows.{row_glyphs}
-use Rattle.bx_paragraph.specs.LentRow.{row}
+use Rattle.bx_paragraph.specs.LayoutRowRef.{row}
 use Rattle.bx_view.specs.Placed.{columns}
 use Rattle.bx_view.specs.TextRows.{text_row_glyphs}
 use Rattle.bx_view.proofs.view.View.picture.Goals as goal

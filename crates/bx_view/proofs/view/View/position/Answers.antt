@@ -1,7 +1,7 @@
 use Rattle.std.proofs.Common.{◌+◌, ◌-◌, ◌∙◌, ap, ap₂, arith, nat_lt, sym}
 use Rattle.std.specs.Prelude.{count_by}
 use Rattle.bx_paragraph.specs.Layout.{row_by}
-use Rattle.bx_paragraph.specs.LentRow.{row}
+use Rattle.bx_paragraph.specs.LayoutRowRef.{row}
 use Rattle.bx_paragraph.specs.Slots.{column_of}
 use Rattle.bx_view.specs.Placed.{columns}
 use Rattle.bx_view.proofs.UnitNumbers.{number-short, number-counted}
