@@ -6,7 +6,7 @@ use Rattle.bx_text.specs.Edits.{Edited}
 use Rattle.bx_view.specs.Caching.{IsViewBy, ViewState}
 use Rattle.bx_document.specs.Cache.{AreDrawnBy, EntryState}
 use Rattle.bx_document.specs.Document.{DocumentState}
-use Rattle.bx_document.specs.IndexedText.{OwnState}
+use Rattle.bx_document.specs.IndexedText.{IndexedTextState}
 use Rattle.bx_document.specs.Past.{KeepsPlaces}
 
 -- a document with these tables and this text
@@ -19,7 +19,7 @@ pub lent : {D : Type 0} {t u : D} {x y : Edited} {base : Base} {w : ℕ} {now : 
 lent {D} {t} {u} {x} {y} {base} {w} {now} e f same = ap₂ (λ v z. state_of v z base w) e f ∙ same
 
 -- what a document keeps, where its own text was edited
-pub edited : {D : Type 0} (ucd : D → Data) (v : ViewState) (cache : List EntryState) (old new : OwnState D) (u : Edited)
+pub edited : {D : Type 0} (ucd : D → Data) (v : ViewState) (cache : List EntryState) (old new : IndexedTextState D) (u : Edited)
     → new ≡ record old { content = u } → IsViewBy (ucd old.tables) v → KeepsPlaces (ucd old.tables) u → AreDrawnBy (ucd old.tables) cache
     → IsViewBy (ucd new.tables) v × KeepsPlaces (ucd new.tables) new.content × AreDrawnBy (ucd new.tables) cache
 edited ucd v cache old new u e held places drawn =

@@ -2,6 +2,6 @@
 use Rattle.bx_text.specs.Edits.{Edited}
 
 -- the value of an `IndexedText` (`src/indexed_text.rt`): Unicode's tables, which tell separators, and the text with its past and future
-pub record OwnState (D : Type 0) : Type 0 where
+pub record IndexedTextState (D : Type 0) : Type 0 where
   pub tables : D
   pub content : Edited

@@ -21,7 +21,7 @@ impl<D: BidiData + Drop> Document<D> {
         ensures is { IfOk result (IsBackup (D.data self.now.tables)) }
     {
         // The proof compares the copy, so it has a name.
-        let backup = self.own.backup(self.alloc)?;
+        let backup = self.indexed.backup(self.alloc)?;
         Ok(backup)
     }
 
@@ -30,6 +30,6 @@ impl<D: BidiData + Drop> Document<D> {
         requires is { IsBackup (D.data self.old.tables) backup }
         ensures { self.new ≡ record self.old { document = record self.old.document { content = backup.text.edited } } }
     {
-        self.own.restore(backup);
+        self.indexed.restore(backup);
     }
 }

@@ -11,13 +11,13 @@ use bx_ucd::BidiData;
 use bx_view::TextRef;
 
 /// The line, the paragraph with its separator, that an offset falls in. Allocates nothing.
-fn line_at<D: BidiData>(source: &TextRef<'_, D>, offset: usize) -> Range
-    requires bounds { IsCharBoundary (bytes source.now) offset }
-    ensures start { result.start ≡ (line_of (D.data source.now.tables.now) (bytes source.now) offset).0 }
-    ensures stop { result.stop ≡ (line_of (D.data source.now.tables.now) (bytes source.now) offset).1 }
-    ensures range { IsRange (bytes source.now) result.start result.stop }
+fn line_at<D: BidiData>(text_ref: &TextRef<'_, D>, offset: usize) -> Range
+    requires bounds { IsCharBoundary (bytes text_ref.now) offset }
+    ensures start { result.start ≡ (line_of (D.data text_ref.now.tables.now) (bytes text_ref.now) offset).0 }
+    ensures stop { result.stop ≡ (line_of (D.data text_ref.now.tables.now) (bytes text_ref.now) offset).1 }
+    ensures range { IsRange (bytes text_ref.now) result.start result.stop }
 {
-    let walk = source.index.walk_at_offset(offset);
+    let walk = text_ref.index.walk_at_offset(offset);
     let span = walk.span();
     Range {
         start: span.start,
@@ -33,8 +33,8 @@ impl<D: BidiData + Drop> Document<D> {
         ensures stop { result.stop ≡ (line_of (D.data self.now.tables) self.now.document.content.text place).1 }
         ensures range { IsRange self.now.document.content.text result.start result.stop }
     {
-        let source = self.own.source();
-        line_at(&source, place)
+        let text_ref = self.indexed.text_ref();
+        line_at(&text_ref, place)
     }
 
     /// A copy of the bytes from `start` to `stop`.
@@ -42,6 +42,6 @@ impl<D: BidiData + Drop> Document<D> {
         requires range { IsRange self.now.document.content.text start stop }
         ensures { IfOk result (λ copy. string_bytes copy ≡ slice_range self.now.document.content.text start stop) }
     {
-        self.own.copy(start, stop)
+        self.indexed.copy(start, stop)
     }
 }

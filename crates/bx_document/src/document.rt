@@ -22,7 +22,7 @@ use std::marker::Model;
 #[derive(Drop)]
 pub struct Document<D: BidiData + Drop> {
     /// The text with its history, its index and the tables.
-    pub(crate) own: IndexedText<D>,
+    pub(crate) indexed: IndexedText<D>,
     /// The base direction, the width, and cached paragraphs laid out in them.
     pub(crate) view: View,
     /// Rows that were drawn, by which a row that is shown again is copied.
@@ -40,13 +40,13 @@ impl<D: BidiData + Drop> Model for Document<D> {
     ghost Value = { DocumentState D };
 
     ghost view = { λ d. record {
-      tables = d.own.tables;
-      document = record { content = d.own.content; base = d.view.base; w = d.view.w };
+      tables = d.indexed.tables;
+      document = record { content = d.indexed.content; base = d.view.base; w = d.view.w };
     } };
 
-    ghost invariant = { λ d. IsViewBy (D.data d.own.tables) d.view
-        × KeepsPlaces (D.data d.own.tables) d.own.content
-        × AreDrawnBy (D.data d.own.tables) d.row_cache };
+    ghost invariant = { λ d. IsViewBy (D.data d.indexed.tables) d.view
+        × KeepsPlaces (D.data d.indexed.tables) d.indexed.content
+        × AreDrawnBy (D.data d.indexed.tables) d.row_cache };
 }
 
 impl<D: BidiData + Drop> Document<D> {
@@ -64,10 +64,10 @@ impl<D: BidiData + Drop> Document<D> {
         ensures ok { IfOk result (λ d. d ≡ record { tables = tables; document = at_opening (string_bytes text) w base }) }
         ensures too_long { IsErrOf result DocumentError.TooLong ↔ (largest_text < length (string_bytes text)) }
     {
-        let own = IndexedText::open(alloc, text, tables)?;
+        let indexed = IndexedText::open(alloc, text, tables)?;
         let view = View::of(alloc, w, base);
         Ok(Document {
-            own,
+            indexed,
             view,
             row_cache: RowCache::new(alloc),
             alloc,
@@ -80,7 +80,7 @@ impl<D: BidiData + Drop> Document<D> {
         ensures short { length self.now.document.content.text ≤ largest_text }
         ensures utf8 { IsUtf8 self.now.document.content.text }
     {
-        self.own.len()
+        self.indexed.len()
     }
 
     /// The text in consecutive pieces. Allocates nothing.
@@ -88,22 +88,22 @@ impl<D: BidiData + Drop> Document<D> {
         ensures text { result ≡ self.now.document.content.text }
         ensures joined { (slices : List (Bor (List ℕ))) → Drains lends result slices → joined slices ≡ self.now.document.content.text }
     {
-        self.own.pieces()
+        self.indexed.pieces()
     }
 
     /// The tables. Allocates nothing.
     pub fn tables(&self) -> &D
         ensures { result.now ≡ self.now.tables }
     {
-        self.own.tables()
+        self.indexed.tables()
     }
 
     /// The number, from 1, of the paragraph in which an offset in bytes lies. Allocates nothing.
     pub fn paragraph_at(&self, offset: usize) -> usize
         ensures { result ≡ paragraph_number (D.data self.now.tables) self.now.document.content.text offset + 1 }
     {
-        let source = self.own.source();
-        source.index.span_at(offset).number + 1
+        let text_ref = self.indexed.text_ref();
+        text_ref.index.span_at(offset).number + 1
     }
 
     /// The base direction of the paragraphs. Allocates nothing.

@@ -49,15 +49,15 @@ pub(crate) fn draw_glyphs(
 pub(crate) fn draw_row<D: BidiData>(
     alloc: Global,
     view: &View,
-    source: &TextRef<'_, D>,
+    text_ref: &TextRef<'_, D>,
     at: RowAt,
 ) -> Result<Grid, OutOfMemory>
-    requires row { Stands source.now view.now at }
-    ensures drawn { OfRow source.now view.now at (λ r. IfOk result (λ row. row.columns ≡ row_columns (D.data source.now.tables.now) view.now.w r)) }
+    requires row { Stands text_ref.now view.now at }
+    ensures drawn { OfRow text_ref.now view.now at (λ r. IfOk result (λ row. row.columns ≡ row_columns (D.data text_ref.now.tables.now) view.now.w r)) }
     ensures filled { IfOk result (λ row. length row.columns ≡ view.now.w) }
     ensures one { IfOk result (λ row. row.height ≡ 1) }
     ensures wide { IfOk result (λ row. row.width ≡ view.now.w) }
 {
-    let picture = view.picture(source, at)?;
+    let picture = view.picture(text_ref, at)?;
     draw_glyphs(alloc, &picture.glyphs, view.width())
 }

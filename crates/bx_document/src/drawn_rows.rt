@@ -26,39 +26,39 @@ pub(crate) struct Page {
 /// Errors: `OutOfMemory`; some of the rows may be drawn.
 pub(crate) fn draw_rows<D: BidiData>(
     view: &mut View,
-    source: &TextRef<'_, D>,
+    text_ref: &TextRef<'_, D>,
     at: RowAt,
     grid: &mut Grid,
     page: Page,
     cache: &mut RowCache,
 ) -> Result<(), OutOfMemory>
-    requires row { Stands source.now view.old at }
+    requires row { Stands text_ref.now view.old at }
     requires some { 0 < page.count }
     requires inside { page.count ≤ grid.old.height }
     requires width { grid.old.width ≡ view.old.w }
-    requires cache { AreDrawnBy (D.data source.now.tables.now) cache.old }
-    ensures keeps { Keeps source.now view.old view.new }
-    ensures drawn { (k : ℕ) → StandsOn source.now view.old at k → OnOk result
+    requires cache { AreDrawnBy (D.data text_ref.now.tables.now) cache.old }
+    ensures keeps { Keeps text_ref.now view.old view.new }
+    ensures drawn { (k : ℕ) → StandsOn text_ref.now view.old at k → OnOk result
         (grid.new ≡ record grid.old {
-          columns = region_rows (D.data source.now.tables.now) view.old.w (page.region.start, page.region.stop) page.count
-              (take page.count (drop k (rows source.now view.old)))
+          columns = region_rows (D.data text_ref.now.tables.now) view.old.w (page.region.start, page.region.stop) page.count
+              (take page.count (drop k (rows text_ref.now view.old)))
               ++ drop (page.count * grid.old.width) grid.old.columns;
         }) }
-    ensures cache { AreDrawnBy (D.data source.now.tables.now) cache.new }
+    ensures cache { AreDrawnBy (D.data text_ref.now.tables.now) cache.new }
 {
     cache.begin(page.count);
-    let mut walk = view.walk_from(source, at);
+    let mut walk = view.walk_from(text_ref, at);
     let mut here = at;
     let mut row = 0;
     // The label names the loop in its proof.
     'rows: loop {
-        cache.put_row(view, source, here, grid, row)?;
-        turn_row(view, source, here, grid, row, page.region)?;
+        cache.put_row(view, text_ref, here, grid, row)?;
+        turn_row(view, text_ref, here, grid, row, page.region)?;
         row += 1;
         if row == page.count {
             return Ok(());
         }
-        let Some(next) = view.next_row_along(source, &mut walk, here)? else {
+        let Some(next) = view.next_row_along(text_ref, &mut walk, here)? else {
             grid.blank_rows(row, page.count);
             return Ok(());
         };

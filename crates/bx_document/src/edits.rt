@@ -68,9 +68,9 @@ impl<D: BidiData + Drop> Document<D> {
         ensures text_place { IfOk result (IsTextPlace (D.data self.old.tables) (splice self.old.document.content.text start stop new.now)) }
         ensures order { IfOk result (λ o. start + length new.now ≤ o) }
     {
-        let source = self.own.source();
+        let text_ref = self.indexed.text_ref();
         // The proof compares the place, so it has a name.
-        let place = place_after(self.alloc, &source, &mut self.view, start..stop, new)?;
+        let place = place_after(self.alloc, &text_ref, &mut self.view, start..stop, new)?;
         Ok(place)
     }
 
@@ -82,9 +82,9 @@ impl<D: BidiData + Drop> Document<D> {
         ensures text_place { IfOk result (IsTextPlace (D.data self.old.tables) (splice self.old.document.content.text start stop [])) }
         ensures order { IfOk result (λ o. start ≤ o) }
     {
-        let source = self.own.source();
+        let text_ref = self.indexed.text_ref();
         // The proof compares the place, so it has a name.
-        let place = place_after(self.alloc, &source, &mut self.view, start..stop, "")?;
+        let place = place_after(self.alloc, &text_ref, &mut self.view, start..stop, "")?;
         Ok(place)
     }
 
@@ -104,11 +104,11 @@ impl<D: BidiData + Drop> Document<D> {
         ensures text_place { IfOk result (λ after. IfSome after (IsTextPlace (D.data self.new.tables) self.new.document.content.text)) }
         ensures err { OnErr result (self.new ≡ self.old) }
     {
-        if new.len() > LARGEST_TEXT - self.own.len() {
+        if new.len() > LARGEST_TEXT - self.indexed.len() {
             return Ok(None);
         }
         let after = self.place_after(place, place, new)?;
-        self.own.insert(place, new, place, after)?;
+        self.indexed.insert(place, new, place, after)?;
         Ok(Some(after))
     }
 
@@ -126,7 +126,7 @@ impl<D: BidiData + Drop> Document<D> {
         ensures err { OnErr result (self.new ≡ self.old) }
     {
         let after = self.place_after_removal(start, stop)?;
-        self.own.remove(start..stop, place, after)?;
+        self.indexed.remove(start..stop, place, after)?;
         Ok(after)
     }
 
@@ -148,10 +148,10 @@ impl<D: BidiData + Drop> Document<D> {
         ensures place { IfOk result (λ o. o ≡ place_after_replacement (D.data self.old.tables) self.old.document start stop new.now) }
         ensures text_place { IfOk result (IsTextPlace (D.data self.old.tables) (replaced_text (D.data self.old.tables) self.old.document start stop new.now)) }
     {
-        let source = self.own.source();
+        let text_ref = self.indexed.text_ref();
         // The bytes after the removed ones, up to the place between, stay in front of the new text.
         let behind = stop + (between - start);
-        let whole = wrapped(self.alloc, source.text, stop, behind, "", new)?;
+        let whole = wrapped(self.alloc, text_ref.text, stop, behind, "", new)?;
         // The proof compares the place, so it has a name.
         let place = self.place_after(start, behind, whole.as_str())?;
         Ok(place)
@@ -181,7 +181,7 @@ impl<D: BidiData + Drop> Document<D> {
         ensures text_place { IfOk result (λ after. IfSome after (IsTextPlace (D.data self.new.tables) self.new.document.content.text)) }
         ensures err { OnErr result (self.new ≡ self.old) }
     {
-        let kept = self.own.len() - (stop - start);
+        let kept = self.indexed.len() - (stop - start);
         if new.len() > LARGEST_TEXT - kept {
             return Ok(None);
         }
@@ -192,7 +192,7 @@ impl<D: BidiData + Drop> Document<D> {
             between,
             after,
         };
-        self.own.exchange(start..stop, between, new, places)?;
+        self.indexed.exchange(start..stop, between, new, places)?;
         Ok(Some(after))
     }
 
@@ -202,7 +202,7 @@ impl<D: BidiData + Drop> Document<D> {
         requires range { IsRange self.now.document.content.text start stop }
         ensures { result ≡ fits self.now.document.content.text start stop new.now }
     {
-        let kept = self.own.len() - (stop - start);
+        let kept = self.indexed.len() - (stop - start);
         new.len() <= LARGEST_TEXT - kept
     }
 
@@ -230,7 +230,7 @@ impl<D: BidiData + Drop> Document<D> {
         ensures text_place { IfOk result (λ after. IfSome after (IsTextPlace (D.data self.new.tables) self.new.document.content.text)) }
         ensures err { OnErr result (self.new ≡ self.old) }
     {
-        let kept = self.own.len() - (stop - start);
+        let kept = self.indexed.len() - (stop - start);
         if new.is_empty() {
             let after = self.remove(start, stop, place)?;
             return Ok(Some(after));
@@ -245,7 +245,7 @@ impl<D: BidiData + Drop> Document<D> {
             between,
             after,
         };
-        self.own.exchange(start..stop, start, new, places)?;
+        self.indexed.exchange(start..stop, start, new, places)?;
         Ok(Some(after))
     }
 
@@ -267,16 +267,16 @@ impl<D: BidiData + Drop> Document<D> {
             (splice self.old.document.content.text start stop new.now)) (offset - stop + start + length new.now)) }
         ensures text_place { IfOk result (IsTextPlace (D.data self.old.tables) (splice self.old.document.content.text start stop new.now)) }
     {
-        let source = self.own.source();
+        let text_ref = self.indexed.text_ref();
         // Paragraphs behind the touched ones only move.
-        if stop_after(&source, stop) <= offset {
-            let place = self.view.place_at(&source, offset)?;
+        if stop_after(&text_ref, stop) <= offset {
+            let place = self.view.place_at(&text_ref, offset)?;
             return Ok(place - stop + start + new.len());
         }
         // The proof compares the place, so it has a name.
         let place = place_at_inside(
             self.alloc,
-            &source,
+            &text_ref,
             &mut self.view,
             start..stop,
             new,
@@ -301,13 +301,13 @@ impl<D: BidiData + Drop> Document<D> {
         ensures text_place { IfOk result (IsTextPlace (D.data self.old.tables)
             (wrapped_text self.old.document.content.text start stop front.now back.now)) }
     {
-        let source = self.own.source();
-        let whole = wrapped(self.alloc, source.text, start, stop, front, back)?;
+        let text_ref = self.indexed.text_ref();
+        let whole = wrapped(self.alloc, text_ref.text, start, stop, front, back)?;
         let offset = wrapped_end(end, start, stop, front);
         // The proof compares the place, so it has a name.
         let place = place_inside(
             self.alloc,
-            &source,
+            &text_ref,
             &mut self.view,
             start..stop,
             whole.as_str(),
@@ -342,7 +342,7 @@ impl<D: BidiData + Drop> Document<D> {
         ensures text_place { IfOk result (λ after. IfSome after (IsTextPlace (D.data self.new.tables) self.new.document.content.text)) }
         ensures err { OnErr result (self.new ≡ self.old) }
     {
-        if front.len() + back.len() > LARGEST_TEXT - self.own.len() {
+        if front.len() + back.len() > LARGEST_TEXT - self.indexed.len() {
             return Ok(None);
         }
         let between = self.place_after(stop, stop, back)?;
@@ -352,7 +352,7 @@ impl<D: BidiData + Drop> Document<D> {
             between,
             after,
         };
-        self.own.insert_pair(start..stop, front, back, places)?;
+        self.indexed.insert_pair(start..stop, front, back, places)?;
         Ok(Some(after))
     }
 }

@@ -97,13 +97,13 @@ impl<D: BidiData + Drop> Document<D> {
     pub fn has_crlf_first(&self) -> bool
         ensures { result ≡ has_crlf_first (D.data self.now.tables) self.now.document.content.text }
     {
-        let source = self.own.source();
-        let walk = source.index.walk_at(0, 0);
+        let text_ref = self.indexed.text_ref();
+        let walk = text_ref.index.walk_at(0, 0);
         // A separator of two bytes is CR LF or one character past ASCII.
         if walk.separator() != 2 {
             return false;
         }
-        match source.text.piece_at(walk.span().stop) {
+        match text_ref.text.piece_at(walk.span().stop) {
             Some(separator) => separator.as_bytes()[0] == b'\r',
             None => false,
         }
@@ -115,9 +115,9 @@ impl<D: BidiData + Drop> Document<D> {
         requires range { IsRange self.now.document.content.text start stop }
         ensures { result ≡ has_crlf_first (D.data self.now.tables) (splice self.now.document.content.text start stop []) }
     {
-        let source = self.own.source();
-        let len = source.text.len();
-        let before = after_range(Seen::Nothing, source.text, 0, start, source.tables);
-        is_crlf(after_range(before, source.text, stop, len, source.tables))
+        let text_ref = self.indexed.text_ref();
+        let len = text_ref.text.len();
+        let before = after_range(Seen::Nothing, text_ref.text, 0, start, text_ref.tables);
+        is_crlf(after_range(before, text_ref.text, stop, len, text_ref.tables))
     }
 }

@@ -55,13 +55,13 @@ pub(crate) fn step_in(
 /// it. Allocates nothing.
 fn cached_change<D: BidiData>(
     view: &mut View,
-    source: &TextRef<'_, D>,
+    text_ref: &TextRef<'_, D>,
     change: &Change,
 ) -> Option<CachedRange>
     ensures { view.new ≡ view.old }
 {
     let stop = change.start.saturating_add(change.removed);
-    view.cached_range(source, change.start, stop)
+    view.cached_range(text_ref, change.start, stop)
 }
 
 /// Applies a change of the text, once it is made, to the cached paragraph that it lies in: `cached` is its range there before the
@@ -70,20 +70,20 @@ fn cached_change<D: BidiData>(
 fn follow_in_layout<D: BidiData>(
     view: &mut View,
     cached: Option<CachedRange>,
-    source: &TextRef<'_, D>,
+    text_ref: &TextRef<'_, D>,
     change: &Change,
 )
-    requires data { IsViewBy (D.data source.now.tables.now) view.old }
-    ensures keeps { Keeps (D.data source.now.tables.now) view.old view.new }
+    requires data { IsViewBy (D.data text_ref.now.tables.now) view.old }
+    ensures keeps { Keeps (D.data text_ref.now.tables.now) view.old view.new }
 {
     let Some(range) = cached else {
         return;
     };
     let stop = change.start.saturating_add(change.added);
-    let Ok(new) = source.text.copy_range(change.start, stop) else {
+    let Ok(new) = text_ref.text.copy_range(change.start, stop) else {
         return;
     };
-    let _followed = view.follow_edit(range, new.as_str(), source.tables);
+    let _followed = view.follow_edit(range, new.as_str(), text_ref.tables);
 }
 
 impl<D: BidiData + Drop> Document<D> {
@@ -110,12 +110,12 @@ impl<D: BidiData + Drop> Document<D> {
         ensures text_place { IfOk result (λ place. IfSome place (IsTextPlace (D.data self.new.tables) self.new.document.content.text)) }
         ensures err { OnErr result (self.new ≡ self.old) }
     {
-        let Some(next) = self.own.next_changes(step, n) else {
+        let Some(next) = self.indexed.next_changes(step, n) else {
             return Ok(None);
         };
-        let cached = cached_change(&mut self.view, &self.own.source(), &next);
-        self.own.step(step, n, &next)?;
-        follow_in_layout(&mut self.view, cached, &self.own.source(), &next);
+        let cached = cached_change(&mut self.view, &self.indexed.text_ref(), &next);
+        self.indexed.step(step, n, &next)?;
+        follow_in_layout(&mut self.view, cached, &self.indexed.text_ref(), &next);
         Ok(Some(next.place))
     }
 
@@ -123,13 +123,13 @@ impl<D: BidiData + Drop> Document<D> {
     pub fn past_len(&self) -> usize
         ensures { result ≡ length self.now.document.content.past }
     {
-        self.own.past_len()
+        self.indexed.past_len()
     }
 
     /// The number of edits that can be redone. Allocates nothing.
     pub fn future_len(&self) -> usize
         ensures { result ≡ length self.now.document.content.future }
     {
-        self.own.future_len()
+        self.indexed.future_len()
     }
 }

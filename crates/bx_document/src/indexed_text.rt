@@ -32,9 +32,9 @@ pub(crate) struct IndexedText<D: BidiData + Drop> {
 impl<D: BidiData + Drop> Model for IndexedText<D> {
     ghost use Rattle.std.specs.Prelude.{◌≡◌, IsUtf8};
     ghost use Rattle.bx_text.specs.index.Paragraphs.{lengths};
-    ghost use Rattle.bx_document.specs.IndexedText.{OwnState};
+    ghost use Rattle.bx_document.specs.IndexedText.{IndexedTextState};
 
-    ghost Value = { OwnState D };
+    ghost Value = { IndexedTextState D };
 
     ghost view = { λ o. record { tables = o.tables; content = o.text.edited } };
 
@@ -117,7 +117,7 @@ impl<D: BidiData + Drop> IndexedText<D> {
     }
 
     /// The text with its index and the tables, lent. Allocates nothing.
-    pub(crate) fn source(&self) -> TextRef<'_, D>
+    pub(crate) fn text_ref(&self) -> TextRef<'_, D>
         ensures text { result.text.now.edited ≡ self.now.content }
         ensures tables { result.tables.now ≡ self.now.tables }
     {

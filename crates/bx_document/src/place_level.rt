@@ -47,11 +47,11 @@ impl<D: BidiData + Drop> Document<D> {
         requires text_place { IsTextPlace (D.data self.now.tables) self.now.document.content.text place }
         ensures { IfOk result (λ l. l ≡ place_level (D.data self.now.tables) self.now.document.base self.now.document.content.text place) }
     {
-        let source = self.own.source();
-        let span = source.index.span_at(place);
+        let text_ref = self.indexed.text_ref();
+        let span = text_ref.index.span_at(place);
         let copy = self.copy(span.start, span.stop)?;
         let body = copy.as_str();
-        let levels = levels(self.alloc, body, source.tables, self.view.base())?;
+        let levels = levels(self.alloc, body, text_ref.tables, self.view.base())?;
         Ok(unit_level(body, levels.each.as_slice(), place - span.start))
     }
 }

@@ -72,7 +72,7 @@ impl<D: BidiData + Drop> Document<D> {
         ensures range { IfOk result (λ o. IsRange self.now.document.content.text o place) }
     {
         let unit = self.copy(start, place)?;
-        let kept = point_start(unit.as_str(), self.own.tables());
+        let kept = point_start(unit.as_str(), self.indexed.tables());
         Ok(start + kept)
     }
 }

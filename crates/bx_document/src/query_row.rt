@@ -156,8 +156,8 @@ impl<D: BidiData + Drop> Document<D> {
         ensures one { IfOk result (λ row. row.height ≡ 1) }
         ensures wide { IfOk result (λ row. row.width ≡ self.now.document.w) }
     {
-        let layout = lay_out(self.alloc, query, self.own.tables())?;
-        let picture = text_and_query(self.alloc, text, &layout, self.own.tables())?;
+        let layout = lay_out(self.alloc, query, self.indexed.tables())?;
+        let picture = text_and_query(self.alloc, text, &layout, self.indexed.tables())?;
         // The proof compares the row, so it has a name.
         let row = glyph_row(self.alloc, &picture, self.width())?;
         Ok(row)

@@ -27,19 +27,19 @@ fn turn_slots(grid: &mut Grid, row: u16, slots: &[Slot])
 /// Rows of the grid count from 0.
 pub(crate) fn turn_row<D: BidiData>(
     view: &View,
-    source: &TextRef<'_, D>,
+    text_ref: &TextRef<'_, D>,
     at: RowAt,
     grid: &mut Grid,
     row: u16,
     region: Range,
 ) -> Result<(), OutOfMemory>
-    requires at { Stands source.now view.now at }
+    requires at { Stands text_ref.now view.now at }
     requires inside { row < grid.old.height }
-    requires drawn { OfRow source.now view.now at (λ r. row_in grid.old row ≡ row_columns (D.data source.now.tables.now) view.now.w r) }
-    ensures { OfRow source.now view.now at (λ r.
-        OnOk result (grid.new ≡ with_rows grid.old row (region_columns (D.data source.now.tables.now) view.now.w (region.start, region.stop) r))) }
+    requires drawn { OfRow text_ref.now view.now at (λ r. row_in grid.old row ≡ row_columns (D.data text_ref.now.tables.now) view.now.w r) }
+    ensures { OfRow text_ref.now view.now at (λ r.
+        OnOk result (grid.new ≡ with_rows grid.old row (region_columns (D.data text_ref.now.tables.now) view.now.w (region.start, region.stop) r))) }
 {
-    let slots = view.slots_in(source, at, region)?;
+    let slots = view.slots_in(text_ref, at, region)?;
     turn_slots(grid, row, &slots);
     Ok(())
 }

@@ -197,23 +197,23 @@ impl RowCache {
     pub(crate) fn put_row<D: BidiData>(
         &mut self,
         view: &View,
-        source: &TextRef<'_, D>,
+        text_ref: &TextRef<'_, D>,
         at: RowAt,
         grid: &mut Grid,
         row: u16,
     ) -> Result<(), OutOfMemory>
-        requires row { Stands source.now view.now at }
+        requires row { Stands text_ref.now view.now at }
         requires inside { row < grid.old.height }
         requires width { grid.old.width ≡ view.now.w }
-        requires cache { AreDrawnBy (D.data source.now.tables.now) self.old }
-        ensures drawn { OfRow source.now view.now at (λ r.
-            OnOk result (grid.new ≡ with_rows grid.old row (row_columns (D.data source.now.tables.now) view.now.w r))) }
-        ensures filled { OfRow source.now view.now at (λ r.
-            OnOk result (length (row_columns (D.data source.now.tables.now) view.now.w r) ≡ view.now.w)) }
+        requires cache { AreDrawnBy (D.data text_ref.now.tables.now) self.old }
+        ensures drawn { OfRow text_ref.now view.now at (λ r.
+            OnOk result (grid.new ≡ with_rows grid.old row (row_columns (D.data text_ref.now.tables.now) view.now.w r))) }
+        ensures filled { OfRow text_ref.now view.now at (λ r.
+            OnOk result (length (row_columns (D.data text_ref.now.tables.now) view.now.w r) ≡ view.now.w)) }
         ensures sized { OnOk result (length grid.old.columns ≡ grid.old.height * grid.old.width) }
-        ensures cache { AreDrawnBy (D.data source.now.tables.now) self.new }
+        ensures cache { AreDrawnBy (D.data text_ref.now.tables.now) self.new }
     {
-        let (body, number) = view.row_in_body(source, at);
+        let (body, number) = view.row_in_body(text_ref, at);
         let base = view.base();
         let width = view.width();
         if let Some(i) = self.find(row, body, base, number, width) {
@@ -221,7 +221,7 @@ impl RowCache {
             self.bring(i, row);
             return Ok(());
         }
-        let new = draw_row(self.allocator(), view, source, at)?;
+        let new = draw_row(self.allocator(), view, text_ref, at)?;
         grid.put_row(row, &new)?;
         self.keep(body, base, number, new, row);
         Ok(())

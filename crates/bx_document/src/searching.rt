@@ -23,8 +23,8 @@ impl<D: BidiData + Drop> Document<D> {
         ensures short { length self.now.document.content.text ≤ largest_text }
         ensures utf8 { IsUtf8 self.now.document.content.text }
     {
-        let source = self.own.source();
-        Query::new(source.tables, reading, text)
+        let text_ref = self.indexed.text_ref();
+        Query::new(text_ref.tables, reading, text)
     }
 
     /// The byte offset of a query's first match at or after `x`. Allocates nothing.
@@ -35,8 +35,8 @@ impl<D: BidiData + Drop> Document<D> {
         ensures short { length self.now.document.content.text ≤ largest_text }
         ensures utf8 { IsUtf8 self.now.document.content.text }
     {
-        let source = self.own.source();
-        bx_find::first_from(&self.own, source.tables, reading, query, x)
+        let text_ref = self.indexed.text_ref();
+        bx_find::first_from(&self.indexed, text_ref.tables, reading, query, x)
     }
 
     /// The byte offset of a query's first match in the text, for a caller that has found none at or after `x`. Allocates nothing.
@@ -46,7 +46,7 @@ impl<D: BidiData + Drop> Document<D> {
         ensures found { result ≡ first_from (D.data self.now.tables) reading query.now self.now.document.content.text 0 }
         ensures boundary { IfSome result (IsCharBoundary self.now.document.content.text) }
     {
-        bx_find::first_before(&self.own, self.own.tables(), reading, query, x)
+        bx_find::first_before(&self.indexed, self.indexed.tables(), reading, query, x)
     }
 
     /// The byte offset of a query's last match before `x`. Allocates nothing.
@@ -54,7 +54,7 @@ impl<D: BidiData + Drop> Document<D> {
         ensures found { result ≡ last_before (D.data self.now.tables) reading query.now self.now.document.content.text x }
         ensures boundary { IfSome result (IsCharBoundary self.now.document.content.text) }
     {
-        bx_find::last_before(&self.own, self.own.tables(), reading, query, x)
+        bx_find::last_before(&self.indexed, self.indexed.tables(), reading, query, x)
     }
 
     /// The byte offset of a query's last match in the text, for a caller that has found none before `x`. Allocates nothing.
@@ -65,7 +65,7 @@ impl<D: BidiData + Drop> Document<D> {
             (length self.now.document.content.text) }
         ensures boundary { IfSome result (IsCharBoundary self.now.document.content.text) }
     {
-        bx_find::last_from(&self.own, self.own.tables(), reading, query, x)
+        bx_find::last_from(&self.indexed, self.indexed.tables(), reading, query, x)
     }
 
     /// The end of a query's match at the offset `at`. Allocates nothing.
@@ -75,7 +75,7 @@ impl<D: BidiData + Drop> Document<D> {
         ensures boundary { IsCharBoundary self.now.document.content.text result }
         ensures order { at ≤ result }
     {
-        bx_find::match_end(&self.own, self.own.tables(), reading, query, at)
+        bx_find::match_end(&self.indexed, self.indexed.tables(), reading, query, at)
     }
 
     /// The range of a query's first match at or after `x`. Allocates nothing.
@@ -88,7 +88,7 @@ impl<D: BidiData + Drop> Document<D> {
         ensures range { IfSome result (λ s. IsRange self.now.document.content.text s.start s.stop) }
         ensures onward { IfSome result (λ s. (x ≤ s.start) × (s.start < s.stop)) }
     {
-        bx_find::first_span(&self.own, self.own.tables(), reading, query, x)
+        bx_find::first_span(&self.indexed, self.indexed.tables(), reading, query, x)
     }
 
     /// The offset behind the character at an offset; at the text's end the end. Allocates nothing.
@@ -99,11 +99,11 @@ impl<D: BidiData + Drop> Document<D> {
         ensures short { length self.now.document.content.text ≤ largest_text }
         ensures utf8 { IsUtf8 self.now.document.content.text }
     {
-        let stop = self.own.len();
+        let stop = self.indexed.len();
         if offset == stop {
             return offset;
         }
-        match first_char(self.own.part_at(offset, stop)) {
+        match first_char(self.indexed.part_at(offset, stop)) {
             Some((c, _)) => offset + c.len_utf8(),
             None => offset,
         }
@@ -116,9 +116,9 @@ impl<D: BidiData + Drop> Document<D> {
         ensures text_place { IfOk result (IsTextPlace (D.data self.old.tables) self.old.document.content.text) }
         ensures boundary { IfOk result (λ o. IsCharBoundary self.old.document.content.text o) }
     {
-        let source = self.own.source();
+        let text_ref = self.indexed.text_ref();
         // The proof compares the place, so it has a name.
-        let place = self.view.place_at(&source, offset)?;
+        let place = self.view.place_at(&text_ref, offset)?;
         Ok(place)
     }
 }

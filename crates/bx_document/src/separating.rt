@@ -11,13 +11,13 @@ impl<D: BidiData + Drop> Document<D> {
     pub fn class(&self, c: char) -> Class
         ensures { result ≡ (D.data self.now.tables).class c }
     {
-        self.own.tables().class(c)
+        self.indexed.tables().class(c)
     }
 
     /// Whether a character separates paragraphs. Allocates nothing.
     pub fn separates(&self, c: char) -> bool
         ensures { result ≡ is_separator ((D.data self.now.tables).class c) }
     {
-        separates(self.own.tables(), c)
+        separates(self.indexed.tables(), c)
     }
 }

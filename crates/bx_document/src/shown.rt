@@ -32,9 +32,9 @@ impl<D: BidiData + Drop> Document<D> {
         ensures same { self.new ≡ self.old }
         ensures top { IfOk result (λ o. o ≡ follow (rows (D.data self.old.tables) self.old.document) top place count) }
     {
-        let source = self.own.source();
-        let located = self.view.locate(&source, top, place, usize::from(count))?;
-        let first = self.view.first_in(&source, located.top);
+        let text_ref = self.indexed.text_ref();
+        let located = self.view.locate(&text_ref, top, place, usize::from(count))?;
+        let first = self.view.first_in(&text_ref, located.top);
         Ok(first)
     }
 
@@ -68,12 +68,12 @@ impl<D: BidiData + Drop> Document<D> {
         ensures inside { IfOk result (λ s. (1 ≤ s.position.column) × (s.position.column ≤ self.old.document.w)) }
         ensures utf8 { IsUtf8 self.old.document.content.text }
     {
-        let source = self.own.source();
-        let located = self.view.locate(&source, top, place, usize::from(count))?;
-        let first = self.view.first_in(&source, located.top);
+        let text_ref = self.indexed.text_ref();
+        let located = self.view.locate(&text_ref, top, place, usize::from(count))?;
+        let first = self.view.first_in(&text_ref, located.top);
         draw_rows(
             &mut self.view,
-            &source,
+            &text_ref,
             located.top,
             grid,
             Page { count, region },

@@ -67,7 +67,7 @@ impl<D: BidiData + Drop> Document<D> {
     {
         let mut at = start;
         while at < stop {
-            let part = self.own.part_at(at, stop);
+            let part = self.indexed.part_at(at, stop);
             copy.push_str(part)?;
             at += part.len();
         }
@@ -117,7 +117,7 @@ impl<D: BidiData + Drop> Document<D> {
         ensures range { IfOk result (λ swap. IfSome swap (λ s. IsRange self.now.document.content.text start s.stop)) }
     {
         let Measure { stop, count, len } = self.measure(reading, query, start, other);
-        let kept = self.own.len() - (stop - start);
+        let kept = self.indexed.len() - (stop - start);
         if len > LARGEST_TEXT - kept {
             return Ok(None);
         }

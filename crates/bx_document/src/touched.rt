@@ -19,44 +19,44 @@ use std::alloc::Global;
 use std::ops::Range;
 
 /// The start of the paragraph that contains the byte before an offset; 0 for offset 0. Allocates nothing.
-fn start_before<D: BidiData>(source: &TextRef<'_, D>, start: usize) -> usize
-    requires bounds { IsCharBoundary (bytes source.now) start }
-    ensures start { result ≡ touched_start (D.data source.now.tables.now) (bytes source.now) start }
-    ensures range { IsRange (bytes source.now) result start }
+fn start_before<D: BidiData>(text_ref: &TextRef<'_, D>, start: usize) -> usize
+    requires bounds { IsCharBoundary (bytes text_ref.now) start }
+    ensures start { result ≡ touched_start (D.data text_ref.now.tables.now) (bytes text_ref.now) start }
+    ensures range { IsRange (bytes text_ref.now) result start }
 {
-    source.index.span_at(start.saturating_sub(1)).start
+    text_ref.index.span_at(start.saturating_sub(1)).start
 }
 
 /// The end of the paragraph that an offset falls in, its separator included. Allocates nothing.
-pub(crate) fn stop_after<D: BidiData>(source: &TextRef<'_, D>, stop: usize) -> usize
-    requires bounds { IsCharBoundary (bytes source.now) stop }
-    ensures stop { result ≡ touched_stop (D.data source.now.tables.now) (bytes source.now) stop }
-    ensures range { IsRange (bytes source.now) stop result }
+pub(crate) fn stop_after<D: BidiData>(text_ref: &TextRef<'_, D>, stop: usize) -> usize
+    requires bounds { IsCharBoundary (bytes text_ref.now) stop }
+    ensures stop { result ≡ touched_stop (D.data text_ref.now.tables.now) (bytes text_ref.now) stop }
+    ensures range { IsRange (bytes text_ref.now) stop result }
 {
-    let walk = source.index.walk_at_offset(stop);
+    let walk = text_ref.index.walk_at_offset(stop);
     walk.span().stop + walk.separator()
 }
 
 /// The offset at which the paragraphs begin that an edit touches, and a copy of their text as it is after the edit, which
 /// replaces the bytes from `start` to `stop` with `new`.
 fn touched<D: BidiData>(
-    source: &TextRef<'_, D>,
+    text_ref: &TextRef<'_, D>,
     start: usize,
     stop: usize,
     new: &str,
 ) -> Result<(usize, String), OutOfMemory>
-    requires range { IsRange (bytes source.now) start stop }
-    ensures start { IfOk result (λ w. w.0 ≡ touched_start (D.data source.now.tables.now) (bytes source.now) start) }
+    requires range { IsRange (bytes text_ref.now) start stop }
+    ensures start { IfOk result (λ w. w.0 ≡ touched_start (D.data text_ref.now.tables.now) (bytes text_ref.now) start) }
     ensures order { IfOk result (λ w. w.0 ≤ start) }
-    ensures text { IfOk result (λ w. string_bytes w.1 ≡ touched (D.data source.now.tables.now) (bytes source.now) start stop new.now) }
+    ensures text { IfOk result (λ w. string_bytes w.1 ≡ touched (D.data text_ref.now.tables.now) (bytes text_ref.now) start stop new.now) }
 {
-    let first = start_before(source, start);
-    let last = stop_after(source, stop);
+    let first = start_before(text_ref, start);
+    let last = stop_after(text_ref, stop);
     // All four ends are between characters, so only memory can run out.
-    let Ok(mut characters) = source.text.copy_range(first, start) else {
+    let Ok(mut characters) = text_ref.text.copy_range(first, start) else {
         return Err(OutOfMemory);
     };
-    let Ok(rest) = source.text.copy_range(stop, last) else {
+    let Ok(rest) = text_ref.text.copy_range(stop, last) else {
         return Err(OutOfMemory);
     };
     characters.push_str(new)?;
@@ -84,28 +84,28 @@ fn opened<D: BidiData>(
 /// its start or end. A copy of the touched paragraphs is laid out.
 pub(crate) fn place_inside<D: BidiData>(
     alloc: Global,
-    source: &TextRef<'_, D>,
+    text_ref: &TextRef<'_, D>,
     view: &mut View,
     range: Range<usize>,
     new: &str,
     offset: usize,
 ) -> Result<usize, OutOfMemory>
-    requires data { IsViewBy (D.data source.now.tables.now) view.old }
-    requires range { IsRange (bytes source.now) range.start range.end }
-    requires fits { fits (bytes source.now) range.start range.end new.now ≡ true }
+    requires data { IsViewBy (D.data text_ref.now.tables.now) view.old }
+    requires range { IsRange (bytes text_ref.now) range.start range.end }
+    requires fits { fits (bytes text_ref.now) range.start range.end new.now ≡ true }
     requires inside { (range.start ≤ offset) × (offset ≤ range.start + length new.now) }
-    ensures keeps { Keeps (D.data source.now.tables.now) view.old view.new }
+    ensures keeps { Keeps (D.data text_ref.now.tables.now) view.old view.new }
     ensures place { IfOk result (λ o. o ≡ place_from
-        (rows_by (D.data source.now.tables.now) view.old
-        (splice (bytes source.now) range.start range.end new.now)) offset) }
-    ensures text_place { IfOk result (IsTextPlace (D.data source.now.tables.now)
-        (splice (bytes source.now) range.start range.end new.now)) }
+        (rows_by (D.data text_ref.now.tables.now) view.old
+        (splice (bytes text_ref.now) range.start range.end new.now)) offset) }
+    ensures text_place { IfOk result (IsTextPlace (D.data text_ref.now.tables.now)
+        (splice (bytes text_ref.now) range.start range.end new.now)) }
     ensures side { OnOk result (is_side view.old.w ≡ true) }
 {
-    let (first, characters) = touched(source, range.start, range.end, new)?;
+    let (first, characters) = touched(text_ref, range.start, range.end, new)?;
     // The copy is no longer than the text after the edit, so it is not too long.
-    let (text, index) = opened(alloc, characters, source.tables)?;
-    let copy = TextRef::of(&text, &index, source.tables);
+    let (text, index) = opened(alloc, characters, text_ref.tables)?;
+    let copy = TextRef::of(&text, &index, text_ref.tables);
     let place = view.place_from(&copy, offset - first)?;
     Ok(first + place)
 }
@@ -114,28 +114,28 @@ pub(crate) fn place_inside<D: BidiData>(
 /// the end of `new`, before the end of the touched paragraphs, of which a copy is laid out.
 pub(crate) fn place_at_inside<D: BidiData>(
     alloc: Global,
-    source: &TextRef<'_, D>,
+    text_ref: &TextRef<'_, D>,
     view: &mut View,
     range: Range<usize>,
     new: &str,
     offset: usize,
 ) -> Result<usize, OutOfMemory>
-    requires data { IsViewBy (D.data source.now.tables.now) view.old }
-    requires range { IsRange (bytes source.now) range.start range.end }
-    requires fits { fits (bytes source.now) range.start range.end new.now ≡ true }
+    requires data { IsViewBy (D.data text_ref.now.tables.now) view.old }
+    requires range { IsRange (bytes text_ref.now) range.start range.end }
+    requires fits { fits (bytes text_ref.now) range.start range.end new.now ≡ true }
     requires behind { range.start + length new.now ≤ offset }
-    requires inside { offset + range.end < touched_stop (D.data source.now.tables.now) (bytes source.now) range.end + range.start + length new.now }
-    ensures keeps { Keeps (D.data source.now.tables.now) view.old view.new }
+    requires inside { offset + range.end < touched_stop (D.data text_ref.now.tables.now) (bytes text_ref.now) range.end + range.start + length new.now }
+    ensures keeps { Keeps (D.data text_ref.now.tables.now) view.old view.new }
     ensures place { IfOk result (λ o. o ≡ place_at
-        (rows_by (D.data source.now.tables.now) view.old
-        (splice (bytes source.now) range.start range.end new.now)) offset) }
-    ensures text_place { IfOk result (IsTextPlace (D.data source.now.tables.now)
-        (splice (bytes source.now) range.start range.end new.now)) }
+        (rows_by (D.data text_ref.now.tables.now) view.old
+        (splice (bytes text_ref.now) range.start range.end new.now)) offset) }
+    ensures text_place { IfOk result (IsTextPlace (D.data text_ref.now.tables.now)
+        (splice (bytes text_ref.now) range.start range.end new.now)) }
 {
-    let (first, characters) = touched(source, range.start, range.end, new)?;
+    let (first, characters) = touched(text_ref, range.start, range.end, new)?;
     // The copy is no longer than the text after the edit, so it is not too long.
-    let (text, index) = opened(alloc, characters, source.tables)?;
-    let copy = TextRef::of(&text, &index, source.tables);
+    let (text, index) = opened(alloc, characters, text_ref.tables)?;
+    let copy = TextRef::of(&text, &index, text_ref.tables);
     let place = view.place_at(&copy, offset - first)?;
     Ok(first + place)
 }
@@ -144,27 +144,27 @@ pub(crate) fn place_at_inside<D: BidiData>(
 /// the edit is made in it; otherwise a copy of the touched paragraphs is laid out.
 pub(crate) fn place_after<D: BidiData>(
     alloc: Global,
-    source: &TextRef<'_, D>,
+    text_ref: &TextRef<'_, D>,
     view: &mut View,
     range: Range<usize>,
     new: &str,
 ) -> Result<usize, OutOfMemory>
-    requires data { IsViewBy (D.data source.now.tables.now) view.old }
-    requires range { IsRange (bytes source.now) range.start range.end }
-    requires fits { fits (bytes source.now) range.start range.end new.now ≡ true }
-    ensures keeps { Keeps (D.data source.now.tables.now) view.old view.new }
+    requires data { IsViewBy (D.data text_ref.now.tables.now) view.old }
+    requires range { IsRange (bytes text_ref.now) range.start range.end }
+    requires fits { fits (bytes text_ref.now) range.start range.end new.now ≡ true }
+    ensures keeps { Keeps (D.data text_ref.now.tables.now) view.old view.new }
     ensures place { IfOk result (λ o. o ≡ place_from
-        (rows_by (D.data source.now.tables.now) view.old
-        (splice (bytes source.now) range.start range.end new.now)) (range.start + length new.now)) }
-    ensures text_place { IfOk result (IsTextPlace (D.data source.now.tables.now)
-        (splice (bytes source.now) range.start range.end new.now)) }
+        (rows_by (D.data text_ref.now.tables.now) view.old
+        (splice (bytes text_ref.now) range.start range.end new.now)) (range.start + length new.now)) }
+    ensures text_place { IfOk result (IsTextPlace (D.data text_ref.now.tables.now)
+        (splice (bytes text_ref.now) range.start range.end new.now)) }
     ensures order { IfOk result (λ o. range.start + length new.now ≤ o) }
 {
-    if let Some(place) = view.edit(source, range.start, range.end, new)? {
+    if let Some(place) = view.edit(text_ref, range.start, range.end, new)? {
         return Ok(place);
     }
     let offset = range.start + new.len();
     // The proof compares the place, so it has a name.
-    let place = place_inside(alloc, source, view, range, new, offset)?;
+    let place = place_inside(alloc, text_ref, view, range, new, offset)?;
     Ok(place)
 }

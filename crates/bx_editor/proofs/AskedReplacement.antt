@@ -14,11 +14,11 @@ is-false true h = absurd (cc)
 is-false false h = refl
 
 -- the query is nowhere
-pub asked-nowhere : (d : Data) (e : Editor) (landing : Landing) → (length (sought d (record e { aim = Replace })) == 0) ≡ false
-    → landing ≡ landing_from d e.place (record e { aim = Replace }) → landing.place ≡ None
-    → record (landed (record e { aim = Replace }) landing) { seek = Typed } ≡ after_asking_replacement d e
+pub asked-nowhere : (d : Data) (e : Editor) (landing : Landing) → (length (sought d (record e { purpose = Replace })) == 0) ≡ false
+    → landing ≡ landing_from d e.place (record e { purpose = Replace }) → landing.place ≡ None
+    → record (landed (record e { purpose = Replace }) landing) { search_state = Typed } ≡ after_asking_replacement d e
 asked-nowhere d e landing some is none =
-    let aimed : Editor = record e { aim = Replace } in
+    let aimed : Editor = record e { purpose = Replace } in
     let asked : Landing → Editor = λ l. asked_at l.place (landed aimed l) in
     ap (λ o. asked_at o (landed aimed landing)) (sym none) ∙ ap asked is
     ∙ ap (λ b. if b then aimed else asked (landing_from d e.place aimed)) (sym some)

@@ -16,17 +16,17 @@ use Rattle.bx_editor.specs.declared.undo_groups.typing.Typing.{Typing}
 use Rattle.bx_editor.specs.declared.undo_groups.typing.Typing.TheVariants.{Off, Paste}
 use Rattle.bx_ucd.specs.Data.{Data}
 use Rattle.bx_editor.specs.declared.questions.answers.Prompt.{Prompt}
-use Rattle.bx_editor.specs.declared.questions.answers.Prompt.TheVariants as asks
+use Rattle.bx_editor.specs.declared.questions.answers.Prompt.TheVariants as prompts
 use Rattle.bx_editor.specs.declared.message.Message.{Message}
 use Rattle.bx_editor.specs.declared.message.Message.TheVariants as messages
 use Rattle.bx_editor.specs.declared.search_state.SearchState.{SearchState}
-use Rattle.bx_editor.specs.declared.search_state.SearchState.TheVariants as seeks
+use Rattle.bx_editor.specs.declared.search_state.SearchState.TheVariants as search_states
 use Rattle.bx_editor.specs.declared.cursor.Soft.{Soft}
 use Rattle.bx_editor.specs.declared.cursor.Soft.TheVariants as softness
 use Rattle.bx_editor.specs.Editor.{Editor, after_help, after_quit, after_redo, after_save, after_step, after_undo, next_base, nothing_left}
-use Rattle.bx_editor.specs.Editor.{with_base, with_insertion, with_removal, with_step, after_run_step, by_run, is_changed_at, run_goal}
-use Rattle.bx_editor.specs.Editor.{run_length}
-use Rattle.bx_editor.specs.Effects.{Effect, Types, BeginsLine, Puts, Removes, RemovesWord, Steps, StepsRun, Goes, GoesByRows, Marks}
+use Rattle.bx_editor.specs.Editor.{with_base, with_insertion, with_removal, with_step, after_group_step, by_group, is_changed_at, group_goal}
+use Rattle.bx_editor.specs.Editor.{group_length}
+use Rattle.bx_editor.specs.Effects.{Effect, Types, BeginsLine, Puts, Removes, RemovesWord, Steps, StepsGroup, Goes, GoesByRows, Marks}
 use Rattle.bx_editor.specs.Effects.{Selects, Unmarks, Copies, Cuts, Seeks, SeeksNext, Saves, Quits, Turns, Helps, AsksLine, AsksName}
 use Rattle.bx_editor.specs.Effects.{Tells, Rests, Before, by, after_row_move}
 use Rattle.bx_editor.specs.Erasing.{after_erasing, after_erasing_word, after_removing, removed_on}
@@ -41,7 +41,7 @@ pub record IsKeptPressing (d : Data) (P : Editor → Type 0) : Type 0 where
   pub inserted : (e : Editor) (new : List ℕ) (on : Bool) → P e → P (with_insertion d e new on)
   pub removed : (e : Editor) (start stop : ℕ) (on : Bool) → P e → P (with_removal d e start stop on)
   pub stepped : (way : HistoryStep) (e : Editor) → P e → P (after_step way e)
-  pub run : (way : HistoryStep) (e : Editor) → P e → P (after_run_step way e)
+  pub run : (way : HistoryStep) (e : Editor) → P e → P (after_group_step way e)
   pub saved : (e : Editor) (fault : Option StoreFault) → P e → P (after_save e fault)
   pub quit : (e : Editor) (ended : Bool) (message : Option Message) → P e
       → P (record e { quit_before = true; ended = ended; message = message })
@@ -53,7 +53,7 @@ pub record IsKeptPressing (d : Data) (P : Editor → Type 0) : Type 0 where
 
 -- the effect begins a search or a question, or seeks
 abbrev pub asks_or_seeks : Effect → Bool
-asks_or_seeks (Seeks aim) = true
+asks_or_seeks (Seeks purpose) = true
 asks_or_seeks SeeksNext = true
 asks_or_seeks AsksLine = true
 asks_or_seeks AsksName = true
@@ -178,7 +178,7 @@ module _ (d : Data) (P : Editor → Type 0) (keeps : IsKeptPressing d P) where
   effect-keeps fault was e (Removes how start stop) h asking = erasing was.typing how e start stop h
   effect-keeps fault was e (RemovesWord start stop) h asking = erasing-word e start stop h
   effect-keeps fault was e (Steps way) h asking = keeps.stepped way e h
-  effect-keeps fault was e (StepsRun way) h asking = keeps.run way e h
+  effect-keeps fault was e (StepsGroup way) h asking = keeps.run way e h
   effect-keeps fault was e (Goes place) h asking = keeps.gone (unselected e) place e.goal (free e h)
   effect-keeps fault was e (GoesByRows way n) h asking =
       let went = after_row_move d (unselected e) way n in keeps.gone (unselected e) went.place went.goal (free e h)
@@ -187,7 +187,7 @@ module _ (d : Data) (P : Editor → Type 0) (keeps : IsKeptPressing d P) where
   effect-keeps fault was e Unmarks h asking = keeps.marked e None softness.Off e.held h
   effect-keeps fault was e Copies h asking = copy e h
   effect-keeps fault was e Cuts h asking = cut e h
-  effect-keeps fault was e (Seeks aim) h asking = asking refl
+  effect-keeps fault was e (Seeks purpose) h asking = asking refl
   effect-keeps fault was e SeeksNext h asking = asking refl
   effect-keeps fault was e Saves h asking = keeps.saved e fault h
   effect-keeps fault was e Quits h asking = ending e was.again h
@@ -211,22 +211,22 @@ module _ (P : Editor → Type 0) (keeps : IsKeptPasting P) where
   pub begun-keeps : (e : Editor) → P e → P (with_paste e)
   begun-keeps e h = keeps.pasted e (Some []) (Some messages.Pasting) e.typing h
 
-  begin-keeps : (e : Editor) (ask : Prompt) (seek : SearchState) (pasted : Option (List ℕ)) → P e → P (paste_begun ask seek pasted e)
-  begin-keeps e asks.Off seeks.Off None h = begun-keeps e h
-  begin-keeps e asks.Off seeks.Off (Some list) h = h
-  begin-keeps e asks.Off seeks.Begun pasted h = h
-  begin-keeps e asks.Off seeks.Typed pasted h = h
-  begin-keeps e asks.Off seeks.WithBegun pasted h = h
-  begin-keeps e asks.Off seeks.WithTyped pasted h = h
-  begin-keeps e asks.Off seeks.Replacing pasted h = h
-  begin-keeps e asks.Line seek pasted h = h
-  begin-keeps e asks.Name seek pasted h = h
-  begin-keeps e asks.Code seek pasted h = h
+  begin-keeps : (e : Editor) (prompt : Prompt) (search_state : SearchState) (pasted : Option (List ℕ)) → P e → P (paste_begun prompt search_state pasted e)
+  begin-keeps e prompts.Off search_states.Off None h = begun-keeps e h
+  begin-keeps e prompts.Off search_states.Off (Some list) h = h
+  begin-keeps e prompts.Off search_states.Begun pasted h = h
+  begin-keeps e prompts.Off search_states.Typed pasted h = h
+  begin-keeps e prompts.Off search_states.WithBegun pasted h = h
+  begin-keeps e prompts.Off search_states.WithTyped pasted h = h
+  begin-keeps e prompts.Off search_states.Replacing pasted h = h
+  begin-keeps e prompts.Line search_state pasted h = h
+  begin-keeps e prompts.Name search_state pasted h = h
+  begin-keeps e prompts.Code search_state pasted h = h
 
   pub start-keeps : (e : Editor) → P e → P (after_paste_start e)
   start-keeps e h =
-      let begun = paste_begun e.ask e.seek e.pasted e in
-      keeps.pasted begun begun.pasted begun.message Paste (begin-keeps e e.ask e.seek e.pasted h)
+      let begun = paste_begun e.prompt e.search_state e.pasted e in
+      keeps.pasted begun begun.pasted begun.message Paste (begin-keeps e e.prompt e.search_state e.pasted h)
 
   pub pasted-letter-keeps : (d : Data) (e : Editor) (c : ℕ) → P e → P (after_pasted_letter d e c)
   pasted-letter-keeps d e c h = keeps.lengthened e (pasted_with (pastes_crlf d e.content.text c) e.pasted c) (aged e.soft) h
@@ -267,10 +267,10 @@ module _ (P : Editor → Type 0)
   step-keeps steps.Undo e h = undo e e.content.past h
   step-keeps steps.Redo e h = redo e e.content.future h
 
-  by-run : (way : HistoryStep) (e : Editor) (change : Option Change) → P e → P (by_run way e change)
+  by-run : (way : HistoryStep) (e : Editor) (change : Option Change) → P e → P (by_group way e change)
   by-run way e None h = told e (nothing_left way) h
   by-run way e (Some change) h =
-      stepped e (stepped_times way (run_length way e) e.content) change.place (is_changed_at (run_goal way e) e.stored) h
+      stepped e (stepped_times way (group_length way e) e.content) change.place (is_changed_at (group_goal way e) e.stored) h
 
-  pub run-keeps : (way : HistoryStep) (e : Editor) → P e → P (after_run_step way e)
-  run-keeps way e h = by-run way e (next_changes way (run_length way e) e.content) h
+  pub run-keeps : (way : HistoryStep) (e : Editor) → P e → P (after_group_step way e)
+  run-keeps way e h = by-run way e (next_changes way (group_length way e) e.content) h

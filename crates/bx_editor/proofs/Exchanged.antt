@@ -40,8 +40,8 @@ cleared-replaced d e stop new n = refl
 
 -- what holds of the text with `new` put in holds once it was put in
 pub held-in : (d : Data) (e : Editor) (stop : ℕ) (new : List ℕ) (n : ℕ) (P : SearchPurpose → List ℕ → List ℕ → ℕ → ℕ → Type 0)
-    → e.at ≤ length e.content.text → P e.aim e.query (splice e.content.text e.at stop new) (e.count + n) 0
-    → (let x = with_matches_replaced d e stop new n in P x.aim x.query x.content.text x.count x.origin)
+    → e.at ≤ length e.content.text → P e.purpose e.query (splice e.content.text e.at stop new) (e.count + n) 0
+    → (let x = with_matches_replaced d e stop new n in P x.purpose x.query x.content.text x.count x.origin)
 held-in d e stop [] n P inside h = h
 held-in d e stop (b ∷ bs) n P inside h =
-    subst (λ text. P e.aim e.query text (e.count + n) 0) (sym (out-and-in e.content.text e.at stop (b ∷ bs) inside)) h
+    subst (λ text. P e.purpose e.query text (e.count + n) 0) (sym (out-and-in e.content.text e.at stop (b ∷ bs) inside)) h

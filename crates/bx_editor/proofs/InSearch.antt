@@ -10,8 +10,8 @@ use Rattle.bx_keys.specs.declared.notice.Notice as told
 use Rattle.bx_store.specs.declared.store.StoreFault.{StoreFault}
 use Rattle.bx_ucd.specs.Data.{Data}
 use Rattle.bx_editor.specs.declared.questions.answers.Prompt.{Prompt}
-use Rattle.bx_editor.specs.declared.questions.answers.Prompt.TheVariants as asks
-use Rattle.bx_editor.specs.Asking.{without_ask}
+use Rattle.bx_editor.specs.declared.questions.answers.Prompt.TheVariants as prompts
+use Rattle.bx_editor.specs.Asking.{without_prompt}
 use Rattle.bx_editor.specs.declared.search_state.SearchState.{SearchState}
 use Rattle.bx_editor.specs.declared.search_state.SearchState.TheVariants.{Off, Begun, Typed, WithBegun, WithTyped, Replacing}
 use Rattle.bx_editor.specs.Editor.{Editor, after_save, cleared, with_notice, with_size}
@@ -122,30 +122,30 @@ press-keeps d fault e P key plain ended letter h =
 -- ---- a Save
 
 -- it ends a search and a question, and leaves an editor without both as it is
-saved : (e : Editor) (fault : Option StoreFault) (ask : Prompt) (seek : SearchState) → ask ≡ asks.Off → seek ≡ Off
-    → after_save (record e { ask = ask; seek = seek }) fault ≡ without_ask (without_search (after_save e fault))
-saved e None ask seek unasked unsought = ap₂ (λ a s. after_save (record e { ask = a; seek = s }) None) unasked unsought
-saved e (Some fault) ask seek unasked unsought = ap₂ (λ a s. after_save (record e { ask = a; seek = s }) (Some fault)) unasked unsought
+saved : (e : Editor) (fault : Option StoreFault) (prompt : Prompt) (search_state : SearchState) → prompt ≡ prompts.Off → search_state ≡ Off
+    → after_save (record e { prompt = prompt; search_state = search_state }) fault ≡ without_prompt (without_search (after_save e fault))
+saved e None prompt search_state unasked unsought = ap₂ (λ a s. after_save (record e { prompt = a; search_state = s }) None) unasked unsought
+saved e (Some fault) prompt search_state unasked unsought = ap₂ (λ a s. after_save (record e { prompt = a; search_state = s }) (Some fault)) unasked unsought
 
 -- in a search
-searched : (e : Editor) (fault : Option StoreFault) → e.ask ≡ asks.Off
-    → without_search (after_save e fault) ≡ without_ask (without_search (after_save e fault))
-searched e None unasked = ap (λ a. record (without_search (after_save e None)) { ask = a }) unasked
-searched e (Some fault) unasked = ap (λ a. record (without_search (after_save e (Some fault))) { ask = a }) unasked
+searched : (e : Editor) (fault : Option StoreFault) → e.prompt ≡ prompts.Off
+    → without_search (after_save e fault) ≡ without_prompt (without_search (after_save e fault))
+searched e None unasked = ap (λ a. record (without_search (after_save e None)) { prompt = a }) unasked
+searched e (Some fault) unasked = ap (λ a. record (without_search (after_save e (Some fault))) { prompt = a }) unasked
 
-save-any : (d : Data) (fault : Option StoreFault) (was : Before) (ask : Prompt) (seek : SearchState) (e : Editor) → e.ask ≡ ask → e.seek ≡ seek → HasOnePrompt e
-    → after_any d fault was ask seek e Save ≡ without_ask (without_search (after_save e fault))
-save-any d fault was asks.Off Off e unasked unsought one = saved e fault e.ask e.seek unasked unsought
-save-any d fault was asks.Off Begun e unasked on one = searched e fault unasked
-save-any d fault was asks.Off Typed e unasked on one = searched e fault unasked
-save-any d fault was asks.Off WithBegun e unasked on one = saved e fault e.ask Off unasked refl
-save-any d fault was asks.Off WithTyped e unasked on one = saved e fault e.ask Off unasked refl
-save-any d fault was asks.Off Replacing e unasked on one = saved e fault e.ask Off unasked refl
-save-any d fault was asks.Line seek e asked is one = saved e fault asks.Off e.seek refl (one (λ off. let both = sym asked ∙ off in cc both))
-save-any d fault was asks.Name seek e asked is one = saved e fault asks.Off e.seek refl (one (λ off. let both = sym asked ∙ off in cc both))
-save-any d fault was asks.Code seek e asked is one = saved e fault asks.Off e.seek refl (one (λ off. let both = sym asked ∙ off in cc both))
+save-any : (d : Data) (fault : Option StoreFault) (was : Before) (prompt : Prompt) (search_state : SearchState) (e : Editor) → e.prompt ≡ prompt → e.search_state ≡ search_state → HasOnePrompt e
+    → after_any d fault was prompt search_state e Save ≡ without_prompt (without_search (after_save e fault))
+save-any d fault was prompts.Off Off e unasked unsought one = saved e fault e.prompt e.search_state unasked unsought
+save-any d fault was prompts.Off Begun e unasked on one = searched e fault unasked
+save-any d fault was prompts.Off Typed e unasked on one = searched e fault unasked
+save-any d fault was prompts.Off WithBegun e unasked on one = saved e fault e.prompt Off unasked refl
+save-any d fault was prompts.Off WithTyped e unasked on one = saved e fault e.prompt Off unasked refl
+save-any d fault was prompts.Off Replacing e unasked on one = saved e fault e.prompt Off unasked refl
+save-any d fault was prompts.Line search_state e asked is one = saved e fault prompts.Off e.search_state refl (one (λ off. let both = sym asked ∙ off in cc both))
+save-any d fault was prompts.Name search_state e asked is one = saved e fault prompts.Off e.search_state refl (one (λ off. let both = sym asked ∙ off in cc both))
+save-any d fault was prompts.Code search_state e asked is one = saved e fault prompts.Off e.search_state refl (one (λ off. let both = sym asked ∙ off in cc both))
 
 pub save-ends : (d : Data) (fault : Option StoreFault) (e : Editor) → e.pasted ≡ None → HasOnePrompt e
-    → after_key d fault e Save ≡ behind (without_ask (without_search (after_save (cleared e) fault)))
+    → after_key d fault e Save ≡ behind (without_prompt (without_search (after_save (cleared e) fault)))
 save-ends d fault e none one =
-    any-key d fault e Save none refl ∙ ap behind (save-any d fault (before e) e.ask e.seek (cleared e) refl refl one)
+    any-key d fault e Save none refl ∙ ap behind (save-any d fault (before e) e.prompt e.search_state (cleared e) refl refl one)

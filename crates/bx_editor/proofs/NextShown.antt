@@ -23,13 +23,13 @@ module _ (d : Data) (e : Editor) (stop : ℕ) where
   text_with new = splice e.content.text e.at stop new
 
   abbrev pub first_with : List ℕ → Option ℕ
-  first_with new = first_from d (reading e.aim) (sought d e) (text_with new) (e.at + length new)
+  first_with new = first_from d (reading e.purpose) (sought d e) (text_with new) (e.at + length new)
 
   match-with : (new : List ℕ) (n z : ℕ) → e.at ≤ length e.content.text
-      → next_match d (with_matches_replaced d e stop new n) z ≡ first_from d (reading e.aim) (sought d e) (text_with new) z
+      → next_match d (with_matches_replaced d e stop new n) z ≡ first_from d (reading e.purpose) (sought d e) (text_with new) z
   match-with [] n z inside = refl
   match-with (b ∷ bs) n z inside =
-      ap (λ text. first_from d (reading e.aim) (sought d e) text z) (out-and-in e.content.text e.at stop (b ∷ bs) inside)
+      ap (λ text. first_from d (reading e.purpose) (sought d e) text z) (out-and-in e.content.text e.at stop (b ∷ bs) inside)
 
   rows-with : (new : List ℕ) (n : ℕ) → e.at ≤ length e.content.text
       → rows d (with_matches_replaced d e stop new n) ≡ rows_of d e (text_with new)
@@ -55,12 +55,12 @@ module _ (d : Data) (e : Editor) (stop : ℕ) where
   found-behind new at place is = sym (some-placed (text_with new) (first_with new) at place is).0
 
   pub shown-behind : (new : List ℕ) (n at place : ℕ) → e.at ≤ length e.content.text → Some (at, place) ≡ next_behind d e stop new
-      → record (with_matches_replaced d e stop new n) { seek = Replacing; at = at; place = place }
+      → record (with_matches_replaced d e stop new n) { search_state = Replacing; at = at; place = place }
       ≡ on_from d (e.at + length new) (with_matches_replaced d e stop new n)
   shown-behind new n at place inside is =
       let now = with_matches_replaced d e stop new n in
       let placed = some-placed (text_with new) (first_with new) at place is in
-      ap (λ p. record now { seek = Replacing; at = at; place = p })
+      ap (λ p. record now { search_state = Replacing; at = at; place = p })
       (placed.1 ∙ ap (λ (rs : List TextRow). place_at rs at) (sym (rows-with new n inside)))
       ∙ sym (ap (at_match d now) (match-with new n (e.at + length new) inside ∙ placed.0))
 
@@ -77,7 +77,7 @@ module _ (d : Data) (e : Editor) (stop : ℕ) where
       → next_behind d e stop new ≡ placed_in d e (text_with new) (option_map (moved stop (e.at + length new)) o)
   placed-behind new o u v range is =
       ap (placed_in d e (text_with new))
-      (first-behind-new d (reading e.aim) (sought d e) e.content.text e.at stop new u v range
+      (first-behind-new d (reading e.purpose) (sought d e) e.content.text e.at stop new u v range
       ∙ ap (option_map (moved stop (e.at + length new))) (sym is))
 
 -- the match has given way to the replacement
@@ -90,10 +90,10 @@ module _ (d : Data) (e : Editor) (stop : ℕ) (is : stop ≡ match_stop d e) (ro
       (sym (ap (λ s. fits e.content.text e.at s e.replacement) (sym is) ∙ room))
 
   pub replaced-next : (at place : ℕ) → e.at ≤ length e.content.text → Some (at, place) ≡ next_behind d e stop e.replacement
-      → cleared (record (with_matches_replaced d e stop e.replacement 1) { seek = Replacing; at = at; place = place })
+      → cleared (record (with_matches_replaced d e stop e.replacement 1) { search_state = Replacing; at = at; place = place })
       ≡ after_replacing d (cleared e)
   replaced-next at place inside found =
-      ap (λ (x : Editor). (let y : Editor = record x { seek = Replacing; at = at; place = place } in y))
+      ap (λ (x : Editor). (let y : Editor = record x { search_state = Replacing; at = at; place = place } in y))
       (cleared-replaced d e stop e.replacement 1)
       ∙ shown-behind d (cleared e) stop e.replacement 1 at place inside found ∙ on-is
 

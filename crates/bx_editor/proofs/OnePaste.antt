@@ -8,10 +8,10 @@ use Rattle.bx_keys.specs.declared.key.Key.TheVariants.{Insert, PasteEnd}
 use Rattle.bx_common.specs.Characters.{largest_text}
 use Rattle.bx_text.specs.Edits.{fits}
 use Rattle.bx_ucd.specs.Data.{Data}
-use Rattle.bx_editor.specs.declared.questions.answers.Prompt.TheVariants as asks
+use Rattle.bx_editor.specs.declared.questions.answers.Prompt.TheVariants as prompts
 use Rattle.bx_editor.specs.declared.undo_groups.typing.Typing.TheVariants as typings
 use Rattle.bx_editor.specs.declared.message.Message.TheVariants.{Pasting, TextFull}
-use Rattle.bx_editor.specs.declared.search_state.SearchState.TheVariants as seeks
+use Rattle.bx_editor.specs.declared.search_state.SearchState.TheVariants as search_states
 use Rattle.bx_editor.specs.declared.cursor.Soft.{Soft}
 use Rattle.bx_editor.specs.declared.cursor.Soft.TheVariants.{Off, Fresh, Old}
 use Rattle.bx_editor.specs.Editor.{Editor, place_after, with_insertion, with_typing}
@@ -180,12 +180,12 @@ module _ (d : Data) (e : Editor) where
   }
   ended cs (b ∷ bs) again goal soft same all = some-put cs (b ∷ bs) again goal soft same all (λ none. cc none)
 
-begun : (e : Editor) → e.ask ≡ asks.Off → e.seek ≡ seeks.Off → e.pasted ≡ None
+begun : (e : Editor) → e.prompt ≡ prompts.Off → e.search_state ≡ search_states.Off → e.pasted ≡ None
     → after_paste_start e ≡ in_paste e [] e.quit_before e.goal e.soft
 begun e unasked off none =
-    ap (λ a. with_typing (paste_begun a e.seek e.pasted e) typings.Paste) unasked
-    ∙ ap (λ s. with_typing (paste_begun asks.Off s e.pasted e) typings.Paste) off
-    ∙ ap (λ p. with_typing (paste_begun asks.Off seeks.Off p e) typings.Paste) none
+    ap (λ a. with_typing (paste_begun a e.search_state e.pasted e) typings.Paste) unasked
+    ∙ ap (λ s. with_typing (paste_begun prompts.Off s e.pasted e) typings.Paste) off
+    ∙ ap (λ p. with_typing (paste_begun prompts.Off search_states.Off p e) typings.Paste) none
 
 pub paste-is-one-edit : PasteIsOneEdit
 paste-is-one-edit d e cs unasked off none =

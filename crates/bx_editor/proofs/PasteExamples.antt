@@ -8,7 +8,7 @@ use Rattle.bx_keys.specs.declared.key.Key.{Key}
 use Rattle.bx_keys.specs.declared.key.Key.TheVariants.{Back, Copy, Cut, Down, Erase, Find, Forward, GoTo, LineDown, Mark, Name, NewLine, Point, Quit}
 use Rattle.bx_keys.specs.declared.key.Key.TheVariants.{PasteStart, PasteEnd, Redo, Repaint, Right, RowEnd, Save, Select, Size, TextEnd, Undo, UndoRun}
 use Rattle.bx_editor.specs.declared.questions.answers.Prompt.{Prompt}
-use Rattle.bx_editor.specs.declared.questions.answers.Prompt.TheVariants as asks
+use Rattle.bx_editor.specs.declared.questions.answers.Prompt.TheVariants as prompts
 use Rattle.bx_editor.specs.declared.undo_groups.typing.Typing.{Typing}
 use Rattle.bx_editor.specs.declared.undo_groups.typing.Typing.TheVariants as typings
 use Rattle.bx_editor.specs.declared.message.Message.{Message}
@@ -195,9 +195,9 @@ asked_paste = edited (codes "ab\nc") (GoTo ∷ PasteStart ∷ letters (codes "2\
 
 -- what is asked, the answer as far as it is typed, and what a paste has brought
 abbrev asked_of : Editor → Prompt × List ℕ × Option (List ℕ)
-asked_of e = (e.ask, e.answer, e.pasted)
+asked_of e = (e.prompt, e.answer, e.pasted)
 
-a_question_is_not_answered : asked_of asked_paste ≡ (asks.Line, codes "2", None)
+a_question_is_not_answered : asked_of asked_paste ≡ (prompts.Line, codes "2", None)
 unfolding unicode_segmentation unicode_width digits
 a_question_is_not_answered = refl
 
@@ -210,7 +210,7 @@ sought_paste = edited (codes "ab ab") (Find ∷ PasteStart ∷ [])
 
 -- how far a search is, what the next edit may go on with, and what a paste has brought
 abbrev sought_of : Editor → SearchState × Typing × Option (List ℕ)
-sought_of e = (e.seek, e.typing, e.pasted)
+sought_of e = (e.search_state, e.typing, e.pasted)
 
 in_a_search_none_begins : sought_of sought_paste ≡ (Begun, typings.Paste, None)
 unfolding unicode_segmentation unicode_width digits

@@ -4,8 +4,8 @@ use Rattle.std.specs.Prelude.{◌==◌, Option, Some, None}
 use Rattle.bx_editor.specs.declared.questions.answers.Prompt.{Prompt}
 use Rattle.bx_store.specs.declared.store.StoreFault.{StoreFault}
 use Rattle.bx_ucd.specs.Data.{Data}
-use Rattle.bx_editor.specs.declared.search_state.SearchPurpose.TheVariants as aims
-use Rattle.bx_editor.specs.declared.search_state.SearchState.TheVariants as seeks
+use Rattle.bx_editor.specs.declared.search_state.SearchPurpose.TheVariants as purposes
+use Rattle.bx_editor.specs.declared.search_state.SearchState.TheVariants as search_states
 use Rattle.bx_editor.specs.Editor.{Editor, after_save}
 use Rattle.bx_editor.specs.Effects.{Effect, Seeks, SeeksNext, AsksLine, AsksName, Before, by}
 use Rattle.bx_editor.specs.Search.{after_beginning, next_or_start, search_from, sought}
@@ -14,23 +14,23 @@ use Rattle.bx_editor.proofs.EffectsKept as kept
 
 -- this is asked, and this is the answer
 abbrev pub Asks : Prompt → List ℕ → Editor → Type 0
-Asks ask answer e = (e.ask ≡ ask) × (e.answer ≡ answer)
+Asks prompt answer e = (e.prompt ≡ prompt) × (e.answer ≡ answer)
 
-either : (ask : Prompt) (answer : List ℕ) (b : Bool) (p q : Editor) → Asks ask answer p → Asks ask answer q → Asks ask answer (if b then p else q)
-either ask answer true p q h k = h
-either ask answer false p q h k = k
+either : (prompt : Prompt) (answer : List ℕ) (b : Bool) (p q : Editor) → Asks prompt answer p → Asks prompt answer q → Asks prompt answer (if b then p else q)
+either prompt answer true p q h k = h
+either prompt answer false p q h k = k
 
-save : (ask : Prompt) (answer : List ℕ) (e : Editor) (fault : Option StoreFault) → Asks ask answer e → Asks ask answer (after_save e fault)
-save ask answer e None h = h
-save ask answer e (Some fault) h = h
+save : (prompt : Prompt) (answer : List ℕ) (e : Editor) (fault : Option StoreFault) → Asks prompt answer e → Asks prompt answer (after_save e fault)
+save prompt answer e None h = h
+save prompt answer e (Some fault) h = h
 
-pressing : (d : Data) (ask : Prompt) (answer : List ℕ) → kept.IsKeptPressing d (Asks ask answer)
-pressing d ask answer = record {
+pressing : (d : Data) (prompt : Prompt) (answer : List ℕ) → kept.IsKeptPressing d (Asks prompt answer)
+pressing d prompt answer = record {
   inserted = λ e new on h. h;
   removed = λ e start stop on h. h;
-  stepped = kept.step-keeps (Asks ask answer) (λ e content place changed h. h) (λ e message h. h);
-  run = kept.run-keeps (Asks ask answer) (λ e content place changed h. h) (λ e message h. h);
-  saved = save ask answer;
+  stepped = kept.step-keeps (Asks prompt answer) (λ e content place changed h. h) (λ e message h. h);
+  run = kept.run-keeps (Asks prompt answer) (λ e content place changed h. h) (λ e message h. h);
+  saved = save prompt answer;
   quit = λ e ended message h. h;
   based = λ e base h. h;
   gone = λ e place goal h. h;
@@ -45,17 +45,17 @@ begins_question AsksName = true
 begins_question _ = false
 
 seeking : (d : Data) (fault : Option StoreFault) (was : Before) (e : Editor) (one : Effect) → begins_question one ≡ false → kept.asks_or_seeks one ≡ true
-    → Asks e.ask e.answer (by d fault was e one)
-seeking d fault was e (Seeks aim) h is = (refl, refl)
+    → Asks e.prompt e.answer (by d fault was e one)
+seeking d fault was e (Seeks purpose) h is = (refl, refl)
 seeking d fault was e SeeksNext h is =
     let free = unselected e in
-    either e.ask e.answer (length (sought d free) == 0) (after_beginning aims.Find free)
-    (search_from d (next_or_start d free) (record free { seek = seeks.Off; aim = aims.Find })) (refl, refl) (refl, refl)
+    either e.prompt e.answer (length (sought d free) == 0) (after_beginning purposes.Find free)
+    (search_from d (next_or_start d free) (record free { search_state = search_states.Off; purpose = purposes.Find })) (refl, refl) (refl, refl)
 seeking d fault was e AsksLine h is = absurd (cc h)
 seeking d fault was e AsksName h is = absurd (cc h)
 seeking d fault was e _ h is = absurd (cc is)
 
 pub effect-keeps : (d : Data) (fault : Option StoreFault) (was : Before) (e : Editor) (one : Effect) → begins_question one ≡ false
-    → Asks e.ask e.answer (by d fault was e one)
+    → Asks e.prompt e.answer (by d fault was e one)
 effect-keeps d fault was e one h =
-    kept.effect-keeps d (Asks e.ask e.answer) (pressing d e.ask e.answer) fault was e one (refl, refl) (seeking d fault was e one h)
+    kept.effect-keeps d (Asks e.prompt e.answer) (pressing d e.prompt e.answer) fault was e one (refl, refl) (seeking d fault was e one h)

@@ -10,7 +10,7 @@ use Rattle.bx_document.specs.History.{next_changes, stepped_times}
 use Rattle.bx_document.specs.Past.{next_change, stepped}
 use Rattle.bx_document.specs.declared.history.HistoryStep.{HistoryStep}
 use Rattle.bx_document.specs.declared.history.HistoryStep.TheVariants.{Undo, Redo}
-use Rattle.bx_editor.specs.Editor.{Editor, cleared, nothing_left, with_step, by_run, is_changed_at, run_length, run_goal}
+use Rattle.bx_editor.specs.Editor.{Editor, cleared, nothing_left, with_step, by_group, is_changed_at, group_length, group_goal}
 use Rattle.bx_editor.specs.undo_groups.Groups.{run_end}
 use Rattle.bx_editor.proofs.undo_groups_lemmas.Steps.{end-bound, end-last, end-same, start-bound}
 use Rattle.bx_editor.proofs.ManySteps.{past-again, past-back}
@@ -35,7 +35,7 @@ pub none-mapped : (change : Option Change) → option_map (λ (c : Change). c.pl
 none-mapped None is = refl
 none-mapped (Some change) is = absurd (cc is)
 
-pub cleared-length : (step : HistoryStep) (e : Editor) → run_length step (cleared e) ≡ run_length step e
+pub cleared-length : (step : HistoryStep) (e : Editor) → group_length step (cleared e) ≡ group_length step e
 cleared-length Undo e = refl
 cleared-length Redo e = refl
 
@@ -43,25 +43,25 @@ end-from : (numbers : List ℕ) (n left : ℕ) → n ≤ run_end numbers n (n + 
 end-from numbers n zero = let same : n + 0 ≡ n = omega arith in omega (arith, ap (run_end numbers n) same ∙ end-same numbers n)
 end-from numbers n (suc left) = omega (arith, end-bound numbers n (n + suc left) (omega arith))
 
-pub run-ends : (way : HistoryStep) (e : Editor) → length (stepped_times way (run_length way e) e.content).past ≡ run_goal way e
+pub run-ends : (way : HistoryStep) (e : Editor) → length (stepped_times way (group_length way e) e.content).past ≡ group_goal way e
 run-ends Undo e =
     let n = length e.content.past in
-    past-back (run_length Undo e) e.content.text e.content.past e.content.future ∙ omega (arith, start-bound e.undo_groups n)
+    past-back (group_length Undo e) e.content.text e.content.past e.content.future ∙ omega (arith, start-bound e.undo_groups n)
 run-ends Redo e =
     let n = length e.content.past in
     let last = n + length e.content.future in
-    past-again (run_length Redo e) e.content.text e.content.past e.content.future (omega (arith, end-last e.undo_groups n last))
+    past-again (group_length Redo e) e.content.text e.content.past e.content.future (omega (arith, end-last e.undo_groups n last))
     ∙ omega (arith, end-from e.undo_groups n (length e.content.future))
 
 -- what a run's steps leave, by the length of the past behind them
 abbrev pub by_length : HistoryStep → Editor → Option Change → Editor
 by_length step e None = record e { message = Some (nothing_left step) }
 by_length step e (Some change) =
-    let content = stepped_times step (run_length step e) e.content in
+    let content = stepped_times step (group_length step e) e.content in
     with_step e content change.place (is_changed_at (length content.past) e.stored)
 
-pub by-length-is : (step : HistoryStep) (e : Editor) (change : Option Change) → by_length step e change ≡ by_run step e change
+pub by-length-is : (step : HistoryStep) (e : Editor) (change : Option Change) → by_length step e change ≡ by_group step e change
 by-length-is step e None = refl
 by-length-is step e (Some change) =
-    ap (λ n. with_step e (stepped_times step (run_length step e) e.content) change.place (is_changed_at n e.stored))
+    ap (λ n. with_step e (stepped_times step (group_length step e) e.content) change.place (is_changed_at n e.stored))
     (run-ends step e)

@@ -7,11 +7,11 @@ use Rattle.bx_keys.specs.declared.key.Key.TheVariants.{Copy, Cut}
 use Rattle.bx_store.specs.declared.store.StoreFault.{StoreFault}
 use Rattle.bx_ucd.specs.Data.{Data}
 use Rattle.bx_editor.specs.declared.questions.answers.Prompt.{Prompt}
-use Rattle.bx_editor.specs.declared.questions.answers.Prompt.TheVariants as asks
+use Rattle.bx_editor.specs.declared.questions.answers.Prompt.TheVariants as prompts
 use Rattle.bx_editor.specs.declared.message.Message.{Message}
 use Rattle.bx_editor.specs.declared.message.Message.TheVariants.{Copied, LineCopied, NothingToCopy, TextFull, TooLongForClipboard}
 use Rattle.bx_editor.specs.declared.search_state.SearchState.{SearchState}
-use Rattle.bx_editor.specs.declared.search_state.SearchState.TheVariants as seeks
+use Rattle.bx_editor.specs.declared.search_state.SearchState.TheVariants as search_states
 use Rattle.bx_editor.specs.declared.cursor.Soft.TheVariants.{Off}
 use Rattle.bx_editor.specs.Region.{clip_of, is_clip, after_copy, after_cut, bytes_in, held_message, is_empty, largest_clip, line, region}
 use Rattle.bx_editor.specs.Region.{taken, with_held, is_selection}
@@ -78,7 +78,7 @@ none-sent e part key new other held none =
 module _ (d : Data) (fault : Option StoreFault) (e : Editor) where
   -- the editor that a key finds, with a question and a search or without
   abbrev was : Prompt → SearchState → Editor
-  was ask seek = record (cleared e) { ask = ask; seek = seek }
+  was prompt search_state = record (cleared e) { prompt = prompt; search_state = search_state }
 
   -- what Copy takes, by whether the region is empty
   abbrev part : Bool → ℕ × ℕ
@@ -86,40 +86,40 @@ module _ (d : Data) (fault : Option StoreFault) (e : Editor) where
 
   -- what Copy leaves, by whether the region is empty, and the line
   abbrev copies : Prompt → SearchState → Bool → Bool → Editor
-  copies ask seek region_empty line_empty =
+  copies prompt search_state region_empty line_empty =
       if region_empty
       then (if line_empty
-      then record (was ask seek) { mark = None; soft = Off; message = Some NothingToCopy }
-      else with_held (was ask seek) (bytes_in e (line d e)) LineCopied)
-      else with_held (was ask seek) (bytes_in e (region e)) Copied
+      then record (was prompt search_state) { mark = None; soft = Off; message = Some NothingToCopy }
+      else with_held (was prompt search_state) (bytes_in e (line d e)) LineCopied)
+      else with_held (was prompt search_state) (bytes_in e (region e)) Copied
 
   -- what Cut leaves, by whether the part that it takes is empty
   abbrev cuts : Prompt → SearchState → Bool → Editor
-  cuts ask seek empty =
+  cuts prompt search_state empty =
       if empty
-      then after_copy d (was ask seek)
-      else record (with_removal d (was ask seek) ((taken d e).0) ((taken d e).1) false) {
+      then after_copy d (was prompt search_state)
+      else record (with_removal d (was prompt search_state) ((taken d e).0) ((taken d e).1) false) {
         held = bytes_in e (taken d e);
         message = held_message e.clipboard (bytes_in e (taken d e)) None;
       }
 
   -- what a key leaves
   abbrev pressed : Key → Prompt → SearchState → Editor
-  pressed key ask seek = as_left key (after_any d fault (before e) ask seek (cleared e) key)
+  pressed key prompt search_state = as_left key (after_any d fault (before e) prompt search_state (cleared e) key)
 
   -- Cut does the same in a search and a question, which it ends
   each-cut : (P : Editor → Type 0)
-      → ((ask : Prompt) (seek : SearchState) (after : SearchState) → P (record (as_left Cut (after_cut d (was ask seek))) { seek = after }))
-      → (ask : Prompt) (seek : SearchState) → P (pressed Cut ask seek)
-  each-cut P h asks.Off seeks.Off = h e.ask e.seek ((after_cut d (cleared e)).seek)
-  each-cut P h asks.Off seeks.Begun = h e.ask e.seek seeks.Off
-  each-cut P h asks.Off seeks.Typed = h e.ask e.seek seeks.Off
-  each-cut P h asks.Off seeks.WithBegun = h e.ask seeks.Off ((after_cut d (was e.ask seeks.Off)).seek)
-  each-cut P h asks.Off seeks.WithTyped = h e.ask seeks.Off ((after_cut d (was e.ask seeks.Off)).seek)
-  each-cut P h asks.Off seeks.Replacing = h e.ask seeks.Off ((after_cut d (was e.ask seeks.Off)).seek)
-  each-cut P h asks.Line seek = h asks.Off e.seek ((after_cut d (was asks.Off e.seek)).seek)
-  each-cut P h asks.Name seek = h asks.Off e.seek ((after_cut d (was asks.Off e.seek)).seek)
-  each-cut P h asks.Code seek = h asks.Off e.seek ((after_cut d (was asks.Off e.seek)).seek)
+      → ((prompt : Prompt) (search_state : SearchState) (after : SearchState) → P (record (as_left Cut (after_cut d (was prompt search_state))) { search_state = after }))
+      → (prompt : Prompt) (search_state : SearchState) → P (pressed Cut prompt search_state)
+  each-cut P h prompts.Off search_states.Off = h e.prompt e.search_state ((after_cut d (cleared e)).search_state)
+  each-cut P h prompts.Off search_states.Begun = h e.prompt e.search_state search_states.Off
+  each-cut P h prompts.Off search_states.Typed = h e.prompt e.search_state search_states.Off
+  each-cut P h prompts.Off search_states.WithBegun = h e.prompt search_states.Off ((after_cut d (was e.prompt search_states.Off)).search_state)
+  each-cut P h prompts.Off search_states.WithTyped = h e.prompt search_states.Off ((after_cut d (was e.prompt search_states.Off)).search_state)
+  each-cut P h prompts.Off search_states.Replacing = h e.prompt search_states.Off ((after_cut d (was e.prompt search_states.Off)).search_state)
+  each-cut P h prompts.Line search_state = h prompts.Off e.search_state ((after_cut d (was prompts.Off e.search_state)).search_state)
+  each-cut P h prompts.Name search_state = h prompts.Off e.search_state ((after_cut d (was prompts.Off e.search_state)).search_state)
+  each-cut P h prompts.Code search_state = h prompts.Off e.search_state ((after_cut d (was prompts.Off e.search_state)).search_state)
 
   -- ---- with a clipboard
 
@@ -128,79 +128,79 @@ module _ (d : Data) (fault : Option StoreFault) (e : Editor) where
     by-clipboard part own = ap (λ b. held_message b (bytes_in e part) own) with_one
 
     copy-sends : (region_empty line_empty : Bool) → is_empty (region e) ≡ region_empty → is_empty (line d e) ≡ line_empty
-        → SendsHeld e (part region_empty) Copy (as_left Copy (copies e.ask e.seek region_empty line_empty))
-    copy-sends true true is line_is = none-sent e (line d e) Copy (as_left Copy (copies e.ask e.seek true true)) refl refl line_is
+        → SendsHeld e (part region_empty) Copy (as_left Copy (copies e.prompt e.search_state region_empty line_empty))
+    copy-sends true true is line_is = none-sent e (line d e) Copy (as_left Copy (copies e.prompt e.search_state true true)) refl refl line_is
     copy-sends true false is line_is =
-        held-sent e (line d e) Copy (Some LineCopied) (as_left Copy (copies e.ask e.seek true false)) with_one refl
+        held-sent e (line d e) Copy (Some LineCopied) (as_left Copy (copies e.prompt e.search_state true false)) with_one refl
         (by-clipboard (line d e) (Some LineCopied)) refl refl line_is
     copy-sends false line_empty is line_is =
-        held-sent e (region e) Copy (Some Copied) (as_left Copy (copies e.ask e.seek false line_empty)) with_one refl
+        held-sent e (region e) Copy (Some Copied) (as_left Copy (copies e.prompt e.search_state false line_empty)) with_one refl
         (by-clipboard (region e) (Some Copied)) refl refl is
 
     -- where nothing is taken, the region and the line are empty
-    nothing-copied : (ask : Prompt) (seek : SearchState) (region_empty : Bool) → is_empty (region e) ≡ region_empty → is_empty (part region_empty) ≡ true
-        → after_copy d (was ask seek) ≡ record (was ask seek) { mark = None; soft = Off; message = Some NothingToCopy }
-    nothing-copied ask seek true is none = ap₂ (copies ask seek) is none
-    nothing-copied ask seek false is none = let no = sym is ∙ none in absurd (cc no)
+    nothing-copied : (prompt : Prompt) (search_state : SearchState) (region_empty : Bool) → is_empty (region e) ≡ region_empty → is_empty (part region_empty) ≡ true
+        → after_copy d (was prompt search_state) ≡ record (was prompt search_state) { mark = None; soft = Off; message = Some NothingToCopy }
+    nothing-copied prompt search_state true is none = ap₂ (copies prompt search_state) is none
+    nothing-copied prompt search_state false is none = let no = sym is ∙ none in absurd (cc no)
 
-    cut-sends : (ask : Prompt) (seek after : SearchState) (empty : Bool) → is_empty (taken d e) ≡ empty
-        → SendsHeld e (taken d e) Cut (record (as_left Cut (cuts ask seek empty)) { seek = after })
-    cut-sends ask seek after true none =
-        subst (λ (x : Editor). SendsHeld e (taken d e) Cut (record (as_left Cut x) { seek = after }))
-        (sym (nothing-copied ask seek (is_empty (region e)) refl none))
-        (none-sent e (taken d e) Cut (record (as_left Cut (copies ask seek true true)) { seek = after }) refl refl none)
-    cut-sends ask seek after false some =
-        held-sent e (taken d e) Cut None (record (as_left Cut (cuts ask seek false)) { seek = after }) with_one refl
+    cut-sends : (prompt : Prompt) (search_state after : SearchState) (empty : Bool) → is_empty (taken d e) ≡ empty
+        → SendsHeld e (taken d e) Cut (record (as_left Cut (cuts prompt search_state empty)) { search_state = after })
+    cut-sends prompt search_state after true none =
+        subst (λ (x : Editor). SendsHeld e (taken d e) Cut (record (as_left Cut x) { search_state = after }))
+        (sym (nothing-copied prompt search_state (is_empty (region e)) refl none))
+        (none-sent e (taken d e) Cut (record (as_left Cut (copies prompt search_state true true)) { search_state = after }) refl refl none)
+    cut-sends prompt search_state after false some =
+        held-sent e (taken d e) Cut None (record (as_left Cut (cuts prompt search_state false)) { search_state = after }) with_one refl
         (by-clipboard (taken d e) None) refl refl some
 
     -- Copy in a search or a question gives it up
-    gives-up : (ask : Prompt) (seek : SearchState) → (ask ≢ asks.Off) ⊎ (seek ≢ seeks.Off) → SendsNothing e Copy (pressed Copy ask seek)
-    gives-up asks.Off seeks.Off (inl other) = absurd (other refl)
-    gives-up asks.Off seeks.Off (inr other) = absurd (other refl)
-    gives-up asks.Off seeks.Begun other = record { none = no-clip (pressed Copy asks.Off seeks.Begun) Copy refl; stays = refl }
-    gives-up asks.Off seeks.Typed other = record { none = no-clip (pressed Copy asks.Off seeks.Typed) Copy refl; stays = refl }
-    gives-up asks.Off seeks.WithBegun other = record { none = no-clip (pressed Copy asks.Off seeks.WithBegun) Copy refl; stays = refl }
-    gives-up asks.Off seeks.WithTyped other = record { none = no-clip (pressed Copy asks.Off seeks.WithTyped) Copy refl; stays = refl }
-    gives-up asks.Off seeks.Replacing other = record { none = no-clip (pressed Copy asks.Off seeks.Replacing) Copy refl; stays = refl }
-    gives-up asks.Line seek other = record { none = no-clip (pressed Copy asks.Line seek) Copy refl; stays = refl }
-    gives-up asks.Name seek other = record { none = no-clip (pressed Copy asks.Name seek) Copy refl; stays = refl }
-    gives-up asks.Code seek other = record { none = no-clip (pressed Copy asks.Code seek) Copy refl; stays = refl }
+    gives-up : (prompt : Prompt) (search_state : SearchState) → (prompt ≢ prompts.Off) ⊎ (search_state ≢ search_states.Off) → SendsNothing e Copy (pressed Copy prompt search_state)
+    gives-up prompts.Off search_states.Off (inl other) = absurd (other refl)
+    gives-up prompts.Off search_states.Off (inr other) = absurd (other refl)
+    gives-up prompts.Off search_states.Begun other = record { none = no-clip (pressed Copy prompts.Off search_states.Begun) Copy refl; stays = refl }
+    gives-up prompts.Off search_states.Typed other = record { none = no-clip (pressed Copy prompts.Off search_states.Typed) Copy refl; stays = refl }
+    gives-up prompts.Off search_states.WithBegun other = record { none = no-clip (pressed Copy prompts.Off search_states.WithBegun) Copy refl; stays = refl }
+    gives-up prompts.Off search_states.WithTyped other = record { none = no-clip (pressed Copy prompts.Off search_states.WithTyped) Copy refl; stays = refl }
+    gives-up prompts.Off search_states.Replacing other = record { none = no-clip (pressed Copy prompts.Off search_states.Replacing) Copy refl; stays = refl }
+    gives-up prompts.Line search_state other = record { none = no-clip (pressed Copy prompts.Line search_state) Copy refl; stays = refl }
+    gives-up prompts.Name search_state other = record { none = no-clip (pressed Copy prompts.Name search_state) Copy refl; stays = refl }
+    gives-up prompts.Code search_state other = record { none = no-clip (pressed Copy prompts.Code search_state) Copy refl; stays = refl }
 
-    copy-out : (ask : Prompt) (seek : SearchState) → ask ≡ asks.Off → seek ≡ seeks.Off → SendsHeld e (taken d e) Copy (pressed Copy ask seek)
-    copy-out ask seek unasked off =
+    copy-out : (prompt : Prompt) (search_state : SearchState) → prompt ≡ prompts.Off → search_state ≡ search_states.Off → SendsHeld e (taken d e) Copy (pressed Copy prompt search_state)
+    copy-out prompt search_state unasked off =
         subst (SendsHeld e (taken d e) Copy) (sym (ap₂ (pressed Copy) unasked off)) (copy-sends (is_empty (region e)) (is_empty (line d e)) refl refl)
 
     sends : SendsCopies d e (after_user d fault e Copy) (after_user d fault e Cut)
     sends = record {
-      copy = copy-out e.ask e.seek;
-      given_up = gives-up e.ask e.seek;
-      cut = each-cut (SendsHeld e (taken d e) Cut) (λ ask seek after. cut-sends ask seek after (is_empty (taken d e)) refl) e.ask e.seek;
+      copy = copy-out e.prompt e.search_state;
+      given_up = gives-up e.prompt e.search_state;
+      cut = each-cut (SendsHeld e (taken d e) Cut) (λ prompt search_state after. cut-sends prompt search_state after (is_empty (taken d e)) refl) e.prompt e.search_state;
     }
 
   -- ---- without one
 
-  clipboard-after-copy : (ask : Prompt) (seek : SearchState) → (after_copy d (was ask seek)).clipboard ≡ e.clipboard
-  clipboard-after-copy ask seek =
-      each (is_empty (region e)) (is_empty (line d e)) (λ new. new.clipboard ≡ e.clipboard) (copies ask seek true true) (copies ask seek true false)
-      (copies ask seek false true) refl refl refl
+  clipboard-after-copy : (prompt : Prompt) (search_state : SearchState) → (after_copy d (was prompt search_state)).clipboard ≡ e.clipboard
+  clipboard-after-copy prompt search_state =
+      each (is_empty (region e)) (is_empty (line d e)) (λ new. new.clipboard ≡ e.clipboard) (copies prompt search_state true true) (copies prompt search_state true false)
+      (copies prompt search_state false true) refl refl refl
 
-  clipboard-after-cut : (ask : Prompt) (seek : SearchState) (empty : Bool) → (cuts ask seek empty).clipboard ≡ e.clipboard
-  clipboard-after-cut ask seek true = clipboard-after-copy ask seek
-  clipboard-after-cut ask seek false = refl
+  clipboard-after-cut : (prompt : Prompt) (search_state : SearchState) (empty : Bool) → (cuts prompt search_state empty).clipboard ≡ e.clipboard
+  clipboard-after-cut prompt search_state true = clipboard-after-copy prompt search_state
+  clipboard-after-cut prompt search_state false = refl
 
-  cut-keeps : (ask : Prompt) (seek : SearchState) → (pressed Cut ask seek).clipboard ≡ e.clipboard
-  cut-keeps = each-cut (λ new. new.clipboard ≡ e.clipboard) (λ ask seek after. clipboard-after-cut ask seek (is_empty (taken d e)))
+  cut-keeps : (prompt : Prompt) (search_state : SearchState) → (pressed Cut prompt search_state).clipboard ≡ e.clipboard
+  cut-keeps = each-cut (λ new. new.clipboard ≡ e.clipboard) (λ prompt search_state after. clipboard-after-cut prompt search_state (is_empty (taken d e)))
 
-  copy-keeps : (ask : Prompt) (seek : SearchState) → (pressed Copy ask seek).clipboard ≡ e.clipboard
-  copy-keeps asks.Off seeks.Off = clipboard-after-copy e.ask e.seek
-  copy-keeps asks.Off seeks.Begun = refl
-  copy-keeps asks.Off seeks.Typed = refl
-  copy-keeps asks.Off seeks.WithBegun = refl
-  copy-keeps asks.Off seeks.WithTyped = refl
-  copy-keeps asks.Off seeks.Replacing = refl
-  copy-keeps asks.Line seek = refl
-  copy-keeps asks.Name seek = refl
-  copy-keeps asks.Code seek = refl
+  copy-keeps : (prompt : Prompt) (search_state : SearchState) → (pressed Copy prompt search_state).clipboard ≡ e.clipboard
+  copy-keeps prompts.Off search_states.Off = clipboard-after-copy e.prompt e.search_state
+  copy-keeps prompts.Off search_states.Begun = refl
+  copy-keeps prompts.Off search_states.Typed = refl
+  copy-keeps prompts.Off search_states.WithBegun = refl
+  copy-keeps prompts.Off search_states.WithTyped = refl
+  copy-keeps prompts.Off search_states.Replacing = refl
+  copy-keeps prompts.Line search_state = refl
+  copy-keeps prompts.Name search_state = refl
+  copy-keeps prompts.Code search_state = refl
 
 -- ---- in any state
 
@@ -234,11 +234,11 @@ module _ (d : Data) (fault : Option StoreFault) (e : Editor) where
   none-out none Copy =
       let left = paste_ended d e in
       without-one (after_key d fault e Copy) Copy
-      (ap (λ (new : Editor). new.clipboard) (copy-is e.pasted refl) ∙ copy-keeps d fault left left.ask left.seek ∙ end-keeps e.pasted ∙ none)
+      (ap (λ (new : Editor). new.clipboard) (copy-is e.pasted refl) ∙ copy-keeps d fault left left.prompt left.search_state ∙ end-keeps e.pasted ∙ none)
   none-out none Cut =
       let left = paste_ended d e in
       without-one (after_key d fault e Cut) Cut
-      (ap (λ (new : Editor). new.clipboard) (cut-is e.pasted refl) ∙ cut-keeps d fault left left.ask left.seek ∙ end-keeps e.pasted ∙ none)
+      (ap (λ (new : Editor). new.clipboard) (cut-is e.pasted refl) ∙ cut-keeps d fault left left.prompt left.search_state ∙ end-keeps e.pasted ∙ none)
   none-out none key = no-clip (after_key d fault e key) key refl
 
 pub copies-go-out : CopiesGoOut

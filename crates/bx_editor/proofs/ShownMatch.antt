@@ -66,51 +66,51 @@ some-if None h = absurd (h refl)
 some-if (Some a) h = refl
 
 -- an editor's state that is seen in another way shows the same match
-pub shown-in : {D : Type 0} (ucd : D → Data) (was now : EditorState D) → was ≡ now → now.editor.seek ≡ Replacing
-    → StandsAt (ucd was.tables) was.editor.aim was.editor.query was.editor.content.text was.editor.seek was.editor.at
+pub shown-in : {D : Type 0} (ucd : D → Data) (was now : EditorState D) → was ≡ now → now.editor.search_state ≡ Replacing
+    → StandsAt (ucd was.tables) was.editor.purpose was.editor.query was.editor.content.text was.editor.search_state was.editor.at
     was.editor.count
-    → IsAtMatch (ucd now.tables) now.editor.aim now.editor.query now.editor.content.text now.editor.at now.editor.count
+    → IsAtMatch (ucd now.tables) now.editor.purpose now.editor.query now.editor.content.text now.editor.at now.editor.count
 shown-in {D = D} ucd was now same is h =
     let stands : EditorState D → Type 0 = λ s.
-    StandsAt (ucd s.tables) s.editor.aim s.editor.query s.editor.content.text s.editor.seek s.editor.at s.editor.count in
+    StandsAt (ucd s.tables) s.editor.purpose s.editor.query s.editor.content.text s.editor.search_state s.editor.at s.editor.count in
     let e = now.editor in
-    subst (λ seek. StandsAt (ucd now.tables) e.aim e.query e.content.text seek e.at e.count) is (subst stands same h)
+    subst (λ search_state. StandsAt (ucd now.tables) e.purpose e.query e.content.text search_state e.at e.count) is (subst stands same h)
 
-module _ (d : Data) (aim : SearchPurpose) (query text : List ℕ) where
+module _ (d : Data) (purpose : SearchPurpose) (query text : List ℕ) where
   -- the query's letters
   abbrev pub query-letters : List ℕ
-  query-letters = letters d (reading aim) (chars query)
+  query-letters = letters d (reading purpose) (chars query)
 
-  pub at-match : (seek : SearchState) (at count : ℕ) → seek ≡ Replacing → StandsAt d aim query text seek at count
-      → IsAtMatch d aim query text at count
-  at-match seek at count is h = subst (λ s. StandsAt d aim query text s at count) is h
+  pub at-match : (search_state : SearchState) (at count : ℕ) → search_state ≡ Replacing → StandsAt d purpose query text search_state at count
+      → IsAtMatch d purpose query text at count
+  at-match search_state at count is h = subst (λ s. StandsAt d purpose query text s at count) is h
 
   -- one more may be replaced
-  pub room-for-one : (at count : ℕ) → IsUtf8 text → IsAtMatch d aim query text at count → (stop : ℕ)
-      → stop ≡ match_end d (reading aim) query-letters text at → stop ≤ length text → count + 1 ≤ largest_text
-  room-for-one at count u h stop is inside = omega (arith, h.few, inside, is, end-behind d (reading aim) query-letters text u at h.here)
+  pub room-for-one : (at count : ℕ) → IsUtf8 text → IsAtMatch d purpose query text at count → (stop : ℕ)
+      → stop ≡ match_end d (reading purpose) query-letters text at → stop ≤ length text → count + 1 ≤ largest_text
+  room-for-one at count u h stop is inside = omega (arith, h.few, inside, is, end-behind d (reading purpose) query-letters text u at h.here)
 
   -- all that follow may be replaced
-  pub room-for-all : (at count : ℕ) → IsUtf8 text → IsAtMatch d aim query text at count
-      → last_stop at (spans_from d (reading aim) query-letters text at) ≤ length text
-      → count + length (spans_from d (reading aim) query-letters text at) ≤ largest_text
-  room-for-all at count u h inside = omega (arith, h.few, inside, no-more-than-bytes d (reading aim) query-letters text u at)
+  pub room-for-all : (at count : ℕ) → IsUtf8 text → IsAtMatch d purpose query text at count
+      → last_stop at (spans_from d (reading purpose) query-letters text at) ≤ length text
+      → count + length (spans_from d (reading purpose) query-letters text at) ≤ largest_text
+  room-for-all at count u h inside = omega (arith, h.few, inside, no-more-than-bytes d (reading purpose) query-letters text u at)
 
   -- at a later match
-  pub passed-over : (at count x next : ℕ) → IsUtf8 text → IsAtMatch d aim query text at count → at ≤ x
-      → Some next ≡ first_from d (reading aim) query-letters text x → IsAtMatch d aim query text next count
+  pub passed-over : (at count x next : ℕ) → IsUtf8 text → IsAtMatch d purpose query text at count → at ≤ x
+      → Some next ≡ first_from d (reading purpose) query-letters text x → IsAtMatch d purpose query text next count
   passed-over at count x next u h on is =
-      let first = first-is d (reading aim) query-letters text u x next is in
+      let first = first-is d (reading purpose) query-letters text u x next is in
       record { here = first.is_match; few = omega (arith, h.few, on, first.not_before) }
 
   -- at the next match once this one was replaced
   pub replaced-one : (at count stop next : ℕ) (new : List ℕ) → IsUtf8 text → IsUtf8 (splice text at stop new)
-      → IsAtMatch d aim query text at count → IsRange text at stop → stop ≡ match_end d (reading aim) query-letters text at
-      → Some next ≡ first_from d (reading aim) query-letters (splice text at stop new) (at + length new)
-      → IsAtMatch d aim query (splice text at stop new) next (count + 1)
+      → IsAtMatch d purpose query text at count → IsRange text at stop → stop ≡ match_end d (reading purpose) query-letters text at
+      → Some next ≡ first_from d (reading purpose) query-letters (splice text at stop new) (at + length new)
+      → IsAtMatch d purpose query (splice text at stop new) next (count + 1)
   replaced-one at count stop next new u v h range is found =
-      let first = first-is d (reading aim) query-letters (splice text at stop new) v (at + length new) next found in
-      let less = end-behind d (reading aim) query-letters text u at h.here in
+      let first = first-is d (reading purpose) query-letters (splice text at stop new) v (at + length new) next found in
+      let less = end-behind d (reading purpose) query-letters text u at h.here in
       let bounds = range.stop_bounds in
       record {
         here = first.is_match;
@@ -119,8 +119,8 @@ module _ (d : Data) (aim : SearchPurpose) (query text : List ℕ) where
 
   -- ---- the replacement is asked for
 
-  pub asked : (seek : SearchState) (at count : ℕ) → asks_replacement seek ≡ true → StandsAt d aim query text seek at count
-      → IsAsked d aim query count
+  pub asked : (search_state : SearchState) (at count : ℕ) → asks_replacement search_state ≡ true → StandsAt d purpose query text search_state at count
+      → IsAsked d purpose query count
   asked Off at count is h = absurd (cc)
   asked Begun at count is h = absurd (cc)
   asked Typed at count is h = absurd (cc)
@@ -129,12 +129,12 @@ module _ (d : Data) (aim : SearchPurpose) (query text : List ℕ) where
   asked Replacing at count is h = absurd (cc)
 
   -- the first match is shown
-  pub shown : (at count x : ℕ) → IsUtf8 text → length text ≤ largest_text → IsAsked d aim query count
-      → Some at ≡ first_from d (reading aim) query-letters text x → IsAtMatch d aim query text at count
+  pub shown : (at count x : ℕ) → IsUtf8 text → length text ≤ largest_text → IsAsked d purpose query count
+      → Some at ≡ first_from d (reading purpose) query-letters text x → IsAtMatch d purpose query text at count
   shown at count x u short h is =
-      record { here = (first-is d (reading aim) query-letters text u x at is).is_match; few = omega (arith, h.none, short) }
+      record { here = (first-is d (reading purpose) query-letters text u x at is).is_match; few = omega (arith, h.none, short) }
 
-pub asked-began : (d : Data) (text : List ℕ) (seek : SearchState) (origin : ℕ) → asks_replacement seek ≡ true → BeganAt d text seek origin
+pub asked-began : (d : Data) (text : List ℕ) (search_state : SearchState) (origin : ℕ) → asks_replacement search_state ≡ true → BeganAt d text search_state origin
     → IsTextPlace d text origin
 asked-began d text Off origin is h = absurd (cc)
 asked-began d text Begun origin is h = absurd (cc)

@@ -7,7 +7,7 @@ use Rattle.bx_find.specs.declared.letters.Reading.{Reading}
 use Rattle.bx_find.specs.Matches.{first_from, last_before}
 use Rattle.bx_view.specs.Places.{IsTextPlace}
 use Rattle.bx_view.specs.TextRows.{TextRow}
-use Rattle.bx_editor.specs.declared.search_state.SearchPurpose.TheVariants as aims
+use Rattle.bx_editor.specs.declared.search_state.SearchPurpose.TheVariants as purposes
 use Rattle.bx_editor.specs.declared.message.Message.TheVariants.{FromEnd, FromStart}
 use Rattle.bx_editor.specs.declared.search_state.SearchState.{SearchState}
 use Rattle.bx_editor.specs.declared.search_state.SearchState.TheVariants.{Off, Begun, Typed, WithBegun, WithTyped, Replacing}
@@ -16,7 +16,7 @@ use Rattle.bx_editor.specs.Editor.{Editor}
 use Rattle.bx_editor.specs.Search.{after_beginning, after_find_next, after_letter, backward, forward, is_no_letter, kept}
 use Rattle.bx_editor.specs.Search.{lengthened, longest_query, match_or, next_or_start, not_found, search_from, sought, with_query}
 
-pub began : (d : Data) (text : List ℕ) (seek : SearchState) (origin : ℕ) → IsTextPlace d text origin → BeganAt d text seek origin
+pub began : (d : Data) (text : List ℕ) (search_state : SearchState) (origin : ℕ) → IsTextPlace d text origin → BeganAt d text search_state origin
 began d text Off origin is = tt
 began d text Begun origin is = is
 began d text Typed origin is = is
@@ -69,15 +69,15 @@ next-is-start place (p ∷ ps) not-less = over place p ps (nat_lt place p) refl 
 -- ---- what a key seeks
 
 pub letter-sought : (d : Data) (e : Editor) (c : ℕ) → is_no_letter d c ≡ false
-    → after_letter d e c ≡ search_from d e.place (with_query e (lengthened longest_query (kept e.seek e.query) c))
+    → after_letter d e c ≡ search_from d e.place (with_query e (lengthened longest_query (kept e.search_state e.query) c))
 letter-sought d e c plain =
-    ap (λ b. if b then e else search_from d e.place (with_query e (lengthened longest_query (kept e.seek e.query) c))) plain
+    ap (λ b. if b then e else search_from d e.place (with_query e (lengthened longest_query (kept e.search_state e.query) c))) plain
 
 pub find-next-sought : (d : Data) (e : Editor) → (length (sought d e) == 0) ≡ false
-    → after_find_next d e ≡ search_from d (next_or_start d e) (record e { seek = Off; aim = aims.Find })
+    → after_find_next d e ≡ search_from d (next_or_start d e) (record e { search_state = Off; purpose = purposes.Find })
 find-next-sought d e some =
-    ap (λ b. if b then after_beginning aims.Find e else search_from d (next_or_start d e)
-    (record e { seek = Off; aim = aims.Find })) some
+    ap (λ b. if b then after_beginning purposes.Find e else search_from d (next_or_start d e)
+    (record e { search_state = Off; purpose = purposes.Find })) some
 
 pub not-true : (b : Bool) → not b ≡ true → b ≡ false
 not-true true h = absurd (cc h)

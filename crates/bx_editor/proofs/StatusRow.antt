@@ -17,7 +17,7 @@ use Rattle.bx_grid.specs.Columns.{Col}
 use Rattle.bx_grid.specs.Grid.{GridState}
 use Rattle.bx_rows.specs.RowPicture.{Glyph, glyph}
 use Rattle.bx_editor.specs.declared.questions.answers.Prompt.{Prompt}
-use Rattle.bx_editor.specs.declared.questions.answers.Prompt.TheVariants as asks
+use Rattle.bx_editor.specs.declared.questions.answers.Prompt.TheVariants as prompts
 use Rattle.bx_document.specs.Shown.{with_rows}
 use Rattle.bx_editor.specs.declared.message.Message.{Message}
 use Rattle.bx_editor.specs.declared.message.Message.TheVariants.{Saved, SaveFailed, TextFull, NothingToUndo, NothingToRedo, Unsaved, Direction, MarkSet, MarkOff}
@@ -111,11 +111,11 @@ status-printable changed paragraph unit h k =
 
 -- ---- a prompt behind it
 
-pub prompt-printable : (ask : Prompt) → are_ascii_printable (prompt_text ask) ≡ true
-prompt-printable asks.Off = refl
-prompt-printable asks.Line = refl
-prompt-printable asks.Name = refl
-prompt-printable asks.Code = refl
+pub prompt-printable : (prompt : Prompt) → are_ascii_printable (prompt_text prompt) ≡ true
+prompt-printable prompts.Off = refl
+prompt-printable prompts.Line = refl
+prompt-printable prompts.Name = refl
+prompt-printable prompts.Code = refl
 
 pub prompted-glyphs : (line prompt : List ℕ) (typed : List Glyph)
     → letter_glyphs (line ++ prompt) ++ typed ≡ letter_glyphs line ++ (letter_glyphs prompt ++ typed)
@@ -124,13 +124,13 @@ prompted-glyphs line prompt typed =
     ∙ append_assoc (letter_glyphs line) (letter_glyphs prompt) typed
 
 -- a question has its prompt, and behind it the answer as it was typed
-pub question-glyphs : (d : Data) (e : Editor) (ask : Prompt) → (ask ≡ asks.Line) ⊎ ((ask ≡ asks.Name) ⊎ (ask ≡ asks.Code))
-    → prompt_glyphs d e ask ≡ letter_glyphs (prompt_text ask) ++ typed_glyphs e.answer
-question-glyphs d e asks.Off some =
+pub question-glyphs : (d : Data) (e : Editor) (prompt : Prompt) → (prompt ≡ prompts.Line) ⊎ ((prompt ≡ prompts.Name) ⊎ (prompt ≡ prompts.Code))
+    → prompt_glyphs d e prompt ≡ letter_glyphs (prompt_text prompt) ++ typed_glyphs e.answer
+question-glyphs d e prompts.Off some =
     ⊎_elim (λ line. absurd (cc)) (λ other. ⊎_elim (λ name. absurd (cc)) (λ code. absurd (cc)) other) some
-question-glyphs d e asks.Line some = refl
-question-glyphs d e asks.Name some = refl
-question-glyphs d e asks.Code some = refl
+question-glyphs d e prompts.Line some = refl
+question-glyphs d e prompts.Name some = refl
+question-glyphs d e prompts.Code some = refl
 
 -- ---- the columns in a grid
 

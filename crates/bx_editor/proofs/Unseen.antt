@@ -7,11 +7,11 @@ use Rattle.bx_grid.specs.Picture.{PictureState}
 use Rattle.bx_rows.specs.RowPicture.{Glyph}
 use Rattle.bx_ucd.specs.Data.{Data}
 use Rattle.bx_editor.specs.declared.questions.answers.Prompt.{Prompt}
-use Rattle.bx_editor.specs.declared.questions.answers.Prompt.TheVariants as asks
+use Rattle.bx_editor.specs.declared.questions.answers.Prompt.TheVariants as prompts
 use Rattle.bx_editor.specs.declared.undo_groups.typing.Typing.{Typing}
 use Rattle.bx_editor.specs.declared.undo_groups.typing.Typing.TheVariants.{Paste}
 use Rattle.bx_editor.specs.declared.search_state.SearchState.{SearchState}
-use Rattle.bx_editor.specs.declared.search_state.SearchState.TheVariants as seeks
+use Rattle.bx_editor.specs.declared.search_state.SearchState.TheVariants as search_states
 use Rattle.bx_editor.specs.declared.cursor.Soft.{Soft}
 use Rattle.bx_editor.specs.Editor.{Editor, rows, text_height}
 use Rattle.bx_keys.specs.declared.key.Key.TheVariants.{Insert, PasteStart}
@@ -32,19 +32,19 @@ module _ (d : Data) (e : Editor) (pasted : Option (List ℕ)) (quit_before : Boo
   abbrev new : Editor
   new = with_unseen e pasted quit_before goal soft typing
 
-  same-part : (seek : SearchState) → seen_in d new seek ≡ seen_in d e seek
-  same-part seeks.Off = refl
-  same-part seeks.Begun = refl
-  same-part seeks.Typed = refl
-  same-part seeks.WithBegun = refl
-  same-part seeks.WithTyped = refl
-  same-part seeks.Replacing = refl
+  same-part : (search_state : SearchState) → seen_in d new search_state ≡ seen_in d e search_state
+  same-part search_states.Off = refl
+  same-part search_states.Begun = refl
+  same-part search_states.Typed = refl
+  same-part search_states.WithBegun = refl
+  same-part search_states.WithTyped = refl
+  same-part search_states.Replacing = refl
 
-  same-prompt : (ask : Prompt) → prompt_glyphs d new ask ≡ prompt_glyphs d e ask
-  same-prompt asks.Off = refl
-  same-prompt asks.Line = refl
-  same-prompt asks.Name = refl
-  same-prompt asks.Code = refl
+  same-prompt : (prompt : Prompt) → prompt_glyphs d new prompt ≡ prompt_glyphs d e prompt
+  same-prompt prompts.Off = refl
+  same-prompt prompts.Line = refl
+  same-prompt prompts.Name = refl
+  same-prompt prompts.Code = refl
 
   -- the picture with this part of the text in the other rendition, and this prompt
   abbrev with_parts : ℕ → ℕ × ℕ → List Glyph → PictureState
@@ -63,28 +63,28 @@ module _ (d : Data) (e : Editor) (pasted : Option (List ℕ)) (quit_before : Boo
   looks-same : LooksAs d e new
   looks-same = record {
     top = λ top. refl;
-    same = λ top. ap₂ (with_parts top) (same-part e.seek) (same-prompt e.ask);
+    same = λ top. ap₂ (with_parts top) (same-part e.search_state) (same-prompt e.prompt);
   }
 
 pub letter-unseen : (d : Data) (e : Editor) (c : ℕ) → LooksAs d e (after_pasted_letter d e c)
 letter-unseen d e c = looks-same d e (pasted_with (pastes_crlf d e.content.text c) e.pasted c) false None (aged e.soft) e.typing
 
-begun-unseen : (e : Editor) (ask : Prompt) (seek : SearchState) (list : List ℕ) → paste_begun ask seek (Some list) e ≡ e
-begun-unseen e asks.Off seeks.Off list = refl
-begun-unseen e asks.Off seeks.Begun list = refl
-begun-unseen e asks.Off seeks.Typed list = refl
-begun-unseen e asks.Off seeks.WithBegun list = refl
-begun-unseen e asks.Off seeks.WithTyped list = refl
-begun-unseen e asks.Off seeks.Replacing list = refl
-begun-unseen e asks.Line seek list = refl
-begun-unseen e asks.Name seek list = refl
-begun-unseen e asks.Code seek list = refl
+begun-unseen : (e : Editor) (prompt : Prompt) (search_state : SearchState) (list : List ℕ) → paste_begun prompt search_state (Some list) e ≡ e
+begun-unseen e prompts.Off search_states.Off list = refl
+begun-unseen e prompts.Off search_states.Begun list = refl
+begun-unseen e prompts.Off search_states.Typed list = refl
+begun-unseen e prompts.Off search_states.WithBegun list = refl
+begun-unseen e prompts.Off search_states.WithTyped list = refl
+begun-unseen e prompts.Off search_states.Replacing list = refl
+begun-unseen e prompts.Line search_state list = refl
+begun-unseen e prompts.Name search_state list = refl
+begun-unseen e prompts.Code search_state list = refl
 
 pub start-unseen : (d : Data) (e : Editor) (pasted : Option (List ℕ)) → e.pasted ≡ pasted → is_some pasted ≡ true
     → LooksAs d e (after_paste_start e)
 start-unseen d e None is some = absurd (cc some)
 start-unseen d e (Some list) is some =
-    let same : paste_begun e.ask e.seek e.pasted e ≡ e = ap (λ pasted. paste_begun e.ask e.seek pasted e) is ∙ begun-unseen e e.ask e.seek list in
+    let same : paste_begun e.prompt e.search_state e.pasted e ≡ e = ap (λ pasted. paste_begun e.prompt e.search_state pasted e) is ∙ begun-unseen e e.prompt e.search_state list in
     subst (λ (x : Editor). LooksAs d e (record x { typing = Paste })) (sym same) (looks-same d e e.pasted e.quit_before e.goal e.soft Paste)
 
 by-press : (d : Data) (e : Editor) (pasted : Option (List ℕ)) (c : ℕ) → is_some pasted ≡ true → after_press d None pasted e (Insert c) ≡ after_pasted_letter d e c

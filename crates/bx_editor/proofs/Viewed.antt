@@ -25,5 +25,5 @@ abbrev pub holds_of : {D : Type 0} → Ghosts D → EditorState D → Type 0
 holds_of g s =
     IsTextPlace (g.data s.tables) s.editor.content.text s.editor.place × (is_side s.editor.height ≡ true)
     × IfSome s.editor.mark (IsTextPlace (g.data s.tables) s.editor.content.text) × (length (chars s.editor.query) ≤ 64) × (length (chars s.editor.replacement) ≤ 64)
-    × IsAnswer s.editor.ask s.editor.answer × BeganAt (g.data s.tables) s.editor.content.text s.editor.seek s.editor.origin
-    × StandsAt (g.data s.tables) s.editor.aim s.editor.query s.editor.content.text s.editor.seek s.editor.at s.editor.count
+    × IsAnswer s.editor.prompt s.editor.answer × BeganAt (g.data s.tables) s.editor.content.text s.editor.search_state s.editor.origin
+    × StandsAt (g.data s.tables) s.editor.purpose s.editor.query s.editor.content.text s.editor.search_state s.editor.at s.editor.count

@@ -13,6 +13,6 @@ limit_of Code = longest_code
 limit_of _ = longest_line
 
 -- what the user may have typed, in UTF-8, as the answer to a question
-pub record IsAnswer (ask : Prompt) (answer : List ℕ) : Type 0 where
-  pub short : length (chars answer) ≤ limit_of ask
+pub record IsAnswer (prompt : Prompt) (answer : List ℕ) : Type 0 where
+  pub short : length (chars answer) ≤ limit_of prompt
   pub narrow : All IsNarrow (chars answer)

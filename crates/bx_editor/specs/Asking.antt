@@ -58,13 +58,13 @@ longest_line = 16
 abbrev pub longest_code : ℕ
 longest_code = 6
 
--- `ask` is asked, with an empty answer
+-- `prompt` is asked, with an empty answer
 abbrev pub asking : Editor → Prompt → Editor
-asking e ask = record e { ask = ask; answer = [] }
+asking e prompt = record e { prompt = prompt; answer = [] }
 
 -- nothing is asked any more
-abbrev pub without_ask : Editor → Editor
-without_ask e = record e { ask = Off }
+abbrev pub without_prompt : Editor → Editor
+without_prompt e = record e { prompt = Off }
 
 abbrev pub with_answer : Editor → List ℕ → Editor
 with_answer e answer = record e { answer = answer }
@@ -84,7 +84,7 @@ gone_to d e (Some target) = with_place e (target_place d e target)
 
 -- the question for a line is answered
 abbrev pub after_going : Data → Editor → Editor
-after_going d e = gone_to d (without_ask e) (asked (chars e.answer))
+after_going d e = gone_to d (without_prompt e) (asked (chars e.answer))
 
 -- a character `c` is typed as part of the answer; LF goes to the line, but in a paste LF does nothing
 abbrev pub after_line_letter : Data → Typing → Editor → ℕ → Editor
@@ -111,9 +111,9 @@ after_named d e c (Some closer) = if is_empty (region e) then with_character d e
 -- a letter is typed as the answer to the question for a name, with the character that it names; where it names none it may ask for
 -- a code, LF ends the question, and any other does nothing
 abbrev pub after_name_letter : Data → Editor → ℕ → Option ℕ → Editor
-after_name_letter d e letter (Some c) = after_named d (without_ask e) c (closing letter)
+after_name_letter d e letter (Some c) = after_named d (without_prompt e) c (closing letter)
 after_name_letter d e letter None =
-    if asks_code letter then record e { ask = Code } else if letter == 0xA then without_ask e else e
+    if asks_code letter then record e { prompt = Code } else if letter == 0xA then without_prompt e else e
 
 -- ---- a character by code
 
@@ -126,7 +126,7 @@ after_code d e (Some c) = with_character d e c
 abbrev pub after_code_letter : Data → Editor → ℕ → Editor
 after_code_letter d e letter =
     if letter == 0xA
-    then after_code d (without_ask e) (coded e.answer)
+    then after_code d (without_prompt e) (coded e.answer)
     else if is_code_letter letter then with_answer e (lengthened longest_code e.answer letter) else e
 
 -- ---- any question
@@ -147,4 +147,4 @@ abbrev pub after_shorter_answer : Prompt → Editor → Editor
 after_shorter_answer Off e = e
 after_shorter_answer Line e = with_answer e (shortened e.answer)
 after_shorter_answer Name e = e
-after_shorter_answer Code e = if length e.answer == 0 then record e { ask = Name } else with_answer e (shortened e.answer)
+after_shorter_answer Code e = if length e.answer == 0 then record e { prompt = Name } else with_answer e (shortened e.answer)

@@ -5,7 +5,7 @@ use Rattle.bx_common.specs.declared.base.Base.{Base}
 use Rattle.bx_common.specs.declared.base.Base.TheVariants.{Auto, Ltr, Rtl}
 use Rattle.bx_common.specs.Characters.{largest_text}
 use Rattle.bx_editor.specs.declared.questions.answers.Prompt.{Prompt}
-use Rattle.bx_editor.specs.declared.questions.answers.Prompt.TheVariants as asks
+use Rattle.bx_editor.specs.declared.questions.answers.Prompt.TheVariants as prompts
 use Rattle.bx_keys.specs.declared.notice.Notice.{Notice}
 use Rattle.bx_store.specs.declared.store.StoreFault.{StoreFault}
 use Rattle.bx_text.specs.Edits.{Edited, Edit, opened, undone, redone}
@@ -16,11 +16,11 @@ use Rattle.bx_document.specs.declared.history.HistoryStep.{HistoryStep}
 use Rattle.bx_document.specs.History.{exchange, insertion, next_changes, removal, stepped_times}
 use Rattle.bx_document.specs.declared.history.HistoryStep.TheVariants.{Undo, Redo}
 use Rattle.bx_editor.specs.declared.search_state.SearchPurpose.{SearchPurpose}
-use Rattle.bx_editor.specs.declared.search_state.SearchPurpose.TheVariants as aims
+use Rattle.bx_editor.specs.declared.search_state.SearchPurpose.TheVariants as purposes
 use Rattle.bx_editor.specs.declared.message.Message.{Message}
 use Rattle.bx_editor.specs.declared.message.Message.TheVariants as messages
 use Rattle.bx_editor.specs.declared.search_state.SearchState.{SearchState}
-use Rattle.bx_editor.specs.declared.search_state.SearchState.TheVariants as seeks
+use Rattle.bx_editor.specs.declared.search_state.SearchState.TheVariants as search_states
 use Rattle.bx_editor.specs.declared.cursor.Soft.{Soft}
 use Rattle.bx_editor.specs.declared.cursor.Soft.TheVariants as softness
 use Rattle.bx_editor.specs.declared.opening.OpenError.{OpenError}
@@ -46,9 +46,9 @@ pub record Editor : Type 0 where
   -- the query of the search, or of the latest one: at most 64 characters, in UTF-8
   pub query : List ℕ
   -- how far the search is
-  pub seek : SearchState
+  pub search_state : SearchState
   -- what the search, or the latest one, is for
-  pub aim : SearchPurpose
+  pub purpose : SearchPurpose
   -- the place at which the latest search began
   pub origin : ℕ
   -- the text that replaces matches: at most 64 characters, in UTF-8
@@ -58,7 +58,7 @@ pub record Editor : Type 0 where
   -- how many matches were replaced since the replacement was asked for last
   pub count : ℕ
   -- what the user is asked, and the answer as far as it is typed, in UTF-8
-  pub ask : Prompt
+  pub prompt : Prompt
   pub answer : List ℕ
   -- what a paste has brought so far, in UTF-8; none while none is under way that goes into the text
   pub pasted : Option (List ℕ)
@@ -94,13 +94,13 @@ at_start text height width base = record {
   soft = softness.Off;
   held = [];
   query = [];
-  seek = seeks.Off;
-  aim = aims.Find;
+  search_state = search_states.Off;
+  purpose = purposes.Find;
   origin = 0;
   replacement = [];
   at = 0;
   count = 0;
-  ask = asks.Off;
+  prompt = prompts.Off;
   answer = [];
   pasted = None;
   undo_groups = [];
@@ -152,7 +152,7 @@ with_edit d e content offset goes_on =
       place = place_after d e content.text offset;
       mark = None;
       soft = softness.Off;
-      seek = seeks.Off;
+      search_state = search_states.Off;
       undo_groups = edited e.undo_groups n goes_on;
       stored = stored_behind n e.stored;
       changed = true;
@@ -174,7 +174,7 @@ with_exchange d e start stop new = with_edit d e (exchange (rows_of d e) e.conte
 
 -- the text after undoing or redoing, with the cursor at this place. `changed`: it counts as changed
 abbrev pub with_step : Editor → Edited → ℕ → Bool → Editor
-with_step e content place changed = record e { content = content; place = place; mark = None; soft = softness.Off; seek = seeks.Off; changed = changed }
+with_step e content place changed = record e { content = content; place = place; mark = None; soft = softness.Off; search_state = search_states.Off; changed = changed }
 
 -- the latest edit is undone, and the cursor returns to its place before it. One edit undone or redone counts as a change, even
 -- where it gives the stored text again
@@ -260,14 +260,14 @@ cleared e = record e { message = None; quit_before = false; typing = typings.Off
 -- ---- undo and redo by undo groups; `n` is a length of the past: its number of edits
 
 -- the length of the past to which an undo group is undone, or redone
-abbrev pub run_goal : HistoryStep → Editor → ℕ
-run_goal Undo e = run_start e.undo_groups (length e.content.past)
-run_goal Redo e = run_end e.undo_groups (length e.content.past) (length e.content.past + length e.content.future)
+abbrev pub group_goal : HistoryStep → Editor → ℕ
+group_goal Undo e = run_start e.undo_groups (length e.content.past)
+group_goal Redo e = run_end e.undo_groups (length e.content.past) (length e.content.past + length e.content.future)
 
 -- how many edits are undone, or redone, for that
-abbrev pub run_length : HistoryStep → Editor → ℕ
-run_length Undo e = length e.content.past - run_goal Undo e
-run_length Redo e = run_goal Redo e - length e.content.past
+abbrev pub group_length : HistoryStep → Editor → ℕ
+group_length Undo e = length e.content.past - group_goal Undo e
+group_length Redo e = group_goal Redo e - length e.content.past
 
 -- whether the text with a past of this length is not the one that was stored
 abbrev pub is_changed_at : ℕ → Option ℕ → Bool
@@ -275,15 +275,15 @@ is_changed_at n None = true
 is_changed_at n (Some stored) = not (n == stored)
 
 -- the text after the one change that these edits make; a message where there are none
-abbrev pub by_run : HistoryStep → Editor → Option Change → Editor
-by_run step e None = record e { message = Some (nothing_left step) }
-by_run step e (Some change) =
-    with_step e (stepped_times step (run_length step e) e.content) change.place (is_changed_at (run_goal step e) e.stored)
+abbrev pub by_group : HistoryStep → Editor → Option Change → Editor
+by_group step e None = record e { message = Some (nothing_left step) }
+by_group step e (Some change) =
+    with_step e (stepped_times step (group_length step e) e.content) change.place (is_changed_at (group_goal step e) e.stored)
 
 -- all edits since an undo group began are undone, or all up to the next undo group are redone; the text is changed unless it is the
 -- stored one
-abbrev pub after_run_step : HistoryStep → Editor → Editor
-after_run_step step e = by_run step e (next_changes step (run_length step e) e.content)
+abbrev pub after_group_step : HistoryStep → Editor → Editor
+after_group_step step e = by_group step e (next_changes step (group_length step e) e.content)
 
 -- ---- errors of opening a file
 

@@ -15,7 +15,7 @@ use Rattle.bx_editor.specs.declared.message.Message.{Message}
 use Rattle.bx_editor.specs.declared.message.Message.TheVariants.{Told}
 use Rattle.bx_editor.specs.Asking.{asking}
 use Rattle.bx_editor.specs.Editor.{Editor, after_help, after_quit, after_save, after_step, next_base, with_base, with_place, with_typing}
-use Rattle.bx_editor.specs.Editor.{after_run_step, rows, text_height}
+use Rattle.bx_editor.specs.Editor.{after_group_step, rows, text_height}
 use Rattle.bx_editor.specs.Erasing.{after_erasing, after_erasing_word}
 use Rattle.bx_editor.specs.Putting.{after_character, after_new_line, after_put}
 use Rattle.bx_editor.specs.Region.{after_copy, after_cut, after_mark, without_mark, after_select, unselected}
@@ -60,7 +60,7 @@ pub data Effect : Type 0 where
   RemovesWord : ℕ → ℕ → Effect
   -- one edit, or an undo group, is undone or redone
   Steps : HistoryStep → Effect
-  StepsRun : HistoryStep → Effect
+  StepsGroup : HistoryStep → Effect
   -- the cursor goes to a place, or by a number of rows in the kept column
   Goes : ℕ → Effect
   GoesByRows : Vertical → ℕ → Effect
@@ -104,7 +104,7 @@ by d fault was e Puts = after_put d e
 by d fault was e (Removes how start stop) = after_erasing d was.typing how e start stop
 by d fault was e (RemovesWord start stop) = after_erasing_word d e start stop
 by d fault was e (Steps step) = after_step step e
-by d fault was e (StepsRun step) = after_run_step step e
+by d fault was e (StepsGroup step) = after_group_step step e
 by d fault was e (Goes place) = with_place (unselected e) place
 by d fault was e (GoesByRows way n) = after_row_move d (unselected e) way n
 by d fault was e Marks = after_mark e
@@ -112,7 +112,7 @@ by d fault was e Selects = after_select e
 by d fault was e Unmarks = without_mark e
 by d fault was e Copies = after_copy d e
 by d fault was e Cuts = after_cut d e
-by d fault was e (Seeks aim) = after_beginning aim (unselected e)
+by d fault was e (Seeks purpose) = after_beginning purpose (unselected e)
 by d fault was e SeeksNext = after_find_next d (unselected e)
 by d fault was e Saves = after_save e fault
 by d fault was e Quits = after_quit e was.again

@@ -98,7 +98,7 @@ placed_in d e text (Some at) = Some (at, place_at (rows_of d e text) at)
 abbrev pub next_behind : Data → Editor → ℕ → List ℕ → Option (ℕ × ℕ)
 next_behind d e stop new =
     let text = splice e.content.text e.at stop new in
-    placed_in d e text (first_from d (reading e.aim) (sought d e) text (e.at + length new))
+    placed_in d e text (first_from d (reading e.purpose) (sought d e) text (e.at + length new))
 
 -- ---- pastes
 
@@ -109,7 +109,7 @@ as_before e new = record new {
   place = e.place;
   mark = e.mark;
   soft = e.soft;
-  seek = e.seek;
+  search_state = e.search_state;
   undo_groups = e.undo_groups;
   stored = e.stored;
   changed = e.changed;

@@ -16,14 +16,14 @@ use Rattle.bx_view.specs.declared.moves.Vertical.TheVariants as ways
 use Rattle.bx_view.specs.Moves.{step_logical, step_visual, vertical, page, row_home, row_end, word_towards}
 use Rattle.bx_view.specs.Words.{step_word}
 use Rattle.bx_ucd.specs.Data.{Data}
-use Rattle.bx_editor.specs.declared.search_state.SearchPurpose.TheVariants as aims
+use Rattle.bx_editor.specs.declared.search_state.SearchPurpose.TheVariants as purposes
 use Rattle.bx_editor.specs.declared.search_state.SearchState.{SearchState}
 use Rattle.bx_editor.specs.declared.search_state.SearchState.TheVariants.{Off, Begun, Typed, WithBegun, WithTyped, Replacing}
 use Rattle.bx_editor.specs.declared.questions.answers.Prompt.{Prompt}
-use Rattle.bx_editor.specs.declared.questions.answers.Prompt.TheVariants as asks
-use Rattle.bx_editor.specs.Asking.{after_answer_letter, after_shorter_answer, without_ask}
+use Rattle.bx_editor.specs.declared.questions.answers.Prompt.TheVariants as prompts
+use Rattle.bx_editor.specs.Asking.{after_answer_letter, after_shorter_answer, without_prompt}
 use Rattle.bx_editor.specs.Editor.{Editor, cleared, rows, text_height, with_notice, with_size, with_typing}
-use Rattle.bx_editor.specs.Effects.{Effect, Types, BeginsLine, Puts, Removes, RemovesWord, Steps, StepsRun, Goes, GoesByRows, Marks}
+use Rattle.bx_editor.specs.Effects.{Effect, Types, BeginsLine, Puts, Removes, RemovesWord, Steps, StepsGroup, Goes, GoesByRows, Marks}
 use Rattle.bx_editor.specs.Effects.{Selects, Unmarks, Copies, Cuts, Seeks, SeeksNext, Saves, Quits, Turns, Helps, AsksLine, AsksName}
 use Rattle.bx_editor.specs.Effects.{Tells, Rests, Before, before, by, goal_behind, pointed_place}
 use Rattle.bx_editor.specs.Erasing.{point_before}
@@ -65,17 +65,17 @@ effect_of d e PageOn = GoesByRows ways.Down (text_height e.height)
 effect_of d e (Point row column) = Goes (pointed_place d e row column)
 effect_of d e Undo = Steps steps.Undo
 effect_of d e Redo = Steps steps.Redo
-effect_of d e UndoRun = StepsRun steps.Undo
-effect_of d e RedoRun = StepsRun steps.Redo
+effect_of d e UndoRun = StepsGroup steps.Undo
+effect_of d e RedoRun = StepsGroup steps.Redo
 effect_of d e Mark = Marks
 effect_of d e Select = Selects
 effect_of d e Cancel = Unmarks
 effect_of d e Copy = Copies
 effect_of d e Cut = Cuts
 effect_of d e Put = Puts
-effect_of d e Find = Seeks aims.Find
-effect_of d e FindBack = Seeks aims.Find
-effect_of d e Replace = Seeks aims.Replace
+effect_of d e Find = Seeks purposes.Find
+effect_of d e FindBack = Seeks purposes.Find
+effect_of d e Replace = Seeks purposes.Replace
 effect_of d e FindNext = SeeksNext
 effect_of d e Save = Saves
 effect_of d e Quit = Quits
@@ -142,8 +142,8 @@ abbrev pub answered_replacement : Data → Option StoreFault → Before → Edit
 answered_replacement d fault was e key (Letter c) = with_typing (after_replacement_letter d was.typing e c) (only_paste was.typing)
 answered_replacement d fault was e key Shortens = after_shorter_replacement e
 answered_replacement d fault was e key GoesBack = after_giving_up e
-answered_replacement d fault was e key Next = by d fault was (without_search e) (Seeks aims.Find)
-answered_replacement d fault was e key Previous = by d fault was (without_search e) (Seeks aims.Find)
+answered_replacement d fault was e key Next = by d fault was (without_search e) (Seeks purposes.Find)
+answered_replacement d fault was e key Previous = by d fault was (without_search e) (Seeks purposes.Find)
 answered_replacement d fault was e key Replaces = after_showing d e
 answered_replacement d fault was e key Stays = with_typing e was.typing
 answered_replacement d fault was e key Ends = after_pressing d fault was (without_search e) key
@@ -156,7 +156,7 @@ answered_match d fault was e key (Letter c) = with_typing (after_match_letter d 
 answered_match d fault was e key Shortens = e
 answered_match d fault was e key GoesBack = after_ending e
 answered_match d fault was e key Next = after_passing_over d e
-answered_match d fault was e key Previous = by d fault was (without_search e) (Seeks aims.Find)
+answered_match d fault was e key Previous = by d fault was (without_search e) (Seeks purposes.Find)
 answered_match d fault was e key Replaces = after_replacing_all d e
 answered_match d fault was e key Stays = with_typing e was.typing
 answered_match d fault was e key Ends = after_pressing d fault was (without_search e) key
@@ -175,11 +175,11 @@ after_searching d fault was Replacing e key = answered_match d fault was e key (
 -- ---- in a question: a key answers it, or ends it and does what it always does
 
 abbrev pub answered_question : Data → Option StoreFault → Before → Editor → Key → Answer → Editor
-answered_question d fault was e key (Letter c) = after_answer_letter d was.typing e.ask e c
-answered_question d fault was e key Shortens = after_shorter_answer e.ask e
-answered_question d fault was e key GoesBack = without_ask e
+answered_question d fault was e key (Letter c) = after_answer_letter d was.typing e.prompt e c
+answered_question d fault was e key Shortens = after_shorter_answer e.prompt e
+answered_question d fault was e key GoesBack = without_prompt e
 answered_question d fault was e key Stays = with_typing e was.typing
-answered_question d fault was e key _ = after_pressing d fault was (without_ask e) key
+answered_question d fault was e key _ = after_pressing d fault was (without_prompt e) key
 
 abbrev pub after_asking : Data → Option StoreFault → Before → Editor → Key → Editor
 after_asking d fault was e key = answered_question d fault was e key (answer_of key)
@@ -188,7 +188,7 @@ after_asking d fault was e key = answered_question d fault was e key (answer_of 
 
 -- a question has the key before a search has
 abbrev pub after_any : Data → Option StoreFault → Before → Prompt → SearchState → Editor → Key → Editor
-after_any d fault was asks.Off seek e key = after_searching d fault was seek e key
+after_any d fault was prompts.Off search_state e key = after_searching d fault was search_state e key
 after_any d fault was _ _ e key = after_asking d fault was e key
 
 -- with the kept column and the selection that a key leaves
@@ -197,7 +197,7 @@ as_left key e = record e { goal = goal_behind key e.goal; soft = soft_behind key
 
 -- a key that the user presses where no paste is under way
 abbrev pub after_user : Data → Option StoreFault → Editor → Key → Editor
-after_user d fault e key = as_left key (after_any d fault (before e) e.ask e.seek (cleared e) key)
+after_user d fault e key = as_left key (after_any d fault (before e) e.prompt e.search_state (cleared e) key)
 
 -- ---- while a paste is under way: a character goes into it, and Repaint leaves it; any other key first ends it
 

@@ -20,22 +20,22 @@ BeganAt d text WithTyped origin = IsTextPlace d text origin
 BeganAt d text Replacing origin = IsTextPlace d text origin
 
 -- while the replacement is asked for, the query has letters, and no match was replaced
-pub record IsAsked (d : Data) (aim : SearchPurpose) (query : List ℕ) (count : ℕ) : Type 0 where
-  pub some : letters d (reading aim) (chars query) ≢ []
+pub record IsAsked (d : Data) (purpose : SearchPurpose) (query : List ℕ) (count : ℕ) : Type 0 where
+  pub some : letters d (reading purpose) (chars query) ≢ []
   pub none : count ≡ 0
 
 -- a match begins at the offset `at`, and the number of the replaced matches with that of the bytes from `at` on is at most the
 -- greatest length of a text, so that it can count all matches that follow
-pub record IsAtMatch (d : Data) (aim : SearchPurpose) (query text : List ℕ) (at count : ℕ) : Type 0 where
-  pub here : MatchesAt d (reading aim) (letters d (reading aim) (chars query)) text at
+pub record IsAtMatch (d : Data) (purpose : SearchPurpose) (query text : List ℕ) (at count : ℕ) : Type 0 where
+  pub here : MatchesAt d (reading purpose) (letters d (reading purpose) (chars query)) text at
   pub few : count + (length text - at) ≤ largest_text
 
 -- what holds, in each state, of the match's offset and the number of the replaced matches
 abbrev pub StandsAt : Data → SearchPurpose → List ℕ → List ℕ → SearchState → ℕ → ℕ → Type 0
-StandsAt d aim query text WithBegun at count = IsAsked d aim query count
-StandsAt d aim query text WithTyped at count = IsAsked d aim query count
-StandsAt d aim query text Replacing at count = IsAtMatch d aim query text at count
-StandsAt d aim query text _ at count = Unit {0}
+StandsAt d purpose query text WithBegun at count = IsAsked d purpose query count
+StandsAt d purpose query text WithTyped at count = IsAsked d purpose query count
+StandsAt d purpose query text Replacing at count = IsAtMatch d purpose query text at count
+StandsAt d purpose query text _ at count = Unit {0}
 
 -- the query is asked for
 abbrev pub is_queried : SearchState → Bool

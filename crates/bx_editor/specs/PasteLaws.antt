@@ -7,7 +7,7 @@ use Rattle.bx_store.specs.declared.store.StoreFault.{StoreFault}
 use Rattle.bx_text.specs.Edits.{inserted, splice}
 use Rattle.bx_text.specs.Changes.{exchanged}
 use Rattle.bx_ucd.specs.Data.{Data}
-use Rattle.bx_editor.specs.declared.questions.answers.Prompt.TheVariants as asks
+use Rattle.bx_editor.specs.declared.questions.answers.Prompt.TheVariants as prompts
 use Rattle.bx_editor.specs.declared.message.Message.TheVariants.{TextFull, TooLongForClipboard}
 use Rattle.bx_editor.specs.declared.search_state.SearchState.TheVariants.{Off}
 use Rattle.bx_editor.specs.Region.{clip_of, bytes_in, is_empty, largest_clip, region, taken, is_selection}
@@ -67,7 +67,7 @@ pub record IsPaste (d : Data) (e : Editor) (cs list : List ℕ) (new : Editor) :
 -- outside a search and a question a paste is one edit of all that it brings, or nothing where the text has no room for that
 abbrev pub PasteIsOneEdit : Type 0
 PasteIsOneEdit =
-    (d : Data) (e : Editor) (cs : List ℕ) → e.ask ≡ asks.Off → e.seek ≡ Off → e.pasted ≡ None
+    (d : Data) (e : Editor) (cs : List ℕ) → e.prompt ≡ prompts.Off → e.search_state ≡ Off → e.pasted ≡ None
     → IsPaste d e cs (brought d e.content.text [] cs) (after_paste d e cs)
 
 -- two editors have the same picture, from any row on
@@ -96,8 +96,8 @@ pub record SendsHeld (e : Editor) (part : ℕ × ℕ) (key : Key) (new : Editor)
 
 -- what Copy and Cut send where no paste is under way: Copy gives up a search or a question and then sends nothing
 pub record SendsCopies (d : Data) (e by_copy by_cut : Editor) : Type 0 where
-  pub copy : e.ask ≡ asks.Off → e.seek ≡ Off → SendsHeld e (taken d e) Copy by_copy
-  pub given_up : (e.ask ≢ asks.Off) ⊎ (e.seek ≢ Off) → SendsNothing e Copy by_copy
+  pub copy : e.prompt ≡ prompts.Off → e.search_state ≡ Off → SendsHeld e (taken d e) Copy by_copy
+  pub given_up : (e.prompt ≢ prompts.Off) ⊎ (e.search_state ≢ Off) → SendsNothing e Copy by_copy
   pub cut : SendsHeld e (taken d e) Cut by_cut
 
 -- with a clipboard Copy and Cut, which first end a paste, send what they take; nothing else is sent

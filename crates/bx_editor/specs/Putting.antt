@@ -13,10 +13,10 @@ use Rattle.bx_editor.specs.declared.message.Message.TheVariants.{NothingToPut, T
 use Rattle.bx_editor.specs.Editor.{Editor, with_insertion, with_removal, with_typing}
 use Rattle.bx_editor.specs.Region.{region, is_selection, aged}
 use Rattle.bx_editor.specs.declared.search_state.SearchState.{SearchState}
-use Rattle.bx_editor.specs.declared.search_state.SearchState.TheVariants as seeks
+use Rattle.bx_editor.specs.declared.search_state.SearchState.TheVariants as search_states
 use Rattle.bx_common.specs.Characters.{largest_text}
 use Rattle.bx_editor.specs.declared.questions.answers.Prompt.{Prompt}
-use Rattle.bx_editor.specs.declared.questions.answers.Prompt.TheVariants as asks
+use Rattle.bx_editor.specs.declared.questions.answers.Prompt.TheVariants as prompts
 
 -- ---- bytes put in
 
@@ -84,12 +84,12 @@ with_paste e = record e { pasted = Some []; message = Some Pasting }
 
 -- it begins unless something is asked or sought, or one is under way
 abbrev pub paste_begun : Prompt → SearchState → Option (List ℕ) → Editor → Editor
-paste_begun asks.Off seeks.Off None e = with_paste e
-paste_begun ask seek pasted e = e
+paste_begun prompts.Off search_states.Off None e = with_paste e
+paste_begun prompt search_state pasted e = e
 
 -- the effect of PasteStart
 abbrev pub after_paste_start : Editor → Editor
-after_paste_start e = with_typing (paste_begun e.ask e.seek e.pasted e) Paste
+after_paste_start e = with_typing (paste_begun e.prompt e.search_state e.pasted e) Paste
 
 -- ---- what it brings
 

@@ -22,13 +22,13 @@ use Rattle.bx_editor.specs.Search.{longest_query}
 
 -- where a match was found the replacement is asked for, and no match is replaced yet; else the query is asked for still
 abbrev pub asked_at : Option ℕ → Editor → Editor
-asked_at None e = record e { seek = Typed }
-asked_at (Some place) e = record e { seek = WithBegun; count = 0 }
+asked_at None e = record e { search_state = Typed }
+asked_at (Some place) e = record e { search_state = WithBegun; count = 0 }
 
 -- the query is sought from the place on, as a search for replacing; without letters nothing is sought
 abbrev pub after_asking_replacement : Data → Editor → Editor
 after_asking_replacement d e =
-    let aimed = record e { aim = Replace } in
+    let aimed = record e { purpose = Replace } in
     if length (sought d aimed) == 0
     then aimed
     else let landing = landing_from d aimed.place aimed in asked_at landing.place (landed aimed landing)
@@ -41,7 +41,7 @@ is_replacing Replace = true
 -- the search, and what a paste then brings goes into the text
 abbrev pub after_sought_end : Data → Typing → Editor → Editor
 after_sought_end d typing e =
-    if is_replacing e.aim
+    if is_replacing e.purpose
     then (if is_paste typing then e else after_asking_replacement d e)
     else if is_paste typing then with_paste (without_search e) else without_search e
 
@@ -53,16 +53,16 @@ after_sought_letter d typing e c = if c == 0xA then after_sought_end d typing e 
 
 -- the replacement was typed
 abbrev pub with_replacement : Editor → List ℕ → Editor
-with_replacement e other = record e { replacement = other; seek = WithTyped }
+with_replacement e other = record e { replacement = other; search_state = WithTyped }
 
 -- the first offset, at or after `x`, at which the query stands
 abbrev pub next_match : Data → Editor → ℕ → Option ℕ
-next_match d e x = first_from d (reading e.aim) (sought d e) e.content.text x
+next_match d e x = first_from d (reading e.purpose) (sought d e) e.content.text x
 
 -- the match at an offset is shown, if there is one
 abbrev pub shown_at : Editor → Option ℕ → Editor
 shown_at e None = e
-shown_at e (Some at) = record e { seek = Replacing; at = at }
+shown_at e (Some at) = record e { search_state = Replacing; at = at }
 
 -- the first match from the place on is shown: the search led to it
 abbrev pub after_showing : Data → Editor → Editor
@@ -70,7 +70,7 @@ after_showing d e = shown_at e (next_match d e e.place)
 
 -- a typed character is added to the replacement, unless it is no letter
 abbrev pub replacement_typed : Data → Editor → ℕ → Editor
-replacement_typed d e c = if is_no_letter d c then e else with_replacement e (lengthened longest_query (kept e.seek e.replacement) c)
+replacement_typed d e c = if is_no_letter d c then e else with_replacement e (lengthened longest_query (kept e.search_state e.replacement) c)
 
 -- a line end shows the match, but a pasted one does not
 abbrev pub after_replacement_letter : Data → Typing → Editor → ℕ → Editor
@@ -78,13 +78,13 @@ after_replacement_letter d typing e c = if c == 0xA then (if is_paste typing the
 
 -- the replacement loses its last character
 abbrev pub after_shorter_replacement : Editor → Editor
-after_shorter_replacement e = with_replacement e (shortened (kept e.seek e.replacement))
+after_shorter_replacement e = with_replacement e (shortened (kept e.search_state e.replacement))
 
 -- ---- the match that is shown
 
 -- the offset behind the match that is shown
 abbrev pub match_stop : Data → Editor → ℕ
-match_stop d e = match_end d (reading e.aim) (sought d e) e.content.text e.at
+match_stop d e = match_end d (reading e.purpose) (sought d e) e.content.text e.at
 
 -- the part of the text in the other rendition (negative, or normal where that is negative): the units of the match while it is
 -- shown, else the region
@@ -94,16 +94,16 @@ seen_in d e _ = region e
 
 -- this part as the editor's search stands
 abbrev pub seen : Data → Editor → ℕ × ℕ
-seen d e = seen_in d e e.seek
+seen d e = seen_in d e e.search_state
 
 -- replacing ends where the cursor is, and the number of the replaced matches is told
 abbrev pub after_ending : Editor → Editor
-after_ending e = record e { seek = Off; message = Some (Replaced e.count) }
+after_ending e = record e { search_state = Off; message = Some (Replaced e.count) }
 
 -- the match at an offset is shown, with the cursor at its place; if there is none, replacing ends
 abbrev pub at_match : Data → Editor → Option ℕ → Editor
 at_match d e None = after_ending e
-at_match d e (Some at) = record e { seek = Replacing; at = at; place = place_at (rows d e) at }
+at_match d e (Some at) = record e { search_state = Replacing; at = at; place = place_at (rows d e) at }
 
 -- on to the first match from the offset `z` on; if there is none, replacing ends
 abbrev pub on_from : Data → ℕ → Editor → Editor
@@ -134,7 +134,7 @@ after_passing_over d e = on_from d (behind_character e.content.text e.at) e
 
 -- the match and those that follow it, each with its end; none lies in another
 abbrev pub matches_on : Data → Editor → List (ℕ × ℕ)
-matches_on d e = spans_from d (reading e.aim) (sought d e) e.content.text e.at
+matches_on d e = spans_from d (reading e.purpose) (sought d e) e.content.text e.at
 
 -- the text from the match to the end of the last one gives way to the same text with the other one in place of each
 abbrev pub after_replacing_all : Data → Editor → Editor

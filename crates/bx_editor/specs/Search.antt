@@ -12,7 +12,7 @@ use Rattle.bx_find.specs.Matches.{first_from, last_before}
 use Rattle.bx_view.specs.Moves.{place_at}
 use Rattle.bx_view.specs.TextRows.{TextRow, places}
 use Rattle.bx_editor.specs.declared.search_state.SearchPurpose.{SearchPurpose}
-use Rattle.bx_editor.specs.declared.search_state.SearchPurpose.TheVariants as aims
+use Rattle.bx_editor.specs.declared.search_state.SearchPurpose.TheVariants as purposes
 use Rattle.bx_editor.specs.declared.matches.Landing.{Landing}
 use Rattle.bx_editor.specs.declared.message.Message.{Message}
 use Rattle.bx_editor.specs.declared.message.Message.TheVariants.{FromStart, FromEnd, NotFound}
@@ -24,12 +24,12 @@ use Rattle.bx_editor.specs.Editor.{Editor, rows, with_place}
 
 -- letters are read widely to be found, and closely to be replaced
 abbrev pub reading : SearchPurpose → Reading
-reading aims.Find = Wide
-reading aims.Replace = Close
+reading purposes.Find = Wide
+reading purposes.Replace = Close
 
 -- the query's letters
 abbrev pub sought : Data → Editor → List ℕ
-sought d e = letters d (reading e.aim) (chars e.query)
+sought d e = letters d (reading e.purpose) (chars e.query)
 
 -- the query, or the replacement, that a key lengthens or shortens: empty if it was just asked for, so that typing replaces the
 -- latest one
@@ -79,7 +79,7 @@ landed e landing = record e { place = unwrap_or landing.place e.place; message =
 
 -- where the query leads, sought forward from `x`
 abbrev pub landing_from : Data → ℕ → Editor → Landing
-landing_from d x e = forward d (reading e.aim) (rows d e) e.content.text x (sought d e)
+landing_from d x e = forward d (reading e.purpose) (rows d e) e.content.text x (sought d e)
 
 -- the query is sought forward from `x`, and the cursor goes where that leads
 abbrev pub search_from : Data → ℕ → Editor → Editor
@@ -87,34 +87,34 @@ search_from d x e = landed e (landing_from d x e)
 
 -- the query is sought backward from the place
 abbrev pub search_back : Data → Editor → Editor
-search_back d e = landed e (backward d (reading e.aim) (rows d e) e.content.text e.place (sought d e))
+search_back d e = landed e (backward d (reading e.purpose) (rows d e) e.content.text e.place (sought d e))
 
 -- ---- the keys, once the message is cleared
 
 -- a search begins at the place, with the query of the latest one
 abbrev pub after_beginning : SearchPurpose → Editor → Editor
-after_beginning aim e = record e { seek = Begun; origin = e.place; aim = aim }
+after_beginning purpose e = record e { search_state = Begun; origin = e.place; purpose = purpose }
 
 -- the search ends, and the cursor stays
 abbrev pub without_search : Editor → Editor
-without_search e = record e { seek = Off }
+without_search e = record e { search_state = Off }
 
 -- the search ends, and the cursor returns to where it began
 abbrev pub after_giving_up : Editor → Editor
-after_giving_up e = record e { seek = Off; place = e.origin }
+after_giving_up e = record e { search_state = Off; place = e.origin }
 
 -- the query was typed
 abbrev pub with_query : Editor → List ℕ → Editor
-with_query e query = record e { query = query; seek = Typed }
+with_query e query = record e { query = query; search_state = Typed }
 
 -- a typed character other than a line feed is added to the query, which is sought from the place on
 abbrev pub after_letter : Data → Editor → ℕ → Editor
 after_letter d e c =
-    if is_no_letter d c then e else search_from d e.place (with_query e (lengthened longest_query (kept e.seek e.query) c))
+    if is_no_letter d c then e else search_from d e.place (with_query e (lengthened longest_query (kept e.search_state e.query) c))
 
 -- the query loses its last character, and is sought from where the search began
 abbrev pub after_shortening : Data → Editor → Editor
-after_shortening d e = search_from d e.origin (with_place (with_query e (shortened (kept e.seek e.query))) e.origin)
+after_shortening d e = search_from d e.origin (with_place (with_query e (shortened (kept e.search_state e.query))) e.origin)
 
 -- the next place, or the text's start where there is none
 abbrev pub next_or_start : Data → Editor → ℕ
@@ -122,13 +122,13 @@ next_or_start d e = unwrap_or (find (nat_lt e.place) (places (rows d e))) 0
 
 -- to the next match
 abbrev pub after_find : Data → Editor → Editor
-after_find d e = search_from d (next_or_start d e) (record e { seek = Typed })
+after_find d e = search_from d (next_or_start d e) (record e { search_state = Typed })
 
 -- FindNext: to the next match, and no search is on; if the query has no letters, a search begins
 abbrev pub after_find_next : Data → Editor → Editor
 after_find_next d e =
-    if length (sought d e) == 0 then after_beginning aims.Find e else search_from d (next_or_start d e) (record e { seek = Off; aim = aims.Find })
+    if length (sought d e) == 0 then after_beginning purposes.Find e else search_from d (next_or_start d e) (record e { search_state = Off; purpose = purposes.Find })
 
 -- to the previous match
 abbrev pub after_find_back : Data → Editor → Editor
-after_find_back d e = search_back d (record e { seek = Typed })
+after_find_back d e = search_back d (record e { search_state = Typed })

@@ -25,7 +25,7 @@ use Rattle.bx_editor.specs.declared.search_state.SearchState.{SearchState}
 use Rattle.bx_editor.specs.declared.search_state.SearchState.TheVariants.{Off, Begun, Typed, WithBegun, WithTyped, Replacing}
 use Rattle.bx_ucd.specs.Data.{Data}
 use Rattle.bx_editor.specs.declared.questions.answers.Prompt.{Prompt}
-use Rattle.bx_editor.specs.declared.questions.answers.Prompt.TheVariants as asks
+use Rattle.bx_editor.specs.declared.questions.answers.Prompt.TheVariants as prompts
 use Rattle.bx_editor.specs.questions.Told.{told_text}
 use Rattle.bx_editor.specs.Editor.{Editor, rows}
 
@@ -112,12 +112,12 @@ query_prompt Find = codes " find: "
 query_prompt Replace = codes " replace: "
 
 abbrev pub search_prompt : SearchPurpose → SearchState → List ℕ
-search_prompt aim Off = []
-search_prompt aim Begun = query_prompt aim
-search_prompt aim Typed = query_prompt aim
-search_prompt aim WithBegun = codes " with: "
-search_prompt aim WithTyped = codes " with: "
-search_prompt aim Replacing = codes " Enter replace ^W next F4 all ^C end"
+search_prompt purpose Off = []
+search_prompt purpose Begun = query_prompt purpose
+search_prompt purpose Typed = query_prompt purpose
+search_prompt purpose WithBegun = codes " with: "
+search_prompt purpose WithTyped = codes " with: "
+search_prompt purpose Replacing = codes " Enter replace ^W next F4 all ^C end"
 
 -- behind a search's prompt the query or the replacement
 abbrev pub search_glyphs : Data → List ℕ → List ℕ → SearchState → List Glyph
@@ -129,19 +129,19 @@ search_glyphs d query other _ = []
 
 -- the prompt of a question
 abbrev pub prompt_text : Prompt → List ℕ
-prompt_text asks.Off = []
-prompt_text asks.Line = codes " line: "
-prompt_text asks.Name = codes " insert: "
-prompt_text asks.Code = codes " insert: U+"
+prompt_text prompts.Off = []
+prompt_text prompts.Line = codes " line: "
+prompt_text prompts.Name = codes " insert: "
+prompt_text prompts.Code = codes " insert: U+"
 
 -- a question has its prompt and the answer as it was typed; without a question the search has its prompt and its text
 abbrev pub prompt_glyphs : Data → Editor → Prompt → List Glyph
-prompt_glyphs d e asks.Off = letter_glyphs (search_prompt e.aim e.seek) ++ search_glyphs d e.query e.replacement e.seek
-prompt_glyphs d e ask = letter_glyphs (prompt_text ask) ++ typed_glyphs e.answer
+prompt_glyphs d e prompts.Off = letter_glyphs (search_prompt e.purpose e.search_state) ++ search_glyphs d e.query e.replacement e.search_state
+prompt_glyphs d e prompt = letter_glyphs (prompt_text prompt) ++ typed_glyphs e.answer
 
 -- the glyphs of an editor's status row from left to right
 abbrev pub status_glyphs : Data → Editor → List Glyph
-status_glyphs d e = letter_glyphs (status_text d e) ++ prompt_glyphs d e e.ask
+status_glyphs d e = letter_glyphs (status_text d e) ++ prompt_glyphs d e e.prompt
 
 -- the columns of the status row, which only a window of at least two rows has
 abbrev pub status_columns : Data → Editor → List Col

@@ -6,7 +6,7 @@ ghost use Rattle.bx_editor.specs.questions.Names.{closing, coded, named};
 ghost use Rattle.bx_document.specs.Narrow.{IsNarrow};
 ghost use Rattle.bx_editor.specs.Answers.{limit_of};
 ghost use Rattle.bx_editor.specs.Asking.{after_answer_letter, after_code, after_code_letter, after_going, after_line_letter, after_name_letter};
-ghost use Rattle.bx_editor.specs.Asking.{after_named, after_shorter_answer, asking, target_place, with_answer, with_character, without_ask};
+ghost use Rattle.bx_editor.specs.Asking.{after_named, after_shorter_answer, asking, target_place, with_answer, with_character, without_prompt};
 ghost use Rattle.bx_editor.specs.Editor.{cleared, with_typing};
 ghost use Rattle.bx_editor.specs.Putting.{only_paste};
 
@@ -23,10 +23,10 @@ use bx_ucd::BidiData;
 
 /// The most characters of the answer to a question: `longest_line` and `longest_code` of specs/Asking.antt, where their reasons
 /// are. A name has none, since its one letter answers; without a question the answer is the latest one.
-fn limit_of(ask: Prompt) -> usize
-    ensures { result ≡ limit_of ask }
+fn limit_of(prompt: Prompt) -> usize
+    ensures { result ≡ limit_of prompt }
 {
-    match ask {
+    match prompt {
         Prompt::Off | Prompt::Line => 16,
         Prompt::Name => 0,
         Prompt::Code => 6,
@@ -35,30 +35,30 @@ fn limit_of(ask: Prompt) -> usize
 
 impl<D: BidiData + Drop> Editor<D> {
     /// Asks, with an empty answer. Allocates nothing.
-    pub(crate) fn begin_question(&mut self, ask: Prompt)
-        ensures { self.new ≡ record self.old { editor = asking (cleared self.old.editor) ask } }
+    pub(crate) fn begin_question(&mut self, prompt: Prompt)
+        ensures { self.new ≡ record self.old { editor = asking (cleared self.old.editor) prompt } }
     {
-        self.ask = ask;
+        self.prompt = prompt;
         self.answer = String::new(*self.answer.allocator());
         self.reset_after_key();
     }
 
     /// Ends the question, if there is one. Allocates nothing.
     pub(crate) fn leave_question(&mut self)
-        ensures { self.new ≡ record self.old { editor = without_ask self.old.editor } }
+        ensures { self.new ≡ record self.old { editor = without_prompt self.old.editor } }
     {
-        self.ask = Prompt::Off;
+        self.prompt = Prompt::Off;
     }
 
     /// Appends a character to the answer, unless it has as many as it may.
     fn lengthen(&mut self, c: char) -> Result<(), OutOfMemory>
         requires narrow { IsNarrow c }
         ensures ok { OnOk result (self.new ≡ record self.old {
-          editor = with_answer (cleared self.old.editor) (lengthened (limit_of self.old.editor.ask) self.old.editor.answer c);
+          editor = with_answer (cleared self.old.editor) (lengthened (limit_of self.old.editor.prompt) self.old.editor.answer c);
         }) }
         ensures err { OnErr result (self.new ≡ self.old) }
     {
-        let limit = limit_of(self.ask);
+        let limit = limit_of(self.prompt);
         let answer = lengthened(*self.answer.allocator(), self.answer.as_str(), c, limit)?;
         self.answer = answer;
         self.reset_after_key();
@@ -94,7 +94,7 @@ impl<D: BidiData + Drop> Editor<D> {
 
     /// Takes a character of the answer to the question for a line; a paste's line end answers nothing.
     fn answer_line(&mut self, c: char) -> Result<(), OutOfMemory>
-        requires ask { self.old.editor.ask ≡ Prompt.Line }
+        requires prompt { self.old.editor.prompt ≡ Prompt.Line }
         ensures ok { OnOk result (self.new ≡ record self.old {
           editor = with_typing (after_line_letter (D.data self.old.tables) self.old.editor.typing (cleared self.old.editor) c)
               (only_paste self.old.editor.typing);
@@ -150,7 +150,7 @@ impl<D: BidiData + Drop> Editor<D> {
 
     /// Takes a letter that names a character.
     fn answer_name(&mut self, letter: char) -> Result<(), OutOfMemory>
-        requires ask { self.old.editor.ask ≡ Prompt.Name }
+        requires prompt { self.old.editor.prompt ≡ Prompt.Name }
         ensures ok { OnOk result (self.new ≡ record self.old {
           editor = after_name_letter (D.data self.old.tables) (cleared self.old.editor) letter (named letter);
         }) }
@@ -163,7 +163,7 @@ impl<D: BidiData + Drop> Editor<D> {
         }
         self.reset_after_key();
         if asks_code(letter) {
-            self.ask = Prompt::Code;
+            self.prompt = Prompt::Code;
         } else if letter == '\n' {
             self.leave_question();
         }
@@ -188,7 +188,7 @@ impl<D: BidiData + Drop> Editor<D> {
 
     /// Takes a digit of a code, or LF, which ends it.
     fn answer_code(&mut self, letter: char) -> Result<(), OutOfMemory>
-        requires ask { self.old.editor.ask ≡ Prompt.Code }
+        requires prompt { self.old.editor.prompt ≡ Prompt.Code }
         ensures ok { OnOk result (self.new ≡ record self.old {
           editor = after_code_letter (D.data self.old.tables) (cleared self.old.editor) letter;
         }) }
@@ -209,11 +209,11 @@ impl<D: BidiData + Drop> Editor<D> {
     /// Takes a typed character as part of the answer. What is pasted answers no question for a character.
     pub(crate) fn answer_question(&mut self, c: char) -> Result<(), OutOfMemory>
         ensures ok { OnOk result (self.new ≡ record self.old {
-          editor = after_answer_letter (D.data self.old.tables) self.old.editor.typing self.old.editor.ask (cleared self.old.editor) c;
+          editor = after_answer_letter (D.data self.old.tables) self.old.editor.typing self.old.editor.prompt (cleared self.old.editor) c;
         }) }
         ensures err { OnErr result (self.new ≡ self.old) }
     {
-        match self.ask {
+        match self.prompt {
             Prompt::Off => {
                 self.reset_after_key();
                 Ok(())
@@ -231,13 +231,13 @@ impl<D: BidiData + Drop> Editor<D> {
     /// Removes the answer's last character; an empty code becomes the question for a name again.
     pub(crate) fn shorten_answer(&mut self) -> Result<(), OutOfMemory>
         ensures ok { OnOk result (self.new ≡ record self.old {
-          editor = after_shorter_answer self.old.editor.ask (cleared self.old.editor);
+          editor = after_shorter_answer self.old.editor.prompt (cleared self.old.editor);
         }) }
         ensures err { OnErr result (self.new ≡ self.old) }
     {
-        match self.ask {
+        match self.prompt {
             Prompt::Off | Prompt::Name => {}
-            Prompt::Code if self.answer.is_empty() => self.ask = Prompt::Name,
+            Prompt::Code if self.answer.is_empty() => self.prompt = Prompt::Name,
             Prompt::Line | Prompt::Code => {
                 let answer = shortened(*self.answer.allocator(), self.answer.as_str())?;
                 self.answer = answer;

@@ -20,19 +20,19 @@ pub(crate) struct Cursor {
     pub(crate) place: usize,
     pub(crate) mark: Option<usize>,
     pub(crate) soft: Soft,
-    pub(crate) seek: SearchState,
+    pub(crate) search_state: SearchState,
 }
 
 impl Cursor {
     /// Goes to the place behind an edit, which removes the mark and ends the search.
     pub(crate) fn move_after_edit(&mut self, place: usize)
-        ensures { self.new ≡ record { place = place; mark = None; soft = Soft.Off; seek = SearchState.Off } }
+        ensures { self.new ≡ record { place = place; mark = None; soft = Soft.Off; search_state = SearchState.Off } }
     {
         *self = Cursor {
             place,
             mark: None,
             soft: Soft::Off,
-            seek: SearchState::Off,
+            search_state: SearchState::Off,
         };
     }
 }

@@ -30,12 +30,12 @@ pub struct Editor<D: BidiData + Drop> {
     pub(crate) past: Past,
     pub(crate) held: String,
     pub(crate) query: String,
-    pub(crate) aim: SearchPurpose,
+    pub(crate) purpose: SearchPurpose,
     pub(crate) origin: usize,
     pub(crate) replacement: String,
     pub(crate) at: usize,
     pub(crate) count: usize,
-    pub(crate) ask: Prompt,
+    pub(crate) prompt: Prompt,
     pub(crate) answer: String,
     pub(crate) pasted: Option<String>,
     pub(crate) typing: Typing,
@@ -67,13 +67,13 @@ impl<D: BidiData + Drop> Model for Editor<D> {
         soft = e.cursor.soft;
         held = string_bytes e.held;
         query = string_bytes e.query;
-        seek = e.cursor.seek;
-        aim = e.aim;
+        search_state = e.cursor.search_state;
+        purpose = e.purpose;
         origin = e.origin;
         replacement = string_bytes e.replacement;
         at = e.at;
         count = e.count;
-        ask = e.ask;
+        prompt = e.prompt;
         answer = string_bytes e.answer;
         pasted = option_map string_bytes e.pasted;
         undo_groups = e.past.undo_groups.numbers;
@@ -97,9 +97,9 @@ impl<D: BidiData + Drop> Model for Editor<D> {
         × IfSome e.cursor.mark (IsTextPlace (D.data e.document.tables) e.document.document.content.text)
         × (length (chars (string_bytes e.query)) ≤ 64)
         × (length (chars (string_bytes e.replacement)) ≤ 64)
-        × IsAnswer e.ask (string_bytes e.answer)
-        × BeganAt (D.data e.document.tables) e.document.document.content.text e.cursor.seek e.origin
-        × StandsAt (D.data e.document.tables) e.aim (string_bytes e.query) e.document.document.content.text e.cursor.seek e.at e.count };
+        × IsAnswer e.prompt (string_bytes e.answer)
+        × BeganAt (D.data e.document.tables) e.document.document.content.text e.cursor.search_state e.origin
+        × StandsAt (D.data e.document.tables) e.purpose (string_bytes e.query) e.document.document.content.text e.cursor.search_state e.at e.count };
 }
 
 impl<D: BidiData + Drop> Editor<D> {
@@ -171,24 +171,24 @@ impl<D: BidiData + Drop> Editor<D> {
     }
 
     /// How far the search is. Allocates nothing.
-    pub fn seek(&self) -> SearchState
-        ensures { result ≡ self.now.editor.seek }
+    pub fn search_state(&self) -> SearchState
+        ensures { result ≡ self.now.editor.search_state }
     {
-        self.cursor.seek
+        self.cursor.search_state
     }
 
     /// What the search, or the latest one, is for. Allocates nothing.
-    pub fn aim(&self) -> SearchPurpose
-        ensures { result ≡ self.now.editor.aim }
+    pub fn purpose(&self) -> SearchPurpose
+        ensures { result ≡ self.now.editor.purpose }
     {
-        self.aim
+        self.purpose
     }
 
     /// What the user is asked. Allocates nothing.
-    pub fn ask(&self) -> Prompt
-        ensures { result ≡ self.now.editor.ask }
+    pub fn prompt(&self) -> Prompt
+        ensures { result ≡ self.now.editor.prompt }
     {
-        self.ask
+        self.prompt
     }
 
     /// The answer to the question, or to the latest one. Allocates nothing.
@@ -232,6 +232,6 @@ impl<D: BidiData + Drop> Editor<D> {
     pub(crate) fn leave_search(&mut self)
         ensures { self.new ≡ record self.old { editor = without_search self.old.editor } }
     {
-        self.cursor.seek = SearchState::Off;
+        self.cursor.search_state = SearchState::Off;
     }
 }

@@ -1,6 +1,6 @@
 //! The effect of each key.
 ghost use Rattle.std.specs.Prelude.{◌≡◌, Some, true, OnErr, OnOk};
-ghost use Rattle.bx_editor.specs.Asking.{without_ask};
+ghost use Rattle.bx_editor.specs.Asking.{without_prompt};
 ghost use Rattle.bx_editor.specs.Editor.{after_help, after_quit, after_save, cleared, next_base, with_base, with_typing};
 ghost use Rattle.bx_editor.specs.Effects.{before};
 ghost use Rattle.bx_editor.specs.Keys.{after_any, after_asking, after_key, after_pressing, after_user, is_edit_or_move, may_refuse};
@@ -173,12 +173,12 @@ impl<D: BidiData + Drop> Editor<D> {
     /// Applies a key that the user presses: in a question, in a search, or outside both.
     fn press_any(&mut self, key: Key, fault: Option<StoreFault>) -> Result<(), OutOfMemory>
         ensures ok { OnOk result (self.new.editor
-            ≡ after_any (D.data self.old.tables) fault (before self.old.editor) self.old.editor.ask self.old.editor.seek (cleared self.old.editor) key) }
+            ≡ after_any (D.data self.old.tables) fault (before self.old.editor) self.old.editor.prompt self.old.editor.search_state (cleared self.old.editor) key) }
         ensures tables { self.new.tables ≡ self.old.tables }
         ensures err { OnErr result (self.new ≡ self.old) }
         ensures edits { OnErr result (is_edit_or_move key ≡ true) }
     {
-        match (self.ask, self.cursor.seek) {
+        match (self.prompt, self.cursor.search_state) {
             (Prompt::Line | Prompt::Name | Prompt::Code, _) => self.press_in_question(key, fault),
             (_, SearchState::Off) => self.press(key, fault),
             (_, SearchState::Begun | SearchState::Typed) => self.press_in_search(key, fault),
@@ -217,8 +217,8 @@ impl<D: BidiData + Drop> Editor<D> {
             Key::FindNext => self.go_to_next()?,
             Key::Undo => self.step(HistoryStep::Undo)?,
             Key::Redo => self.step(HistoryStep::Redo)?,
-            Key::UndoRun => self.step_run(HistoryStep::Undo)?,
-            Key::RedoRun => self.step_run(HistoryStep::Redo)?,
+            Key::UndoRun => self.step_group(HistoryStep::Undo)?,
+            Key::RedoRun => self.step_group(HistoryStep::Redo)?,
             Key::Copy => self.copy()?,
             Key::Cut => self.cut()?,
             Key::Put => self.put()?,
@@ -271,17 +271,17 @@ impl<D: BidiData + Drop> Editor<D> {
         fault: Option<StoreFault>,
     ) -> Result<(), OutOfMemory>
         ensures ok { OnOk result (self.new.editor
-            ≡ after_pressing (D.data self.old.tables) fault (before self.old.editor) (without_ask (cleared self.old.editor)) key) }
+            ≡ after_pressing (D.data self.old.tables) fault (before self.old.editor) (without_prompt (cleared self.old.editor)) key) }
         ensures tables { self.new.tables ≡ self.old.tables }
         ensures err { OnErr result (self.new ≡ self.old) }
         ensures edits { OnErr result (is_edit_or_move key ≡ true) }
     {
-        let ask = self.ask;
+        let prompt = self.prompt;
         self.leave_question();
         match self.press(key, fault) {
             Ok(()) => Ok(()),
             Err(refused) => {
-                self.ask = ask;
+                self.prompt = prompt;
                 Err(refused)
             }
         }

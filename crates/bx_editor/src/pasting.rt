@@ -97,9 +97,9 @@ impl<D: BidiData + Drop> Editor<D> {
 
     /// Begins a paste into the text, unless something is asked or sought, or one is under way. Allocates nothing.
     fn begin_if_free(&mut self)
-        ensures { self.new ≡ record self.old { editor = paste_begun self.old.editor.ask self.old.editor.seek self.old.editor.pasted self.old.editor } }
+        ensures { self.new ≡ record self.old { editor = paste_begun self.old.editor.prompt self.old.editor.search_state self.old.editor.pasted self.old.editor } }
     {
-        match (self.ask, self.cursor.seek, &self.pasted) {
+        match (self.prompt, self.cursor.search_state, &self.pasted) {
             (Prompt::Off, SearchState::Off, None) => self.begin_paste(),
             _ => {}
         }

@@ -10,22 +10,22 @@ use bx_find::Reading;
 pub(crate) const LONGEST_QUERY: usize = 64;
 
 /// How letters are read: widely to be found, closely to be replaced.
-pub(crate) fn reading_of(aim: SearchPurpose) -> Reading
-    ensures { result ≡ reading aim }
+pub(crate) fn reading_of(purpose: SearchPurpose) -> Reading
+    ensures { result ≡ reading purpose }
 {
-    match aim {
+    match purpose {
         SearchPurpose::Find => Reading::Wide,
         SearchPurpose::Replace => Reading::Close,
     }
 }
 
 /// The text that a key lengthens or shortens: empty if it was just asked for, so that typing replaces the latest one.
-pub(crate) fn kept(seek: SearchState, text: &str) -> &str
+pub(crate) fn kept(search_state: SearchState, text: &str) -> &str
     requires few { length (chars text.now) ≤ 64 }
-    ensures kept { result.now ≡ kept seek text.now }
+    ensures kept { result.now ≡ kept search_state text.now }
     ensures few { length (chars result.now) ≤ 64 }
 {
-    match seek {
+    match search_state {
         SearchState::Begun | SearchState::WithBegun => "",
         SearchState::Off | SearchState::Typed | SearchState::WithTyped | SearchState::Replacing =>
             text,

@@ -20,17 +20,17 @@ impl<D: BidiData + Drop> Editor<D> {
     pub(crate) fn sought(&self) -> Option<Query>
         ensures letters { IfSome result (λ q. q ≡ sought (D.data self.now.tables) self.now.editor) }
         ensures none { IsNone result ↔ (sought (D.data self.now.tables) self.now.editor ≡ []) }
-        ensures some { self.now.editor.seek ≡ SearchState.Replacing → IsSome result }
+        ensures some { self.now.editor.search_state ≡ SearchState.Replacing → IsSome result }
         ensures utf8 { IsUtf8 self.now.editor.content.text }
     {
         self.document
-            .query(reading_of(self.aim), self.query.as_str())
+            .query(reading_of(self.purpose), self.query.as_str())
     }
 
     /// Makes the search one for replacing, which seeks the query from the place on; at a match it asks for the replacement.
     pub(crate) fn ask_replacement(&mut self) -> Result<(), OutOfMemory>
         requires origin { IsTextPlace (D.data self.old.tables) self.old.editor.content.text self.old.editor.origin }
-        requires queried { is_queried self.old.editor.seek ≡ true }
+        requires queried { is_queried self.old.editor.search_state ≡ true }
         ensures ok { OnOk result (self.new ≡ record self.old {
           editor = after_asking_replacement (D.data self.old.tables) (cleared self.old.editor);
         }) }
@@ -38,19 +38,19 @@ impl<D: BidiData + Drop> Editor<D> {
     {
         let query = self.query.as_str();
         if !has_letters(&self.document, Reading::Close, query) {
-            self.aim = SearchPurpose::Replace;
+            self.purpose = SearchPurpose::Replace;
             self.reset_after_key();
             return Ok(());
         }
         let landing = forward(&mut self.document, Reading::Close, query, self.cursor.place)?;
-        self.aim = SearchPurpose::Replace;
+        self.purpose = SearchPurpose::Replace;
         self.settle_at(landing);
         match landing.place {
             Some(_) => {
-                self.cursor.seek = SearchState::WithBegun;
+                self.cursor.search_state = SearchState::WithBegun;
                 self.count = 0;
             }
-            None => self.cursor.seek = SearchState::Typed,
+            None => self.cursor.search_state = SearchState::Typed,
         }
         Ok(())
     }
@@ -58,17 +58,17 @@ impl<D: BidiData + Drop> Editor<D> {
     /// Appends a character other than a line feed to the replacement. A tab or another character that separates paragraphs only
     /// clears the message.
     pub(crate) fn type_replacement(&mut self, c: char) -> Result<(), OutOfMemory>
-        requires asked { asks_replacement self.old.editor.seek ≡ true }
+        requires asked { asks_replacement self.old.editor.search_state ≡ true }
         ensures ok { OnOk result (self.new ≡ record self.old {
           editor = replacement_typed (D.data self.old.tables) (cleared self.old.editor) c;
         }) }
         ensures err { OnErr result (self.new ≡ self.old) }
     {
         if c != '\t' && !self.document.separates(c) {
-            let kept = kept(self.cursor.seek, self.replacement.as_str());
+            let kept = kept(self.cursor.search_state, self.replacement.as_str());
             let replacement = lengthened(*self.replacement.allocator(), kept, c, LONGEST_QUERY)?;
             self.replacement = replacement;
-            self.cursor.seek = SearchState::WithTyped;
+            self.cursor.search_state = SearchState::WithTyped;
         }
         self.reset_after_key();
         Ok(())
@@ -76,31 +76,31 @@ impl<D: BidiData + Drop> Editor<D> {
 
     /// Removes the replacement's last character.
     pub(crate) fn shorten_replacement(&mut self) -> Result<(), OutOfMemory>
-        requires asked { asks_replacement self.old.editor.seek ≡ true }
+        requires asked { asks_replacement self.old.editor.search_state ≡ true }
         ensures ok { OnOk result (self.new ≡ record self.old { editor = after_shorter_replacement (cleared self.old.editor) }) }
         ensures err { OnErr result (self.new ≡ self.old) }
     {
-        let kept = kept(self.cursor.seek, self.replacement.as_str());
+        let kept = kept(self.cursor.search_state, self.replacement.as_str());
         let replacement = shortened(*self.replacement.allocator(), kept)?;
         self.replacement = replacement;
-        self.cursor.seek = SearchState::WithTyped;
+        self.cursor.search_state = SearchState::WithTyped;
         self.reset_after_key();
         Ok(())
     }
 
     /// Shows the first match from the place on, to which the search led. Allocates nothing.
     pub(crate) fn show_match(&mut self)
-        requires asked { asks_replacement self.old.editor.seek ≡ true }
+        requires asked { asks_replacement self.old.editor.search_state ≡ true }
         ensures { self.new ≡ record self.old { editor = after_showing (D.data self.old.tables) (cleared self.old.editor) } }
     {
         self.reset_after_key();
         let Some(query) = self.sought() else {
             return;
         };
-        let reading = reading_of(self.aim);
+        let reading = reading_of(self.purpose);
         if let Some(at) = self.document.first_from(reading, &query, self.cursor.place) {
             self.at = at;
-            self.cursor.seek = SearchState::Replacing;
+            self.cursor.search_state = SearchState::Replacing;
         }
     }
 }

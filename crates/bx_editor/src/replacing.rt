@@ -21,7 +21,7 @@ use bx_ucd::BidiData;
 impl<D: BidiData + Drop> Editor<D> {
     /// The query, of which a match is shown. Allocates nothing.
     fn shown_query(&self) -> Query
-        requires shown { self.now.editor.seek ≡ SearchState.Replacing }
+        requires shown { self.now.editor.search_state ≡ SearchState.Replacing }
         ensures query { result ≡ sought (D.data self.now.tables) self.now.editor }
         ensures utf8 { IsUtf8 self.now.editor.content.text }
     {
@@ -33,14 +33,14 @@ impl<D: BidiData + Drop> Editor<D> {
 
     /// The offset behind the match that is shown. Allocates nothing.
     fn match_stop(&self) -> usize
-        requires shown { self.now.editor.seek ≡ SearchState.Replacing }
+        requires shown { self.now.editor.search_state ≡ SearchState.Replacing }
         ensures stop { result ≡ match_stop (D.data self.now.tables) self.now.editor }
         ensures range { IsRange self.now.editor.content.text self.now.editor.at result }
         ensures utf8 { IsUtf8 self.now.editor.content.text }
     {
         let query = self.shown_query();
         self.document
-            .match_end(reading_of(self.aim), &query, self.at)
+            .match_end(reading_of(self.purpose), &query, self.at)
     }
 
     /// The part of the text in the other rendition: the units of the match that is shown, else the region. Allocates nothing.
@@ -48,7 +48,7 @@ impl<D: BidiData + Drop> Editor<D> {
         ensures start { result.start ≡ (seen (D.data self.now.tables) self.now.editor).0 }
         ensures stop { result.stop ≡ (seen (D.data self.now.tables) self.now.editor).1 }
     {
-        match self.cursor.seek {
+        match self.cursor.search_state {
             SearchState::Replacing => Range {
                 start: self.cursor.place,
                 stop: self.match_stop(),
@@ -59,14 +59,15 @@ impl<D: BidiData + Drop> Editor<D> {
 
     /// The offset of the first match at or after `x`. Allocates nothing.
     fn next_match(&self, x: usize) -> Option<usize>
-        requires shown { self.now.editor.seek ≡ SearchState.Replacing }
+        requires shown { self.now.editor.search_state ≡ SearchState.Replacing }
         requires bounds { IsCharBoundary self.now.editor.content.text x }
         ensures next { result ≡ next_match (D.data self.now.tables) self.now.editor x }
         ensures boundary { IfSome result (IsCharBoundary self.now.editor.content.text) }
         ensures utf8 { IsUtf8 self.now.editor.content.text }
     {
         let query = self.shown_query();
-        self.document.first_from(reading_of(self.aim), &query, x)
+        self.document
+            .first_from(reading_of(self.purpose), &query, x)
     }
 
     /// Ends replacing, and tells how many matches were replaced. Allocates nothing.
@@ -74,12 +75,12 @@ impl<D: BidiData + Drop> Editor<D> {
         ensures { self.new ≡ record self.old { editor = after_ending (cleared self.old.editor) } }
     {
         self.tell(Message::Replaced(self.count));
-        self.cursor.seek = SearchState::Off;
+        self.cursor.search_state = SearchState::Off;
     }
 
     /// Goes on to the next match behind the first character of this one; if there is none, replacing ends.
     pub(crate) fn pass_over(&mut self) -> Result<(), OutOfMemory>
-        requires shown { self.old.editor.seek ≡ SearchState.Replacing }
+        requires shown { self.old.editor.search_state ≡ SearchState.Replacing }
         ensures ok { OnOk result (self.new ≡ record self.old {
           editor = after_passing_over (D.data self.old.tables) (cleared self.old.editor);
         }) }
@@ -99,7 +100,7 @@ impl<D: BidiData + Drop> Editor<D> {
     /// The next match behind `stop`, once the bytes from the match to `stop` have given way to `new`: its offset then, and its
     /// place.
     fn next_behind(&mut self, stop: usize, new: &str) -> Result<Option<(usize, usize)>, OutOfMemory>
-        requires shown { self.old.editor.seek ≡ SearchState.Replacing }
+        requires shown { self.old.editor.search_state ≡ SearchState.Replacing }
         requires range { IsRange self.old.editor.content.text self.old.editor.at stop }
         requires fits { fits self.old.editor.content.text self.old.editor.at stop new.now ≡ true }
         ensures same { self.new ≡ self.old }
@@ -147,7 +148,7 @@ impl<D: BidiData + Drop> Editor<D> {
     /// Replaces the match by the replacement, and goes on to the next one; if there is none, replacing ends. Without room only sets
     /// a message.
     pub(crate) fn replace_match(&mut self) -> Result<(), OutOfMemory>
-        requires shown { self.old.editor.seek ≡ SearchState.Replacing }
+        requires shown { self.old.editor.search_state ≡ SearchState.Replacing }
         ensures ok { OnOk result (self.new ≡ record self.old {
           editor = after_replacing (D.data self.old.tables) (cleared self.old.editor);
         }) }
@@ -170,20 +171,20 @@ impl<D: BidiData + Drop> Editor<D> {
         };
         self.at = at;
         self.cursor.place = place;
-        self.cursor.seek = SearchState::Replacing;
+        self.cursor.search_state = SearchState::Replacing;
         self.reset_after_key();
         Ok(())
     }
 
     /// Replaces the match and all that follow it by the replacement, and ends replacing. Without room only sets a message.
     pub(crate) fn replace_all(&mut self) -> Result<(), OutOfMemory>
-        requires shown { self.old.editor.seek ≡ SearchState.Replacing }
+        requires shown { self.old.editor.search_state ≡ SearchState.Replacing }
         ensures ok { OnOk result (self.new ≡ record self.old {
           editor = after_replacing_all (D.data self.old.tables) (cleared self.old.editor);
         }) }
         ensures err { OnErr result (self.new ≡ self.old) }
     {
-        let reading = reading_of(self.aim);
+        let reading = reading_of(self.purpose);
         let query = self.shown_query();
         let replacement = self.replacement.as_str();
         let Some(swap) = self.document.swap(reading, &query, self.at, replacement)? else {

@@ -28,8 +28,8 @@ impl<D: BidiData + Drop> Editor<D> {
         ensures { self.new ≡ record self.old { editor = after_passed_save self.old.editor } }
     {
         self.pass_quit();
-        self.cursor.seek = SearchState::Off;
-        self.ask = Prompt::Off;
+        self.cursor.search_state = SearchState::Off;
+        self.prompt = Prompt::Off;
         self.past.stored = None;
     }
 
@@ -39,8 +39,8 @@ impl<D: BidiData + Drop> Editor<D> {
         requires no_paste { self.old.editor.pasted ≡ None }
         ensures { self.new ≡ record self.old { editor = at_replay_end self.old.editor } }
     {
-        self.cursor.seek = SearchState::Off;
-        self.ask = Prompt::Off;
+        self.cursor.search_state = SearchState::Off;
+        self.prompt = Prompt::Off;
         self.typing = Typing::Off;
         self.past.stored = if self.past.changed {
             None

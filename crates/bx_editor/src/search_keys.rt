@@ -23,7 +23,7 @@ impl<D: BidiData + Drop> Editor<D> {
     /// finding it ends the search, and what a paste then brings goes into the text.
     fn end_query(&mut self) -> Result<(), OutOfMemory>
         requires origin { IsTextPlace (D.data self.old.tables) self.old.editor.content.text self.old.editor.origin }
-        requires queried { is_queried self.old.editor.seek ≡ true }
+        requires queried { is_queried self.old.editor.search_state ≡ true }
         ensures ok { OnOk result (self.new ≡ record self.old {
           editor = with_typing (after_sought_end (D.data self.old.tables) self.old.editor.typing (cleared self.old.editor))
               (only_paste self.old.editor.typing);
@@ -31,7 +31,7 @@ impl<D: BidiData + Drop> Editor<D> {
         ensures err { OnErr result (self.new ≡ self.old) }
     {
         let typing = self.typing;
-        if self.aim == SearchPurpose::Replace {
+        if self.purpose == SearchPurpose::Replace {
             if is_paste(typing) {
                 self.clear_message();
                 return Ok(());
@@ -50,7 +50,7 @@ impl<D: BidiData + Drop> Editor<D> {
     /// Applies a character that is typed while the query is asked for; a paste goes on behind it.
     fn answer(&mut self, c: char) -> Result<(), OutOfMemory>
         requires origin { IsTextPlace (D.data self.old.tables) self.old.editor.content.text self.old.editor.origin }
-        requires queried { is_queried self.old.editor.seek ≡ true }
+        requires queried { is_queried self.old.editor.search_state ≡ true }
         ensures ok { OnOk result (self.new ≡ record self.old {
           editor = with_typing (after_sought_letter (D.data self.old.tables) self.old.editor.typing (cleared self.old.editor) c)
               (only_paste self.old.editor.typing);
@@ -73,7 +73,7 @@ impl<D: BidiData + Drop> Editor<D> {
         fault: Option<StoreFault>,
     ) -> Result<(), OutOfMemory>
         requires origin { IsTextPlace (D.data self.old.tables) self.old.editor.content.text self.old.editor.origin }
-        requires queried { is_queried self.old.editor.seek ≡ true }
+        requires queried { is_queried self.old.editor.search_state ≡ true }
         ensures ok { OnOk result (self.new.editor
             ≡ after_seeking (D.data self.old.tables) fault (before self.old.editor) (cleared self.old.editor) key) }
         ensures tables { self.new.tables ≡ self.old.tables }
@@ -109,7 +109,7 @@ impl<D: BidiData + Drop> Editor<D> {
 
     /// Applies a character that is typed as part of the replacement; a paste goes on behind it.
     fn answer_replacement(&mut self, c: char) -> Result<(), OutOfMemory>
-        requires asked { asks_replacement self.old.editor.seek ≡ true }
+        requires asked { asks_replacement self.old.editor.search_state ≡ true }
         ensures ok { OnOk result (self.new ≡ record self.old {
           editor = with_typing (after_replacement_letter (D.data self.old.tables) self.old.editor.typing (cleared self.old.editor) c)
               (only_paste self.old.editor.typing);
@@ -135,7 +135,7 @@ impl<D: BidiData + Drop> Editor<D> {
         fault: Option<StoreFault>,
     ) -> Result<(), OutOfMemory>
         requires origin { IsTextPlace (D.data self.old.tables) self.old.editor.content.text self.old.editor.origin }
-        requires asked { asks_replacement self.old.editor.seek ≡ true }
+        requires asked { asks_replacement self.old.editor.search_state ≡ true }
         ensures ok { OnOk result (self.new.editor
             ≡ answered_replacement (D.data self.old.tables) fault (before self.old.editor) (cleared self.old.editor) key (answer_of key)) }
         ensures tables { self.new.tables ≡ self.old.tables }
@@ -157,7 +157,7 @@ impl<D: BidiData + Drop> Editor<D> {
 
     /// Applies a character that is typed while a match is shown.
     fn answer_match(&mut self, c: char) -> Result<(), OutOfMemory>
-        requires shown { self.old.editor.seek ≡ SearchState.Replacing }
+        requires shown { self.old.editor.search_state ≡ SearchState.Replacing }
         ensures ok { OnOk result (self.new ≡ record self.old {
           editor = with_typing (after_match_letter (D.data self.old.tables) self.old.editor.typing (cleared self.old.editor) c)
               (only_paste self.old.editor.typing);
@@ -179,7 +179,7 @@ impl<D: BidiData + Drop> Editor<D> {
         key: Key,
         fault: Option<StoreFault>,
     ) -> Result<(), OutOfMemory>
-        requires shown { self.old.editor.seek ≡ SearchState.Replacing }
+        requires shown { self.old.editor.search_state ≡ SearchState.Replacing }
         ensures ok { OnOk result (self.new.editor
             ≡ answered_match (D.data self.old.tables) fault (before self.old.editor) (cleared self.old.editor) key (answer_of key)) }
         ensures tables { self.new.tables ≡ self.old.tables }
@@ -208,12 +208,12 @@ impl<D: BidiData + Drop> Editor<D> {
         ensures err { OnErr result (self.new ≡ self.old) }
         ensures edits { OnErr result (is_edit_or_move key ≡ true) }
     {
-        let seek = self.cursor.seek;
+        let search_state = self.cursor.search_state;
         self.leave_search();
         match self.press(key, fault) {
             Ok(()) => Ok(()),
             Err(refused) => {
-                self.cursor.seek = seek;
+                self.cursor.search_state = search_state;
                 Err(refused)
             }
         }

@@ -19,13 +19,13 @@ use bx_view::{Logical, Move};
 
 impl<D: BidiData + Drop> Editor<D> {
     /// Begins a search at the place, with the query of the latest one. An old selection is taken off.
-    pub(crate) fn begin_search(&mut self, aim: SearchPurpose)
-        ensures { self.new ≡ record self.old { editor = after_beginning aim (unselected (cleared self.old.editor)) } }
+    pub(crate) fn begin_search(&mut self, purpose: SearchPurpose)
+        ensures { self.new ≡ record self.old { editor = after_beginning purpose (unselected (cleared self.old.editor)) } }
     {
         self.unselect();
         self.origin = self.cursor.place;
-        self.cursor.seek = SearchState::Begun;
-        self.aim = aim;
+        self.cursor.search_state = SearchState::Begun;
+        self.purpose = purpose;
         self.reset_after_key();
     }
 
@@ -62,10 +62,10 @@ impl<D: BidiData + Drop> Editor<D> {
     fn land(&mut self, landing: Landing)
         requires origin { IsTextPlace (D.data self.old.tables) self.old.editor.content.text self.old.editor.origin }
         requires place { IfSome landing.place (IsTextPlace (D.data self.old.tables) self.old.editor.content.text) }
-        ensures { self.new ≡ record self.old { editor = landed (record (cleared self.old.editor) { seek = SearchState.Typed }) landing } }
+        ensures { self.new ≡ record self.old { editor = landed (record (cleared self.old.editor) { search_state = SearchState.Typed }) landing } }
     {
         self.settle_at(landing);
-        self.cursor.seek = SearchState::Typed;
+        self.cursor.search_state = SearchState::Typed;
     }
 
     /// Appends a character to the query, and seeks it from the place on. A tab, or a character that separates paragraphs, only clears
@@ -81,15 +81,15 @@ impl<D: BidiData + Drop> Editor<D> {
             self.reset_after_key();
             return Ok(());
         }
-        let kept = kept(self.cursor.seek, self.query.as_str());
+        let kept = kept(self.cursor.search_state, self.query.as_str());
         let query = lengthened(*self.query.allocator(), kept, c, LONGEST_QUERY)?;
         let landing = forward(
             &mut self.document,
-            reading_of(self.aim),
+            reading_of(self.purpose),
             query.as_str(),
             self.cursor.place,
         )?;
-        self.cursor.seek = SearchState::Typed;
+        self.cursor.search_state = SearchState::Typed;
         self.query = query;
         self.land(landing);
         Ok(())
@@ -103,15 +103,15 @@ impl<D: BidiData + Drop> Editor<D> {
         }) }
         ensures err { OnErr result (self.new ≡ self.old) }
     {
-        let kept = kept(self.cursor.seek, self.query.as_str());
+        let kept = kept(self.cursor.search_state, self.query.as_str());
         let query = shortened(*self.query.allocator(), kept)?;
         let landing = forward(
             &mut self.document,
-            reading_of(self.aim),
+            reading_of(self.purpose),
             query.as_str(),
             self.origin,
         )?;
-        self.cursor.seek = SearchState::Typed;
+        self.cursor.search_state = SearchState::Typed;
         self.query = query;
         self.cursor.place = self.origin;
         self.land(landing);
@@ -144,7 +144,7 @@ impl<D: BidiData + Drop> Editor<D> {
         let next = self.next_or_start()?;
         let landing = forward(
             &mut self.document,
-            reading_of(self.aim),
+            reading_of(self.purpose),
             self.query.as_str(),
             next,
         )?;
@@ -156,7 +156,11 @@ impl<D: BidiData + Drop> Editor<D> {
     fn has_query(&self) -> bool
         ensures { result ≡ not (length (sought (D.data self.now.tables) self.now.editor) == 0) }
     {
-        has_letters(&self.document, reading_of(self.aim), self.query.as_str())
+        has_letters(
+            &self.document,
+            reading_of(self.purpose),
+            self.query.as_str(),
+        )
     }
 
     /// Goes to the next match, and no search is on. If the query has no letters, begins a search. An old selection is taken off.
@@ -174,8 +178,8 @@ impl<D: BidiData + Drop> Editor<D> {
         let query = self.query.as_str();
         let landing = forward(&mut self.document, Reading::Wide, query, next)?;
         self.settle_at(landing);
-        self.cursor.seek = SearchState::Off;
-        self.aim = SearchPurpose::Find;
+        self.cursor.search_state = SearchState::Off;
+        self.purpose = SearchPurpose::Find;
         self.unselect();
         Ok(())
     }
@@ -190,7 +194,7 @@ impl<D: BidiData + Drop> Editor<D> {
     {
         let landing = backward(
             &mut self.document,
-            reading_of(self.aim),
+            reading_of(self.purpose),
             self.query.as_str(),
             self.cursor.place,
         )?;

@@ -51,24 +51,24 @@ pub(crate) fn status_line(
 }
 
 /// The prompt before the query.
-fn query_prompt(aim: SearchPurpose) -> &'static str
-    ensures text { result.now ≡ query_prompt aim }
+fn query_prompt(purpose: SearchPurpose) -> &'static str
+    ensures text { result.now ≡ query_prompt purpose }
     ensures printable { are_ascii_printable result.now ≡ true }
 {
-    match aim {
+    match purpose {
         SearchPurpose::Find => " find: ",
         SearchPurpose::Replace => " replace: ",
     }
 }
 
 /// The prompt of a search, empty if none is on.
-fn search_prompt(aim: SearchPurpose, seek: SearchState) -> &'static str
-    ensures text { result.now ≡ search_prompt aim seek }
+fn search_prompt(purpose: SearchPurpose, search_state: SearchState) -> &'static str
+    ensures text { result.now ≡ search_prompt purpose search_state }
     ensures printable { are_ascii_printable result.now ≡ true }
 {
-    match seek {
+    match search_state {
         SearchState::Off => "",
-        SearchState::Begun | SearchState::Typed => query_prompt(aim),
+        SearchState::Begun | SearchState::Typed => query_prompt(purpose),
         SearchState::WithBegun | SearchState::WithTyped => " with: ",
         SearchState::Replacing => " Enter replace ^W next F4 all ^C end",
     }
@@ -78,22 +78,22 @@ fn search_prompt(aim: SearchPurpose, seek: SearchState) -> &'static str
 fn draw_search<D: BidiData + Drop>(
     document: &Document<D>,
     line: String,
-    aim: SearchPurpose,
-    seek: SearchState,
+    purpose: SearchPurpose,
+    search_state: SearchState,
     query: &str,
     replacement: &str,
 ) -> Result<Grid, OutOfMemory>
     requires { are_ascii_printable (string_bytes line) ≡ true }
     ensures row { IfOk result (λ row. row.columns ≡ glyph_row document.now.document.w
         (letter_glyphs (string_bytes line)
-        ++ (letter_glyphs (search_prompt aim seek) ++ search_glyphs (D.data document.now.tables) query.now replacement.now seek))) }
+        ++ (letter_glyphs (search_prompt purpose search_state) ++ search_glyphs (D.data document.now.tables) query.now replacement.now search_state))) }
     ensures filled { IfOk result (λ row. length row.columns ≡ document.now.document.w) }
     ensures one { IfOk result (λ row. row.height ≡ 1) }
     ensures wide { IfOk result (λ row. row.width ≡ document.now.document.w) }
 {
     let mut line = line;
-    line.push_str(search_prompt(aim, seek))?;
-    match seek {
+    line.push_str(search_prompt(purpose, search_state))?;
+    match search_state {
         SearchState::Off | SearchState::Replacing => document.draw_text(line.as_str()),
         SearchState::Begun | SearchState::Typed => document.draw_query(line.as_str(), query),
         SearchState::WithBegun | SearchState::WithTyped => document.draw_query(
@@ -104,11 +104,11 @@ fn draw_search<D: BidiData + Drop>(
 }
 
 /// The prompt of a question, empty if nothing is asked.
-fn prompt_text(ask: Prompt) -> &'static str
-    ensures text { result.now ≡ prompt_text ask }
+fn prompt_text(prompt: Prompt) -> &'static str
+    ensures text { result.now ≡ prompt_text prompt }
     ensures printable { are_ascii_printable result.now ≡ true }
 {
-    match ask {
+    match prompt {
         Prompt::Off => "",
         Prompt::Line => " line: ",
         Prompt::Name => " insert: ",
@@ -120,19 +120,19 @@ fn prompt_text(ask: Prompt) -> &'static str
 fn draw_question<D: BidiData + Drop>(
     document: &Document<D>,
     line: String,
-    ask: Prompt,
+    prompt: Prompt,
     answer: &str,
 ) -> Result<Grid, OutOfMemory>
     requires line { are_ascii_printable (string_bytes line) ≡ true }
     requires narrow { All IsNarrow (chars answer.now) }
     ensures row { IfOk result (λ row. row.columns ≡ glyph_row document.now.document.w
-        (letter_glyphs (string_bytes line) ++ (letter_glyphs (prompt_text ask) ++ typed_glyphs answer.now))) }
+        (letter_glyphs (string_bytes line) ++ (letter_glyphs (prompt_text prompt) ++ typed_glyphs answer.now))) }
     ensures filled { IfOk result (λ row. length row.columns ≡ document.now.document.w) }
     ensures one { IfOk result (λ row. row.height ≡ 1) }
     ensures wide { IfOk result (λ row. row.width ≡ document.now.document.w) }
 {
     let mut line = line;
-    line.push_str(prompt_text(ask))?;
+    line.push_str(prompt_text(prompt))?;
     // The proof compares the row, so it has a name.
     let row = document.draw_typed(line.as_str(), answer)?;
     Ok(row)
@@ -143,22 +143,22 @@ impl<D: BidiData + Drop> Editor<D> {
     pub(crate) fn draw_status(&self, line: String) -> Result<Grid, OutOfMemory>
         requires { are_ascii_printable (string_bytes line) ≡ true }
         ensures row { IfOk result (λ row. row.columns ≡ glyph_row self.now.editor.width
-            (letter_glyphs (string_bytes line) ++ prompt_glyphs (D.data self.now.tables) self.now.editor self.now.editor.ask)) }
+            (letter_glyphs (string_bytes line) ++ prompt_glyphs (D.data self.now.tables) self.now.editor self.now.editor.prompt)) }
         ensures filled { IfOk result (λ row. length row.columns ≡ self.now.editor.width) }
         ensures one { IfOk result (λ row. row.height ≡ 1) }
         ensures wide { IfOk result (λ row. row.width ≡ self.now.editor.width) }
     {
-        match self.ask {
+        match self.prompt {
             Prompt::Off => draw_search(
                 &self.document,
                 line,
-                self.aim,
-                self.cursor.seek,
+                self.purpose,
+                self.cursor.search_state,
                 self.query.as_str(),
                 self.replacement.as_str(),
             ),
             Prompt::Line | Prompt::Name | Prompt::Code => {
-                draw_question(&self.document, line, self.ask, self.answer.as_str())
+                draw_question(&self.document, line, self.prompt, self.answer.as_str())
             }
         }
     }

@@ -1,6 +1,6 @@
 //! The keys that undo and redo: one edit, or an undo group.
 ghost use Rattle.std.specs.Prelude.{◌≡◌, true, OnErr, OnOk};
-ghost use Rattle.bx_editor.specs.Editor.{after_run_step, after_step, cleared, is_changed_at, nothing_left, run_length};
+ghost use Rattle.bx_editor.specs.Editor.{after_group_step, after_step, cleared, is_changed_at, nothing_left, group_length};
 
 use crate::editor::Editor;
 use crate::message::Message;
@@ -43,8 +43,8 @@ impl<D: BidiData + Drop> Editor<D> {
     }
 
     /// How many edits are undone, back to where an undo group began, or redone, up to where the next begins.
-    fn run_length(&self, step: HistoryStep) -> usize
-        ensures { result ≡ run_length step self.now.editor }
+    fn group_length(&self, step: HistoryStep) -> usize
+        ensures { result ≡ group_length step self.now.editor }
     {
         let n = self.document.past_len();
         match step {
@@ -57,11 +57,11 @@ impl<D: BidiData + Drop> Editor<D> {
     }
 
     /// Undoes the edits since an undo group began, or redoes those up to the next undo group; if there is none, sets a message.
-    pub(crate) fn step_run(&mut self, step: HistoryStep) -> Result<(), OutOfMemory>
-        ensures ok { OnOk result (self.new ≡ record self.old { editor = after_run_step step (cleared self.old.editor) }) }
+    pub(crate) fn step_group(&mut self, step: HistoryStep) -> Result<(), OutOfMemory>
+        ensures ok { OnOk result (self.new ≡ record self.old { editor = after_group_step step (cleared self.old.editor) }) }
         ensures err { OnErr result (self.new ≡ self.old) }
     {
-        let count = self.run_length(step);
+        let count = self.group_length(step);
         let Some(place) = self.document.step_times(step, count)? else {
             self.tell(nothing_left(step));
             return Ok(());

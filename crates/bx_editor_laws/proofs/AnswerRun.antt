@@ -15,7 +15,7 @@ use Rattle.bx_editor.proofs.undo_groups_lemmas.RunLaws.{edit-is-of-its-run}
 use Rattle.bx_ucd.specs.Data.{Data}
 use Rattle.bx_editor.specs.declared.message.Message.TheVariants as messages
 use Rattle.bx_editor.specs.Asking.{after_answer_letter, after_code, after_code_letter, after_going, after_line_letter, after_name_letter}
-use Rattle.bx_editor.specs.Asking.{after_named, gone_to, longest_code, longest_line, with_answer, with_character, without_ask}
+use Rattle.bx_editor.specs.Asking.{after_named, gone_to, longest_code, longest_line, with_answer, with_character, without_prompt}
 use Rattle.bx_editor.specs.Asking.{after_wrapping, spans_lines, with_wrap}
 use Rattle.bx_editor_laws.specs.AskingLaws.{AnswerIsARun, types}
 use Rattle.bx_editor.specs.Editor.{Editor, cleared, with_insertion, with_typing}
@@ -77,7 +77,7 @@ code-puts d e None = inl refl
 code-puts d e (Some c) = character-puts d e c
 
 -- in a question that is left
-freed : (e new : Editor) → PutsRun (without_ask e) new → PutsRun e new
+freed : (e new : Editor) → PutsRun (without_prompt e) new → PutsRun e new
 freed e new (inl same) = inl same
 freed e new (inr h) = inr (record { more = h.more; over = h.over; start = h.start })
 
@@ -91,22 +91,22 @@ line-puts d typing e c =
     elim b as (λ x. (if x then p else q).content ≡ e.content) [ true ↦ h | false ↦ k ] in
     let longer = with_answer e (lengthened longest_line e.answer c) in
     same (c == 0xA) (if is_paste typing then e else after_going d e) (if is_line_letter c then longer else e)
-    (same (is_paste typing) e (after_going d e) refl (going-same d (without_ask e) (asked (chars e.answer)))) (same (is_line_letter c) longer e refl refl)
+    (same (is_paste typing) e (after_going d e) refl (going-same d (without_prompt e) (asked (chars e.answer)))) (same (is_line_letter c) longer e refl refl)
 
 name-puts : (d : Data) (e : Editor) (letter : ℕ) (c : Option ℕ) → PutsRun e (after_name_letter d e letter c)
 name-puts d e letter None =
-    let coding : Editor = record e { ask = Code } in
-    either e (asks_code letter) coding (if letter == 0xA then without_ask e else e) (inl refl) (either e (letter == 0xA) (without_ask e) e (inl refl) (inl refl))
-name-puts d e letter (Some c) = freed e (after_named d (without_ask e) c (closing letter)) (named-puts d (without_ask e) c (closing letter))
+    let coding : Editor = record e { prompt = Code } in
+    either e (asks_code letter) coding (if letter == 0xA then without_prompt e else e) (inl refl) (either e (letter == 0xA) (without_prompt e) e (inl refl) (inl refl))
+name-puts d e letter (Some c) = freed e (after_named d (without_prompt e) c (closing letter)) (named-puts d (without_prompt e) c (closing letter))
 
 code-letter-puts : (d : Data) (e : Editor) (letter : ℕ) → PutsRun e (after_code_letter d e letter)
 code-letter-puts d e letter =
-    let put = after_code d (without_ask e) (coded e.answer) in
+    let put = after_code d (without_prompt e) (coded e.answer) in
     let longer = with_answer e (lengthened longest_code e.answer letter) in
-    either e (letter == 0xA) put (if is_code_letter letter then longer else e) (freed e put (code-puts d (without_ask e) (coded e.answer)))
+    either e (letter == 0xA) put (if is_code_letter letter then longer else e) (freed e put (code-puts d (without_prompt e) (coded e.answer)))
     (either e (is_code_letter letter) longer e (inl refl) (inl refl))
 
-letter-puts : (d : Data) (typing : Typing) (ask : Prompt) (e : Editor) (c : ℕ) → PutsRun e (after_answer_letter d typing ask e c)
+letter-puts : (d : Data) (typing : Typing) (prompt : Prompt) (e : Editor) (c : ℕ) → PutsRun e (after_answer_letter d typing prompt e c)
 letter-puts d typing Off e c = inl refl
 letter-puts d typing Line e c = inl (line-puts d typing e c)
 letter-puts d typing Name e c =
@@ -143,21 +143,21 @@ settled-kept d = record {
   told = λ e message h. h;
   placed = λ e place h. h;
   typed = λ e typing h. h;
-  asked = λ e ask answer h. h;
+  asked = λ e prompt answer h. h;
 }
 
-letter-settled : (d : Data) (typing : Typing) (e : Editor) (c : ℕ) → e.pasted ≡ None → (after_answer_letter d typing e.ask e c).pasted ≡ None
-letter-settled d typing e c settled = answers.letter-keeps d (λ e. e.pasted ≡ None) (settled-kept d) typing e.ask e c settled
+letter-settled : (d : Data) (typing : Typing) (e : Editor) (c : ℕ) → e.pasted ≡ None → (after_answer_letter d typing e.prompt e c).pasted ≡ None
+letter-settled d typing e c settled = answers.letter-keeps d (λ e. e.pasted ≡ None) (settled-kept d) typing e.prompt e c settled
 
-answer-back : (d : Data) (first e : Editor) (key : Key) → types key ≡ true → e.pasted ≡ None → e.ask ≢ Off → e.content ≡ first.content → e.place ≡ first.place
+answer-back : (d : Data) (first e : Editor) (key : Key) → types key ≡ true → e.pasted ≡ None → e.prompt ≢ Off → e.content ≡ first.content → e.place ≡ first.place
     → length first.content.past < length (after_key d None e key).content.past → IsBackBefore first (after_key d None (after_key d None e key) keys.UndoRun)
 answer-back d first e (keys.Insert c) h settled on same at more =
-    grown d first (cleared e) (after_key d None e (keys.Insert c)) (after_answer_letter d e.typing e.ask (cleared e) c) (keys.Insert c)
-    (letter-settled d e.typing (cleared e) c settled) (letter-puts d e.typing e.ask (cleared e) c) same at
+    grown d first (cleared e) (after_key d None e (keys.Insert c)) (after_answer_letter d e.typing e.prompt (cleared e) c) (keys.Insert c)
+    (letter-settled d e.typing (cleared e) c settled) (letter-puts d e.typing e.prompt (cleared e) c) same at
     (asked-key d None e (keys.Insert c) settled on refl) more
 answer-back d first e keys.NewLine h settled on same at more =
-    grown d first (cleared e) (after_key d None e keys.NewLine) (after_answer_letter d e.typing e.ask (cleared e) 0xA) keys.NewLine
-    (letter-settled d e.typing (cleared e) 0xA settled) (letter-puts d e.typing e.ask (cleared e) 0xA) same at
+    grown d first (cleared e) (after_key d None e keys.NewLine) (after_answer_letter d e.typing e.prompt (cleared e) 0xA) keys.NewLine
+    (letter-settled d e.typing (cleared e) 0xA settled) (letter-puts d e.typing e.prompt (cleared e) 0xA) same at
     (asked-key d None e keys.NewLine settled on refl) more
 answer-back d first e _ h settled on same at more = absurd (cc h)
 

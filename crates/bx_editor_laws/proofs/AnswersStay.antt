@@ -29,10 +29,10 @@ use Rattle.bx_document.specs.Narrow.{IsNarrow}
 use Rattle.bx_editor.specs.Answers.{IsAnswer, limit_of}
 use Rattle.bx_editor.specs.declared.message.Message.TheVariants as messages
 use Rattle.bx_editor.specs.declared.search_state.SearchState.{SearchState}
-use Rattle.bx_editor.specs.declared.search_state.SearchState.TheVariants as seeks
+use Rattle.bx_editor.specs.declared.search_state.SearchState.TheVariants as search_states
 use Rattle.bx_editor.specs.Asking.{after_answer_letter, after_code, after_code_letter, after_going, after_line_letter, after_name_letter}
 use Rattle.bx_editor.specs.Asking.{after_named, after_shorter_answer, gone_to, longest_code, longest_line, with_answer, with_character}
-use Rattle.bx_editor.specs.Asking.{without_ask, after_wrapping, spans_lines, with_wrap}
+use Rattle.bx_editor.specs.Asking.{without_prompt, after_wrapping, spans_lines, with_wrap}
 use Rattle.bx_editor_laws.specs.AskingLaws.{IsShown, PromptsAreShown}
 use Rattle.bx_editor.specs.Editor.{Editor, at_start, cleared, with_exchange, with_insertion, with_typing}
 use Rattle.bx_editor.specs.Effects.{Effect, AsksLine, AsksName, Before, before, by}
@@ -52,18 +52,18 @@ use Rattle.bx_editor.proofs.Narrow.{narrow-code, narrow-line, narrow-longer, nar
 -- ---- an answer
 
 -- short and narrow text
-pub record IsGood (ask : Prompt) (answer : List ℕ) : Type 0 where
+pub record IsGood (prompt : Prompt) (answer : List ℕ) : Type 0 where
   pub utf8 : IsUtf8 answer
-  pub is_answer : IsAnswer ask answer
+  pub is_answer : IsAnswer prompt answer
 
 -- without any character
 few-none : (limit : ℕ) → length (chars []) ≤ limit
 few-none limit = omega (arith, ap length chars-nil)
 
-good-empty : (ask : Prompt) → IsGood ask []
-good-empty ask = record {
+good-empty : (prompt : Prompt) → IsGood prompt []
+good-empty prompt = record {
   utf8 = IsUtf8-nil;
-  is_answer = record { short = few-none (limit_of ask); narrow = subst (All IsNarrow) (sym chars-nil) (All-nil IsNarrow) };
+  is_answer = record { short = few-none (limit_of prompt); narrow = subst (All IsNarrow) (sym chars-nil) (All-nil IsNarrow) };
 }
 
 few-by : (limit : ℕ) (answer : List ℕ) (c : ℕ) → IsUtf8 answer → IsUtf8 (encode_utf8 c) → length (chars answer) ≤ limit → (room : Bool)
@@ -100,10 +100,10 @@ utf8-longer limit answer c u v =
     ]
 
 -- one more, and one less
-longer-good : (ask : Prompt) (answer : List ℕ) (c : ℕ) → scalar c ≡ true → IsNarrow c → IsGood ask answer → IsGood ask (lengthened (limit_of ask) answer c)
-longer-good ask answer c is one h =
+longer-good : (prompt : Prompt) (answer : List ℕ) (c : ℕ) → scalar c ≡ true → IsNarrow c → IsGood prompt answer → IsGood prompt (lengthened (limit_of prompt) answer c)
+longer-good prompt answer c is one h =
     let v = IsUtf8-encode c is in
-    let limit = limit_of ask in
+    let limit = limit_of prompt in
     record {
       utf8 = utf8-longer limit answer c h.utf8 v;
       is_answer = record {
@@ -112,8 +112,8 @@ longer-good ask answer c is one h =
       };
     }
 
-shorter-good : (ask : Prompt) (answer : List ℕ) → IsGood ask answer → IsGood ask (shortened answer)
-shorter-good ask answer h =
+shorter-good : (prompt : Prompt) (answer : List ℕ) → IsGood prompt answer → IsGood prompt (shortened answer)
+shorter-good prompt answer h =
     let u = utf8-shorter answer h.utf8 in
     let cs = chars answer in
     let size = ap length (chars_encoded (take (length cs - 1) cs) u) in
@@ -123,36 +123,36 @@ shorter-good ask answer h =
     }
 
 -- for another question
-good-for : (ask other : Prompt) (answer : List ℕ) → limit_of ask ≤ limit_of other → IsGood ask answer → IsGood other answer
-good-for ask other answer more h =
+good-for : (prompt other : Prompt) (answer : List ℕ) → limit_of prompt ≤ limit_of other → IsGood prompt answer → IsGood other answer
+good-for prompt other answer more h =
     record { utf8 = h.utf8; is_answer = record { short = omega (arith, h.is_answer.short, more); narrow = h.is_answer.narrow } }
 
-few : (ask : Prompt) → limit_of ask ≤ 16
+few : (prompt : Prompt) → limit_of prompt ≤ 16
 few Off = omega arith
 few Line = omega arith
 few Name = omega arith
 few Code = omega arith
 
-good-off : (ask : Prompt) (answer : List ℕ) → IsGood ask answer → IsGood Off answer
-good-off ask answer h = good-for ask Off answer (few ask) h
+good-off : (prompt : Prompt) (answer : List ℕ) → IsGood prompt answer → IsGood Off answer
+good-off prompt answer h = good-for prompt Off answer (few prompt) h
 
 -- ---- what a key leaves
 
 abbrev Good : Editor → Type 0
-Good e = IsGood e.ask e.answer
+Good e = IsGood e.prompt e.answer
 
 either : (b : Bool) (p q : Editor) → Good p → Good q → Good (if b then p else q)
 either true p q h k = h
 either false p q h k = k
 
 -- where question and answer are these
-good-as : (ask : Prompt) (answer : List ℕ) (new : Editor) → Asks ask answer new → IsGood ask answer → Good new
-good-as ask answer new same h = subst (λ a. IsGood a new.answer) (sym same.0) (subst (IsGood ask) (sym same.1) h)
+good-as : (prompt : Prompt) (answer : List ℕ) (new : Editor) → Asks prompt answer new → IsGood prompt answer → Good new
+good-as prompt answer new same h = subst (λ a. IsGood a new.answer) (sym same.0) (subst (IsGood prompt) (sym same.1) h)
 
 effect-good : (d : Data) (fault : Option StoreFault) (was : Before) (e : Editor) (one : Effect) → Good e → Good (by d fault was e one)
 effect-good d fault was e AsksLine h = good-empty Line
 effect-good d fault was e AsksName h = good-empty Name
-effect-good d fault was e one h = good-as e.ask e.answer (by d fault was e one) (effect-keeps d fault was e one refl) h
+effect-good d fault was e one h = good-as e.prompt e.answer (by d fault was e one) (effect-keeps d fault was e one refl) h
 
 -- in a search
 exchange-good : (d : Data) (e : Editor) (start stop : ℕ) (new : List ℕ) → Good e → Good (with_exchange d e start stop new)
@@ -165,17 +165,17 @@ sought-good d = record {
   placed = λ e place h. h;
   typed = λ e typing h. h;
   begun = λ e h. h;
-  sought = λ e seek aim origin query other at count h. h;
+  sought = λ e search_state purpose origin query other at count h. h;
 }
 
-search-good : (d : Data) (fault : Option StoreFault) (was : Before) (seek : SearchState) (e : Editor) (key : Key) → Good e
-    → Good (after_searching d fault was seek e key)
-search-good d fault was seeks.Off e key h = effect-good d fault was e (effect_of d e key) h
-search-good d fault was seeks.WithBegun e key h =
+search-good : (d : Data) (fault : Option StoreFault) (was : Before) (search_state : SearchState) (e : Editor) (key : Key) → Good e
+    → Good (after_searching d fault was search_state e key)
+search-good d fault was search_states.Off e key h = effect-good d fault was e (effect_of d e key) h
+search-good d fault was search_states.WithBegun e key h =
     replacement-keeps d Good (sought-good d) fault was e key (answer_of key) h h (λ ends. effect-good d fault was (without_search e) (effect_of d (without_search e) key) h)
-search-good d fault was seeks.WithTyped e key h =
+search-good d fault was search_states.WithTyped e key h =
     replacement-keeps d Good (sought-good d) fault was e key (answer_of key) h h (λ ends. effect-good d fault was (without_search e) (effect_of d (without_search e) key) h)
-search-good d fault was seeks.Replacing e key h =
+search-good d fault was search_states.Replacing e key h =
     match-keeps d Good (sought-good d) fault was e key (answer_of key) h h (λ ends. effect-good d fault was (without_search e) (effect_of d (without_search e) key) h)
 search-good d fault was _ e key h =
     query-keeps d Good (sought-good d) fault was e key (answer_of key) h (λ ends. effect-good d fault was e (effect_of d e key) h)
@@ -185,8 +185,8 @@ going-good : (d : Data) (e : Editor) (target : Option Target) → Good e → Goo
 going-good d e None h = h
 going-good d e (Some target) h = h
 
-freed-good : (e : Editor) → Good e → Good (without_ask e)
-freed-good e h = good-off e.ask e.answer h
+freed-good : (e : Editor) → Good e → Good (without_prompt e)
+freed-good e h = good-off e.prompt e.answer h
 
 -- by whether a test holds
 either-of : (b : Bool) (p q : Editor) → (b ≡ true → Good p) → (b ≡ false → Good q) → Good (if b then p else q)
@@ -216,46 +216,46 @@ code-good d e None h = h
 code-good d e (Some c) h = character-good d e c h
 
 module _ (e : Editor) (h : Good e) where
-  line-good : (d : Data) (typing : Typing) (c : ℕ) → e.ask ≡ Line → Good (after_line_letter d typing e c)
+  line-good : (d : Data) (typing : Typing) (c : ℕ) → e.prompt ≡ Line → Good (after_line_letter d typing e c)
   line-good d typing c is =
       let longer = with_answer e (lengthened longest_line e.answer c) in
       let own : IsGood Line e.answer = subst (λ a. IsGood a e.answer) is h in
       either (c == 0xA) (if is_paste typing then e else after_going d e) (if is_line_letter c then longer else e)
-      (either (is_paste typing) e (after_going d e) h (going-good d (without_ask e) (asked (chars e.answer)) (freed-good e h)))
+      (either (is_paste typing) e (after_going d e) h (going-good d (without_prompt e) (asked (chars e.answer)) (freed-good e h)))
       (either-of (is_line_letter c) longer e
       (λ letter. subst (λ a. IsGood a (lengthened longest_line e.answer c)) (sym is) (longer-good Line e.answer c (letter-scalar c letter) (narrow-line c letter) own))
       (λ other. h))
 
-  name-good : (d : Data) (letter : ℕ) (c : Option ℕ) → e.ask ≡ Name → Good (after_name_letter d e letter c)
+  name-good : (d : Data) (letter : ℕ) (c : Option ℕ) → e.prompt ≡ Name → Good (after_name_letter d e letter c)
   name-good d letter None is =
-      let coding : Editor = record e { ask = Code } in
-      either (asks_code letter) coding (if letter == 0xA then without_ask e else e)
-      (good-for Name Code e.answer (omega arith) (subst (λ a. IsGood a e.answer) is h)) (either (letter == 0xA) (without_ask e) e (freed-good e h) h)
-  name-good d letter (Some c) is = named-good d (without_ask e) c (closing letter) (freed-good e h)
+      let coding : Editor = record e { prompt = Code } in
+      either (asks_code letter) coding (if letter == 0xA then without_prompt e else e)
+      (good-for Name Code e.answer (omega arith) (subst (λ a. IsGood a e.answer) is h)) (either (letter == 0xA) (without_prompt e) e (freed-good e h) h)
+  name-good d letter (Some c) is = named-good d (without_prompt e) c (closing letter) (freed-good e h)
 
-  code-letter-good : (d : Data) (letter : ℕ) → e.ask ≡ Code → Good (after_code_letter d e letter)
+  code-letter-good : (d : Data) (letter : ℕ) → e.prompt ≡ Code → Good (after_code_letter d e letter)
   code-letter-good d letter is =
       let longer = with_answer e (lengthened longest_code e.answer letter) in
       let own : IsGood Code e.answer = subst (λ a. IsGood a e.answer) is h in
-      either (letter == 0xA) (after_code d (without_ask e) (coded e.answer)) (if is_code_letter letter then longer else e)
-      (code-good d (without_ask e) (coded e.answer) (freed-good e h))
+      either (letter == 0xA) (after_code d (without_prompt e) (coded e.answer)) (if is_code_letter letter then longer else e)
+      (code-good d (without_prompt e) (coded e.answer) (freed-good e h))
       (either-of (is_code_letter letter) longer e
       (λ digit. subst (λ a. IsGood a (lengthened longest_code e.answer letter)) (sym is)
       (longer-good Code e.answer letter (code-scalar letter digit) (narrow-code letter digit) own))
       (λ other. h))
 
-  letter-good : (d : Data) (typing : Typing) (ask : Prompt) (c : ℕ) → e.ask ≡ ask → Good (after_answer_letter d typing ask e c)
+  letter-good : (d : Data) (typing : Typing) (prompt : Prompt) (c : ℕ) → e.prompt ≡ prompt → Good (after_answer_letter d typing prompt e c)
   letter-good d typing Off c is = h
   letter-good d typing Line c is = line-good d typing c is
   letter-good d typing Name c is = either (is_paste typing) (with_typing e typing) (after_name_letter d e c (named c)) h (name-good d c (named c) is)
   letter-good d typing Code c is = either (is_paste typing) (with_typing e typing) (after_code_letter d e c) h (code-letter-good d c is)
 
-  erased-good : (ask : Prompt) → e.ask ≡ ask → Good (after_shorter_answer ask e)
+  erased-good : (prompt : Prompt) → e.prompt ≡ prompt → Good (after_shorter_answer prompt e)
   erased-good Off is = h
-  erased-good Line is = shorter-good e.ask e.answer h
+  erased-good Line is = shorter-good e.prompt e.answer h
   erased-good Name is = h
   erased-good Code is =
-      let naming : Editor = record e { ask = Name } in
+      let naming : Editor = record e { prompt = Name } in
       either-of (length e.answer == 0) naming (with_answer e (shortened e.answer))
       (λ none.
       let size : length e.answer ≡ 0 = grind (arith, nat_tests, none) in
@@ -263,22 +263,22 @@ module _ (e : Editor) (h : Good e) where
         utf8 = h.utf8;
         is_answer = record { short = omega (arith, ap length (no-chars e.answer size)); narrow = h.is_answer.narrow };
       })
-      (λ some. shorter-good e.ask e.answer h)
+      (λ some. shorter-good e.prompt e.answer h)
 
 question-good : (d : Data) (fault : Option StoreFault) (was : Before) (e : Editor) (key : Key) (answer : Answer) → Good e
     → Good (answered_question d fault was e key answer)
-question-good d fault was e key (Letter c) h = letter-good e h d was.typing e.ask c refl
-question-good d fault was e key Shortens h = erased-good e h e.ask refl
+question-good d fault was e key (Letter c) h = letter-good e h d was.typing e.prompt c refl
+question-good d fault was e key Shortens h = erased-good e h e.prompt refl
 question-good d fault was e key GoesBack h = freed-good e h
 question-good d fault was e key Stays h = h
-question-good d fault was e key _ h = effect-good d fault was (without_ask e) (effect_of d (without_ask e) key) (freed-good e h)
+question-good d fault was e key _ h = effect-good d fault was (without_prompt e) (effect_of d (without_prompt e) key) (freed-good e h)
 
-any-good : (d : Data) (fault : Option StoreFault) (was : Before) (ask : Prompt) (seek : SearchState) (e : Editor) (key : Key) → Good e
-    → Good (after_any d fault was ask seek e key)
-any-good d fault was Off seek e key h = search-good d fault was seek e key h
-any-good d fault was Line seek e key h = question-good d fault was e key (answer_of key) h
-any-good d fault was Name seek e key h = question-good d fault was e key (answer_of key) h
-any-good d fault was Code seek e key h = question-good d fault was e key (answer_of key) h
+any-good : (d : Data) (fault : Option StoreFault) (was : Before) (prompt : Prompt) (search_state : SearchState) (e : Editor) (key : Key) → Good e
+    → Good (after_any d fault was prompt search_state e key)
+any-good d fault was Off search_state e key h = search-good d fault was search_state e key h
+any-good d fault was Line search_state e key h = question-good d fault was e key (answer_of key) h
+any-good d fault was Name search_state e key h = question-good d fault was e key (answer_of key) h
+any-good d fault was Code search_state e key h = question-good d fault was e key (answer_of key) h
 
 -- in a paste
 pasting-good : IsKeptPasting Good
@@ -290,7 +290,7 @@ ended-good d e h = ended-by d e Good h h (λ list. h) (λ list. h) h
 key-good : (d : Data) (fault : Option StoreFault) (e : Editor) (key : Key) → Good e → Good (after_key d fault e key)
 key-good d fault e key h =
     each-key d fault e (λ k new. Good new) (λ height width. h) (λ notice. h) (start-keeps Good pasting-good e h, ended-good d e h)
-    (λ k other. press-keeps d fault e Good k (λ x good. any-good d fault (before x) x.ask x.seek (cleared x) k good) (ended-good d) (λ c. h) h) key
+    (λ k other. press-keeps d fault e Good k (λ x good. any-good d fault (before x) x.prompt x.search_state (cleared x) k good) (ended-good d) (λ c. h) h) key
 
 typed-good : (d : Data) (e : Editor) (typed : List (Key × Option StoreFault)) → Good e → Good (after_typing d e typed)
 typed-good d e [] h = h
@@ -317,7 +317,7 @@ shown-prompt : (d : Data) (e : Editor) (text : List ℕ) → are_ascii_printable
 shown-prompt d e text h good =
     All-append IsShown (letter_glyphs text) (typed_glyphs e.answer) (shown-letters text h) (shown-typed (chars e.answer) good.is_answer.narrow)
 
-prompt-shown : (d : Data) (e : Editor) (ask : Prompt) → ask ≢ Off → Good e → All IsShown (prompt_glyphs d e ask)
+prompt-shown : (d : Data) (e : Editor) (prompt : Prompt) → prompt ≢ Off → Good e → All IsShown (prompt_glyphs d e prompt)
 prompt-shown d e Off on good = absurd (on refl)
 prompt-shown d e Line on good = shown-prompt d e (prompt_text Line) refl good
 prompt-shown d e Name on good = shown-prompt d e (prompt_text Name) refl good
@@ -328,4 +328,4 @@ prompts-are-shown d text height width base typed =
     let start = at_start text height width base in
     let e = after_typing d start typed in
     let good = typed-good d start typed (good-empty Off) in
-    record { answer = good.is_answer; glyphs = λ on. prompt-shown d e e.ask on good }
+    record { answer = good.is_answer; glyphs = λ on. prompt-shown d e e.prompt on good }

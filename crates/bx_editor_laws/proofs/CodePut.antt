@@ -19,7 +19,7 @@ use Rattle.bx_editor.specs.declared.undo_groups.typing.Typing.TheVariants as typ
 use Rattle.bx_text.specs.Edits.{Edited}
 use Rattle.bx_ucd.specs.Data.{Data}
 use Rattle.bx_editor.specs.declared.search_state.SearchState.{SearchState}
-use Rattle.bx_editor.specs.Asking.{after_answer_letter, after_code, after_name_letter, longest_code, with_answer, without_ask}
+use Rattle.bx_editor.specs.Asking.{after_answer_letter, after_code, after_name_letter, longest_code, with_answer, without_prompt}
 use Rattle.bx_editor_laws.specs.AskingLaws.{CodePutsIn, IsPutIn, is_enter}
 use Rattle.bx_editor.specs.Editor.{Editor, cleared, place_after, with_insertion, with_typing}
 use Rattle.bx_editor.specs.Keys.{after_key, as_left}
@@ -78,7 +78,7 @@ longer answer c all digit room =
 
 -- a part of the code is typed, and nothing else has changed that a character put in depends on
 record IsCoding (first e : Editor) (answer : List ℕ) : Type 0 where
-  pub ask : e.ask ≡ Code
+  pub prompt : e.prompt ≡ Code
   pub typing : e.typing ≡ typings.Off
   pub answer_is : e.answer ≡ answer
   pub settled : e.pasted ≡ None
@@ -87,23 +87,23 @@ record IsCoding (first e : Editor) (answer : List ℕ) : Type 0 where
   pub base : e.base ≡ first.base
   pub width : e.width ≡ first.width
 
-on-code : (e : Editor) → e.ask ≡ Code → e.ask ≢ Off
+on-code : (e : Editor) → e.prompt ≡ Code → e.prompt ≢ Off
 on-code e is none = let wrong : Code ≡ Off = sym is ∙ none in cc wrong
 
 type-on : (d : Data) (first e : Editor) (answer : List ℕ) (c : ℕ) → IsCoding first e answer → AreDigits answer → is_code_letter c ≡ true → length answer < 6
     → IsCoding first (after_key d None e (keys.Insert c)) (answer ++ c ∷ [])
 type-on d first e answer c h all digit room =
     let was = cleared e in
-    let ended = after_code d (without_ask was) (coded e.answer) in
+    let ended = after_code d (without_prompt was) (coded e.answer) in
     let typed = with_answer was (lengthened longest_code e.answer c) in
     let is : after_key d None e (keys.Insert c) ≡ as_left (keys.Insert c) (with_answer was (answer ++ c ∷ [])) =
-    asked-key d None e (keys.Insert c) h.settled (on-code e h.ask) refl
-    ∙ ap₂ (λ t a. as_left (keys.Insert c) (after_answer_letter d t a was c)) h.typing h.ask
+    asked-key d None e (keys.Insert c) h.settled (on-code e h.prompt) refl
+    ∙ ap₂ (λ t a. as_left (keys.Insert c) (after_answer_letter d t a was c)) h.typing h.prompt
     ∙ ap (λ b. as_left (keys.Insert c) (if b then ended else (if is_code_letter c then typed else was))) (no-end-by c (c == 0xA) refl digit)
     ∙ ap (λ b. as_left (keys.Insert c) (if b then typed else was)) digit
     ∙ ap (λ a. as_left (keys.Insert c) (with_answer was a)) (ap (λ a. lengthened longest_code a c) h.answer_is ∙ longer answer c all digit room) in
     subst (λ (x : Editor). IsCoding first x (answer ++ c ∷ [])) (sym is)
-    (record { ask = h.ask; typing = refl; answer_is = refl; settled = h.settled; content = h.content; place = h.place; base = h.base; width = h.width })
+    (record { prompt = h.prompt; typing = refl; answer_is = refl; settled = h.settled; content = h.content; place = h.place; base = h.base; width = h.width })
 
 record Reaches (d : Data) (first e : Editor) (answer rest : List ℕ) (more : List Key) : Type 0 where
   pub there : Editor
@@ -128,59 +128,59 @@ put-in-for d first e new bytes content place base width h = record {
   text_is = h.text_is ∙ ap₂ (λ (t : Edited) p. take p t.text ++ bytes ++ drop p t.text) content place;
   place_is = h.place_is ∙ ap (λ (b : Base). place_after d (record e { base = b }) new.content.text (e.place + length bytes)) base
       ∙ ap₂ (λ w p. place_after d (record first { width = w }) new.content.text (p + length bytes)) width place;
-  ask_is = h.ask_is;
+  prompt_is = h.prompt_is;
 }
 
-ended : (d : Data) (first e : Editor) (code : List ℕ) (c : ℕ) (key : Key) → after_key d None e key ≡ as_left key (after_answer_letter d e.typing e.ask (cleared e) 0xA)
+ended : (d : Data) (first e : Editor) (code : List ℕ) (c : ℕ) (key : Key) → after_key d None e key ≡ as_left key (after_answer_letter d e.typing e.prompt (cleared e) 0xA)
     → IsCoding first e code → coded code ≡ Some c → length first.content.text + length (encode_utf8 c) ≤ largest_text → IsPutIn d first (encode_utf8 c) (after_key d None e key)
 ended d first e code c key is h read few =
-    let free = without_ask (cleared e) in
+    let free = without_prompt (cleared e) in
     let bytes = encode_utf8 c in
     let room : length e.content.text + length bytes ≤ largest_text = subst (λ (t : Edited). length t.text + length bytes ≤ largest_text) (sym h.content) few in
     let put = with_typing (with_insertion d free bytes false) (after_insertion (kind_of (d.class c))) in
     let whole : after_key d None e key ≡ as_left key put =
-    is ∙ ap₂ (λ t a. as_left key (after_answer_letter d t a (cleared e) 0xA)) h.typing h.ask
+    is ∙ ap₂ (λ t a. as_left key (after_answer_letter d t a (cleared e) 0xA)) h.typing h.prompt
     ∙ ap (λ a. as_left key (after_code d free (coded a))) h.answer_is ∙ ap (λ x. as_left key (after_code d free x)) read
     ∙ ap (as_left key) (character-in d free c room) in
     subst (IsPutIn d first bytes) (sym whole)
-    (put-in-for d first free (as_left key put) bytes h.content h.place h.base h.width (record { text_is = refl; place_is = refl; ask_is = refl }))
+    (put-in-for d first free (as_left key put) bytes h.content h.place h.base h.width (record { text_is = refl; place_is = refl; prompt_is = refl }))
 
 entered : (d : Data) (first e : Editor) (code : List ℕ) (c : ℕ) (enter : Key) → is_enter enter ≡ true → IsCoding first e code → coded code ≡ Some c
     → length first.content.text + length (encode_utf8 c) ≤ largest_text → IsPutIn d first (encode_utf8 c) (after_key d None e enter)
 entered d first e code c (keys.Insert x) end h read few =
     ended d first e code c (keys.Insert x)
-    (asked-key d None e (keys.Insert x) h.settled (on-code e h.ask) refl
-    ∙ ap (λ y. as_left (keys.Insert x) (after_answer_letter d e.typing e.ask (cleared e) y)) (eqb-true x 0xA end)) h read few
+    (asked-key d None e (keys.Insert x) h.settled (on-code e h.prompt) refl
+    ∙ ap (λ y. as_left (keys.Insert x) (after_answer_letter d e.typing e.prompt (cleared e) y)) (eqb-true x 0xA end)) h read few
 entered d first e code c keys.NewLine end h read few =
-    ended d first e code c keys.NewLine (asked-key d None e keys.NewLine h.settled (on-code e h.ask) refl) h read few
+    ended d first e code c keys.NewLine (asked-key d None e keys.NewLine h.settled (on-code e h.prompt) refl) h read few
 entered d first e code c _ end h read few = absurd (cc end)
 
 -- ---- the law
 
 -- what a letter leaves that asks for a code
 abbrev asked_code : Editor → SearchState → ℕ → Editor
-asked_code e seek letter = as_left (keys.Insert letter) (record (cleared (asked_name e seek)) { ask = Code })
+asked_code e search_state letter = as_left (keys.Insert letter) (record (cleared (asked_name e search_state)) { prompt = Code })
 
 no-name : (letter : ℕ) → asks_code letter ≡ true → named letter ≡ None
-no-name letter asks = elim (or_cases (letter == 0x75) (letter == 0x2B) asks) as (λ _. named letter ≡ None) [
+no-name letter prompts = elim (or_cases (letter == 0x75) (letter == 0x2B) prompts) as (λ _. named letter ≡ None) [
   | inl u ↦ ap named (eqb-true letter 0x75 u)
   | inr plus ↦ ap named (eqb-true letter 0x2B plus)
 ]
 
 begun : (d : Data) (e : Editor) (letter : ℕ) → e.pasted ≡ None → asks_code letter ≡ true
-    → after_keys d None e (keys.Name ∷ keys.Insert letter ∷ []) ≡ asked_code e (after_key d None e keys.Name).seek letter
-begun d e letter settled asks =
-    let seek = (after_key d None e keys.Name).seek in
-    let was = cleared (asked_name e seek) in
-    ap (λ x. after_key d None x (keys.Insert letter)) (name-is d e settled) ∙ any-key d None (asked_name e seek) (keys.Insert letter) settled refl
-    ∙ ap (λ n. as_left (keys.Insert letter) (after_name_letter d was letter n)) (no-name letter asks)
-    ∙ ap (λ b. as_left (keys.Insert letter) (if b then record was { ask = Code } else (if letter == 0xA then without_ask was else was))) asks
+    → after_keys d None e (keys.Name ∷ keys.Insert letter ∷ []) ≡ asked_code e (after_key d None e keys.Name).search_state letter
+begun d e letter settled prompts =
+    let search_state = (after_key d None e keys.Name).search_state in
+    let was = cleared (asked_name e search_state) in
+    ap (λ x. after_key d None x (keys.Insert letter)) (name-is d e settled) ∙ any-key d None (asked_name e search_state) (keys.Insert letter) settled refl
+    ∙ ap (λ n. as_left (keys.Insert letter) (after_name_letter d was letter n)) (no-name letter prompts)
+    ∙ ap (λ b. as_left (keys.Insert letter) (if b then record was { prompt = Code } else (if letter == 0xA then without_prompt was else was))) prompts
 
 pub code-puts-in : CodePutsIn
-code-puts-in d e letter code c enter settled asks read short end few =
-    let seek = (after_key d None e keys.Name).seek in
-    let first : IsCoding e (asked_code e seek letter) [] =
-    record { ask = refl; typing = refl; answer_is = refl; settled = settled; content = refl; place = refl; base = refl; width = refl } in
-    let all = all-typed d e (asked_code e seek letter) [] code (enter ∷ []) first tt (code-digits code c read) (omega (arith, short)) in
-    subst (IsPutIn d e (encode_utf8 c)) (sym (ap (λ x. after_keys d None x (map keys.Insert code ++ enter ∷ [])) (begun d e letter settled asks) ∙ all.keys))
+code-puts-in d e letter code c enter settled prompts read short end few =
+    let search_state = (after_key d None e keys.Name).search_state in
+    let first : IsCoding e (asked_code e search_state letter) [] =
+    record { prompt = refl; typing = refl; answer_is = refl; settled = settled; content = refl; place = refl; base = refl; width = refl } in
+    let all = all-typed d e (asked_code e search_state letter) [] code (enter ∷ []) first tt (code-digits code c read) (omega (arith, short)) in
+    subst (IsPutIn d e (encode_utf8 c)) (sym (ap (λ x. after_keys d None x (map keys.Insert code ++ enter ∷ [])) (begun d e letter settled prompts) ∙ all.keys))
     (entered d e all.there code c enter end all.coding read few)

@@ -24,7 +24,7 @@ is-move PageBack is = (true, Up, refl)
 is-move PageOn is = (true, Down, refl)
 is-move _ is = absurd (cc is)
 
-module _ (d : Data) (e : Editor) (off : e.seek ≡ Off) (settled : e.pasted ≡ None) (column : ℕ) where
+module _ (d : Data) (e : Editor) (off : e.search_state ≡ Off) (settled : e.pasted ≡ None) (column : ℕ) where
   keeps : (keys : List Key) (m : Marks) (place : ℕ) → All (λ key. keeps_column key ≡ true) keys
       → (after_keys d None (kept-at d e off settled false column m place) keys).goal ≡ Some column
   keeps [] m place all = refl

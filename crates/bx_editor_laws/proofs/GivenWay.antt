@@ -21,7 +21,7 @@ use Rattle.bx_editor.specs.declared.message.Message.TheVariants.{NothingToPut, T
 use Rattle.bx_editor.specs.declared.cursor.Soft.{Soft}
 use Rattle.bx_editor.specs.declared.cursor.Soft.TheVariants.{Off, Fresh, Old}
 use Rattle.bx_editor.specs.Editor.{Editor, cleared, place_after, with_insertion, with_removal}
-use Rattle.bx_editor.specs.Effects.{Effect, Types, BeginsLine, Puts, Removes, RemovesWord, Steps, StepsRun, Goes, GoesByRows, Marks, Selects}
+use Rattle.bx_editor.specs.Effects.{Effect, Types, BeginsLine, Puts, Removes, RemovesWord, Steps, StepsGroup, Goes, GoesByRows, Marks, Selects}
 use Rattle.bx_editor.specs.Effects.{Unmarks, Copies, Cuts, Seeks, SeeksNext, Saves, Quits, Turns, Helps, AsksLine, AsksName, Tells, Rests, Before, before, by}
 use Rattle.bx_editor.specs.Erasing.{after_removing, or_selection, removed_on}
 use Rattle.bx_editor.specs.Keys.{after_any, after_key, as_left, effect_of}
@@ -123,7 +123,7 @@ removed d was e Puts selected is = absurd (cc is)
 removed d was e (Removes how start stop) selected is = or-removed d e (removed_on d was.typing how e start stop) selected
 removed d was e (RemovesWord start stop) selected is = or-removed d e (after_removing d e start stop false) selected
 removed d was e (Steps way) selected is = absurd (cc is)
-removed d was e (StepsRun way) selected is = absurd (cc is)
+removed d was e (StepsGroup way) selected is = absurd (cc is)
 removed d was e (Goes place) selected is = absurd (cc is)
 removed d was e (GoesByRows way n) selected is = absurd (cc is)
 removed d was e Marks selected is = absurd (cc is)
@@ -131,7 +131,7 @@ removed d was e Selects selected is = absurd (cc is)
 removed d was e Unmarks selected is = absurd (cc is)
 removed d was e Copies selected is = absurd (cc is)
 removed d was e Cuts selected is = absurd (cc is)
-removed d was e (Seeks aim) selected is = absurd (cc is)
+removed d was e (Seeks purpose) selected is = absurd (cc is)
 removed d was e SeeksNext selected is = absurd (cc is)
 removed d was e Saves selected is = absurd (cc is)
 removed d was e Quits selected is = absurd (cc is)

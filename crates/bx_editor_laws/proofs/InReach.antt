@@ -19,17 +19,17 @@ use Rattle.bx_editor.specs.declared.undo_groups.typing.Removal.{Removal}
 use Rattle.bx_editor.specs.declared.undo_groups.typing.Typing.{Typing}
 use Rattle.bx_ucd.specs.Data.{Data}
 use Rattle.bx_editor.specs.declared.questions.answers.Prompt.{Prompt}
-use Rattle.bx_editor.specs.declared.questions.answers.Prompt.TheVariants as asks
-use Rattle.bx_editor.specs.declared.search_state.SearchPurpose.TheVariants as aims
+use Rattle.bx_editor.specs.declared.questions.answers.Prompt.TheVariants as prompts
+use Rattle.bx_editor.specs.declared.search_state.SearchPurpose.TheVariants as purposes
 use Rattle.bx_editor.specs.declared.message.Message.TheVariants as messages
 use Rattle.bx_editor.specs.declared.search_state.SearchState.{SearchState}
-use Rattle.bx_editor.specs.declared.search_state.SearchState.TheVariants as seeks
+use Rattle.bx_editor.specs.declared.search_state.SearchState.TheVariants as search_states
 use Rattle.bx_editor.specs.declared.cursor.Soft.{Soft}
 use Rattle.bx_editor.specs.declared.cursor.Soft.TheVariants as softness
-use Rattle.bx_editor.specs.Asking.{without_ask, with_wrap}
+use Rattle.bx_editor.specs.Asking.{without_prompt, with_wrap}
 use Rattle.bx_editor.specs.Editor.{Editor, after_redo, after_save, after_step, after_undo, cleared, stored_behind, with_exchange}
-use Rattle.bx_editor.specs.Editor.{with_insertion, with_removal, by_run, run_length}
-use Rattle.bx_editor.specs.Effects.{Effect, Types, BeginsLine, Puts, Removes, RemovesWord, Steps, StepsRun, Goes, GoesByRows, Marks}
+use Rattle.bx_editor.specs.Editor.{with_insertion, with_removal, by_group, group_length}
+use Rattle.bx_editor.specs.Effects.{Effect, Types, BeginsLine, Puts, Removes, RemovesWord, Steps, StepsGroup, Goes, GoesByRows, Marks}
 use Rattle.bx_editor.specs.Effects.{Selects}
 use Rattle.bx_editor.specs.Effects.{Unmarks, Copies, Cuts, Seeks, SeeksNext, Saves, Quits, Turns, Helps, AsksLine, AsksName, Tells, Rests}
 use Rattle.bx_editor.specs.Effects.{Before, before, by}
@@ -200,7 +200,7 @@ module _ (n : ℕ) (d : Data) where
   step steps.Undo e h = undo e e.content.past h
   step steps.Redo e h = redo e e.content.future h
 
-  run-by : (way : HistoryStep) (e : Editor) (change : Option Change) → InReach e → InReach (by_run way e change)
+  run-by : (way : HistoryStep) (e : Editor) (change : Option Change) → InReach e → InReach (by_group way e change)
   run-by way e None h = h
   run-by way e (Some change) h = h
 
@@ -232,7 +232,7 @@ module _ (n : ℕ) (d : Data) where
     effect e (Removes how start stop) h p s = (erasing was.typing how e start stop (p refl)).0
     effect e (RemovesWord start stop) h p s = (erasing-word e start stop (p refl)).0
     effect e (Steps way) h p s = step way e h
-    effect e (StepsRun way) h p s = run-by way e (next_changes way (run_length way e) e.content) h
+    effect e (StepsGroup way) h p s = run-by way e (next_changes way (group_length way e) e.content) h
     effect e (Goes place) h p s = h
     effect e (GoesByRows way count) h p s = h
     effect e Marks h p s =
@@ -242,11 +242,11 @@ module _ (n : ℕ) (d : Data) where
     effect e Unmarks h p s = h
     effect e Copies h p s = copying InReach e h h h
     effect e Cuts h p s = (cut e (p refl)).0
-    effect e (Seeks aim) h p s = h
+    effect e (Seeks purpose) h p s = h
     effect e SeeksNext h p s =
         let free = unselected e in
-        either InReach (length (sought d free) == 0) (after_beginning aims.Find free)
-        (search_from d (next_or_start d free) (record free { seek = seeks.Off; aim = aims.Find })) h h
+        either InReach (length (sought d free) == 0) (after_beginning purposes.Find free)
+        (search_from d (next_or_start d free) (record free { search_state = search_states.Off; purpose = purposes.Find })) h h
     effect e Saves h p s = save e fault (s refl) h
     effect e Quits h p s =
         either InReach (not e.changed || was.again) (record e { quit_before = true; ended = true })
@@ -267,7 +267,7 @@ module _ (n : ℕ) (d : Data) where
     placed = λ e place h. h;
     typed = λ e typing h. h;
     begun = λ e h. h;
-    sought = λ e seek aim origin query other at count h. h;
+    sought = λ e search_state purpose origin query other at count h. h;
   }
 
   questions : IsKept d InPast
@@ -277,7 +277,7 @@ module _ (n : ℕ) (d : Data) where
     told = λ e message h. h;
     placed = λ e place h. h;
     typed = λ e typing h. h;
-    asked = λ e ask answer h. h;
+    asked = λ e prompt answer h. h;
   }
 
   module _ (fault : Option StoreFault) (was : Before) (e : Editor) (key : Key) (h : InReach e) (p : may_edit key ≡ true → InPast e)
@@ -290,9 +290,9 @@ module _ (n : ℕ) (d : Data) where
         let x = without_search e in
         effect fault was x (effect_of d x key) h (λ is. p (edit-key d x key is)) (λ is. s (sym (saves-key d x key) ∙ is))
 
-    unasked : InReach (after_pressing d fault was (without_ask e) key)
+    unasked : InReach (after_pressing d fault was (without_prompt e) key)
     unasked =
-        let x = without_ask e in
+        let x = without_prompt e in
         effect fault was x (effect_of d x key) h (λ is. p (edit-key d x key is)) (λ is. s (sym (saves-key d x key) ∙ is))
 
     query : (one : Answer) → (is_typed one ≡ true → InPast e) → InReach (answered d fault was e key one)
@@ -326,8 +326,8 @@ module _ (n : ℕ) (d : Data) where
     shown Ends q = freed
 
     question : (one : Answer) → (is_typed one ≡ true → InPast e) → InReach (answered_question d fault was e key one)
-    question (Letter c) q = (letter-keeps d InPast questions was.typing e.ask e c (q refl)).0
-    question Shortens q = (shorter-keeps d InPast questions e.ask e (q refl)).0
+    question (Letter c) q = (letter-keeps d InPast questions was.typing e.prompt e c (q refl)).0
+    question Shortens q = (shorter-keeps d InPast questions e.prompt e (q refl)).0
     question GoesBack q = h
     question Stays q = h
     question _ q = unasked
@@ -335,16 +335,16 @@ module _ (n : ℕ) (d : Data) where
     answering : is_typed (answer_of key) ≡ true → InPast e
     answering is = p (typed-key key is)
 
-    any : (ask : Prompt) (seek : SearchState) → InReach (after_any d fault was ask seek e key)
-    any asks.Off seeks.Off = pressed
-    any asks.Off seeks.Begun = query (answer_of key) answering
-    any asks.Off seeks.Typed = query (answer_of key) answering
-    any asks.Off seeks.WithBegun = replacement (answer_of key) answering
-    any asks.Off seeks.WithTyped = replacement (answer_of key) answering
-    any asks.Off seeks.Replacing = shown (answer_of key) answering
-    any asks.Line seek = question (answer_of key) answering
-    any asks.Name seek = question (answer_of key) answering
-    any asks.Code seek = question (answer_of key) answering
+    any : (prompt : Prompt) (search_state : SearchState) → InReach (after_any d fault was prompt search_state e key)
+    any prompts.Off search_states.Off = pressed
+    any prompts.Off search_states.Begun = query (answer_of key) answering
+    any prompts.Off search_states.Typed = query (answer_of key) answering
+    any prompts.Off search_states.WithBegun = replacement (answer_of key) answering
+    any prompts.Off search_states.WithTyped = replacement (answer_of key) answering
+    any prompts.Off search_states.Replacing = shown (answer_of key) answering
+    any prompts.Line search_state = question (answer_of key) answering
+    any prompts.Name search_state = question (answer_of key) answering
+    any prompts.Code search_state = question (answer_of key) answering
 
   -- ---- in a paste
 
@@ -356,16 +356,16 @@ module _ (n : ℕ) (d : Data) where
   in-paste : (fault : Option StoreFault) (e : Editor) (key : Key) → InPast e → (is_save key ≡ true → is_none fault ≡ false)
       → InReach (after_in_paste d fault e key)
   in-paste fault e (Insert c) h s = h.0
-  in-paste fault e Repaint h s = any fault (before e) (cleared e) Repaint h.0 (λ is. h) s e.ask e.seek
+  in-paste fault e Repaint h s = any fault (before e) (cleared e) Repaint h.0 (λ is. h) s e.prompt e.search_state
   in-paste fault e key h s =
       let x = paste_ended d e in
       let k = ended e h in
-      any fault (before x) (cleared x) key k.0 (λ is. k) s x.ask x.seek
+      any fault (before x) (cleared x) key k.0 (λ is. k) s x.prompt x.search_state
 
   press : (fault : Option StoreFault) (e : Editor) (key : Key) (pasted : Option (List ℕ)) → InPast e
       → (is_save key ≡ true → is_none fault ≡ false)
       → InReach (after_press d fault pasted e key)
-  press fault e key None h s = any fault (before e) (cleared e) key h.0 (λ is. h) s e.ask e.seek
+  press fault e key None h s = any fault (before e) (cleared e) key h.0 (λ is. h) s e.prompt e.search_state
   press fault e key (Some list) h s = in-paste fault e key h s
 
   past-starts : IsKeptPasting InPast
@@ -392,7 +392,7 @@ module _ (n : ℕ) (d : Data) where
       let over : InReach (paste_ended d e) = subst InReach (sym (none-ended d e settled)) h in
       let pressed-is : (x : Key) → may_edit x ≡ false → stores (x, fault) ≡ false → InReach (after_press d fault None e x) =
       λ x edit no.
-      any fault (before e) (cleared e) x h (λ is. absurd (cc (sym edit ∙ is))) (fails (is_save x) (is_none fault) no) e.ask e.seek in
+      any fault (before e) (cleared e) x h (λ is. absurd (cc (sym edit ∙ is))) (fails (is_save x) (is_none fault) no) e.prompt e.search_state in
       each-key d fault e (λ x new. may_edit x ≡ false → stores (x, fault) ≡ false → InReach new)
       (λ height width edit no. h) (λ notice edit no. h) (λ edit no. start-keeps InReach reach-starts e h, λ edit no. over)
       (λ x small edit no. subst (λ pasted. InReach (after_press d fault pasted e x)) (sym settled) (pressed-is x edit no)) key none.0 s

@@ -13,7 +13,7 @@ use Rattle.bx_document.proofs.PlacesKept.{wrapped_is}
 use Rattle.bx_editor.specs.declared.message.Message.{Message}
 use Rattle.bx_editor.specs.declared.message.Message.TheVariants.{MoreThanOneLine, TextFull}
 use Rattle.bx_editor.specs.declared.search_state.SearchState.{SearchState}
-use Rattle.bx_editor.specs.Asking.{after_name_letter, after_named, with_character, without_ask, after_wrapping, cursor_end, spans_lines}
+use Rattle.bx_editor.specs.Asking.{after_name_letter, after_named, with_character, without_prompt, after_wrapping, cursor_end, spans_lines}
 use Rattle.bx_editor.specs.Asking.{with_wrap}
 use Rattle.bx_editor_laws.specs.AskingLaws.{IsPutIn, IsRefusedWith, IsWrapped, LetterPutsIn, LetterWraps, WrapsRegion, wrapped_region}
 use Rattle.bx_editor.specs.Editor.{Editor, cleared, place_after, with_insertion, with_typing}
@@ -28,14 +28,14 @@ use Rattle.bx_editor_laws.proofs.AskingKeys.{asked_name, name-is}
 
 -- what the letter finds
 abbrev asked : Editor → SearchState → Editor
-asked e seek = without_ask (cleared (asked_name e seek))
+asked e search_state = without_prompt (cleared (asked_name e search_state))
 
 letter-is : (d : Data) (e : Editor) (letter c : ℕ) → e.pasted ≡ None → named letter ≡ Some c
-    → after_keys d None e (Name ∷ Insert letter ∷ []) ≡ as_left (Insert letter) (after_named d (asked e (after_key d None e Name).seek) c (closing letter))
+    → after_keys d None e (Name ∷ Insert letter ∷ []) ≡ as_left (Insert letter) (after_named d (asked e (after_key d None e Name).search_state) c (closing letter))
 letter-is d e letter c settled is =
-    let seek = (after_key d None e Name).seek in
-    ap (λ x. after_key d None x (Insert letter)) (name-is d e settled) ∙ any-key d None (asked_name e seek) (Insert letter) settled refl
-    ∙ ap (λ n. as_left (Insert letter) (after_name_letter d (cleared (asked_name e seek)) letter n)) is
+    let search_state = (after_key d None e Name).search_state in
+    ap (λ x. after_key d None x (Insert letter)) (name-is d e settled) ∙ any-key d None (asked_name e search_state) (Insert letter) settled refl
+    ∙ ap (λ n. as_left (Insert letter) (after_name_letter d (cleared (asked_name e search_state)) letter n)) is
 
 -- ---- a character is put in
 
@@ -60,10 +60,10 @@ character-in d e c few =
 
 pub letter-puts-in : LetterPutsIn
 letter-puts-in d e letter c settled is alone few =
-    let seek = (after_key d None e Name).seek in
-    let at = asked e seek in
+    let search_state = (after_key d None e Name).search_state in
+    let at = asked e search_state in
     let whole = letter-is d e letter c settled is ∙ ap (as_left (Insert letter)) (character-alone d at c (closing letter) alone ∙ character-in d at c few) in
-    subst (IsPutIn d e (encode_utf8 c)) (sym whole) (record { text_is = refl; place_is = refl; ask_is = refl })
+    subst (IsPutIn d e (encode_utf8 c)) (sym whole) (record { text_is = refl; place_is = refl; prompt_is = refl })
 
 -- ---- a region is wrapped
 
@@ -98,7 +98,7 @@ text-is e opener closer part =
 module _ (d : Data) (e : Editor) (letter opener closer : ℕ) (settled : e.pasted ≡ None) (is : named letter ≡ Some opener) (ends : closing letter ≡ Some closer)
     (part : IsPart e (region e)) where
   abbrev at : Editor
-  at = asked e (after_key d None e Name).seek
+  at = asked e (after_key d None e Name).search_state
 
   abbrev wrap : Editor
   wrap = with_wrap d at (encode_utf8 opener) (encode_utf8 closer)
@@ -122,7 +122,7 @@ module _ (d : Data) (e : Editor) (letter opener closer : ℕ) (settled : e.paste
 
   refused-with : (message : Message) → IsRefusedWith message e (as_left (Insert letter) (record at { message = Some message }))
   refused-with message =
-      record { untouched = record { content_is = refl; place_is = refl; held_is = refl; mark_is = λ h. refl }; message_is = refl; ask_is = refl }
+      record { untouched = record { content_is = refl; place_is = refl; held_is = refl; mark_is = λ h. refl }; message_is = refl; prompt_is = refl }
 
   wrapped-in : IsWrapped d e opener closer (as_left (Insert letter) wrap)
   wrapped-in =
@@ -131,7 +131,7 @@ module _ (d : Data) (e : Editor) (letter opener closer : ℕ) (settled : e.paste
         text_is = same;
         place_is = ap (λ t. place_after d e t (wrapped_end (cursor_end e) (region e).0 (region e).1 (encode_utf8 opener))) same;
         mark_is = refl;
-        ask_is = refl;
+        prompt_is = refl;
       }
 
   wraps : WrapsRegion d e opener closer (after_keys d None e (Name ∷ Insert letter ∷ []))

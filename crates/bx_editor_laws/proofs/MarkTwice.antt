@@ -5,7 +5,7 @@ use Rattle.std.proofs.lemmas.Bool.Decides.{nat_tests}
 use Rattle.bx_keys.specs.declared.key.Key.TheVariants.{Mark, TextStart, TextEnd}
 use Rattle.bx_ucd.specs.Data.{Data}
 use Rattle.bx_editor.specs.declared.questions.answers.Prompt.{Prompt}
-use Rattle.bx_editor.specs.declared.questions.answers.Prompt.TheVariants as asks
+use Rattle.bx_editor.specs.declared.questions.answers.Prompt.TheVariants as prompts
 use Rattle.bx_editor.specs.declared.message.Message.{Message}
 use Rattle.bx_editor.specs.declared.message.Message.TheVariants.{MarkOff, MarkSet}
 use Rattle.bx_editor.specs.declared.search_state.SearchState.{SearchState}
@@ -33,25 +33,25 @@ mark-by there e =
 
 -- nothing is asked, and the search is in this state
 abbrev ended : SearchState → Editor → Editor
-ended seek e = record e { ask = asks.Off; seek = seek }
+ended search_state e = record e { prompt = prompts.Off; search_state = search_state }
 
-mark-ended : (there : Bool) (e : Editor) (seek : SearchState) → mark-by there (ended seek e) ≡ ended seek (mark-by there e)
-mark-ended true e seek = refl
-mark-ended false e seek = refl
+mark-ended : (there : Bool) (e : Editor) (search_state : SearchState) → mark-by there (ended search_state e) ≡ ended search_state (mark-by there e)
+mark-ended true e search_state = refl
+mark-ended false e search_state = refl
 
-search-ended : (there : Bool) (e : Editor) → e.ask ≡ asks.Off → without_search (mark-by there e) ≡ ended Off (mark-by there e)
-search-ended true e unasked = ap (λ a. record (mark-by true e) { ask = a; seek = Off }) unasked
-search-ended false e unasked = ap (λ a. record (mark-by false e) { ask = a; seek = Off }) unasked
+search-ended : (there : Bool) (e : Editor) → e.prompt ≡ prompts.Off → without_search (mark-by there e) ≡ ended Off (mark-by there e)
+search-ended true e unasked = ap (λ a. record (mark-by true e) { prompt = a; search_state = Off }) unasked
+search-ended false e unasked = ap (λ a. record (mark-by false e) { prompt = a; search_state = Off }) unasked
 
 -- where the search ends first
-free-ended : (there : Bool) (e : Editor) → e.ask ≡ asks.Off → mark-by there (without_search e) ≡ ended Off (mark-by there e)
-free-ended there e unasked = ap (λ a. mark-by there (record e { ask = a; seek = Off })) unasked ∙ mark-ended there e Off
+free-ended : (there : Bool) (e : Editor) → e.prompt ≡ prompts.Off → mark-by there (without_search e) ≡ ended Off (mark-by there e)
+free-ended there e unasked = ap (λ a. mark-by there (record e { prompt = a; search_state = Off })) unasked ∙ mark-ended there e Off
 
-mark-free : (d : Data) (was : Before) (seek : SearchState) (e : Editor) → e.ask ≡ asks.Off → e.seek ≡ seek
-    → after_any d None was asks.Off seek e Mark ≡ ended Off (after_mark e)
+mark-free : (d : Data) (was : Before) (search_state : SearchState) (e : Editor) → e.prompt ≡ prompts.Off → e.search_state ≡ search_state
+    → after_any d None was prompts.Off search_state e Mark ≡ ended Off (after_mark e)
 mark-free d was Off e unasked unsought =
     let there = is_at_mark e.mark e.place in
-    ap₂ (λ a s. mark-by there (record e { ask = a; seek = s })) unasked unsought ∙ mark-ended there e Off
+    ap₂ (λ a s. mark-by there (record e { prompt = a; search_state = s })) unasked unsought ∙ mark-ended there e Off
 mark-free d was Begun e unasked on = search-ended (is_at_mark e.mark e.place) e unasked
 mark-free d was Typed e unasked on = search-ended (is_at_mark e.mark e.place) e unasked
 mark-free d was WithBegun e unasked on = free-ended (is_at_mark e.mark e.place) e unasked
@@ -59,29 +59,29 @@ mark-free d was WithTyped e unasked on = free-ended (is_at_mark e.mark e.place) 
 mark-free d was Replacing e unasked on = free-ended (is_at_mark e.mark e.place) e unasked
 
 -- it ends a question alone, or a search
-mark-any : (d : Data) (was : Before) (ask : Prompt) (seek : SearchState) (e : Editor) → e.ask ≡ ask → e.seek ≡ seek
-    → (s : SearchState) × (after_any d None was ask seek e Mark ≡ ended s (after_mark e))
-mark-any d was asks.Off seek e unasked is = (Off, mark-free d was seek e unasked is)
-mark-any d was asks.Line seek e asked is = (e.seek, mark-ended (is_at_mark e.mark e.place) e e.seek)
-mark-any d was asks.Name seek e asked is = (e.seek, mark-ended (is_at_mark e.mark e.place) e e.seek)
-mark-any d was asks.Code seek e asked is = (e.seek, mark-ended (is_at_mark e.mark e.place) e e.seek)
+mark-any : (d : Data) (was : Before) (prompt : Prompt) (search_state : SearchState) (e : Editor) → e.prompt ≡ prompt → e.search_state ≡ search_state
+    → (s : SearchState) × (after_any d None was prompt search_state e Mark ≡ ended s (after_mark e))
+mark-any d was prompts.Off search_state e unasked is = (Off, mark-free d was search_state e unasked is)
+mark-any d was prompts.Line search_state e asked is = (e.search_state, mark-ended (is_at_mark e.mark e.place) e e.search_state)
+mark-any d was prompts.Name search_state e asked is = (e.search_state, mark-ended (is_at_mark e.mark e.place) e e.search_state)
+mark-any d was prompts.Code search_state e asked is = (e.search_state, mark-ended (is_at_mark e.mark e.place) e e.search_state)
 
 mark-once : (d : Data) (e : Editor) → e.pasted ≡ None → (s : SearchState) × (after_key d None e Mark ≡ behind (ended s (after_mark (cleared e))))
 mark-once d e settled =
-    let one = mark-any d (before e) e.ask e.seek (cleared e) refl refl in (one.0, any-key d None e Mark settled refl ∙ ap behind one.1)
+    let one = mark-any d (before e) e.prompt e.search_state (cleared e) refl refl in (one.0, any-key d None e Mark settled refl ∙ ap behind one.1)
 
-mark-again : (d : Data) (e : Editor) → e.pasted ≡ None → e.ask ≡ asks.Off → after_key d None e Mark ≡ behind (ended Off (after_mark (cleared e)))
+mark-again : (d : Data) (e : Editor) → e.pasted ≡ None → e.prompt ≡ prompts.Off → after_key d None e Mark ≡ behind (ended Off (after_mark (cleared e)))
 mark-again d e settled unasked =
-    any-key d None e Mark settled refl ∙ ap (λ a. behind (after_any d None (before e) a e.seek (cleared e) Mark)) unasked
-    ∙ ap behind (mark-free d (before e) e.seek (cleared e) unasked refl)
+    any-key d None e Mark settled refl ∙ ap (λ a. behind (after_any d None (before e) a e.search_state (cleared e) Mark)) unasked
+    ∙ ap behind (mark-free d (before e) e.search_state (cleared e) unasked refl)
 
 -- once the message is cleared, a question and a selection are over and no column is kept, with a mark and a message
 abbrev marked : Editor → SearchState → Option ℕ → Option Message → Editor
-marked e seek mark message = record e {
+marked e search_state mark message = record e {
   mark = mark;
   soft = softness.Off;
-  seek = seek;
-  ask = asks.Off;
+  search_state = search_state;
+  prompt = prompts.Off;
   typing = typings.Off;
   message = message;
   quit_before = false;
@@ -92,15 +92,15 @@ at-itself : (place : ℕ) → (place == place) ≡ true
 at-itself place = grind (arith, nat_tests)
 
 abbrev left : Editor → SearchState → Bool → Editor
-left e seek there = behind (ended seek (mark-by there (cleared e)))
+left e search_state there = behind (ended search_state (mark-by there (cleared e)))
 
-mark-there : (e : Editor) (seek : SearchState) → is_at_mark e.mark e.place ≡ true
-    → behind (ended seek (after_mark (cleared e))) ≡ marked e seek None (Some MarkOff)
-mark-there e seek is = ap (left e seek) is
+mark-there : (e : Editor) (search_state : SearchState) → is_at_mark e.mark e.place ≡ true
+    → behind (ended search_state (after_mark (cleared e))) ≡ marked e search_state None (Some MarkOff)
+mark-there e search_state is = ap (left e search_state) is
 
-mark-not-there : (e : Editor) (seek : SearchState) → is_at_mark e.mark e.place ≡ false
-    → behind (ended seek (after_mark (cleared e))) ≡ marked e seek (Some e.place) (Some MarkSet)
-mark-not-there e seek is = ap (left e seek) is
+mark-not-there : (e : Editor) (search_state : SearchState) → is_at_mark e.mark e.place ≡ false
+    → behind (ended search_state (after_mark (cleared e))) ≡ marked e search_state (Some e.place) (Some MarkSet)
+mark-not-there e search_state is = ap (left e search_state) is
 
 twice-there : (d : Data) (e : Editor) → e.pasted ≡ None → is_at_mark e.mark e.place ≡ true
     → after_keys d None e (Mark ∷ Mark ∷ []) ≡ marked e Off (Some e.place) (Some MarkSet)
@@ -138,37 +138,37 @@ mark-twice-is-nothing d e settled =
 
 -- ---- the text's ends
 
-end-free : (d : Data) (was : Before) (seek : SearchState) (e : Editor) → e.ask ≡ asks.Off → e.seek ≡ seek
-    → after_any d None was asks.Off seek e TextEnd ≡ ended Off (with_place (unselected e) (length e.content.text))
-end-free d was Off e unasked unsought = ap₂ (λ a s. record (with_place (unselected e) (length e.content.text)) { ask = a; seek = s }) unasked unsought
-end-free d was Begun e unasked on = ap (λ a. record (with_place (unselected e) (length e.content.text)) { ask = a; seek = Off }) unasked
-end-free d was Typed e unasked on = ap (λ a. record (with_place (unselected e) (length e.content.text)) { ask = a; seek = Off }) unasked
-end-free d was WithBegun e unasked on = ap (λ a. record (with_place (unselected e) (length e.content.text)) { ask = a; seek = Off }) unasked
-end-free d was WithTyped e unasked on = ap (λ a. record (with_place (unselected e) (length e.content.text)) { ask = a; seek = Off }) unasked
-end-free d was Replacing e unasked on = ap (λ a. record (with_place (unselected e) (length e.content.text)) { ask = a; seek = Off }) unasked
+end-free : (d : Data) (was : Before) (search_state : SearchState) (e : Editor) → e.prompt ≡ prompts.Off → e.search_state ≡ search_state
+    → after_any d None was prompts.Off search_state e TextEnd ≡ ended Off (with_place (unselected e) (length e.content.text))
+end-free d was Off e unasked unsought = ap₂ (λ a s. record (with_place (unselected e) (length e.content.text)) { prompt = a; search_state = s }) unasked unsought
+end-free d was Begun e unasked on = ap (λ a. record (with_place (unselected e) (length e.content.text)) { prompt = a; search_state = Off }) unasked
+end-free d was Typed e unasked on = ap (λ a. record (with_place (unselected e) (length e.content.text)) { prompt = a; search_state = Off }) unasked
+end-free d was WithBegun e unasked on = ap (λ a. record (with_place (unselected e) (length e.content.text)) { prompt = a; search_state = Off }) unasked
+end-free d was WithTyped e unasked on = ap (λ a. record (with_place (unselected e) (length e.content.text)) { prompt = a; search_state = Off }) unasked
+end-free d was Replacing e unasked on = ap (λ a. record (with_place (unselected e) (length e.content.text)) { prompt = a; search_state = Off }) unasked
 
-end-any : (d : Data) (was : Before) (ask : Prompt) (seek : SearchState) (e : Editor) → e.ask ≡ ask → e.seek ≡ seek
-    → (s : SearchState) × (after_any d None was ask seek e TextEnd ≡ ended s (with_place (unselected e) (length e.content.text)))
-end-any d was asks.Off seek e unasked is = (Off, end-free d was seek e unasked is)
-end-any d was asks.Line seek e asked is = (e.seek, refl)
-end-any d was asks.Name seek e asked is = (e.seek, refl)
-end-any d was asks.Code seek e asked is = (e.seek, refl)
+end-any : (d : Data) (was : Before) (prompt : Prompt) (search_state : SearchState) (e : Editor) → e.prompt ≡ prompt → e.search_state ≡ search_state
+    → (s : SearchState) × (after_any d None was prompt search_state e TextEnd ≡ ended s (with_place (unselected e) (length e.content.text)))
+end-any d was prompts.Off search_state e unasked is = (Off, end-free d was search_state e unasked is)
+end-any d was prompts.Line search_state e asked is = (e.search_state, refl)
+end-any d was prompts.Name search_state e asked is = (e.search_state, refl)
+end-any d was prompts.Code search_state e asked is = (e.search_state, refl)
 
-start-free : (d : Data) (was : Before) (seek : SearchState) (e : Editor) → e.ask ≡ asks.Off → e.seek ≡ seek
-    → after_any d None was asks.Off seek e TextStart ≡ ended Off (with_place (unselected e) 0)
-start-free d was Off e unasked unsought = ap₂ (λ a s. record (with_place (unselected e) 0) { ask = a; seek = s }) unasked unsought
-start-free d was Begun e unasked on = ap (λ a. record (with_place (unselected e) 0) { ask = a; seek = Off }) unasked
-start-free d was Typed e unasked on = ap (λ a. record (with_place (unselected e) 0) { ask = a; seek = Off }) unasked
-start-free d was WithBegun e unasked on = ap (λ a. record (with_place (unselected e) 0) { ask = a; seek = Off }) unasked
-start-free d was WithTyped e unasked on = ap (λ a. record (with_place (unselected e) 0) { ask = a; seek = Off }) unasked
-start-free d was Replacing e unasked on = ap (λ a. record (with_place (unselected e) 0) { ask = a; seek = Off }) unasked
+start-free : (d : Data) (was : Before) (search_state : SearchState) (e : Editor) → e.prompt ≡ prompts.Off → e.search_state ≡ search_state
+    → after_any d None was prompts.Off search_state e TextStart ≡ ended Off (with_place (unselected e) 0)
+start-free d was Off e unasked unsought = ap₂ (λ a s. record (with_place (unselected e) 0) { prompt = a; search_state = s }) unasked unsought
+start-free d was Begun e unasked on = ap (λ a. record (with_place (unselected e) 0) { prompt = a; search_state = Off }) unasked
+start-free d was Typed e unasked on = ap (λ a. record (with_place (unselected e) 0) { prompt = a; search_state = Off }) unasked
+start-free d was WithBegun e unasked on = ap (λ a. record (with_place (unselected e) 0) { prompt = a; search_state = Off }) unasked
+start-free d was WithTyped e unasked on = ap (λ a. record (with_place (unselected e) 0) { prompt = a; search_state = Off }) unasked
+start-free d was Replacing e unasked on = ap (λ a. record (with_place (unselected e) 0) { prompt = a; search_state = Off }) unasked
 
-start-any : (d : Data) (was : Before) (ask : Prompt) (seek : SearchState) (e : Editor) → e.ask ≡ ask → e.seek ≡ seek
-    → (s : SearchState) × (after_any d None was ask seek e TextStart ≡ ended s (with_place (unselected e) 0))
-start-any d was asks.Off seek e unasked is = (Off, start-free d was seek e unasked is)
-start-any d was asks.Line seek e asked is = (e.seek, refl)
-start-any d was asks.Name seek e asked is = (e.seek, refl)
-start-any d was asks.Code seek e asked is = (e.seek, refl)
+start-any : (d : Data) (was : Before) (prompt : Prompt) (search_state : SearchState) (e : Editor) → e.prompt ≡ prompt → e.search_state ≡ search_state
+    → (s : SearchState) × (after_any d None was prompt search_state e TextStart ≡ ended s (with_place (unselected e) 0))
+start-any d was prompts.Off search_state e unasked is = (Off, start-free d was search_state e unasked is)
+start-any d was prompts.Line search_state e asked is = (e.search_state, refl)
+start-any d was prompts.Name search_state e asked is = (e.search_state, refl)
+start-any d was prompts.Code search_state e asked is = (e.search_state, refl)
 
 -- two moves leave no mark of a selection
 no-mark : (soft : Soft) (mark : Option ℕ) → mark_left (aged (soft_left soft)) (mark_left soft mark) ≡ hard_mark soft mark
@@ -186,8 +186,8 @@ at place e mark soft = record e {
   place = place;
   mark = mark;
   soft = soft;
-  seek = Off;
-  ask = asks.Off;
+  search_state = Off;
+  prompt = prompts.Off;
   typing = typings.Off;
   message = None;
   quit_before = false;
@@ -199,8 +199,8 @@ goes-to-both-ends d e settled =
     let was = cleared e in
     let left : (place : ℕ) → at place e (mark_left (aged (soft_left e.soft)) (mark_left e.soft e.mark)) (aged (soft_left (aged (soft_left e.soft)))) ≡ only_at place e =
     λ place. ap₂ (at place e) (no-mark e.soft e.mark) (no-selection e.soft) in
-    let end = end-any d (before e) e.ask e.seek was refl refl in
-    let start = start-any d (before e) e.ask e.seek was refl refl in
+    let end = end-any d (before e) e.prompt e.search_state was refl refl in
+    let start = start-any d (before e) e.prompt e.search_state was refl refl in
     let at-end = behind (ended end.0 (with_place (unselected was) (length e.content.text))) in
     let at-start = behind (ended start.0 (with_place (unselected was) 0)) in
     record {

@@ -11,7 +11,7 @@ use Rattle.bx_keys.specs.declared.key.Key.TheVariants.{Find, Insert, NewLine, Re
 use Rattle.bx_text.specs.Edits.{fits, splice}
 use Rattle.bx_editor.specs.declared.undo_groups.typing.Typing.{Typing}
 use Rattle.bx_ucd.specs.Data.{Data}
-use Rattle.bx_editor.specs.declared.questions.answers.Prompt.TheVariants as asks
+use Rattle.bx_editor.specs.declared.questions.answers.Prompt.TheVariants as prompts
 use Rattle.bx_find_laws.specs.Laws.{AreSpans}
 use Rattle.bx_find.specs.Nearest.{IsFirst, MatchesAt}
 use Rattle.bx_find.specs.Matches.{first_from, match_end}
@@ -20,7 +20,7 @@ use Rattle.bx_find.specs.declared.letters.Reading.TheVariants.{Close}
 use Rattle.bx_find.proofs.Nearest.{first_is}
 use Rattle.bx_find_laws.proofs.Following.{spans_are}
 use Rattle.bx_document.specs.Swapped.{behind_character, last_stop, swapped}
-use Rattle.bx_editor.specs.declared.search_state.SearchPurpose.TheVariants as aims
+use Rattle.bx_editor.specs.declared.search_state.SearchPurpose.TheVariants as purposes
 use Rattle.bx_editor.specs.declared.message.Message.TheVariants.{TextFull}
 use Rattle.bx_editor.specs.declared.search_state.SearchState.TheVariants.{Off, Replacing}
 use Rattle.bx_editor_laws.specs.AskingLaws.{is_enter}
@@ -39,7 +39,7 @@ use Rattle.bx_editor_laws.proofs.MatchLetters.{all-swapped, end-letters, match-b
 
 -- ---- which key it is
 
-pub entered : (d : Data) (e : Editor) (enter : Key) → e.pasted ≡ None → e.ask ≡ asks.Off → e.seek ≡ Replacing → is_enter enter ≡ true
+pub entered : (d : Data) (e : Editor) (enter : Key) → e.pasted ≡ None → e.prompt ≡ prompts.Off → e.search_state ≡ Replacing → is_enter enter ≡ true
     → after_key d None e enter ≡ as_left enter (with_typing (after_match_letter d e.typing (cleared e) 0xA) (only_paste e.typing))
 entered d e (Insert c) settled unasked shown end =
     let same : c ≡ 0xA = grind (arith, nat_tests, end) in
@@ -49,16 +49,16 @@ entered d e NewLine settled unasked shown end =
     any-key d None e NewLine settled refl ∙ ap₂ (λ a s. as_left NewLine (after_any d None (before e) a s (cleared e) NewLine)) unasked shown
 entered d e _ settled unasked shown end = absurd (cc end)
 
-pub replaced-on : (d : Data) (e : Editor) → e.pasted ≡ None → e.ask ≡ asks.Off → e.seek ≡ Replacing → after_key d None e Replace ≡ as_left Replace (after_replacing_all d (cleared e))
+pub replaced-on : (d : Data) (e : Editor) → e.pasted ≡ None → e.prompt ≡ prompts.Off → e.search_state ≡ Replacing → after_key d None e Replace ≡ as_left Replace (after_replacing_all d (cleared e))
 replaced-on d e settled unasked shown =
     any-key d None e Replace settled refl ∙ ap₂ (λ a s. as_left Replace (after_any d None (before e) a s (cleared e) Replace)) unasked shown
 
-passed-over : (d : Data) (e : Editor) → e.pasted ≡ None → e.ask ≡ asks.Off → e.seek ≡ Replacing → after_key d None e Find ≡ as_left Find (after_passing_over d (cleared e))
+passed-over : (d : Data) (e : Editor) → e.pasted ≡ None → e.prompt ≡ prompts.Off → e.search_state ≡ Replacing → after_key d None e Find ≡ as_left Find (after_passing_over d (cleared e))
 passed-over d e settled unasked shown =
     any-key d None e Find settled refl ∙ ap₂ (λ a s. as_left Find (after_any d None (before e) a s (cleared e) Find)) unasked shown
 
 -- whatever becomes of a match by a line end or by Replace
-pub each-replaces : (P : Editor → Type 0) (d : Data) (e : Editor) (key : Key) → e.pasted ≡ None → e.ask ≡ asks.Off → e.seek ≡ Replacing → DoesReplace key
+pub each-replaces : (P : Editor → Type 0) (d : Data) (e : Editor) (key : Key) → e.pasted ≡ None → e.prompt ≡ prompts.Off → e.search_state ≡ Replacing → DoesReplace key
     → ((typing : Typing) → P (as_left key (with_typing (cleared e) typing)))
     → ((typing : Typing) → P (as_left key (with_typing (after_replacing d (cleared e)) typing)))
     → P (as_left key (after_replacing_all d (cleared e))) → P (after_key d None e key)
@@ -86,13 +86,13 @@ spliced-again text new start stop inside =
 pub record IsExchanged (d : Data) (e : Editor) (start stop : ℕ) (new : List ℕ) (now : Editor) : Type 0 where
   pub text_is : now.content.text ≡ splice e.content.text start stop new
   pub place_is : now.place ≡ place_after d e (splice e.content.text start stop new) (start + length new)
-  pub aim_is : now.aim ≡ e.aim
+  pub purpose_is : now.purpose ≡ e.purpose
 
 pub exchanged : (d : Data) (e : Editor) (start stop : ℕ) (new : List ℕ) → start ≤ length e.content.text → IsExchanged d e start stop new (with_exchange d e start stop new)
-exchanged d e start stop [] inside = record { text_is = refl; place_is = refl; aim_is = refl }
+exchanged d e start stop [] inside = record { text_is = refl; place_is = refl; purpose_is = refl }
 exchanged d e start stop (b ∷ bs) inside =
     let again = spliced-again e.content.text (b ∷ bs) start stop inside in
-    record { text_is = again; place_is = ap (λ text. place_after d e text (start + length (b ∷ bs))) again; aim_is = refl }
+    record { text_is = again; place_is = ap (λ text. place_after d e text (start + length (b ∷ bs))) again; purpose_is = refl }
 
 spliced-utf8 : (text new : List ℕ) (start stop : ℕ) → IsUtf8 text → IsUtf8 new → IsCharBoundary text start → IsCharBoundary text stop
     → IsUtf8 (splice text start stop new)
@@ -136,16 +136,16 @@ record WentOn (d : Data) (e : Editor) (z : ℕ) (new : Editor) : Type 0 where
   pub content_is : new.content ≡ e.content
   pub count_is : new.count ≡ e.count
   pub goes_on : GoesOn d new z
-  pub ended : new.seek ≡ Off → new.place ≡ e.place
+  pub ended : new.search_state ≡ Off → new.place ≡ e.place
 
 went-to : (d : Data) (e : Editor) (z : ℕ) (o : Option ℕ)
     → MatchOption o ((i : ℕ) → z ≤ i → ¬ (MatchesAt d Close (sought d e) e.content.text i)) (IsFirst d Close (sought d e) e.content.text z) → WentOn d e z (at_match d e o)
 went-to d e z None none = record { content_is = refl; count_is = refl; goes_on = inr (refl, (refl, none)); ended = λ off. refl }
 went-to d e z (Some at) first = record { content_is = refl; count_is = refl; goes_on = inl (refl, (first, refl)); ended = λ off. absurd (cc off) }
 
-went-on : (d : Data) (e : Editor) (z : ℕ) → IsUtf8 e.content.text → e.aim ≡ aims.Replace → WentOn d e z (on_from d z e)
-went-on d e z u aim =
-    let closely : next_match d e z ≡ first_from d Close (sought d e) e.content.text z = ap (λ a. first_from d (reading a) (sought d e) e.content.text z) aim in
+went-on : (d : Data) (e : Editor) (z : ℕ) → IsUtf8 e.content.text → e.purpose ≡ purposes.Replace → WentOn d e z (on_from d z e)
+went-on d e z u purpose =
+    let closely : next_match d e z ≡ first_from d Close (sought d e) e.content.text z = ap (λ a. first_from d (reading a) (sought d e) e.content.text z) purpose in
     subst (λ o. WentOn d e z (at_match d e o)) (sym closely)
     (went-to d e z (first_from d Close (sought d e) e.content.text z) (first_is d Close (sought d e) e.content.text z u))
 
@@ -161,7 +161,7 @@ has-match : (d : Data) (e : Editor) → IsShowing d e → HasMatch d e
 has-match d e h =
     let text = e.content.text in
     let here = h.stands.here in
-    let closely : match_stop d e ≡ match_end d Close (sought d e) text e.at = ap (λ a. match_end d (reading a) (sought d e) text e.at) h.stands.aim_is in
+    let closely : match_stop d e ≡ match_end d Close (sought d e) text e.at = ap (λ a. match_end d (reading a) (sought d e) text e.at) h.stands.purpose_is in
     record {
       begins = here.0;
       ends = subst (IsCharBoundary text) (sym closely) (match-bound d text h.text (sought d e) e.at here);
@@ -171,9 +171,9 @@ has-match d e h =
 
 follow : (d : Data) (e : Editor) → IsShowing d e → AreSpans d Close (sought d e) e.content.text e.at (matches_on d e)
 follow d e h =
-    let closely : reading e.aim ≡ Close = ap reading h.stands.aim_is in
+    let closely : reading e.purpose ≡ Close = ap reading h.stands.purpose_is in
     subst (λ (r : Reading). AreSpans d r (sought d e) e.content.text e.at (matches_on d e)) closely
-    (spans_are d (reading e.aim) (sought d e) e.content.text h.text e.at)
+    (spans_are d (reading e.purpose) (sought d e) e.content.text h.text e.at)
 
 -- ---- it is replaced
 
@@ -195,7 +195,7 @@ module _ (d : Data) (e : Editor) (h : IsShowing d e) where
       let put = exchanged d was e.at stop e.replacement there.begins.0 in
       let utf8 : IsUtf8 now.content.text =
       subst IsUtf8 (sym put.text_is) (spliced-utf8 e.content.text e.replacement e.at stop h.text h.replacement there.begins there.ends) in
-      let went = went-on d now (e.at + length e.replacement) utf8 (put.aim_is ∙ h.stands.aim_is) in
+      let went = went-on d now (e.at + length e.replacement) utf8 (put.purpose_is ∙ h.stands.purpose_is) in
       subst (λ (x : Editor). HasReplacedOne d e (as_left key (with_typing x typing)))
       (sym (ap (λ b. if b then on_from d (e.at + length e.replacement) now else record was { message = Some TextFull }) room))
       (record {
@@ -235,7 +235,7 @@ module _ (d : Data) (e : Editor) (h : IsShowing d e) where
       let put = exchanged d was e.at (last_stop e.at all) put_in there.begins.0 in
       subst (λ b. HasReplacedAll d e all (as_left Replace (if b then after_ending (with_matches_replaced d was (last_stop e.at all) put_in (length all)) else record was { message = Some TextFull })))
       (sym room)
-      (record { text_is = put.text_is; place_is = put.place_is; count_is = refl; seek_is = refl; message_is = refl })
+      (record { text_is = put.text_is; place_is = put.place_is; count_is = refl; search_state_is = refl; message_is = refl })
 
   all-full : fits e.content.text e.at (last_stop e.at all) put_in ≡ false → IsFull e (as_left Replace (after_replacing_all d was))
   all-full none =
@@ -303,7 +303,7 @@ enter-replaces d e enter h plain end =
 
 pub find-passes-over : FindPassesOver
 find-passes-over d e h =
-    let went = went-on d (cleared e) (behind_character e.content.text e.at) h.text h.stands.aim_is in
+    let went = went-on d (cleared e) (behind_character e.content.text e.at) h.text h.stands.purpose_is in
     subst (PassesOver d e) (sym (passed-over d e h.settled h.unasked h.shown))
     (record { content_is = went.content_is; count_is = went.count_is; goes_on = went.goes_on; ended = went.ended })
 

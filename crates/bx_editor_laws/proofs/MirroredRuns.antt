@@ -10,7 +10,7 @@ use Rattle.bx_editor.specs.undo_groups.Groups.{run_end, run_start}
 use Rattle.bx_editor.proofs.undo_groups_lemmas.RunLaws.{undo-then-redo}
 use Rattle.bx_editor.proofs.undo_groups_lemmas.Steps.{end-last, start-bound}
 use Rattle.bx_ucd.specs.Data.{Data}
-use Rattle.bx_editor.specs.Editor.{Editor, at_start, is_changed_at, run_goal, run_length}
+use Rattle.bx_editor.specs.Editor.{Editor, at_start, is_changed_at, group_goal, group_length}
 use Rattle.bx_editor.specs.Keys.{after_key}
 use Rattle.bx_editor.specs.Functions.{after_keys}
 use Rattle.bx_editor_laws.specs.Laws.{after_typing, IsUnmarkedAt}
@@ -32,16 +32,16 @@ ran-to e new t now place there changed is same at =
 
 -- an undo group is redone from an editor of any history that has enough edits
 redo-any : (d : Data) (e : Editor) (n : ℕ) (text : List ℕ) (past future : List Edit) → e.pasted ≡ None → suc n ≤ length future
-    → let t : Edited = version text past future in let now : Editor = record e { content = t } in run_length steps.Redo now ≡ suc n
+    → let t : Edited = version text past future in let now : Editor = record e { content = t } in group_length steps.Redo now ≡ suc n
     → after_key d None now RedoRun
-    ≡ run_to e (redone_times (suc n) t) ((iterate again (suc n) (t, e.place)).1) (is_changed_at (run_goal steps.Redo now) e.stored)
+    ≡ run_to e (redone_times (suc n) t) ((iterate again (suc n) (t, e.place)).1) (is_changed_at (group_goal steps.Redo now) e.stored)
 redo-any d e n text past [] settled few long = absurd (omega (arith, few))
 redo-any d e n text past (edit ∷ future) settled few long = redo-run d e n text edit past future settled long
 
 undo-any : (d : Data) (e : Editor) (n : ℕ) (text : List ℕ) (past future : List Edit) → e.pasted ≡ None → suc n ≤ length past
-    → let t : Edited = version text past future in let now : Editor = record e { content = t } in run_length steps.Undo now ≡ suc n
+    → let t : Edited = version text past future in let now : Editor = record e { content = t } in group_length steps.Undo now ≡ suc n
     → after_key d None now UndoRun
-    ≡ run_to e (undone_times (suc n) t) ((iterate back (suc n) (t, e.place)).1) (is_changed_at (run_goal steps.Undo now) e.stored)
+    ≡ run_to e (undone_times (suc n) t) ((iterate back (suc n) (t, e.place)).1) (is_changed_at (group_goal steps.Undo now) e.stored)
 undo-any d e n text [] future settled few long = absurd (omega (arith, few))
 undo-any d e n text (edit ∷ past) future settled few long = undo-run d e n text edit past future settled long
 
@@ -69,14 +69,14 @@ undo-and-redo d e text edit past future settled h ends =
     let long : p - run_start e.undo_groups p ≡ suc n = undo-length e.undo_groups (length past) in
     let undone = undone_times (suc n) t in
     let place = (iterate back (suc n) (t, e.place)).1 in
-    let first : Editor = run_to e undone place (is_changed_at (run_goal steps.Undo now) e.stored) in
+    let first : Editor = run_to e undone place (is_changed_at (group_goal steps.Undo now) e.stored) in
     let few : n ≤ length past = omega arith in
     let left : length undone.future ≡ suc n + length future = future-back (suc n) text (edit ∷ past) future (omega (arith, few)) in
     let from : length undone.past ≡ run_start e.undo_groups p = past-back (suc n) text (edit ∷ past) future ∙ omega (arith, long, start-bound e.undo_groups p) in
-    let lasts : run_length steps.Redo first ≡ suc n = redo-lasts e.undo_groups p (length future) (length undone.past) (length undone.future) n ends from long left in
+    let lasts : group_length steps.Redo first ≡ suc n = redo-lasts e.undo_groups p (length future) (length undone.past) (length undone.future) n ends from long left in
     let second = redo-any d first n undone.text undone.past undone.future settled (omega (arith, left)) lasts in
     ran-to first (after_keys d None now (UndoRun ∷ RedoRun ∷ [])) t (redone_times (suc n) undone) edit.after.place
-    ((iterate again (suc n) (undone, place)).1) (is_changed_at (run_goal steps.Redo first) e.stored)
+    ((iterate again (suc n) (undone, place)).1) (is_changed_at (group_goal steps.Redo first) e.stored)
     (ap (λ new. after_key d None new RedoRun) (undo-run d e n text edit past future settled long) ∙ second)
     (back-and-again (suc n) text (edit ∷ past) future (omega (arith, few)) h) (again-place n text past future edit place few h)
 
@@ -92,14 +92,14 @@ redo-and-undo d e text edit past future settled h begins =
     let long : run_end e.undo_groups p last - p ≡ suc n = redo-length e.undo_groups p (length future) in
     let redone = redone_times (suc n) t in
     let place = (iterate again (suc n) (t, e.place)).1 in
-    let first : Editor = run_to e redone place (is_changed_at (run_goal steps.Redo now) e.stored) in
+    let first : Editor = run_to e redone place (is_changed_at (group_goal steps.Redo now) e.stored) in
     let few : n ≤ length future = omega (arith, long, end-last e.undo_groups p last) in
     let size : length redone.past ≡ p + suc n = past-again (suc n) text past (edit ∷ future) (omega (arith, few)) in
     let to : length redone.past ≡ run_end e.undo_groups p last = size ∙ omega (arith, long) in
-    let lasts : run_length steps.Undo first ≡ suc n = undo-lasts e.undo_groups p (suc (length future)) (length redone.past) n begins to long in
+    let lasts : group_length steps.Undo first ≡ suc n = undo-lasts e.undo_groups p (suc (length future)) (length redone.past) n begins to long in
     let second = undo-any d first n redone.text redone.past redone.future settled (omega (arith, size)) lasts in
     ran-to first (after_keys d None now (RedoRun ∷ UndoRun ∷ [])) t (undone_times (suc n) redone) edit.before.place
-    ((iterate back (suc n) (redone, place)).1) (is_changed_at (run_goal steps.Undo first) e.stored)
+    ((iterate back (suc n) (redone, place)).1) (is_changed_at (group_goal steps.Undo first) e.stored)
     (ap (λ new. after_key d None new UndoRun) (redo-run d e n text edit past future settled long) ∙ second)
     (again-and-back (suc n) text past (edit ∷ future) (omega (arith, few)) h) (back-place n text past future edit place few h)
 

@@ -9,15 +9,15 @@ use Rattle.bx_keys.specs.declared.key.Key.TheVariants.{EraseWord, DeleteWord, Er
 use Rattle.bx_keys.specs.declared.key.Key.TheVariants.{Select, UndoRun, RedoRun, GoTo, Replace, Name, Tell, PasteStart, PasteEnd, Point}
 use Rattle.bx_ucd.specs.Data.{Data}
 use Rattle.bx_editor.specs.declared.questions.answers.Prompt.{Prompt}
-use Rattle.bx_editor.specs.declared.questions.answers.Prompt.TheVariants as asks
-use Rattle.bx_editor.specs.declared.search_state.SearchPurpose.TheVariants as aims
+use Rattle.bx_editor.specs.declared.questions.answers.Prompt.TheVariants as prompts
+use Rattle.bx_editor.specs.declared.search_state.SearchPurpose.TheVariants as purposes
 use Rattle.bx_editor.specs.declared.search_state.SearchState.{SearchState}
 use Rattle.bx_editor.specs.declared.search_state.SearchState.TheVariants as searches
 use Rattle.bx_editor.specs.declared.cursor.Soft.{Soft}
 use Rattle.bx_editor.specs.declared.cursor.Soft.TheVariants.{Off, Fresh, Old}
-use Rattle.bx_editor.specs.Asking.{without_ask}
+use Rattle.bx_editor.specs.Asking.{without_prompt}
 use Rattle.bx_editor.specs.Editor.{Editor, cleared}
-use Rattle.bx_editor.specs.Effects.{Effect, Types, BeginsLine, Puts, Removes, RemovesWord, Steps, StepsRun, Goes, GoesByRows, Marks, Selects}
+use Rattle.bx_editor.specs.Effects.{Effect, Types, BeginsLine, Puts, Removes, RemovesWord, Steps, StepsGroup, Goes, GoesByRows, Marks, Selects}
 use Rattle.bx_editor.specs.Effects.{Unmarks, Copies, Cuts, Seeks, SeeksNext, Saves, Quits, Turns, Helps, AsksLine, AsksName, Tells, Rests, Before, before, by}
 use Rattle.bx_editor.specs.Keys.{Ends, after_any, after_asking, after_key, after_pressing, answer_of, answered, answered_match, answered_replacement, answered_question, effect_of}
 use Rattle.bx_editor.specs.Functions.{is_told_key}
@@ -95,7 +95,7 @@ effect d was e Puts is = absurd (cc is)
 effect d was e (Removes how start stop) is = absurd (cc is)
 effect d was e (RemovesWord start stop) is = absurd (cc is)
 effect d was e (Steps way) is = absurd (cc is)
-effect d was e (StepsRun way) is = absurd (cc is)
+effect d was e (StepsGroup way) is = absurd (cc is)
 effect d was e (Goes place) is = refl
 effect d was e (GoesByRows way n) is = refl
 effect d was e Marks is = absurd (cc is)
@@ -103,7 +103,7 @@ effect d was e Selects is = absurd (cc is)
 effect d was e Unmarks is = absurd (cc is)
 effect d was e Copies is = absurd (cc is)
 effect d was e Cuts is = absurd (cc is)
-effect d was e (Seeks aim) is = absurd (cc is)
+effect d was e (Seeks purpose) is = absurd (cc is)
 effect d was e SeeksNext is = absurd (cc is)
 effect d was e Saves is = absurd (cc is)
 effect d was e Quits is = absurd (cc is)
@@ -117,7 +117,7 @@ effect d was e Rests is = absurd (cc is)
 -- a move ends a question
 in-question : (d : Data) (was : Before) (e : Editor) (key : Key) → is_move key ≡ true → (after_asking d None was e key).mark ≡ mark_left e.soft e.mark
 in-question d was e key is =
-    let free = without_ask e in
+    let free = without_prompt e in
     ap (λ a. (answered_question d None was e key a).mark) ((each d e key is).1.0)
     ∙ effect d was free (effect_of d free key) ((each d free key is).0)
 
@@ -126,26 +126,26 @@ from-search : (d : Data) (was : Before) (e : Editor) (key : Key) → is_move key
     → (after_pressing d None was (without_search e) key).mark ≡ mark_left e.soft e.mark
 from-search d was e key is = let off = without_search e in effect d was off (effect_of d off key) ((each d off key is).0)
 
-any : (d : Data) (was : Before) (ask : Prompt) (seek : SearchState) (e : Editor) (key : Key) → is_move key ≡ true
-    → (after_any d None was ask seek e key).mark ≡ mark_left e.soft e.mark
-any d was asks.Off searches.Off e key is = effect d was e (effect_of d e key) ((each d e key is).0)
-any d was asks.Off searches.Begun e key is =
+any : (d : Data) (was : Before) (prompt : Prompt) (search_state : SearchState) (e : Editor) (key : Key) → is_move key ≡ true
+    → (after_any d None was prompt search_state e key).mark ≡ mark_left e.soft e.mark
+any d was prompts.Off searches.Off e key is = effect d was e (effect_of d e key) ((each d e key is).0)
+any d was prompts.Off searches.Begun e key is =
     ap (λ a. (answered d None was e key a).mark) ((each d e key is).1.0) ∙ effect d was e (effect_of d e key) ((each d e key is).0)
-any d was asks.Off searches.Typed e key is =
+any d was prompts.Off searches.Typed e key is =
     ap (λ a. (answered d None was e key a).mark) ((each d e key is).1.0) ∙ effect d was e (effect_of d e key) ((each d e key is).0)
-any d was asks.Off searches.WithBegun e key is =
+any d was prompts.Off searches.WithBegun e key is =
     ap (λ a. (answered_replacement d None was e key a).mark) ((each d e key is).1.0) ∙ from-search d was e key is
-any d was asks.Off searches.WithTyped e key is =
+any d was prompts.Off searches.WithTyped e key is =
     ap (λ a. (answered_replacement d None was e key a).mark) ((each d e key is).1.0) ∙ from-search d was e key is
-any d was asks.Off searches.Replacing e key is =
+any d was prompts.Off searches.Replacing e key is =
     ap (λ a. (answered_match d None was e key a).mark) ((each d e key is).1.0) ∙ from-search d was e key is
-any d was asks.Line seek e key is = in-question d was e key is
-any d was asks.Name seek e key is = in-question d was e key is
-any d was asks.Code seek e key is = in-question d was e key is
+any d was prompts.Line search_state e key is = in-question d was e key is
+any d was prompts.Name search_state e key is = in-question d was e key is
+any d was prompts.Code search_state e key is = in-question d was e key is
 
 moved : (d : Data) (e : Editor) (key : Key) → e.pasted ≡ None → is_move key ≡ true → (after_key d None e key).mark ≡ mark_left e.soft e.mark
 moved d e key settled is =
-    ap (λ (new : Editor). new.mark) (any-key d None e key settled ((each d e key is).1.1)) ∙ any d (before e) e.ask e.seek (cleared e) key is
+    ap (λ (new : Editor). new.mark) (any-key d None e key settled ((each d e key is).1.1)) ∙ any d (before e) e.prompt e.search_state (cleared e) key is
 
 not-old : (soft : Soft) (mark : Option ℕ) → soft ≢ Old → mark_left soft mark ≡ mark
 not-old Off mark other = refl
@@ -161,34 +161,34 @@ selected e (Some mark) Off marked softly = (marked, λ is. let both = sym softly
 selected e (Some mark) Fresh marked softly = (marked, λ is. let both = sym softly ∙ is in cc both)
 selected e (Some mark) Old marked softly = (marked, λ is. cc is)
 
-select-any : (d : Data) (was : Before) (ask : Prompt) (seek : SearchState) (e : Editor) → let new = after_any d None was ask seek e Select in
+select-any : (d : Data) (was : Before) (prompt : Prompt) (search_state : SearchState) (e : Editor) → let new = after_any d None was prompt search_state e Select in
     (new.mark ≡ Some (unwrap_or e.mark e.place)) × (new.soft ≢ Old)
-select-any d was asks.Off searches.Off e = selected e e.mark e.soft refl refl
-select-any d was asks.Off searches.Begun e = selected e e.mark e.soft refl refl
-select-any d was asks.Off searches.Typed e = selected e e.mark e.soft refl refl
-select-any d was asks.Off searches.WithBegun e = selected (without_search e) e.mark e.soft refl refl
-select-any d was asks.Off searches.WithTyped e = selected (without_search e) e.mark e.soft refl refl
-select-any d was asks.Off searches.Replacing e = selected (without_search e) e.mark e.soft refl refl
-select-any d was asks.Line seek e = selected (without_ask e) e.mark e.soft refl refl
-select-any d was asks.Name seek e = selected (without_ask e) e.mark e.soft refl refl
-select-any d was asks.Code seek e = selected (without_ask e) e.mark e.soft refl refl
+select-any d was prompts.Off searches.Off e = selected e e.mark e.soft refl refl
+select-any d was prompts.Off searches.Begun e = selected e e.mark e.soft refl refl
+select-any d was prompts.Off searches.Typed e = selected e e.mark e.soft refl refl
+select-any d was prompts.Off searches.WithBegun e = selected (without_search e) e.mark e.soft refl refl
+select-any d was prompts.Off searches.WithTyped e = selected (without_search e) e.mark e.soft refl refl
+select-any d was prompts.Off searches.Replacing e = selected (without_search e) e.mark e.soft refl refl
+select-any d was prompts.Line search_state e = selected (without_prompt e) e.mark e.soft refl refl
+select-any d was prompts.Name search_state e = selected (without_prompt e) e.mark e.soft refl refl
+select-any d was prompts.Code search_state e = selected (without_prompt e) e.mark e.soft refl refl
 
-selecting-seek : (e : Editor) (mark : Option ℕ) (soft : Soft) → (selecting e mark soft).seek ≡ e.seek
-selecting-seek e None soft = refl
-selecting-seek e (Some mark) Off = refl
-selecting-seek e (Some mark) Fresh = refl
-selecting-seek e (Some mark) Old = refl
+selecting-search_state : (e : Editor) (mark : Option ℕ) (soft : Soft) → (selecting e mark soft).search_state ≡ e.search_state
+selecting-search_state e None soft = refl
+selecting-search_state e (Some mark) Off = refl
+selecting-search_state e (Some mark) Fresh = refl
+selecting-search_state e (Some mark) Old = refl
 
-select-off-any : (d : Data) (was : Before) (ask : Prompt) (e : Editor) → (after_any d None was ask searches.Off e Select).seek ≡ e.seek
-select-off-any d was asks.Off e = selecting-seek e e.mark e.soft
-select-off-any d was asks.Line e = selecting-seek (without_ask e) e.mark e.soft
-select-off-any d was asks.Name e = selecting-seek (without_ask e) e.mark e.soft
-select-off-any d was asks.Code e = selecting-seek (without_ask e) e.mark e.soft
+select-off-any : (d : Data) (was : Before) (prompt : Prompt) (e : Editor) → (after_any d None was prompt searches.Off e Select).search_state ≡ e.search_state
+select-off-any d was prompts.Off e = selecting-search_state e e.mark e.soft
+select-off-any d was prompts.Line e = selecting-search_state (without_prompt e) e.mark e.soft
+select-off-any d was prompts.Name e = selecting-search_state (without_prompt e) e.mark e.soft
+select-off-any d was prompts.Code e = selecting-search_state (without_prompt e) e.mark e.soft
 
-select-off : (d : Data) (e : Editor) → e.pasted ≡ None → e.seek ≡ searches.Off → (after_key d None e Select).seek ≡ searches.Off
+select-off : (d : Data) (e : Editor) → e.pasted ≡ None → e.search_state ≡ searches.Off → (after_key d None e Select).search_state ≡ searches.Off
 select-off d e settled off =
-    ap (λ (new : Editor). new.seek) (any-key d None e Select settled refl)
-    ∙ ap (λ s. (after_any d None (before e) e.ask s (cleared e) Select).seek) off ∙ select-off-any d (before e) e.ask (cleared e) ∙ off
+    ap (λ (new : Editor). new.search_state) (any-key d None e Select settled refl)
+    ∙ ap (λ s. (after_any d None (before e) e.prompt s (cleared e) Select).search_state) off ∙ select-off-any d (before e) e.prompt (cleared e) ∙ off
 
 selecting-pasted : (e : Editor) (mark : Option ℕ) (soft : Soft) → (selecting e mark soft).pasted ≡ e.pasted
 selecting-pasted e None soft = refl
@@ -196,20 +196,20 @@ selecting-pasted e (Some mark) Off = refl
 selecting-pasted e (Some mark) Fresh = refl
 selecting-pasted e (Some mark) Old = refl
 
-select-pasted-any : (d : Data) (was : Before) (ask : Prompt) (seek : SearchState) (e : Editor) → (after_any d None was ask seek e Select).pasted ≡ e.pasted
-select-pasted-any d was asks.Off searches.Off e = selecting-pasted e e.mark e.soft
-select-pasted-any d was asks.Off searches.Begun e = selecting-pasted e e.mark e.soft
-select-pasted-any d was asks.Off searches.Typed e = selecting-pasted e e.mark e.soft
-select-pasted-any d was asks.Off searches.WithBegun e = selecting-pasted (without_search e) e.mark e.soft
-select-pasted-any d was asks.Off searches.WithTyped e = selecting-pasted (without_search e) e.mark e.soft
-select-pasted-any d was asks.Off searches.Replacing e = selecting-pasted (without_search e) e.mark e.soft
-select-pasted-any d was asks.Line seek e = selecting-pasted (without_ask e) e.mark e.soft
-select-pasted-any d was asks.Name seek e = selecting-pasted (without_ask e) e.mark e.soft
-select-pasted-any d was asks.Code seek e = selecting-pasted (without_ask e) e.mark e.soft
+select-pasted-any : (d : Data) (was : Before) (prompt : Prompt) (search_state : SearchState) (e : Editor) → (after_any d None was prompt search_state e Select).pasted ≡ e.pasted
+select-pasted-any d was prompts.Off searches.Off e = selecting-pasted e e.mark e.soft
+select-pasted-any d was prompts.Off searches.Begun e = selecting-pasted e e.mark e.soft
+select-pasted-any d was prompts.Off searches.Typed e = selecting-pasted e e.mark e.soft
+select-pasted-any d was prompts.Off searches.WithBegun e = selecting-pasted (without_search e) e.mark e.soft
+select-pasted-any d was prompts.Off searches.WithTyped e = selecting-pasted (without_search e) e.mark e.soft
+select-pasted-any d was prompts.Off searches.Replacing e = selecting-pasted (without_search e) e.mark e.soft
+select-pasted-any d was prompts.Line search_state e = selecting-pasted (without_prompt e) e.mark e.soft
+select-pasted-any d was prompts.Name search_state e = selecting-pasted (without_prompt e) e.mark e.soft
+select-pasted-any d was prompts.Code search_state e = selecting-pasted (without_prompt e) e.mark e.soft
 
 select-settled : (d : Data) (e : Editor) → e.pasted ≡ None → (after_key d None e Select).pasted ≡ None
 select-settled d e settled =
-    ap (λ (new : Editor). new.pasted) (any-key d None e Select settled refl) ∙ select-pasted-any d (before e) e.ask e.seek (cleared e) ∙ settled
+    ap (λ (new : Editor). new.pasted) (any-key d None e Select settled refl) ∙ select-pasted-any d (before e) e.prompt e.search_state (cleared e) ∙ settled
 
 -- ---- a key that seeks
 
@@ -217,36 +217,36 @@ either-mark : (b : Bool) (mark : Option ℕ) (p q : Editor) → p.mark ≡ mark 
 either-mark true mark p q h k = h
 either-mark false mark p q h k = k
 
-find-mark : (d : Data) (was : Before) (ask : Prompt) (e : Editor) → (after_any d None was ask searches.Off e Find).mark ≡ mark_left e.soft e.mark
-find-mark d was asks.Off e = refl
-find-mark d was asks.Line e = refl
-find-mark d was asks.Name e = refl
-find-mark d was asks.Code e = refl
+find-mark : (d : Data) (was : Before) (prompt : Prompt) (e : Editor) → (after_any d None was prompt searches.Off e Find).mark ≡ mark_left e.soft e.mark
+find-mark d was prompts.Off e = refl
+find-mark d was prompts.Line e = refl
+find-mark d was prompts.Name e = refl
+find-mark d was prompts.Code e = refl
 
-find-back-mark : (d : Data) (was : Before) (ask : Prompt) (e : Editor) → (after_any d None was ask searches.Off e FindBack).mark ≡ mark_left e.soft e.mark
-find-back-mark d was asks.Off e = refl
-find-back-mark d was asks.Line e = refl
-find-back-mark d was asks.Name e = refl
-find-back-mark d was asks.Code e = refl
+find-back-mark : (d : Data) (was : Before) (prompt : Prompt) (e : Editor) → (after_any d None was prompt searches.Off e FindBack).mark ≡ mark_left e.soft e.mark
+find-back-mark d was prompts.Off e = refl
+find-back-mark d was prompts.Line e = refl
+find-back-mark d was prompts.Name e = refl
+find-back-mark d was prompts.Code e = refl
 
-replace-mark : (d : Data) (was : Before) (ask : Prompt) (e : Editor) → (after_any d None was ask searches.Off e Replace).mark ≡ mark_left e.soft e.mark
-replace-mark d was asks.Off e = refl
-replace-mark d was asks.Line e = refl
-replace-mark d was asks.Name e = refl
-replace-mark d was asks.Code e = refl
+replace-mark : (d : Data) (was : Before) (prompt : Prompt) (e : Editor) → (after_any d None was prompt searches.Off e Replace).mark ≡ mark_left e.soft e.mark
+replace-mark d was prompts.Off e = refl
+replace-mark d was prompts.Line e = refl
+replace-mark d was prompts.Name e = refl
+replace-mark d was prompts.Code e = refl
 
 next-mark-by : (d : Data) (e : Editor) → (after_find_next d (unselected e)).mark ≡ mark_left e.soft e.mark
 next-mark-by d e =
     let free = unselected e in
-    either-mark (length (sought d free) == 0) free.mark (after_beginning aims.Find free) (search_from d (next_or_start d free) (record free { seek = searches.Off; aim = aims.Find })) refl refl
+    either-mark (length (sought d free) == 0) free.mark (after_beginning purposes.Find free) (search_from d (next_or_start d free) (record free { search_state = searches.Off; purpose = purposes.Find })) refl refl
 
-next-mark : (d : Data) (was : Before) (ask : Prompt) (e : Editor) → (after_any d None was ask searches.Off e FindNext).mark ≡ mark_left e.soft e.mark
-next-mark d was asks.Off e = next-mark-by d e
-next-mark d was asks.Line e = next-mark-by d (without_ask e)
-next-mark d was asks.Name e = next-mark-by d (without_ask e)
-next-mark d was asks.Code e = next-mark-by d (without_ask e)
+next-mark : (d : Data) (was : Before) (prompt : Prompt) (e : Editor) → (after_any d None was prompt searches.Off e FindNext).mark ≡ mark_left e.soft e.mark
+next-mark d was prompts.Off e = next-mark-by d e
+next-mark d was prompts.Line e = next-mark-by d (without_prompt e)
+next-mark d was prompts.Name e = next-mark-by d (without_prompt e)
+next-mark d was prompts.Code e = next-mark-by d (without_prompt e)
 
-sought-mark : (d : Data) (e : Editor) (key : Key) → e.seek ≡ searches.Off → e.pasted ≡ None → seeks key ≡ true → (after_key d None e key).mark ≡ mark_left e.soft e.mark
+sought-mark : (d : Data) (e : Editor) (key : Key) → e.search_state ≡ searches.Off → e.pasted ≡ None → seeks key ≡ true → (after_key d None e key).mark ≡ mark_left e.soft e.mark
 sought-mark d e (Insert c) off settled is = absurd (cc is)
 sought-mark d e Erase off settled is = absurd (cc is)
 sought-mark d e Delete off settled is = absurd (cc is)
@@ -272,10 +272,10 @@ sought-mark d e Cut off settled is = absurd (cc is)
 sought-mark d e Put off settled is = absurd (cc is)
 sought-mark d e Find off settled is =
     ap (λ (new : Editor). new.mark) (any-key d None e Find settled refl)
-    ∙ ap (λ s. (after_any d None (before e) e.ask s (cleared e) Find).mark) off ∙ find-mark d (before e) e.ask (cleared e)
+    ∙ ap (λ s. (after_any d None (before e) e.prompt s (cleared e) Find).mark) off ∙ find-mark d (before e) e.prompt (cleared e)
 sought-mark d e FindBack off settled is =
     ap (λ (new : Editor). new.mark) (any-key d None e FindBack settled refl)
-    ∙ ap (λ s. (after_any d None (before e) e.ask s (cleared e) FindBack).mark) off ∙ find-back-mark d (before e) e.ask (cleared e)
+    ∙ ap (λ s. (after_any d None (before e) e.prompt s (cleared e) FindBack).mark) off ∙ find-back-mark d (before e) e.prompt (cleared e)
 sought-mark d e WordLeft off settled is = absurd (cc is)
 sought-mark d e WordRight off settled is = absurd (cc is)
 sought-mark d e TextStart off settled is = absurd (cc is)
@@ -287,7 +287,7 @@ sought-mark d e ErasePoint off settled is = absurd (cc is)
 sought-mark d e NewLine off settled is = absurd (cc is)
 sought-mark d e FindNext off settled is =
     ap (λ (new : Editor). new.mark) (any-key d None e FindNext settled refl)
-    ∙ ap (λ s. (after_any d None (before e) e.ask s (cleared e) FindNext).mark) off ∙ next-mark d (before e) e.ask (cleared e)
+    ∙ ap (λ s. (after_any d None (before e) e.prompt s (cleared e) FindNext).mark) off ∙ next-mark d (before e) e.prompt (cleared e)
 sought-mark d e Cancel off settled is = absurd (cc is)
 sought-mark d e LineUp off settled is = absurd (cc is)
 sought-mark d e LineDown off settled is = absurd (cc is)
@@ -299,7 +299,7 @@ sought-mark d e RedoRun off settled is = absurd (cc is)
 sought-mark d e GoTo off settled is = absurd (cc is)
 sought-mark d e Replace off settled is =
     ap (λ (new : Editor). new.mark) (any-key d None e Replace settled refl)
-    ∙ ap (λ s. (after_any d None (before e) e.ask s (cleared e) Replace).mark) off ∙ replace-mark d (before e) e.ask (cleared e)
+    ∙ ap (λ s. (after_any d None (before e) e.prompt s (cleared e) Replace).mark) off ∙ replace-mark d (before e) e.prompt (cleared e)
 sought-mark d e Name off settled is = absurd (cc is)
 sought-mark d e Tell off settled is = absurd (cc is)
 sought-mark d e PasteStart off settled is = absurd (cc is)
@@ -316,7 +316,7 @@ leaves d e key settled now behind =
     let first = after_key d None e Select in
     let chosen : (first.mark ≡ Some (unwrap_or e.mark e.place)) × (first.soft ≢ Old) =
     subst (λ (new : Editor). (new.mark ≡ Some (unwrap_or e.mark e.place)) × (new.soft ≢ Old)) (sym (any-key d None e Select settled refl))
-    (select-any d (before e) e.ask e.seek (cleared e)) in
+    (select-any d (before e) e.prompt e.search_state (cleared e)) in
     record {
       old = λ soft. now ∙ ap (λ s. mark_left s e.mark) soft;
       other = λ soft. now ∙ not-old e.soft e.mark soft;

@@ -18,11 +18,11 @@ use Rattle.bx_editor.specs.declared.undo_groups.typing.Typing.{Typing}
 use Rattle.bx_editor.specs.declared.undo_groups.typing.Typing.TheVariants as typings
 use Rattle.bx_editor.proofs.undo_groups_lemmas.RunLaws.{edit-is-of-its-run}
 use Rattle.bx_ucd.specs.Data.{Data}
-use Rattle.bx_editor.specs.declared.questions.answers.Prompt.TheVariants as asks
+use Rattle.bx_editor.specs.declared.questions.answers.Prompt.TheVariants as prompts
 use Rattle.bx_editor.specs.declared.message.Message.TheVariants.{TextFull}
-use Rattle.bx_editor.specs.declared.search_state.SearchState.TheVariants as seeks
+use Rattle.bx_editor.specs.declared.search_state.SearchState.TheVariants as search_states
 use Rattle.bx_editor.specs.declared.cursor.Soft.TheVariants as softness
-use Rattle.bx_editor.specs.Editor.{Editor, cleared, with_insertion, with_removal, with_typing, run_length}
+use Rattle.bx_editor.specs.Editor.{Editor, cleared, with_insertion, with_removal, with_typing, group_length}
 use Rattle.bx_editor.specs.Effects.{before}
 use Rattle.bx_editor.specs.Keys.{after_any, after_key, after_press, as_left}
 use Rattle.bx_editor.specs.Functions.{after_keys}
@@ -74,7 +74,7 @@ undo-going d first e text (edit ∷ past) future settled h =
     let t : Edited = version text (edit ∷ past) future in
     let now : Editor = record e { content = t } in
     let n = h.more in
-    let long : run_length steps.Undo now ≡ suc n = omega (arith, over-length first (suc n) text e.place (edit ∷ past) h.over, h.start) in
+    let long : group_length steps.Undo now ≡ suc n = omega (arith, over-length first (suc n) text e.place (edit ∷ past) h.over, h.start) in
     let ran = undo-run d e n text edit past future settled long in
     let led = over-back first (suc n) text e.place (edit ∷ past) future h.over in
     let all = undone-back (suc n) t e.place in
@@ -130,7 +130,7 @@ shaped d typing e new kind room selected on =
       typing = if room then after_insertion kind else only_paste typing;
     }
 
-pub insert-is : (d : Data) (e : Editor) (c : ℕ) → e.pasted ≡ None → e.ask ≡ asks.Off → e.seek ≡ seeks.Off
+pub insert-is : (d : Data) (e : Editor) (c : ℕ) → e.pasted ≡ None → e.prompt ≡ prompts.Off → e.search_state ≡ search_states.Off
     → after_key d None e (Insert c) ≡ as_left (Insert c) (after_character d e.typing (cleared e) c)
 insert-is d e c settled unasked off =
     any-key d None e (Insert c) settled refl
@@ -148,14 +148,14 @@ record Waits (first e : Editor) : Type 0 where
   pub pasted : e.pasted ≡ Some list
 
 begun-waits : (first e : Editor) (pasted : Option (List ℕ)) → e.pasted ≡ pasted → Nothing first e
-    → Waits first (with_typing (paste_begun asks.Off seeks.Off pasted e) typings.Paste)
+    → Waits first (with_typing (paste_begun prompts.Off search_states.Off pasted e) typings.Paste)
 begun-waits first e None is h = record { nothing = h; list = []; pasted = refl }
 begun-waits first e (Some list) is h = record { nothing = h; list = list; pasted = is }
 
-start-waits : (first e : Editor) → e.ask ≡ asks.Off → e.seek ≡ seeks.Off → Nothing first e → Waits first (after_paste_start e)
+start-waits : (first e : Editor) → e.prompt ≡ prompts.Off → e.search_state ≡ search_states.Off → Nothing first e → Waits first (after_paste_start e)
 start-waits first e unasked off h =
-    subst (λ a. Waits first (with_typing (paste_begun a e.seek e.pasted e) typings.Paste)) (sym unasked)
-    (subst (λ s. Waits first (with_typing (paste_begun asks.Off s e.pasted e) typings.Paste)) (sym off) (begun-waits first e e.pasted refl h))
+    subst (λ a. Waits first (with_typing (paste_begun a e.search_state e.pasted e) typings.Paste)) (sym unasked)
+    (subst (λ s. Waits first (with_typing (paste_begun prompts.Off s e.pasted e) typings.Paste)) (sym off) (begun-waits first e e.pasted refl h))
 
 letter-waits : (d : Data) (first e : Editor) (c : ℕ) → Waits first e → Waits first (after_key d None e (Insert c))
 letter-waits d first e c h =
@@ -202,7 +202,7 @@ paste-back : (d : Data) (first e : Editor) → e.pasted ≡ None → InRun first
 paste-back d first e settled (inl h) more = absurd (omega (arith, more, over-length first 0 e.content.text e.place e.content.past h))
 paste-back d first e settled (inr h) more = goes-back d first e settled h
 
-pub paste-is-a-run : (d : Data) (e : Editor) (cs : List ℕ) → e.ask ≡ asks.Off → e.seek ≡ seeks.Off
+pub paste-is-a-run : (d : Data) (e : Editor) (cs : List ℕ) → e.prompt ≡ prompts.Off → e.search_state ≡ search_states.Off
     → length e.content.past < length (after_paste d e cs).content.past → IsBackBefore e (after_key d None (after_paste d e cs) UndoRun)
 paste-is-a-run d e cs unasked off more =
     let begun = after_paste_start e in
@@ -215,8 +215,8 @@ paste-is-a-run d e cs unasked off more =
 record Types (first e : Editor) (typing : Typing) (left : ℕ) : Type 0 where
   pub goes : IsOneRun first e
   pub typing_is : e.typing ≡ typing
-  pub ask : e.ask ≡ asks.Off
-  pub seek : e.seek ≡ seeks.Off
+  pub prompt : e.prompt ≡ prompts.Off
+  pub search_state : e.search_state ≡ search_states.Off
   pub soft : e.soft ≡ softness.Off
   pub settled : e.pasted ≡ None
   pub room : length e.content.text + left ≤ largest_text
@@ -249,7 +249,7 @@ type-on d first e c typing kind left on is h =
     let was = cleared e in
     let new = encode_utf8 c in
     let there : after_key d None e (Insert c) ≡ as_left (Insert c) (shaped d typing was new kind true false true) =
-    insert-is d e c h.settled h.ask h.seek
+    insert-is d e c h.settled h.prompt h.search_state
     ∙ ap (as_left (Insert c)) (ap (λ t. after_character d t was c) h.typing_is ∙ character-is d typing was c kind is
     ∙ typed-is d typing was new kind (room-for was new left h.room) (no-selection was h.soft) on) in
     let goes = insertion-goes d first was new (record { more = h.goes.more; over = h.goes.over; start = h.goes.start }) in
@@ -257,14 +257,14 @@ type-on d first e c typing kind left on is h =
     (record {
       goes = record { more = goes.more; over = goes.over; start = goes.start };
       typing_is = refl;
-      ask = h.ask;
-      seek = refl;
+      prompt = h.prompt;
+      search_state = refl;
       soft = refl;
       settled = h.settled;
       room = omega (arith, h.room, spliced e.content.text e.place e.place new (omega arith));
     })
 
-first-typed : (d : Data) (first e : Editor) (c : ℕ) (left : ℕ) (selected : Bool) → e.pasted ≡ None → Nothing first e → e.ask ≡ asks.Off
+first-typed : (d : Data) (first e : Editor) (c : ℕ) (left : ℕ) (selected : Bool) → e.pasted ≡ None → Nothing first e → e.prompt ≡ prompts.Off
     → length e.content.text + (length (encode_utf8 c) + left) ≤ largest_text
     → Types first (as_left (Insert c) (shaped d typings.Off e (encode_utf8 c) Letter true selected false)) typings.Word left
 first-typed d first e c left true settled h unasked room =
@@ -275,8 +275,8 @@ first-typed d first e c left true settled h unasked room =
     record {
       goes = record { more = goes.more; over = goes.over; start = goes.start };
       typing_is = refl;
-      ask = unasked;
-      seek = refl;
+      prompt = unasked;
+      search_state = refl;
       soft = refl;
       settled = settled;
       room = omega (
@@ -292,14 +292,14 @@ first-typed d first e c left false settled h unasked room =
     record {
       goes = record { more = goes.more; over = goes.over; start = goes.start };
       typing_is = refl;
-      ask = unasked;
-      seek = refl;
+      prompt = unasked;
+      search_state = refl;
       soft = refl;
       settled = settled;
       room = omega (arith, room, spliced e.content.text e.place e.place new (omega arith));
     }
 
-type-first : (d : Data) (e : Editor) (c : ℕ) (left : ℕ) → e.pasted ≡ None → e.ask ≡ asks.Off → e.seek ≡ seeks.Off → e.typing ≡ typings.Off
+type-first : (d : Data) (e : Editor) (c : ℕ) (left : ℕ) → e.pasted ≡ None → e.prompt ≡ prompts.Off → e.search_state ≡ search_states.Off → e.typing ≡ typings.Off
     → kind_of (d.class c) ≡ Letter
     → length e.content.text + (length (encode_utf8 c) + left) ≤ largest_text → Types e (after_key d None e (Insert c)) typings.Word left
 type-first d e c left settled unasked off none is room =
@@ -345,7 +345,7 @@ letters-on d first e (c ∷ cs) blanks all behind h =
     (type-on d first e c typings.Word Letter (length (encode_utf8_all (cs ++ blanks))) refl (All-head Is c cs all)
     (with-size first e typings.Word c (cs ++ blanks) h))
 
-word-goes : (d : Data) (e : Editor) (letters blanks : List ℕ) → e.pasted ≡ None → e.ask ≡ asks.Off → e.seek ≡ seeks.Off
+word-goes : (d : Data) (e : Editor) (letters blanks : List ℕ) → e.pasted ≡ None → e.prompt ≡ prompts.Off → e.search_state ≡ search_states.Off
     → e.typing ≡ typings.Off → letters ≢ [] → AreOfKind d Letter letters → AreOfKind d Blank blanks
     → length e.content.text + length (encode_utf8_all (letters ++ blanks)) ≤ largest_text
     → Ran e (after_keys d None e (map Insert (letters ++ blanks)))

@@ -9,11 +9,11 @@ use Rattle.bx_document.specs.Swapped.{behind_character, last_stop, swapped}
 use Rattle.bx_editor.specs.declared.undo_groups.typing.Typing.{Typing}
 use Rattle.bx_ucd.specs.Data.{Data}
 use Rattle.bx_editor.specs.declared.questions.answers.Prompt.{Prompt}
-use Rattle.bx_editor.specs.declared.questions.answers.Prompt.TheVariants as asks
-use Rattle.bx_editor.specs.declared.search_state.SearchPurpose.TheVariants as aims
+use Rattle.bx_editor.specs.declared.questions.answers.Prompt.TheVariants as prompts
+use Rattle.bx_editor.specs.declared.search_state.SearchPurpose.TheVariants as purposes
 use Rattle.bx_editor.specs.declared.search_state.SearchState.{SearchState}
 use Rattle.bx_editor.specs.declared.search_state.SearchState.TheVariants.{Off, Begun, Typed, WithBegun, WithTyped, Replacing}
-use Rattle.bx_editor.specs.Asking.{without_ask}
+use Rattle.bx_editor.specs.Asking.{without_prompt}
 use Rattle.bx_editor.specs.Editor.{Editor, after_save, at_start, cleared}
 use Rattle.bx_editor.specs.Effects.{Effect, Seeks, SeeksNext, AsksLine, AsksName, Before, before, by}
 use Rattle.bx_editor.specs.Keys.{Answer, Letter, Shortens, GoesBack, Next, Previous, Replaces, Stays, Ends, after_any, after_asking, after_in_paste}
@@ -39,7 +39,7 @@ IsSettled e = e.pasted ≡ None
 
 -- nothing is asked or sought, or no paste is under way
 abbrev pub IsAlone : Editor → Type 0
-IsAlone e = IsSettled e ⊎ ((e.ask ≡ asks.Off) × (e.seek ≡ Off))
+IsAlone e = IsSettled e ⊎ ((e.prompt ≡ prompts.Off) × (e.search_state ≡ Off))
 
 -- ---- keys that begin no paste
 
@@ -63,13 +63,13 @@ pressing d = record {
 
 -- another search begins, or ends at once
 next : (d : Data) (e : Editor) (none : Bool) → IsSettled e → let free = unselected e in
-    IsSettled (if none then after_beginning aims.Find free else search_from d (next_or_start d free) (record free { seek = Off; aim = aims.Find }))
+    IsSettled (if none then after_beginning purposes.Find free else search_from d (next_or_start d free) (record free { search_state = Off; purpose = purposes.Find }))
 next d e true h = h
 next d e false h = h
 
 asking : (d : Data) (fault : Option StoreFault) (was : Before) (e : Editor) (one : Effect) → kept_by.asks_or_seeks one ≡ true → IsSettled e
     → IsSettled (by d fault was e one)
-asking d fault was e (Seeks aim) is h = h
+asking d fault was e (Seeks purpose) is h = h
 asking d fault was e SeeksNext is h = next d e (length (sought d (unselected e)) == 0) h
 asking d fault was e AsksLine is h = h
 asking d fault was e AsksName is h = h
@@ -85,7 +85,7 @@ answers d = record {
   told = λ e message h. h;
   placed = λ e place h. h;
   typed = λ e typing h. h;
-  asked = λ e ask answer h. h;
+  asked = λ e prompt answer h. h;
 }
 
 pub either : (P : Editor → Type 0) (b : Bool) (p q : Editor) → P p → P q → P (if b then p else q)
@@ -100,28 +100,28 @@ asked-settled e (Some place) h = h
 
 pub asking-settled : (d : Data) (e : Editor) → IsSettled e → IsSettled (after_asking_replacement d e)
 asking-settled d e h =
-    let aimed : Editor = record e { aim = aims.Replace } in
+    let aimed : Editor = record e { purpose = purposes.Replace } in
     let l = landing_from d aimed.place aimed in
     either IsSettled (length (sought d aimed) == 0) aimed (asked_at l.place (landed aimed l)) h (asked-settled (landed aimed l) l.place h)
 
 pub letter-settled : (d : Data) (e : Editor) (c : ℕ) → IsSettled e → IsSettled (after_letter d e c)
 letter-settled d e c h =
-    let longer = search_from d e.place (with_query e (lengthened longest_query (kept e.seek e.query) c)) in
+    let longer = search_from d e.place (with_query e (lengthened longest_query (kept e.search_state e.query) c)) in
     either IsSettled (is_no_letter d c) e longer h h
 
 -- a line end may begin a paste where it ends the search
-end-alone : (d : Data) (typing : Typing) (e : Editor) → e.ask ≡ asks.Off → IsSettled e → IsAlone (after_sought_end d typing e)
+end-alone : (d : Data) (typing : Typing) (e : Editor) → e.prompt ≡ prompts.Off → IsSettled e → IsAlone (after_sought_end d typing e)
 end-alone d typing e unasked h =
     let left = without_search e in
-    either IsAlone (is_replacing e.aim) (if is_paste typing then e else after_asking_replacement d e) (if is_paste typing then with_paste left else left)
+    either IsAlone (is_replacing e.purpose) (if is_paste typing then e else after_asking_replacement d e) (if is_paste typing then with_paste left else left)
     (either IsAlone (is_paste typing) e (after_asking_replacement d e) (inl h) (inl (asking-settled d e h)))
     (either IsAlone (is_paste typing) (with_paste left) left (inr (unasked, refl)) (inl h))
 
-sought-alone : (d : Data) (typing : Typing) (e : Editor) (c : ℕ) → e.ask ≡ asks.Off → IsSettled e → IsAlone (after_sought_letter d typing e c)
+sought-alone : (d : Data) (typing : Typing) (e : Editor) (c : ℕ) → e.prompt ≡ prompts.Off → IsSettled e → IsAlone (after_sought_letter d typing e c)
 sought-alone d typing e c unasked h =
     either IsAlone (c == 0xA) (after_sought_end d typing e) (after_letter d e c) (end-alone d typing e unasked h) (inl (letter-settled d e c h))
 
-answered-alone : (d : Data) (fault : Option StoreFault) (was : Before) (e : Editor) (key : Key) (answer : Answer) → e.ask ≡ asks.Off → IsSettled e
+answered-alone : (d : Data) (fault : Option StoreFault) (was : Before) (e : Editor) (key : Key) (answer : Answer) → e.prompt ≡ prompts.Off → IsSettled e
     → IsAlone (answered d fault was e key answer)
 answered-alone d fault was e key (Letter c) unasked h = sought-alone d was.typing e c unasked h
 answered-alone d fault was e key Shortens unasked h = inl h
@@ -142,7 +142,7 @@ replacement-letter-settled : (d : Data) (typing : Typing) (e : Editor) (c : ℕ)
 replacement-letter-settled d typing e c h =
     either IsSettled (c == 0xA) (if is_paste typing then e else after_showing d e) (replacement_typed d e c)
     (either IsSettled (is_paste typing) e (after_showing d e) h (shown-settled e (next_match d e e.place) h))
-    (either IsSettled (is_no_letter d c) e (with_replacement e (lengthened longest_query (kept e.seek e.replacement) c)) h h)
+    (either IsSettled (is_no_letter d c) e (with_replacement e (lengthened longest_query (kept e.search_state e.replacement) c)) h h)
 
 pub replacement-settled : (d : Data) (fault : Option StoreFault) (was : Before) (e : Editor) (key : Key) (answer : Answer) → IsSettled e
     → IsSettled (answered_replacement d fault was e key answer)
@@ -178,49 +178,49 @@ answered-match-settled d fault was e key Ends h = let left = without_search e in
 
 pub in-question : (d : Data) (fault : Option StoreFault) (was : Before) (e : Editor) (key : Key) → IsSettled e → IsSettled (after_asking d fault was e key)
 in-question d fault was e key h =
-    let free = without_ask e in
+    let free = without_prompt e in
     questions.question-keeps d IsSettled (answers d) fault was e key (answer_of key) h (effect-settled d fault was free (effect_of d free key) h)
 
-any-alone : (d : Data) (fault : Option StoreFault) (was : Before) (ask : Prompt) (seek : SearchState) (e : Editor) (key : Key) → e.ask ≡ ask → IsSettled e
-    → IsAlone (after_any d fault was ask seek e key)
-any-alone d fault was asks.Off Off e key is h = inl (effect-settled d fault was e (effect_of d e key) h)
-any-alone d fault was asks.Off Begun e key is h = answered-alone d fault was e key (answer_of key) is h
-any-alone d fault was asks.Off Typed e key is h = answered-alone d fault was e key (answer_of key) is h
-any-alone d fault was asks.Off WithBegun e key is h = inl (replacement-settled d fault was e key (answer_of key) h)
-any-alone d fault was asks.Off WithTyped e key is h = inl (replacement-settled d fault was e key (answer_of key) h)
-any-alone d fault was asks.Off Replacing e key is h = inl (answered-match-settled d fault was e key (answer_of key) h)
-any-alone d fault was asks.Line seek e key is h = inl (in-question d fault was e key h)
-any-alone d fault was asks.Name seek e key is h = inl (in-question d fault was e key h)
-any-alone d fault was asks.Code seek e key is h = inl (in-question d fault was e key h)
+any-alone : (d : Data) (fault : Option StoreFault) (was : Before) (prompt : Prompt) (search_state : SearchState) (e : Editor) (key : Key) → e.prompt ≡ prompt → IsSettled e
+    → IsAlone (after_any d fault was prompt search_state e key)
+any-alone d fault was prompts.Off Off e key is h = inl (effect-settled d fault was e (effect_of d e key) h)
+any-alone d fault was prompts.Off Begun e key is h = answered-alone d fault was e key (answer_of key) is h
+any-alone d fault was prompts.Off Typed e key is h = answered-alone d fault was e key (answer_of key) is h
+any-alone d fault was prompts.Off WithBegun e key is h = inl (replacement-settled d fault was e key (answer_of key) h)
+any-alone d fault was prompts.Off WithTyped e key is h = inl (replacement-settled d fault was e key (answer_of key) h)
+any-alone d fault was prompts.Off Replacing e key is h = inl (answered-match-settled d fault was e key (answer_of key) h)
+any-alone d fault was prompts.Line search_state e key is h = inl (in-question d fault was e key h)
+any-alone d fault was prompts.Name search_state e key is h = inl (in-question d fault was e key h)
+any-alone d fault was prompts.Code search_state e key is h = inl (in-question d fault was e key h)
 
 user-alone : (d : Data) (fault : Option StoreFault) (e : Editor) (key : Key) → IsSettled e → IsAlone (after_user d fault e key)
-user-alone d fault e key h = any-alone d fault (before e) e.ask e.seek (cleared e) key refl h
+user-alone d fault e key h = any-alone d fault (before e) e.prompt e.search_state (cleared e) key refl h
 
 -- Repaint leaves a paste under way
-painted-alone : (d : Data) (fault : Option StoreFault) (e : Editor) (ask : Prompt) (seek : SearchState) → e.ask ≡ ask → e.seek ≡ seek → ask ≡ asks.Off → seek ≡ Off
-    → IsAlone (after_any d fault (before e) ask seek (cleared e) Repaint)
-painted-alone d fault e asks.Off Off asked sought_is unasked unsought = inr (asked, sought_is)
-painted-alone d fault e asks.Off Begun asked sought_is unasked unsought = absurd (cc unsought)
-painted-alone d fault e asks.Off Typed asked sought_is unasked unsought = absurd (cc unsought)
-painted-alone d fault e asks.Off WithBegun asked sought_is unasked unsought = absurd (cc unsought)
-painted-alone d fault e asks.Off WithTyped asked sought_is unasked unsought = absurd (cc unsought)
-painted-alone d fault e asks.Off Replacing asked sought_is unasked unsought = absurd (cc unsought)
-painted-alone d fault e asks.Line seek asked sought_is unasked unsought = absurd (cc unasked)
-painted-alone d fault e asks.Name seek asked sought_is unasked unsought = absurd (cc unasked)
-painted-alone d fault e asks.Code seek asked sought_is unasked unsought = absurd (cc unasked)
+painted-alone : (d : Data) (fault : Option StoreFault) (e : Editor) (prompt : Prompt) (search_state : SearchState) → e.prompt ≡ prompt → e.search_state ≡ search_state → prompt ≡ prompts.Off → search_state ≡ Off
+    → IsAlone (after_any d fault (before e) prompt search_state (cleared e) Repaint)
+painted-alone d fault e prompts.Off Off asked sought_is unasked unsought = inr (asked, sought_is)
+painted-alone d fault e prompts.Off Begun asked sought_is unasked unsought = absurd (cc unsought)
+painted-alone d fault e prompts.Off Typed asked sought_is unasked unsought = absurd (cc unsought)
+painted-alone d fault e prompts.Off WithBegun asked sought_is unasked unsought = absurd (cc unsought)
+painted-alone d fault e prompts.Off WithTyped asked sought_is unasked unsought = absurd (cc unsought)
+painted-alone d fault e prompts.Off Replacing asked sought_is unasked unsought = absurd (cc unsought)
+painted-alone d fault e prompts.Line search_state asked sought_is unasked unsought = absurd (cc unasked)
+painted-alone d fault e prompts.Name search_state asked sought_is unasked unsought = absurd (cc unasked)
+painted-alone d fault e prompts.Code search_state asked sought_is unasked unsought = absurd (cc unasked)
 
 repaint-alone : (d : Data) (fault : Option StoreFault) (e : Editor) → IsAlone e → IsAlone (after_user d fault e Repaint)
 repaint-alone d fault e (inl none) = user-alone d fault e Repaint none
-repaint-alone d fault e (inr free) = painted-alone d fault e e.ask e.seek refl refl free.0 free.1
+repaint-alone d fault e (inr free) = painted-alone d fault e e.prompt e.search_state refl refl free.0 free.1
 
-in-paste : (d : Data) (fault : Option StoreFault) (e : Editor) (key : Key) → IsAlone e → (e.ask ≡ asks.Off) × (e.seek ≡ Off)
+in-paste : (d : Data) (fault : Option StoreFault) (e : Editor) (key : Key) → IsAlone e → (e.prompt ≡ prompts.Off) × (e.search_state ≡ Off)
     → IsAlone (after_in_paste d fault e key)
 in-paste d fault e (Insert c) h free = inr free
 in-paste d fault e Repaint h free = repaint-alone d fault e h
 in-paste d fault e key h free = user-alone d fault (paste_ended d e) key (over d e)
 
 -- where a paste is under way nothing is asked or sought
-pub free-in-paste : (e : Editor) (list : List ℕ) → e.pasted ≡ Some list → IsAlone e → (e.ask ≡ asks.Off) × (e.seek ≡ Off)
+pub free-in-paste : (e : Editor) (list : List ℕ) → e.pasted ≡ Some list → IsAlone e → (e.prompt ≡ prompts.Off) × (e.search_state ≡ Off)
 free-in-paste e list is (inl none) = let no = sym none ∙ is in absurd (cc no)
 free-in-paste e list is (inr free) = free
 
@@ -229,21 +229,21 @@ press-alone : (d : Data) (fault : Option StoreFault) (e : Editor) (key : Key) (p
 press-alone d fault e key None is h = user-alone d fault e key is
 press-alone d fault e key (Some list) is h = in-paste d fault e key h (free-in-paste e list is h)
 
-begun-alone : (e : Editor) (ask : Prompt) (seek : SearchState) (pasted : Option (List ℕ)) → e.ask ≡ ask → e.seek ≡ seek → IsAlone e → IsAlone (paste_begun ask seek pasted e)
-begun-alone e asks.Off Off None asked sought_is h = inr (asked, sought_is)
-begun-alone e asks.Off Off (Some list) asked sought_is h = h
-begun-alone e asks.Off Begun pasted asked sought_is h = h
-begun-alone e asks.Off Typed pasted asked sought_is h = h
-begun-alone e asks.Off WithBegun pasted asked sought_is h = h
-begun-alone e asks.Off WithTyped pasted asked sought_is h = h
-begun-alone e asks.Off Replacing pasted asked sought_is h = h
-begun-alone e asks.Line seek pasted asked sought_is h = h
-begun-alone e asks.Name seek pasted asked sought_is h = h
-begun-alone e asks.Code seek pasted asked sought_is h = h
+begun-alone : (e : Editor) (prompt : Prompt) (search_state : SearchState) (pasted : Option (List ℕ)) → e.prompt ≡ prompt → e.search_state ≡ search_state → IsAlone e → IsAlone (paste_begun prompt search_state pasted e)
+begun-alone e prompts.Off Off None asked sought_is h = inr (asked, sought_is)
+begun-alone e prompts.Off Off (Some list) asked sought_is h = h
+begun-alone e prompts.Off Begun pasted asked sought_is h = h
+begun-alone e prompts.Off Typed pasted asked sought_is h = h
+begun-alone e prompts.Off WithBegun pasted asked sought_is h = h
+begun-alone e prompts.Off WithTyped pasted asked sought_is h = h
+begun-alone e prompts.Off Replacing pasted asked sought_is h = h
+begun-alone e prompts.Line search_state pasted asked sought_is h = h
+begun-alone e prompts.Name search_state pasted asked sought_is h = h
+begun-alone e prompts.Code search_state pasted asked sought_is h = h
 
 pub key-alone : (d : Data) (fault : Option StoreFault) (e : Editor) (key : Key) → IsAlone e → IsAlone (after_key d fault e key)
 key-alone d fault e key h =
-    each-key d fault e (λ k new. IsAlone new) (λ height width. h) (λ notice. h) (begun-alone e e.ask e.seek e.pasted refl refl h, inl (over d e))
+    each-key d fault e (λ k new. IsAlone new) (λ height width. h) (λ notice. h) (begun-alone e e.prompt e.search_state e.pasted refl refl h, inl (over d e))
     (λ k other. press-alone d fault e k e.pasted refl h) key
 
 -- ---- whatever is typed

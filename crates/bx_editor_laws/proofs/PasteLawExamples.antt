@@ -48,7 +48,7 @@ typed keys = map (λ key. (key, None)) keys
 
 -- the paste goes into the text from its line end on
 pub its_line_end_ends_the_search : PastesAreAlone
-    → (after (start (codes "ab ab") 2 40) (Find ∷ PasteStart ∷ letters (codes "b\n"))).seek ≡ Off
+    → (after (start (codes "ab ab") 2 40) (Find ∷ PasteStart ∷ letters (codes "b\n"))).search_state ≡ Off
 unfolding unicode_segmentation unicode_width digits unicode_normalization ucd_case
 its_line_end_ends_the_search law =
     (law tables (codes "ab ab") 2 40 Auto (typed (Find ∷ PasteStart ∷ letters (codes "b\n"))) (λ none. cc none)).unsought

@@ -7,7 +7,7 @@ use Rattle.bx_store.specs.declared.store.StoreFault.{StoreFault}
 use Rattle.bx_ucd.specs.Data.{Data}
 use Rattle.bx_editor.specs.declared.message.Message.TheVariants.{TextFull}
 use Rattle.bx_editor.specs.declared.questions.answers.Prompt.{Prompt}
-use Rattle.bx_editor.specs.declared.questions.answers.Prompt.TheVariants as asks
+use Rattle.bx_editor.specs.declared.questions.answers.Prompt.TheVariants as prompts
 use Rattle.bx_editor.specs.declared.search_state.SearchState.{SearchState}
 use Rattle.bx_editor.specs.declared.search_state.SearchState.TheVariants.{Off, Begun, Typed, WithBegun, WithTyped, Replacing}
 use Rattle.bx_editor.specs.declared.undo_groups.typing.Typing.{Typing}
@@ -33,7 +33,7 @@ use Rattle.bx_editor_laws.proofs.PasteEnded.{in-ends, over}
 end-settled : (d : Data) (typing : Typing) (e : Editor) → is_paste typing ≡ false → IsSettled e → IsSettled (after_sought_end d typing e)
 end-settled d typing e plain h =
     let left = without_search e in
-    either IsSettled (is_replacing e.aim) (if is_paste typing then e else after_asking_replacement d e) (if is_paste typing then with_paste left else left)
+    either IsSettled (is_replacing e.purpose) (if is_paste typing then e else after_asking_replacement d e) (if is_paste typing then with_paste left else left)
     (either IsSettled (is_paste typing) e (after_asking_replacement d e) h (asking-settled d e h))
     (subst (λ b. IsSettled (if b then with_paste left else left)) (sym plain) h)
 
@@ -52,21 +52,21 @@ answered-settled d fault was e key Replaces plain h = asking-settled d e h
 answered-settled d fault was e key Stays plain h = h
 answered-settled d fault was e key Ends plain h = effect-settled d fault was e (effect_of d e key) h
 
-any-settled : (d : Data) (fault : Option StoreFault) (was : Before) (ask : Prompt) (seek : SearchState) (e : Editor) (key : Key)
-    → is_paste was.typing ≡ false → IsSettled e → IsSettled (after_any d fault was ask seek e key)
-any-settled d fault was asks.Off Off e key plain h = effect-settled d fault was e (effect_of d e key) h
-any-settled d fault was asks.Off Begun e key plain h = answered-settled d fault was e key (answer_of key) plain h
-any-settled d fault was asks.Off Typed e key plain h = answered-settled d fault was e key (answer_of key) plain h
-any-settled d fault was asks.Off WithBegun e key plain h = replacement-settled d fault was e key (answer_of key) h
-any-settled d fault was asks.Off WithTyped e key plain h = replacement-settled d fault was e key (answer_of key) h
-any-settled d fault was asks.Off Replacing e key plain h = answered-match-settled d fault was e key (answer_of key) h
-any-settled d fault was asks.Line seek e key plain h = in-question d fault was e key h
-any-settled d fault was asks.Name seek e key plain h = in-question d fault was e key h
-any-settled d fault was asks.Code seek e key plain h = in-question d fault was e key h
+any-settled : (d : Data) (fault : Option StoreFault) (was : Before) (prompt : Prompt) (search_state : SearchState) (e : Editor) (key : Key)
+    → is_paste was.typing ≡ false → IsSettled e → IsSettled (after_any d fault was prompt search_state e key)
+any-settled d fault was prompts.Off Off e key plain h = effect-settled d fault was e (effect_of d e key) h
+any-settled d fault was prompts.Off Begun e key plain h = answered-settled d fault was e key (answer_of key) plain h
+any-settled d fault was prompts.Off Typed e key plain h = answered-settled d fault was e key (answer_of key) plain h
+any-settled d fault was prompts.Off WithBegun e key plain h = replacement-settled d fault was e key (answer_of key) h
+any-settled d fault was prompts.Off WithTyped e key plain h = replacement-settled d fault was e key (answer_of key) h
+any-settled d fault was prompts.Off Replacing e key plain h = answered-match-settled d fault was e key (answer_of key) h
+any-settled d fault was prompts.Line search_state e key plain h = in-question d fault was e key h
+any-settled d fault was prompts.Name search_state e key plain h = in-question d fault was e key h
+any-settled d fault was prompts.Code search_state e key plain h = in-question d fault was e key h
 
 user-settled : (d : Data) (fault : Option StoreFault) (e : Editor) (key : Key) → is_paste e.typing ≡ false → IsSettled e
     → IsSettled (after_user d fault e key)
-user-settled d fault e key plain h = any-settled d fault (before e) e.ask e.seek (cleared e) key plain h
+user-settled d fault e key plain h = any-settled d fault (before e) e.prompt e.search_state (cleared e) key plain h
 
 -- ---- a key that ends it
 
@@ -96,31 +96,31 @@ ended d fault e key some =
 
 -- ---- any other key
 
-painted : (d : Data) (fault : Option StoreFault) (was : Before) (ask : Prompt) (seek : SearchState) (e : Editor)
-    → (after_any d fault was ask seek e Repaint).pasted ≡ e.pasted
-painted d fault was asks.Off Off e = refl
-painted d fault was asks.Off Begun e = refl
-painted d fault was asks.Off Typed e = refl
-painted d fault was asks.Off WithBegun e = refl
-painted d fault was asks.Off WithTyped e = refl
-painted d fault was asks.Off Replacing e = refl
-painted d fault was asks.Line seek e = refl
-painted d fault was asks.Name seek e = refl
-painted d fault was asks.Code seek e = refl
+painted : (d : Data) (fault : Option StoreFault) (was : Before) (prompt : Prompt) (search_state : SearchState) (e : Editor)
+    → (after_any d fault was prompt search_state e Repaint).pasted ≡ e.pasted
+painted d fault was prompts.Off Off e = refl
+painted d fault was prompts.Off Begun e = refl
+painted d fault was prompts.Off Typed e = refl
+painted d fault was prompts.Off WithBegun e = refl
+painted d fault was prompts.Off WithTyped e = refl
+painted d fault was prompts.Off Replacing e = refl
+painted d fault was prompts.Line search_state e = refl
+painted d fault was prompts.Name search_state e = refl
+painted d fault was prompts.Code search_state e = refl
 
 -- PasteStart begins none while one is under way
-begun : (e : Editor) (ask : Prompt) (seek : SearchState) (pasted : Option (List ℕ)) → e.pasted ≡ pasted → IsSettled (paste_begun ask seek pasted e)
+begun : (e : Editor) (prompt : Prompt) (search_state : SearchState) (pasted : Option (List ℕ)) → e.pasted ≡ pasted → IsSettled (paste_begun prompt search_state pasted e)
     → IsSettled e
-begun e asks.Off Off None is h = is
-begun e asks.Off Off (Some list) is h = h
-begun e asks.Off Begun pasted is h = h
-begun e asks.Off Typed pasted is h = h
-begun e asks.Off WithBegun pasted is h = h
-begun e asks.Off WithTyped pasted is h = h
-begun e asks.Off Replacing pasted is h = h
-begun e asks.Line seek pasted is h = h
-begun e asks.Name seek pasted is h = h
-begun e asks.Code seek pasted is h = h
+begun e prompts.Off Off None is h = is
+begun e prompts.Off Off (Some list) is h = h
+begun e prompts.Off Begun pasted is h = h
+begun e prompts.Off Typed pasted is h = h
+begun e prompts.Off WithBegun pasted is h = h
+begun e prompts.Off WithTyped pasted is h = h
+begun e prompts.Off Replacing pasted is h = h
+begun e prompts.Line search_state pasted is h = h
+begun e prompts.Name search_state pasted is h = h
+begun e prompts.Code search_state pasted is h = h
 
 -- a key that leaves none under way ends it
 stays : (d : Data) (fault : Option StoreFault) (e : Editor) (pasted : Option (List ℕ)) (key : Key) → is_told_key key ≡ false → e.pasted ≡ pasted → pasted ≢ None
@@ -129,7 +129,7 @@ stays d fault e None key small is some h = absurd (some refl)
 stays d fault e (Some list) (Insert c) small is some h =
     let crlf = pastes_crlf d e.content.text c in
     let both : Some (longer crlf list c) ≡ None = ap (λ p. pasted_with crlf p c) (sym is) ∙ h in absurd (cc both)
-stays d fault e (Some list) Repaint small is some h = absurd (some (sym is ∙ (sym (painted d fault (before e) e.ask e.seek (cleared e)) ∙ h)))
+stays d fault e (Some list) Repaint small is some h = absurd (some (sym is ∙ (sym (painted d fault (before e) e.prompt e.search_state (cleared e)) ∙ h)))
 stays d fault e (Some list) PasteStart small is some h = absurd (cc small)
 stays d fault e (Some list) (Size height width) small is some h = absurd (cc small)
 stays d fault e (Some list) (Notice notice) small is some h = absurd (cc small)
@@ -139,7 +139,7 @@ only : (d : Data) (fault : Option StoreFault) (e : Editor) (key : Key) → e.pas
     → ends_paste key ≡ true
 only d fault e key some =
     each-key d fault e (λ k new. IsSettled new → ends_paste k ≡ true) (λ height width none. absurd (some none)) (λ notice none. absurd (some none))
-    (λ none. absurd (some (begun e e.ask e.seek e.pasted refl none)), λ none. refl) (λ k small none. stays d fault e e.pasted k small refl some none) key
+    (λ none. absurd (some (begun e e.prompt e.search_state e.pasted refl none)), λ none. refl) (λ k small none. stays d fault e e.pasted k small refl some none) key
 
 pub pastes-end-by-keys : PastesEndByKeys
 pastes-end-by-keys d fault e key some = (ended d fault e key some, only d fault e key some)

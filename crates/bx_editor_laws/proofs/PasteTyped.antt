@@ -16,9 +16,9 @@ use Rattle.bx_editor.specs.declared.undo_groups.typing.Kind.{Kind}
 use Rattle.bx_editor.specs.declared.undo_groups.typing.Typing.TheVariants as typings
 use Rattle.bx_common.specs.declared.base.Base.{Base}
 use Rattle.bx_ucd.specs.Data.{Data}
-use Rattle.bx_editor.specs.declared.questions.answers.Prompt.TheVariants as asks
+use Rattle.bx_editor.specs.declared.questions.answers.Prompt.TheVariants as prompts
 use Rattle.bx_editor.specs.declared.message.Message.TheVariants.{Pasting, TextFull}
-use Rattle.bx_editor.specs.declared.search_state.SearchState.TheVariants as seeks
+use Rattle.bx_editor.specs.declared.search_state.SearchState.TheVariants as search_states
 use Rattle.bx_editor.specs.declared.cursor.Soft.{Soft}
 use Rattle.bx_editor.specs.declared.cursor.Soft.TheVariants.{Off, Fresh, Old}
 use Rattle.bx_editor.specs.Editor.{Editor, cleared, place_after, with_insertion, with_typing}
@@ -250,9 +250,9 @@ over e again goal soft = record e { pasted = None; typing = typings.Off; message
 
 begun : (e : Editor) → IsFree e → e.pasted ≡ None → after_paste_start e ≡ in_paste e [] e.quit_before e.goal e.soft
 begun e free none =
-    ap (λ a. with_typing (paste_begun a e.seek e.pasted e) typings.Paste) free.unasked
-    ∙ ap (λ s. with_typing (paste_begun asks.Off s e.pasted e) typings.Paste) free.unsought
-    ∙ ap (λ p. with_typing (paste_begun asks.Off seeks.Off p e) typings.Paste) none
+    ap (λ a. with_typing (paste_begun a e.search_state e.pasted e) typings.Paste) free.unasked
+    ∙ ap (λ s. with_typing (paste_begun prompts.Off s e.pasted e) typings.Paste) free.unsought
+    ∙ ap (λ p. with_typing (paste_begun prompts.Off search_states.Off p e) typings.Paste) none
 
 aged-soft : (soft : Soft) → is_soft (aged soft) ≡ is_soft soft
 aged-soft Off = refl

@@ -6,7 +6,7 @@ use Rattle.std.proofs.lemmas.Bool.{le-leb}
 use Rattle.bx_keys.specs.declared.key.Key.TheVariants.{Point}
 use Rattle.bx_ucd.specs.Data.{Data}
 use Rattle.bx_editor.specs.declared.questions.answers.Prompt.{Prompt}
-use Rattle.bx_editor.specs.declared.questions.answers.Prompt.TheVariants as asks
+use Rattle.bx_editor.specs.declared.questions.answers.Prompt.TheVariants as prompts
 use Rattle.bx_editor.specs.declared.undo_groups.typing.Typing.TheVariants as typings
 use Rattle.bx_paragraph.proofs.Starts.{side-some}
 use Rattle.bx_view.specs.Top.{pointed_at, follow}
@@ -39,40 +39,40 @@ use Rattle.bx_editor.proofs.TopOnce.{top-stays}
 
 -- nothing is asked, and the search is in this state
 abbrev ended : SearchState → Editor → Editor
-ended seek e = record e { ask = asks.Off; seek = seek }
+ended search_state e = record e { prompt = prompts.Off; search_state = search_state }
 
 -- the cursor goes to the place that is pointed at
 abbrev went : Data → Editor → ℕ → ℕ → Editor
 went d e row column = with_place (unselected e) (pointed_place d e row column)
 
-point-free : (d : Data) (was : Before) (seek : SearchState) (e : Editor) (row column : ℕ) → e.ask ≡ asks.Off → e.seek ≡ seek
-    → after_any d None was asks.Off seek e (Point row column) ≡ ended Off (went d e row column)
-point-free d was Off e row column unasked unsought = ap₂ (λ a s. record (went d e row column) { ask = a; seek = s }) unasked unsought
-point-free d was Begun e row column unasked on = ap (λ a. record (went d e row column) { ask = a; seek = Off }) unasked
-point-free d was Typed e row column unasked on = ap (λ a. record (went d e row column) { ask = a; seek = Off }) unasked
-point-free d was WithBegun e row column unasked on = ap (λ a. record (went d e row column) { ask = a; seek = Off }) unasked
-point-free d was WithTyped e row column unasked on = ap (λ a. record (went d e row column) { ask = a; seek = Off }) unasked
-point-free d was Replacing e row column unasked on = ap (λ a. record (went d e row column) { ask = a; seek = Off }) unasked
+point-free : (d : Data) (was : Before) (search_state : SearchState) (e : Editor) (row column : ℕ) → e.prompt ≡ prompts.Off → e.search_state ≡ search_state
+    → after_any d None was prompts.Off search_state e (Point row column) ≡ ended Off (went d e row column)
+point-free d was Off e row column unasked unsought = ap₂ (λ a s. record (went d e row column) { prompt = a; search_state = s }) unasked unsought
+point-free d was Begun e row column unasked on = ap (λ a. record (went d e row column) { prompt = a; search_state = Off }) unasked
+point-free d was Typed e row column unasked on = ap (λ a. record (went d e row column) { prompt = a; search_state = Off }) unasked
+point-free d was WithBegun e row column unasked on = ap (λ a. record (went d e row column) { prompt = a; search_state = Off }) unasked
+point-free d was WithTyped e row column unasked on = ap (λ a. record (went d e row column) { prompt = a; search_state = Off }) unasked
+point-free d was Replacing e row column unasked on = ap (λ a. record (went d e row column) { prompt = a; search_state = Off }) unasked
 
 -- it ends a question alone, or a search
 abbrev IsPointed : Data → Editor → ℕ → ℕ → Editor → Type 0
 IsPointed d e row column new = (s : SearchState) × (new ≡ ended s (went d e row column)) × (HasOnePrompt e → s ≡ Off)
 
-point-any : (d : Data) (was : Before) (ask : Prompt) (seek : SearchState) (e : Editor) (row column : ℕ) → e.ask ≡ ask → e.seek ≡ seek
-    → IsPointed d e row column (after_any d None was ask seek e (Point row column))
-point-any d was asks.Off seek e row column unasked is = (Off, point-free d was seek e row column unasked is, λ one. refl)
-point-any d was asks.Line seek e row column asked is = (e.seek, refl, λ one. one (λ off. let both = sym asked ∙ off in cc both))
-point-any d was asks.Name seek e row column asked is = (e.seek, refl, λ one. one (λ off. let both = sym asked ∙ off in cc both))
-point-any d was asks.Code seek e row column asked is = (e.seek, refl, λ one. one (λ off. let both = sym asked ∙ off in cc both))
+point-any : (d : Data) (was : Before) (prompt : Prompt) (search_state : SearchState) (e : Editor) (row column : ℕ) → e.prompt ≡ prompt → e.search_state ≡ search_state
+    → IsPointed d e row column (after_any d None was prompt search_state e (Point row column))
+point-any d was prompts.Off search_state e row column unasked is = (Off, point-free d was search_state e row column unasked is, λ one. refl)
+point-any d was prompts.Line search_state e row column asked is = (e.search_state, refl, λ one. one (λ off. let both = sym asked ∙ off in cc both))
+point-any d was prompts.Name search_state e row column asked is = (e.search_state, refl, λ one. one (λ off. let both = sym asked ∙ off in cc both))
+point-any d was prompts.Code search_state e row column asked is = (e.search_state, refl, λ one. one (λ off. let both = sym asked ∙ off in cc both))
 
 -- all that the key leaves
 abbrev at-point : Data → Editor → ℕ → ℕ → SearchState → Editor
-at-point d e row column seek = record e {
+at-point d e row column search_state = record e {
   place = pointed_place d e row column;
   mark = mark_left e.soft e.mark;
   soft = aged (soft_left e.soft);
-  seek = seek;
-  ask = asks.Off;
+  search_state = search_state;
+  prompt = prompts.Off;
   typing = typings.Off;
   message = None;
   quit_before = false;
@@ -82,7 +82,7 @@ at-point d e row column seek = record e {
 point-is : (d : Data) (e : Editor) (row column : ℕ) → e.pasted ≡ None
     → (s : SearchState) × (after_key d None e (Point row column) ≡ at-point d e row column s) × (HasOnePrompt e → s ≡ Off)
 point-is d e row column settled =
-    let one = point-any d (before e) e.ask e.seek (cleared e) row column refl refl in
+    let one = point-any d (before e) e.prompt e.search_state (cleared e) row column refl refl in
     (one.0, any-key d None e (Point row column) settled refl ∙ ap behind one.1, one.2)
 
 point-off : (d : Data) (e : Editor) (row column : ℕ) → e.pasted ≡ None → HasOnePrompt e → after_key d None e (Point row column) ≡ at-point d e row column Off

@@ -11,10 +11,10 @@ use Rattle.bx_text.specs.Edits.{fits, splice}
 use Rattle.bx_editor.specs.declared.message.Message.TheVariants.{Copied, LineCopied, NothingToCopy, NothingToPut, TextFull}
 use Rattle.bx_ucd.specs.Data.{Data}
 use Rattle.bx_editor.specs.declared.questions.answers.Prompt.{Prompt}
-use Rattle.bx_editor.specs.declared.questions.answers.Prompt.TheVariants as asks
+use Rattle.bx_editor.specs.declared.questions.answers.Prompt.TheVariants as prompts
 use Rattle.bx_editor.specs.declared.search_state.SearchState.{SearchState}
 use Rattle.bx_editor.specs.declared.search_state.SearchState.TheVariants.{Off, Begun, Typed, WithBegun, WithTyped, Replacing}
-use Rattle.bx_editor.specs.Asking.{without_ask}
+use Rattle.bx_editor.specs.Asking.{without_prompt}
 use Rattle.bx_editor.specs.Editor.{Editor, cleared, place_after, with_insertion, with_removal}
 use Rattle.bx_editor.specs.declared.cursor.Soft.TheVariants as softness
 use Rattle.bx_editor.specs.Effects.{Before, before}
@@ -145,20 +145,20 @@ copy-puts-twice d e unasked off settled is fit =
 -- ---- Cut and Put
 
 -- a Cut that removes something ends a search and a question
-cut-any : (d : Data) (was : Before) (ask : Prompt) (seek : SearchState) (e cut : Editor) → e.ask ≡ ask
-    → ((a : Prompt) (s : SearchState) → after_cut d (record e { ask = a; seek = s }) ≡ record cut { ask = a }) → cut ≡ without_search cut
-    → after_any d None was ask seek e Cut ≡ without_ask cut
-cut-any d was asks.Off Off e cut unasked is over = is e.ask e.seek ∙ ap (λ a. record cut { ask = a }) unasked
-cut-any d was asks.Off Begun e cut unasked is over =
-    ap without_search (is e.ask e.seek) ∙ ap (λ a. record cut { ask = a; seek = Off }) unasked ∙ ap without_ask (sym over)
-cut-any d was asks.Off Typed e cut unasked is over =
-    ap without_search (is e.ask e.seek) ∙ ap (λ a. record cut { ask = a; seek = Off }) unasked ∙ ap without_ask (sym over)
-cut-any d was asks.Off WithBegun e cut unasked is over = is e.ask Off ∙ ap (λ a. record cut { ask = a }) unasked
-cut-any d was asks.Off WithTyped e cut unasked is over = is e.ask Off ∙ ap (λ a. record cut { ask = a }) unasked
-cut-any d was asks.Off Replacing e cut unasked is over = is e.ask Off ∙ ap (λ a. record cut { ask = a }) unasked
-cut-any d was asks.Line seek e cut asked is over = is asks.Off e.seek
-cut-any d was asks.Name seek e cut asked is over = is asks.Off e.seek
-cut-any d was asks.Code seek e cut asked is over = is asks.Off e.seek
+cut-any : (d : Data) (was : Before) (prompt : Prompt) (search_state : SearchState) (e cut : Editor) → e.prompt ≡ prompt
+    → ((a : Prompt) (s : SearchState) → after_cut d (record e { prompt = a; search_state = s }) ≡ record cut { prompt = a }) → cut ≡ without_search cut
+    → after_any d None was prompt search_state e Cut ≡ without_prompt cut
+cut-any d was prompts.Off Off e cut unasked is over = is e.prompt e.search_state ∙ ap (λ a. record cut { prompt = a }) unasked
+cut-any d was prompts.Off Begun e cut unasked is over =
+    ap without_search (is e.prompt e.search_state) ∙ ap (λ a. record cut { prompt = a; search_state = Off }) unasked ∙ ap without_prompt (sym over)
+cut-any d was prompts.Off Typed e cut unasked is over =
+    ap without_search (is e.prompt e.search_state) ∙ ap (λ a. record cut { prompt = a; search_state = Off }) unasked ∙ ap without_prompt (sym over)
+cut-any d was prompts.Off WithBegun e cut unasked is over = is e.prompt Off ∙ ap (λ a. record cut { prompt = a }) unasked
+cut-any d was prompts.Off WithTyped e cut unasked is over = is e.prompt Off ∙ ap (λ a. record cut { prompt = a }) unasked
+cut-any d was prompts.Off Replacing e cut unasked is over = is e.prompt Off ∙ ap (λ a. record cut { prompt = a }) unasked
+cut-any d was prompts.Line search_state e cut asked is over = is prompts.Off e.search_state
+cut-any d was prompts.Name search_state e cut asked is over = is prompts.Off e.search_state
+cut-any d was prompts.Code search_state e cut asked is over = is prompts.Off e.search_state
 
 pub put-restores-cut : PutRestoresCut
 put-restores-cut d e settled is short there =
@@ -170,14 +170,14 @@ put-restores-cut d e settled is short there =
     let after = place_after d was (splice text a b []) a in
     let without = with_removal d was a b false in
     let taken-out : Editor = record without { held = r; message = held_message e.clipboard r None } in
-    let cut = left_behind (without_ask taken-out) in
+    let cut = left_behind (without_prompt taken-out) in
     let order : a ≤ b = omega (arith, is.some) in
     let long : length r ≡ b - a = part-length text a b order is.inside in
     let same : after_key d None e Cut ≡ cut =
     any-key d None e Cut settled refl
     ∙ ap left_behind
-    (cut-any d (before e) e.ask e.seek was taken-out refl
-    (λ ask seek. (let asked : Editor = record was { ask = ask; seek = seek } in
+    (cut-any d (before e) e.prompt e.search_state was taken-out refl
+    (λ prompt search_state. (let asked : Editor = record was { prompt = prompt; search_state = search_state } in
     ap (λ x. if x then after_copy d asked else record (with_removal d asked a b false) { held = r; message = held_message e.clipboard r None })
     (is-there e (taken d e) is))) refl) in
     let at : after ≡ a = sym (ap (λ (c : Editor). c.place) same) ∙ there in

@@ -20,7 +20,7 @@ is_quiet Typed = true
 is_quiet _ = false
 
 abbrev pub IsQuiet : Editor → Type 0
-IsQuiet e = is_quiet e.seek ≡ true
+IsQuiet e = is_quiet e.search_state ≡ true
 
 save : (e : Editor) (fault : Option StoreFault) → IsQuiet e → IsQuiet (after_save e fault)
 save e None h = h
@@ -42,13 +42,13 @@ pressing d = record {
 
 -- another search begins, or ends at once
 next : (d : Data) (e : Editor) (none : Bool) → let free = unselected e in
-    IsQuiet (if none then after_beginning Find free else search_from d (next_or_start d free) (record free { seek = Off; aim = Find }))
+    IsQuiet (if none then after_beginning Find free else search_from d (next_or_start d free) (record free { search_state = Off; purpose = Find }))
 next d e true = refl
 next d e false = refl
 
 asking : (d : Data) (fault : Option StoreFault) (was : Before) (e : Editor) (one : Effect) → kept.asks_or_seeks one ≡ true → IsQuiet e
     → IsQuiet (by d fault was e one)
-asking d fault was e (Seeks aim) is h = refl
+asking d fault was e (Seeks purpose) is h = refl
 asking d fault was e SeeksNext is h = next d e (length (sought d (unselected e)) == 0)
 asking d fault was e AsksLine is h = h
 asking d fault was e AsksName is h = h

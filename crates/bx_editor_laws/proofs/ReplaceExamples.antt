@@ -10,7 +10,7 @@ use Rattle.bx_keys.specs.declared.key.Key.{Key}
 use Rattle.bx_keys.specs.declared.key.Key.TheVariants.{Insert, Erase, Delete, Copy, Find, FindBack, FindNext, Forward, Mark, Quit, Replace, Repaint, Right, TextEnd, Undo}
 use Rattle.bx_keys.specs.declared.key.Key.TheVariants.{Cancel, NewLine, PasteStart, PasteEnd, RedoRun, UndoRun}
 use Rattle.bx_editor.specs.declared.search_state.SearchPurpose.{SearchPurpose}
-use Rattle.bx_editor.specs.declared.search_state.SearchPurpose.TheVariants as aims
+use Rattle.bx_editor.specs.declared.search_state.SearchPurpose.TheVariants as purposes
 use Rattle.bx_editor.specs.declared.message.Message.{Message}
 use Rattle.bx_editor.specs.declared.message.Message.TheVariants.{FromStart, FromEnd, NotFound, Pasting, Replaced}
 use Rattle.bx_editor.specs.declared.search_state.SearchState.{SearchState}
@@ -23,11 +23,11 @@ from text keys = after (start text 2 60) keys
 
 -- text, place, state, and what is told
 abbrev replaced : List ℕ → List Key → List ℕ × ℕ × SearchState × Option Message
-replaced text keys = let e = from text keys in (e.content.text, e.place, e.seek, e.message)
+replaced text keys = let e = from text keys in (e.content.text, e.place, e.search_state, e.message)
 
--- state, aim, place, and what is told
+-- state, purpose, place, and the message
 abbrev asked : List ℕ → List Key → SearchState × SearchPurpose × ℕ × Option Message
-asked text keys = let e = from text keys in (e.seek, e.aim, e.place, e.message)
+asked text keys = let e = from text keys in (e.search_state, e.purpose, e.place, e.message)
 
 abbrev runs : List ℕ → List Key → List ℕ × ℕ
 runs text keys = let e = from text keys in (e.undo_groups, length e.content.past)
@@ -40,9 +40,9 @@ marked text keys = let e = from text keys in (e.content.text, e.place, e.mark, e
 abbrev matched : List ℕ → List Key → ℕ × ℕ × ℕ
 matched text keys = let e = from text keys in (e.place, e.at, e.count)
 
--- state, aim, and the replacement
+-- state, purpose, and the replacement
 abbrev typed : List ℕ → List Key → SearchState × SearchPurpose × List ℕ
-typed text keys = let e = from text keys in (e.seek, e.aim, e.replacement)
+typed text keys = let e = from text keys in (e.search_state, e.purpose, e.replacement)
 
 abbrev pub enter : Key
 enter = Insert 10
@@ -53,19 +53,19 @@ showing query other = Replace ∷ letters query ++ (enter ∷ letters other) ++ 
 
 -- ---- one by one
 
-pub replace_begins : asked (codes "abcabc") (Replace ∷ []) ≡ (Begun, aims.Replace, 0, None)
+pub replace_begins : asked (codes "abcabc") (Replace ∷ []) ≡ (Begun, purposes.Replace, 0, None)
 unfolding unicode_segmentation unicode_width digits
 replace_begins = refl
 
-pub the_query_is_sought : asked (codes "abcabc") (Replace ∷ letters (codes "b")) ≡ (Typed, aims.Replace, 1, None)
+pub the_query_is_sought : asked (codes "abcabc") (Replace ∷ letters (codes "b")) ≡ (Typed, purposes.Replace, 1, None)
 unfolding unicode_segmentation unicode_width digits
 the_query_is_sought = refl
 
-pub enter_asks_for_the_replacement : asked (codes "abcabc") (Replace ∷ letters (codes "b") ++ (enter ∷ [])) ≡ (WithBegun, aims.Replace, 1, None)
+pub enter_asks_for_the_replacement : asked (codes "abcabc") (Replace ∷ letters (codes "b") ++ (enter ∷ [])) ≡ (WithBegun, purposes.Replace, 1, None)
 unfolding unicode_segmentation unicode_width digits
 enter_asks_for_the_replacement = refl
 
-pub the_replacement_is_typed : asked (codes "abcabc") (Replace ∷ letters (codes "b") ++ (enter ∷ letters (codes "XY"))) ≡ (WithTyped, aims.Replace, 1, None)
+pub the_replacement_is_typed : asked (codes "abcabc") (Replace ∷ letters (codes "b") ++ (enter ∷ letters (codes "XY"))) ≡ (WithTyped, purposes.Replace, 1, None)
 unfolding unicode_segmentation unicode_width digits
 the_replacement_is_typed = refl
 
@@ -225,7 +225,7 @@ the_place_between_them = refl
 
 -- ---- the questions
 
-pub the_old_query_and_the_old_replacement : asked (codes "abab") (showing (codes "a") (codes "x") ++ (Replace ∷ UndoRun ∷ Replace ∷ enter ∷ Replace ∷ [])) ≡ (Replacing, aims.Replace, 0, None)
+pub the_old_query_and_the_old_replacement : asked (codes "abab") (showing (codes "a") (codes "x") ++ (Replace ∷ UndoRun ∷ Replace ∷ enter ∷ Replace ∷ [])) ≡ (Replacing, purposes.Replace, 0, None)
 unfolding unicode_segmentation unicode_width digits
 the_old_query_and_the_old_replacement = refl
 
@@ -237,47 +237,47 @@ pub a_letter_takes_the_old_replacements_place : (from (codes "abab") (showing (c
 unfolding unicode_segmentation unicode_width digits
 a_letter_takes_the_old_replacements_place = refl
 
-pub an_erase_takes_it_whole : typed (codes "abab") (showing (codes "a") (codes "xy") ++ (Copy ∷ Replace ∷ enter ∷ Erase ∷ [])) ≡ (WithTyped, aims.Replace, [])
+pub an_erase_takes_it_whole : typed (codes "abab") (showing (codes "a") (codes "xy") ++ (Copy ∷ Replace ∷ enter ∷ Erase ∷ [])) ≡ (WithTyped, purposes.Replace, [])
 unfolding unicode_segmentation unicode_width digits
 an_erase_takes_it_whole = refl
 
-pub without_letters_nothing_is_asked : asked (codes "abab") (Replace ∷ enter ∷ Replace ∷ []) ≡ (Begun, aims.Replace, 0, None)
+pub without_letters_nothing_is_asked : asked (codes "abab") (Replace ∷ enter ∷ Replace ∷ []) ≡ (Begun, purposes.Replace, 0, None)
 unfolding unicode_segmentation unicode_width digits
 without_letters_nothing_is_asked = refl
 
-pub a_query_without_letters : asked (codes "abab") (Replace ∷ Insert 0x301 ∷ enter ∷ []) ≡ (Typed, aims.Replace, 0, None)
+pub a_query_without_letters : asked (codes "abab") (Replace ∷ Insert 0x301 ∷ enter ∷ []) ≡ (Typed, purposes.Replace, 0, None)
 unfolding unicode_segmentation unicode_width digits
 a_query_without_letters = refl
 
-pub without_a_match_nothing_is_asked : asked (codes "abab") (Replace ∷ Insert 0x7a ∷ Repaint ∷ enter ∷ []) ≡ (Typed, aims.Replace, 0, Some NotFound)
+pub without_a_match_nothing_is_asked : asked (codes "abab") (Replace ∷ Insert 0x7a ∷ Repaint ∷ enter ∷ []) ≡ (Typed, purposes.Replace, 0, Some NotFound)
 unfolding unicode_segmentation unicode_width digits
 without_a_match_nothing_is_asked = refl
 
-pub the_old_query_is_sought_from_the_place : asked (codes "abab") (Replace ∷ Insert 0x62 ∷ Quit ∷ Replace ∷ enter ∷ []) ≡ (WithBegun, aims.Replace, 1, None)
+pub the_old_query_is_sought_from_the_place : asked (codes "abab") (Replace ∷ Insert 0x62 ∷ Quit ∷ Replace ∷ enter ∷ []) ≡ (WithBegun, purposes.Replace, 1, None)
 unfolding unicode_segmentation unicode_width digits
 the_old_query_is_sought_from_the_place = refl
 
-pub find_back_before_the_question : asked (codes "abab") (Replace ∷ Insert 0x62 ∷ Quit ∷ Replace ∷ Find ∷ FindBack ∷ []) ≡ (Typed, aims.Replace, 3, Some FromEnd)
+pub find_back_before_the_question : asked (codes "abab") (Replace ∷ Insert 0x62 ∷ Quit ∷ Replace ∷ Find ∷ FindBack ∷ []) ≡ (Typed, purposes.Replace, 3, Some FromEnd)
 unfolding unicode_segmentation unicode_width digits unicode_normalization ucd_case
 find_back_before_the_question = refl
 
-pub replace_asks_in_a_search : asked (codes "abab") (Find ∷ Insert 0x62 ∷ Replace ∷ []) ≡ (WithBegun, aims.Replace, 1, None)
+pub replace_asks_in_a_search : asked (codes "abab") (Find ∷ Insert 0x62 ∷ Replace ∷ []) ≡ (WithBegun, purposes.Replace, 1, None)
 unfolding unicode_segmentation unicode_width digits unicode_normalization ucd_case
 replace_asks_in_a_search = refl
 
-pub a_search_without_a_match_is_one_to_replace : asked (codes "abab") (Find ∷ Insert 0x7a ∷ Replace ∷ []) ≡ (Typed, aims.Replace, 0, Some NotFound)
+pub a_search_without_a_match_is_one_to_replace : asked (codes "abab") (Find ∷ Insert 0x7a ∷ Replace ∷ []) ≡ (Typed, purposes.Replace, 0, Some NotFound)
 unfolding unicode_segmentation unicode_width digits unicode_normalization ucd_case
 a_search_without_a_match_is_one_to_replace = refl
 
-pub asking_goes_round : asked (codes "b a") (Find ∷ Insert 0x62 ∷ enter ∷ TextEnd ∷ Replace ∷ enter ∷ []) ≡ (WithBegun, aims.Replace, 0, Some FromStart)
+pub asking_goes_round : asked (codes "b a") (Find ∷ Insert 0x62 ∷ enter ∷ TextEnd ∷ Replace ∷ enter ∷ []) ≡ (WithBegun, purposes.Replace, 0, Some FromStart)
 unfolding unicode_segmentation unicode_width digits unicode_normalization ucd_case
 asking_goes_round = refl
 
-pub giving_the_question_up : asked (codes "b a") (Find ∷ Insert 0x62 ∷ enter ∷ TextEnd ∷ Replace ∷ enter ∷ Cancel ∷ []) ≡ (Off, aims.Replace, 3, None)
+pub giving_the_question_up : asked (codes "b a") (Find ∷ Insert 0x62 ∷ enter ∷ TextEnd ∷ Replace ∷ enter ∷ Cancel ∷ []) ≡ (Off, purposes.Replace, 3, None)
 unfolding unicode_segmentation unicode_width digits unicode_normalization ucd_case
 giving_the_question_up = refl
 
-pub tabs_and_separators_are_no_letters_of_it : typed (codes "ab") (Replace ∷ Insert 0x61 ∷ enter ∷ Insert 9 ∷ Insert 0x2029 ∷ []) ≡ (WithBegun, aims.Replace, [])
+pub tabs_and_separators_are_no_letters_of_it : typed (codes "ab") (Replace ∷ Insert 0x61 ∷ enter ∷ Insert 9 ∷ Insert 0x2029 ∷ []) ≡ (WithBegun, purposes.Replace, [])
 unfolding unicode_segmentation unicode_width digits
 tabs_and_separators_are_no_letters_of_it = refl
 
@@ -291,7 +291,7 @@ it_loses_its_last_character = refl
 
 -- ---- other keys
 
-pub a_question_is_given_up : asked (codes "abc") (Forward ∷ Replace ∷ letters (codes "c") ++ (enter ∷ Insert 0x78 ∷ Quit ∷ [])) ≡ (Off, aims.Replace, 1, None)
+pub a_question_is_given_up : asked (codes "abc") (Forward ∷ Replace ∷ letters (codes "c") ++ (enter ∷ Insert 0x78 ∷ Quit ∷ [])) ≡ (Off, purposes.Replace, 1, None)
 unfolding unicode_segmentation unicode_width digits
 a_question_is_given_up = refl
 
@@ -303,19 +303,19 @@ pub letters_do_nothing : replaced (codes "abab") (showing (codes "b") (codes "x"
 unfolding unicode_segmentation unicode_width digits
 letters_do_nothing = refl
 
-pub a_move_ends_it : asked (codes "abab") (showing (codes "b") (codes "x") ++ (Right ∷ [])) ≡ (Off, aims.Replace, 2, None)
+pub a_move_ends_it : asked (codes "abab") (showing (codes "b") (codes "x") ++ (Right ∷ [])) ≡ (Off, purposes.Replace, 2, None)
 unfolding unicode_segmentation unicode_width digits
 a_move_ends_it = refl
 
-pub find_back_begins_a_search : asked (codes "abab") (showing (codes "b") (codes "x") ++ (Right ∷ Replace ∷ Find ∷ enter ∷ enter ∷ FindBack ∷ [])) ≡ (Begun, aims.Find, 3, None)
+pub find_back_begins_a_search : asked (codes "abab") (showing (codes "b") (codes "x") ++ (Right ∷ Replace ∷ Find ∷ enter ∷ enter ∷ FindBack ∷ [])) ≡ (Begun, purposes.Find, 3, None)
 unfolding unicode_segmentation unicode_width digits unicode_normalization ucd_case
 find_back_begins_a_search = refl
 
-pub find_begins_a_search_while_the_replacement_is_asked : typed (codes "abab") (Replace ∷ Insert 0x62 ∷ enter ∷ Insert 0x7a ∷ Find ∷ []) ≡ (Begun, aims.Find, codes "z")
+pub find_begins_a_search_while_the_replacement_is_asked : typed (codes "abab") (Replace ∷ Insert 0x62 ∷ enter ∷ Insert 0x7a ∷ Find ∷ []) ≡ (Begun, purposes.Find, codes "z")
 unfolding unicode_segmentation unicode_width digits unicode_normalization ucd_case
 find_begins_a_search_while_the_replacement_is_asked = refl
 
-pub find_next_does_so_too : typed (codes "abab") (Replace ∷ Insert 0x62 ∷ enter ∷ Insert 0x7a ∷ FindNext ∷ []) ≡ (Begun, aims.Find, codes "z")
+pub find_next_does_so_too : typed (codes "abab") (Replace ∷ Insert 0x62 ∷ enter ∷ Insert 0x7a ∷ FindNext ∷ []) ≡ (Begun, purposes.Find, codes "z")
 unfolding unicode_segmentation unicode_width digits unicode_normalization ucd_case
 find_next_does_so_too = refl
 
@@ -325,11 +325,11 @@ undo_ends_it = refl
 
 -- ---- pastes
 
-pub a_paste_asks_nothing : asked (codes "abab") (Replace ∷ PasteStart ∷ Insert 0x62 ∷ enter ∷ enter ∷ PasteEnd ∷ []) ≡ (Typed, aims.Replace, 1, None)
+pub a_paste_asks_nothing : asked (codes "abab") (Replace ∷ PasteStart ∷ Insert 0x62 ∷ enter ∷ enter ∷ PasteEnd ∷ []) ≡ (Typed, purposes.Replace, 1, None)
 unfolding unicode_segmentation unicode_width digits
 a_paste_asks_nothing = refl
 
-pub a_paste_shows_no_match : typed (codes "abab") (Replace ∷ Insert 0x62 ∷ enter ∷ PasteStart ∷ enter ∷ Insert 0x78 ∷ enter ∷ Insert 0x79 ∷ PasteEnd ∷ []) ≡ (WithTyped, aims.Replace, codes "xy")
+pub a_paste_shows_no_match : typed (codes "abab") (Replace ∷ Insert 0x62 ∷ enter ∷ PasteStart ∷ enter ∷ Insert 0x78 ∷ enter ∷ Insert 0x79 ∷ PasteEnd ∷ []) ≡ (WithTyped, purposes.Replace, codes "xy")
 unfolding unicode_segmentation unicode_width digits
 a_paste_shows_no_match = refl
 
@@ -337,12 +337,12 @@ pub a_paste_replaces_nothing : replaced (codes "abab") (showing (codes "b") (cod
 unfolding unicode_segmentation unicode_width digits
 a_paste_replaces_nothing = refl
 
-pub a_paste_ends_a_search_to_find : asked (codes "abab") (Find ∷ PasteStart ∷ Insert 0x62 ∷ enter ∷ []) ≡ (Off, aims.Find, 1, Some Pasting)
+pub a_paste_ends_a_search_to_find : asked (codes "abab") (Find ∷ PasteStart ∷ Insert 0x62 ∷ enter ∷ []) ≡ (Off, purposes.Find, 1, Some Pasting)
 unfolding unicode_segmentation unicode_width digits unicode_normalization ucd_case
 a_paste_ends_a_search_to_find = refl
 
 -- ---- the next match
 
-pub find_next_finds_again : asked (codes "abab") (Replace ∷ Insert 0x62 ∷ Cancel ∷ FindNext ∷ []) ≡ (Off, aims.Find, 1, None)
+pub find_next_finds_again : asked (codes "abab") (Replace ∷ Insert 0x62 ∷ Cancel ∷ FindNext ∷ []) ≡ (Off, purposes.Find, 1, None)
 unfolding unicode_segmentation unicode_width digits unicode_normalization ucd_case
 find_next_finds_again = refl

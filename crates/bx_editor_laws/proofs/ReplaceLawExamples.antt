@@ -65,7 +65,7 @@ b_is_shown = record {
   unasked = refl;
   settled = refl;
   shown = refl;
-  stands = record { aim_is = refl; here = ((omega arith, λ inside high. absurd (omega (arith, high))), refl); place_is = refl };
+  stands = record { purpose_is = refl; here = ((omega arith, λ inside high. absurd (omega (arith, high))), refl); place_is = refl };
 }
 
 pub enter_puts_xy_in : EnterReplaces → let e = after at_b (enter ∷ []) in (e.content.text ≡ codes "aXYcb") × (e.count ≡ 1)
@@ -84,7 +84,7 @@ alef_is_shown = record {
   unasked = refl;
   settled = refl;
   shown = refl;
-  stands = record { aim_is = refl; here = ((omega arith, λ inside high. omega arith), refl); place_is = refl };
+  stands = record { purpose_is = refl; here = ((omega arith, λ inside high. omega arith), refl); place_is = refl };
 }
 
 pub the_mark_behind_it_stays : EnterReplaces → (after at_alef (enter ∷ [])).content.text ≡ encode_utf8_all (0x7a ∷ 0x200f ∷ 0x79 ∷ [])
@@ -154,7 +154,7 @@ points_are_shown = record {
   unasked = refl;
   settled = refl;
   shown = refl;
-  stands = record { aim_is = refl; here = ((omega arith, λ inside high. omega arith), refl); place_is = points_place ∙ sym points_at };
+  stands = record { purpose_is = refl; here = ((omega arith, λ inside high. omega arith), refl); place_is = points_place ∙ sym points_at };
 }
 
 abbrev points_letters : List ℕ
@@ -188,7 +188,7 @@ both_are_shown = record {
   unasked = refl;
   settled = refl;
   shown = refl;
-  stands = record { aim_is = refl; here = ((omega arith, λ inside high. absurd (omega (arith, high))), refl); place_is = refl };
+  stands = record { purpose_is = refl; here = ((omega arith, λ inside high. absurd (omega (arith, high))), refl); place_is = refl };
 }
 
 -- matches that lie apart begin in order

@@ -10,7 +10,7 @@ use Rattle.bx_keys.specs.declared.key.Key.{Key}
 use Rattle.bx_keys.specs.declared.key.Key.TheVariants.{LineDown, LineUp, PageBack, PageOn}
 use Rattle.bx_ucd.specs.Data.{Data}
 use Rattle.bx_editor.specs.declared.questions.answers.Prompt.{Prompt}
-use Rattle.bx_editor.specs.declared.questions.answers.Prompt.TheVariants as asks
+use Rattle.bx_editor.specs.declared.questions.answers.Prompt.TheVariants as prompts
 use Rattle.bx_common.specs.declared.base.Base.{Base}
 use Rattle.bx_paragraph.specs.Slots.{entry}
 use Rattle.bx_view.specs.declared.moves.Vertical.{Vertical}
@@ -23,7 +23,7 @@ use Rattle.bx_view.proofs.OneSlot.{one-slot, row-slots}
 use Rattle.bx_editor.specs.declared.search_state.SearchState.TheVariants.{Off}
 use Rattle.bx_editor.specs.declared.cursor.Soft.{Soft}
 use Rattle.bx_editor.specs.declared.undo_groups.typing.Typing.TheVariants as typings
-use Rattle.bx_editor.specs.Asking.{without_ask}
+use Rattle.bx_editor.specs.Asking.{without_prompt}
 use Rattle.bx_editor.specs.Editor.{Editor, cleared, rows, text_height}
 use Rattle.bx_editor.specs.Effects.{Before, before, after_row_move}
 use Rattle.bx_editor.specs.Keys.{after_any, after_key, as_left}
@@ -120,24 +120,24 @@ left_after zero m = m
 left_after (suc n) m = left_after n (left m)
 
 -- a move ends a question
-moves-any : (d : Data) (was : Before) (paged : Bool) (way : Vertical) (ask : Prompt) (e : Editor) → e.ask ≡ ask
-    → after_any d None was ask Off e (move_key paged way) ≡ after_row_move d (unselected (without_ask e)) way (size paged e.height)
-moves-any d was false Up asks.Off e is = ap (λ a. after_row_move d (unselected (record e { ask = a })) Up 1) is
-moves-any d was false Up asks.Line e is = refl
-moves-any d was false Up asks.Name e is = refl
-moves-any d was false Up asks.Code e is = refl
-moves-any d was false Down asks.Off e is = ap (λ a. after_row_move d (unselected (record e { ask = a })) Down 1) is
-moves-any d was false Down asks.Line e is = refl
-moves-any d was false Down asks.Name e is = refl
-moves-any d was false Down asks.Code e is = refl
-moves-any d was true Up asks.Off e is = ap (λ a. after_row_move d (unselected (record e { ask = a })) Up (text_height e.height)) is
-moves-any d was true Up asks.Line e is = refl
-moves-any d was true Up asks.Name e is = refl
-moves-any d was true Up asks.Code e is = refl
-moves-any d was true Down asks.Off e is = ap (λ a. after_row_move d (unselected (record e { ask = a })) Down (text_height e.height)) is
-moves-any d was true Down asks.Line e is = refl
-moves-any d was true Down asks.Name e is = refl
-moves-any d was true Down asks.Code e is = refl
+moves-any : (d : Data) (was : Before) (paged : Bool) (way : Vertical) (prompt : Prompt) (e : Editor) → e.prompt ≡ prompt
+    → after_any d None was prompt Off e (move_key paged way) ≡ after_row_move d (unselected (without_prompt e)) way (size paged e.height)
+moves-any d was false Up prompts.Off e is = ap (λ a. after_row_move d (unselected (record e { prompt = a })) Up 1) is
+moves-any d was false Up prompts.Line e is = refl
+moves-any d was false Up prompts.Name e is = refl
+moves-any d was false Up prompts.Code e is = refl
+moves-any d was false Down prompts.Off e is = ap (λ a. after_row_move d (unselected (record e { prompt = a })) Down 1) is
+moves-any d was false Down prompts.Line e is = refl
+moves-any d was false Down prompts.Name e is = refl
+moves-any d was false Down prompts.Code e is = refl
+moves-any d was true Up prompts.Off e is = ap (λ a. after_row_move d (unselected (record e { prompt = a })) Up (text_height e.height)) is
+moves-any d was true Up prompts.Line e is = refl
+moves-any d was true Up prompts.Name e is = refl
+moves-any d was true Up prompts.Code e is = refl
+moves-any d was true Down prompts.Off e is = ap (λ a. after_row_move d (unselected (record e { prompt = a })) Down (text_height e.height)) is
+moves-any d was true Down prompts.Line e is = refl
+moves-any d was true Down prompts.Name e is = refl
+moves-any d was true Down prompts.Code e is = refl
 
 left-by : (paged : Bool) (way : Vertical) (e : Editor) → as_left (move_key paged way) e ≡ record e { soft = aged e.soft }
 left-by false Up e = refl
@@ -151,24 +151,24 @@ not-told false Down = refl
 not-told true Up = refl
 not-told true Down = refl
 
-module _ (d : Data) (e : Editor) (off : e.seek ≡ Off) (settled : e.pasted ≡ None) (paged : Bool) (column : ℕ) where
+module _ (d : Data) (e : Editor) (off : e.search_state ≡ Off) (settled : e.pasted ≡ None) (paged : Bool) (column : ℕ) where
   -- the rows of a move
   abbrev t : ℕ
   t = size paged e.height
 
   -- at a place, with the column kept
   abbrev pub kept-at : Marks → ℕ → Editor
-  kept-at m place = record e { place = place; mark = m.0; soft = m.1; ask = asks.Off; typing = typings.Off; message = None; quit_before = false; goal = Some column }
+  kept-at m place = record e { place = place; mark = m.0; soft = m.1; prompt = prompts.Off; typing = typings.Off; message = None; quit_before = false; goal = Some column }
 
   -- where a key leads
-  key-by : (x : Editor) (way : Vertical) → x.seek ≡ Off → x.pasted ≡ None
+  key-by : (x : Editor) (way : Vertical) → x.search_state ≡ Off → x.pasted ≡ None
       → after_key d None x (move_key paged way)
-      ≡ (let new = after_row_move d (unselected (without_ask (cleared x))) way (size paged x.height) in record new { soft = aged new.soft })
+      ≡ (let new = after_row_move d (unselected (without_prompt (cleared x))) way (size paged x.height) in record new { soft = aged new.soft })
   key-by x way unsought none =
       any-key d None x (move_key paged way) none (not-told paged way)
-      ∙ ap (λ s. as_left (move_key paged way) (after_any d None (before x) x.ask s (cleared x) (move_key paged way))) unsought
-      ∙ ap (as_left (move_key paged way)) (moves-any d (before x) paged way x.ask (cleared x) refl)
-      ∙ left-by paged way (after_row_move d (unselected (without_ask (cleared x))) way (size paged x.height))
+      ∙ ap (λ s. as_left (move_key paged way) (after_any d None (before x) x.prompt s (cleared x) (move_key paged way))) unsought
+      ∙ ap (as_left (move_key paged way)) (moves-any d (before x) paged way x.prompt (cleared x) refl)
+      ∙ left-by paged way (after_row_move d (unselected (without_prompt (cleared x))) way (size paged x.height))
 
   pub key-moves : (way : Vertical) (m : Marks) (place : ℕ)
       → after_key d None (kept-at m place) (move_key paged way) ≡ kept-at (left m) (rows_away e.width (rows d e) way t column place)
@@ -183,7 +183,7 @@ module _ (d : Data) (e : Editor) (off : e.seek ≡ Off) (settled : e.pasted ≡ 
         place = rows_away e.width (rows d e) way t c e.place;
         mark = m.0;
         soft = m.1;
-        ask = asks.Off;
+        prompt = prompts.Off;
         typing = typings.Off;
         message = None;
         quit_before = false;

@@ -114,7 +114,7 @@ separators_and_tabs_are_no_letters = refl
 
 -- ---- the end of a search
 
-pub a_line_feed_ends_it : (from (codes "abc") (finding (codes "c") ++ (Insert 10 ∷ []))).seek ≡ Off
+pub a_line_feed_ends_it : (from (codes "abc") (finding (codes "c") ++ (Insert 10 ∷ []))).search_state ≡ Off
 unfolding unicode_segmentation unicode_width digits unicode_normalization ucd_case
 a_line_feed_ends_it = refl
 

@@ -10,7 +10,7 @@ use Rattle.bx_text.specs.Edits.{fits}
 use Rattle.bx_editor.specs.declared.undo_groups.typing.Typing.{Typing}
 use Rattle.bx_ucd.specs.Data.{Data}
 use Rattle.bx_editor.specs.declared.questions.answers.Prompt.{Prompt}
-use Rattle.bx_editor.specs.declared.questions.answers.Prompt.TheVariants as asks
+use Rattle.bx_editor.specs.declared.questions.answers.Prompt.TheVariants as prompts
 use Rattle.bx_find.specs.Nearest.{IsFirst, MatchesAt}
 use Rattle.bx_find.specs.Matches.{first_from}
 use Rattle.bx_find.specs.declared.letters.Reading.TheVariants.{Close}
@@ -19,13 +19,13 @@ use Rattle.bx_document.specs.Swapped.{behind_character, last_stop, swapped}
 use Rattle.bx_view.specs.Moves.{place_at}
 use Rattle.bx_view.specs.TextRows.{TextRow}
 use Rattle.bx_view.proofs.TextPlaces.{places-are}
-use Rattle.bx_editor.specs.declared.search_state.SearchPurpose.TheVariants as aims
+use Rattle.bx_editor.specs.declared.search_state.SearchPurpose.TheVariants as purposes
 use Rattle.bx_editor.specs.declared.matches.Landing.{Landing}
 use Rattle.bx_editor.specs.declared.message.Message.{Message}
 use Rattle.bx_editor.specs.declared.message.Message.TheVariants.{FromStart, TextFull}
 use Rattle.bx_editor.specs.declared.search_state.SearchState.{SearchState}
 use Rattle.bx_editor.specs.declared.search_state.SearchState.TheVariants.{Off, Begun, Typed, WithBegun, WithTyped, Replacing}
-use Rattle.bx_editor.specs.Asking.{without_ask}
+use Rattle.bx_editor.specs.Asking.{without_prompt}
 use Rattle.bx_editor.specs.Editor.{Editor, at_start, cleared, rows, with_exchange, with_insertion, with_size, with_typing}
 use Rattle.bx_editor.specs.Functions.{HasRows}
 use Rattle.bx_editor.specs.Effects.{Before, before}
@@ -51,11 +51,11 @@ use Rattle.bx_editor_laws.proofs.QuietSearch.{effect-quiet, is_quiet, IsQuiet}
 
 -- the query stands, closely read, at an offset whose place this is
 abbrev IsNear : Data → Editor → Type 0
-IsNear d e = (e.aim ≡ aims.Replace) × ((at : ℕ) × MatchesAt d Close (sought d e) e.content.text at × (e.place ≡ place_at (rows d e) at))
+IsNear d e = (e.purpose ≡ purposes.Replace) × ((at : ℕ) × MatchesAt d Close (sought d e) e.content.text at × (e.place ≡ place_at (rows d e) at))
 
 -- the match is the one that is kept
 abbrev IsThere : Data → Editor → Type 0
-IsThere d e = (e.aim ≡ aims.Replace) × (MatchesAt d Close (sought d e) e.content.text e.at × (e.place ≡ place_at (rows d e) e.at))
+IsThere d e = (e.purpose ≡ purposes.Replace) × (MatchesAt d Close (sought d e) e.content.text e.at × (e.place ≡ place_at (rows d e) e.at))
 
 abbrev Stands : Data → Editor → SearchState → Type 0
 Stands d e WithBegun = IsNear d e
@@ -65,9 +65,9 @@ Stands d e _ = Unit {0}
 
 -- and while something is asked no search for replacing is on
 abbrev IsSound : Data → Editor → Type 0
-IsSound d e = (e.ask ≢ asks.Off → IsQuiet e) × Stands d e e.seek
+IsSound d e = (e.prompt ≢ prompts.Off → IsQuiet e) × Stands d e e.search_state
 
-quiet-stands : (d : Data) (e : Editor) (seek : SearchState) → is_quiet seek ≡ true → Stands d e seek
+quiet-stands : (d : Data) (e : Editor) (search_state : SearchState) → is_quiet search_state ≡ true → Stands d e search_state
 quiet-stands d e Off h = tt
 quiet-stands d e Begun h = tt
 quiet-stands d e Typed h = tt
@@ -76,7 +76,7 @@ quiet-stands d e WithTyped h = absurd (cc h)
 quiet-stands d e Replacing h = absurd (cc h)
 
 quiet-sound : (d : Data) (e : Editor) → IsQuiet e → IsSound d e
-quiet-sound d e h = (λ asked. h, quiet-stands d e e.seek h)
+quiet-sound d e h = (λ asked. h, quiet-stands d e e.search_state h)
 
 either : (d : Data) (b : Bool) (p q : Editor) → IsSound d p → IsSound d q → IsSound d (if b then p else q)
 either d true p q h k = h
@@ -105,24 +105,24 @@ lands d (c ∷ cs) rows text x u =
     lands-first d q rows text u None (match_or rows (Some FromStart) not_found (first_from d Close q text 0)) x
     (lands-first d q rows text u (Some FromStart) not_found 0 (λ p is. absurd (cc is)))
 
-module _ (d : Data) (e : Editor) (u : IsUtf8 e.content.text) (unasked : e.ask ≡ asks.Off) where
-  free : (new : Editor) → new.ask ≡ e.ask → new.ask ≢ asks.Off → IsQuiet new
+module _ (d : Data) (e : Editor) (u : IsUtf8 e.content.text) (unasked : e.prompt ≡ prompts.Off) where
+  free : (new : Editor) → new.prompt ≡ e.prompt → new.prompt ≢ prompts.Off → IsQuiet new
   free new same asked = absurd (asked (same ∙ unasked))
 
   -- ---- the replacement is asked for
 
   asked-sound : (landing : Landing) (place : Option ℕ) → landing.place ≡ place
-      → let aimed : Editor = record e { aim = aims.Replace } in Lands d (sought d aimed) (rows d aimed) e.content.text landing
+      → let aimed : Editor = record e { purpose = purposes.Replace } in Lands d (sought d aimed) (rows d aimed) e.content.text landing
       → IsSound d (asked_at place (landed aimed landing))
-  asked-sound landing None is h = quiet-sound d (asked_at None (landed (record e { aim = aims.Replace }) landing)) refl
+  asked-sound landing None is h = quiet-sound d (asked_at None (landed (record e { purpose = purposes.Replace }) landing)) refl
   asked-sound landing (Some p) is h =
       let there = h p is in
-      let new = asked_at (Some p) (landed (record e { aim = aims.Replace }) landing) in
+      let new = asked_at (Some p) (landed (record e { purpose = purposes.Replace }) landing) in
       (free new refl, (refl, (there.0, there.1, ap (λ o. unwrap_or o e.place) is ∙ there.2)))
 
   asking-sound : IsQuiet e → IsSound d (after_asking_replacement d e)
   asking-sound h =
-      let aimed : Editor = record e { aim = aims.Replace } in
+      let aimed : Editor = record e { purpose = purposes.Replace } in
       let landing = landing_from d aimed.place aimed in
       either d (length (sought d aimed) == 0) aimed (asked_at landing.place (landed aimed landing)) (quiet-sound d aimed h)
       (asked-sound landing landing.place refl (lands d (sought d aimed) (rows d aimed) e.content.text e.place u))
@@ -130,13 +130,13 @@ module _ (d : Data) (e : Editor) (u : IsUtf8 e.content.text) (unasked : e.ask �
   end-sound : (typing : Typing) → IsQuiet e → IsSound d (after_sought_end d typing e)
   end-sound typing h =
       let left = without_search e in
-      either d (is_replacing e.aim) (if is_paste typing then e else after_asking_replacement d e) (if is_paste typing then with_paste left else left)
+      either d (is_replacing e.purpose) (if is_paste typing then e else after_asking_replacement d e) (if is_paste typing then with_paste left else left)
       (either d (is_paste typing) e (after_asking_replacement d e) (quiet-sound d e h) (asking-sound h))
       (either d (is_paste typing) (with_paste left) left (quiet-sound d (with_paste left) refl) (quiet-sound d left refl))
 
   letter-sound : (typing : Typing) (c : ℕ) → IsQuiet e → IsSound d (after_sought_letter d typing e c)
   letter-sound typing c h =
-      let longer : Editor = search_from d e.place (with_query e (lengthened longest_query (kept e.seek e.query) c)) in
+      let longer : Editor = search_from d e.place (with_query e (lengthened longest_query (kept e.search_state e.query) c)) in
       either d (c == 0xA) (after_sought_end d typing e) (after_letter d e c) (end-sound typing h)
       (either d (is_no_letter d c) e longer (quiet-sound d e h) (quiet-sound d longer refl))
 
@@ -173,7 +173,7 @@ module _ (d : Data) (e : Editor) (u : IsUtf8 e.content.text) (unasked : e.ask �
 
   replacement-letter-sound : (typing : Typing) (c : ℕ) → IsNear d e → IsSound d e → IsSound d (after_replacement_letter d typing e c)
   replacement-letter-sound typing c near h =
-      let longer : Editor = with_replacement e (lengthened longest_query (kept e.seek e.replacement) c) in
+      let longer : Editor = with_replacement e (lengthened longest_query (kept e.search_state e.replacement) c) in
       either d (c == 0xA) _ _ (either d (is_paste typing) e (after_showing d e) h (showing-sound near h))
       (either d (is_no_letter d c) e longer h (free longer refl, near))
 
@@ -196,19 +196,19 @@ module _ (d : Data) (e : Editor) (u : IsUtf8 e.content.text) (unasked : e.ask �
 
   -- ---- while a match is shown
 
-  on-sound : (z : ℕ) (now : Editor) → IsUtf8 now.content.text → now.ask ≡ asks.Off → now.aim ≡ aims.Replace → IsSound d (on_from d z now)
-  on-sound z now v off aim =
+  on-sound : (z : ℕ) (now : Editor) → IsUtf8 now.content.text → now.prompt ≡ prompts.Off → now.purpose ≡ purposes.Replace → IsSound d (on_from d z now)
+  on-sound z now v off purpose =
       let closely : next_match d now z ≡ first_from d Close (sought d now) now.content.text z =
-      ap (λ a. first_from d (reading a) (sought d now) now.content.text z) aim in
+      ap (λ a. first_from d (reading a) (sought d now) now.content.text z) purpose in
       subst (λ o. IsSound d (at_match d now o)) (sym closely)
       (found (first_from d Close (sought d now) now.content.text z) (first_is d Close (sought d now) now.content.text z v))
     where
       found : (o : Option ℕ) → MatchOption o ((i : ℕ) → z ≤ i → ¬ (MatchesAt d Close (sought d now) now.content.text i)) (IsFirst d Close (sought d now) now.content.text z)
           → IsSound d (at_match d now o)
       found None none = quiet-sound d (at_match d now None) refl
-      found (Some at) first = (λ asked. absurd (asked off), (aim, (first.is_match, refl)))
+      found (Some at) first = (λ asked. absurd (asked off), (purpose, (first.is_match, refl)))
 
-  exchange-keeps : (start stop : ℕ) (new : List ℕ) → let now = with_exchange d e start stop new in (now.ask ≡ e.ask) × (now.aim ≡ e.aim)
+  exchange-keeps : (start stop : ℕ) (new : List ℕ) → let now = with_exchange d e start stop new in (now.prompt ≡ e.prompt) × (now.purpose ≡ e.purpose)
   exchange-keeps start stop new = (refl, refl)
 
   on-text : (now : Editor) (o : Option ℕ) → (at_match d now o).content ≡ now.content
@@ -216,18 +216,18 @@ module _ (d : Data) (e : Editor) (u : IsUtf8 e.content.text) (unasked : e.ask �
   on-text now (Some at) = refl
 
   -- where the text gives way, and then the next match is shown
-  by-room : (room : Bool) → e.aim ≡ aims.Replace → let now = with_matches_replaced d e (match_stop d e) e.replacement 1 in
+  by-room : (room : Bool) → e.purpose ≡ purposes.Replace → let now = with_matches_replaced d e (match_stop d e) e.replacement 1 in
       let new = if room then on_from d (e.at + length e.replacement) now else record e { message = Some TextFull } in IsUtf8 new.content.text → IsSound d e → IsSound d new
-  by-room false aim v h = h
-  by-room true aim v h =
+  by-room false purpose v h = h
+  by-room true purpose v h =
       let z = e.at + length e.replacement in
       let now = with_matches_replaced d e (match_stop d e) e.replacement 1 in
       let keeps = exchange-keeps e.at (match_stop d e) e.replacement in
-      on-sound z now (subst (λ t. IsUtf8 t.text) (on-text now (next_match d now z)) v) (keeps.0 ∙ unasked) (keeps.1 ∙ aim)
+      on-sound z now (subst (λ t. IsUtf8 t.text) (on-text now (next_match d now z)) v) (keeps.0 ∙ unasked) (keeps.1 ∙ purpose)
 
-  by-enter : (enters : Bool) → e.aim ≡ aims.Replace → let new = if enters then after_replacing d e else e in IsUtf8 new.content.text → IsSound d e → IsSound d new
-  by-enter true aim v h = by-room (fits e.content.text e.at (match_stop d e) e.replacement) aim v h
-  by-enter false aim v h = h
+  by-enter : (enters : Bool) → e.purpose ≡ purposes.Replace → let new = if enters then after_replacing d e else e in IsUtf8 new.content.text → IsSound d e → IsSound d new
+  by-enter true purpose v h = by-room (fits e.content.text e.at (match_stop d e) e.replacement) purpose v h
+  by-enter false purpose v h = h
 
   all-sound : IsSound d e → IsSound d (after_replacing_all d e)
   all-sound h =
@@ -237,16 +237,16 @@ module _ (d : Data) (e : Editor) (u : IsUtf8 e.content.text) (unasked : e.ask �
       either d (fits e.content.text e.at stop new) (after_ending (with_matches_replaced d e stop new (length all))) (record e { message = Some TextFull })
       (λ asked. refl, tt) h
 
-  match-sound : (fault : Option StoreFault) (was : Before) (key : Key) (answer : Answer) → e.aim ≡ aims.Replace
+  match-sound : (fault : Option StoreFault) (was : Before) (key : Key) (answer : Answer) → e.purpose ≡ purposes.Replace
       → IsUtf8 (answered_match d fault was e key answer).content.text → IsSound d e → IsSound d (answered_match d fault was e key answer)
-  match-sound fault was key (Letter c) aim v h = by-enter ((c == 0xA) && not (is_paste was.typing)) aim v h
-  match-sound fault was key Shortens aim v h = h
-  match-sound fault was key GoesBack aim v h = (λ asked. refl, tt)
-  match-sound fault was key Next aim v h = on-sound (behind_character e.content.text e.at) e u unasked aim
-  match-sound fault was key Previous aim v h = (λ asked. refl, tt)
-  match-sound fault was key Replaces aim v h = all-sound h
-  match-sound fault was key Stays aim v h = h
-  match-sound fault was key Ends aim v h = ended-sound fault was key
+  match-sound fault was key (Letter c) purpose v h = by-enter ((c == 0xA) && not (is_paste was.typing)) purpose v h
+  match-sound fault was key Shortens purpose v h = h
+  match-sound fault was key GoesBack purpose v h = (λ asked. refl, tt)
+  match-sound fault was key Next purpose v h = on-sound (behind_character e.content.text e.at) e u unasked purpose
+  match-sound fault was key Previous purpose v h = (λ asked. refl, tt)
+  match-sound fault was key Replaces purpose v h = all-sound h
+  match-sound fault was key Stays purpose v h = h
+  match-sound fault was key Ends purpose v h = ended-sound fault was key
 
 -- ---- while something is asked
 
@@ -257,28 +257,28 @@ quiet-kept d = record {
   told = λ e message h. h;
   placed = λ e place h. h;
   typed = λ e typing h. h;
-  asked = λ e ask answer h. h;
+  asked = λ e prompt answer h. h;
 }
 
 question-quiet : (d : Data) (fault : Option StoreFault) (was : Before) (e : Editor) (key : Key) → IsQuiet e → IsQuiet (after_asking d fault was e key)
 question-quiet d fault was e key h =
-    question-keeps d IsQuiet (quiet-kept d) fault was e key (answer_of key) h (effect-quiet d fault was (without_ask e) (effect_of d (without_ask e) key) h)
+    question-keeps d IsQuiet (quiet-kept d) fault was e key (answer_of key) h (effect-quiet d fault was (without_prompt e) (effect_of d (without_prompt e) key) h)
 
 -- ---- any key
 
-any-sound : (d : Data) (fault : Option StoreFault) (was : Before) (ask : Prompt) (seek : SearchState) (e : Editor) (key : Key) → e.ask ≡ ask → e.seek ≡ seek
-    → IsUtf8 e.content.text → IsUtf8 (after_any d fault was ask seek e key).content.text → IsSound d e → IsSound d (after_any d fault was ask seek e key)
-any-sound d fault was asks.Off Off e key unasked is u v h =
+any-sound : (d : Data) (fault : Option StoreFault) (was : Before) (prompt : Prompt) (search_state : SearchState) (e : Editor) (key : Key) → e.prompt ≡ prompt → e.search_state ≡ search_state
+    → IsUtf8 e.content.text → IsUtf8 (after_any d fault was prompt search_state e key).content.text → IsSound d e → IsSound d (after_any d fault was prompt search_state e key)
+any-sound d fault was prompts.Off Off e key unasked is u v h =
     quiet-sound d (after_pressing d fault was e key) (effect-quiet d fault was e (effect_of d e key) (ap is_quiet is))
-any-sound d fault was asks.Off Begun e key unasked is u v h = answer-sound d e u unasked fault was key (answer_of key) (ap is_quiet is)
-any-sound d fault was asks.Off Typed e key unasked is u v h = answer-sound d e u unasked fault was key (answer_of key) (ap is_quiet is)
-any-sound d fault was asks.Off WithBegun e key unasked is u v h = replacement-sound d e u unasked fault was key (answer_of key) (subst (Stands d e) is h.1) h
-any-sound d fault was asks.Off WithTyped e key unasked is u v h = replacement-sound d e u unasked fault was key (answer_of key) (subst (Stands d e) is h.1) h
-any-sound d fault was asks.Off Replacing e key unasked is u v h =
+any-sound d fault was prompts.Off Begun e key unasked is u v h = answer-sound d e u unasked fault was key (answer_of key) (ap is_quiet is)
+any-sound d fault was prompts.Off Typed e key unasked is u v h = answer-sound d e u unasked fault was key (answer_of key) (ap is_quiet is)
+any-sound d fault was prompts.Off WithBegun e key unasked is u v h = replacement-sound d e u unasked fault was key (answer_of key) (subst (Stands d e) is h.1) h
+any-sound d fault was prompts.Off WithTyped e key unasked is u v h = replacement-sound d e u unasked fault was key (answer_of key) (subst (Stands d e) is h.1) h
+any-sound d fault was prompts.Off Replacing e key unasked is u v h =
     let there : IsThere d e = subst (Stands d e) is h.1 in match-sound d e u unasked fault was key (answer_of key) there.0 v h
-any-sound d fault was asks.Line seek e key asked is u v h = quiet-sound d (after_asking d fault was e key) (question-quiet d fault was e key (h.0 (λ off. let both = sym asked ∙ off in cc both)))
-any-sound d fault was asks.Name seek e key asked is u v h = quiet-sound d (after_asking d fault was e key) (question-quiet d fault was e key (h.0 (λ off. let both = sym asked ∙ off in cc both)))
-any-sound d fault was asks.Code seek e key asked is u v h = quiet-sound d (after_asking d fault was e key) (question-quiet d fault was e key (h.0 (λ off. let both = sym asked ∙ off in cc both)))
+any-sound d fault was prompts.Line search_state e key asked is u v h = quiet-sound d (after_asking d fault was e key) (question-quiet d fault was e key (h.0 (λ off. let both = sym asked ∙ off in cc both)))
+any-sound d fault was prompts.Name search_state e key asked is u v h = quiet-sound d (after_asking d fault was e key) (question-quiet d fault was e key (h.0 (λ off. let both = sym asked ∙ off in cc both)))
+any-sound d fault was prompts.Code search_state e key asked is u v h = quiet-sound d (after_asking d fault was e key) (question-quiet d fault was e key (h.0 (λ off. let both = sym asked ∙ off in cc both)))
 
 -- ---- another width
 
@@ -296,7 +296,7 @@ module _ (d : Data) (e : Editor) (height width : ℕ) (old : HasRows e) (side : 
       ∙ sym (places-are d e.base width (side-some width side) text old.text) in
       ap (λ ps. unwrap_or (find (λ p. nat_le p at) (reverse ps)) 0) same
 
-  sized-stands : (seek : SearchState) → Stands d e seek → Stands d wide seek
+  sized-stands : (search_state : SearchState) → Stands d e search_state → Stands d wide search_state
   sized-stands Off h = tt
   sized-stands Begun h = tt
   sized-stands Typed h = tt
@@ -307,32 +307,32 @@ module _ (d : Data) (e : Editor) (height width : ℕ) (old : HasRows e) (side : 
 -- ---- a paste, in which no search is on
 
 -- outside a search no key shows a match, whatever the text
-quiet-any : (d : Data) (fault : Option StoreFault) (was : Before) (ask : Prompt) (seek : SearchState) (e : Editor) (key : Key) → e.seek ≡ seek → seek ≡ Off
-    → IsQuiet (after_any d fault was ask seek e key)
-quiet-any d fault was asks.Off Off e key is off = effect-quiet d fault was e (effect_of d e key) (ap is_quiet is)
-quiet-any d fault was asks.Off Begun e key is off = absurd (cc off)
-quiet-any d fault was asks.Off Typed e key is off = absurd (cc off)
-quiet-any d fault was asks.Off WithBegun e key is off = absurd (cc off)
-quiet-any d fault was asks.Off WithTyped e key is off = absurd (cc off)
-quiet-any d fault was asks.Off Replacing e key is off = absurd (cc off)
-quiet-any d fault was asks.Line seek e key is off = question-quiet d fault was e key (ap is_quiet (is ∙ off))
-quiet-any d fault was asks.Name seek e key is off = question-quiet d fault was e key (ap is_quiet (is ∙ off))
-quiet-any d fault was asks.Code seek e key is off = question-quiet d fault was e key (ap is_quiet (is ∙ off))
+quiet-any : (d : Data) (fault : Option StoreFault) (was : Before) (prompt : Prompt) (search_state : SearchState) (e : Editor) (key : Key) → e.search_state ≡ search_state → search_state ≡ Off
+    → IsQuiet (after_any d fault was prompt search_state e key)
+quiet-any d fault was prompts.Off Off e key is off = effect-quiet d fault was e (effect_of d e key) (ap is_quiet is)
+quiet-any d fault was prompts.Off Begun e key is off = absurd (cc off)
+quiet-any d fault was prompts.Off Typed e key is off = absurd (cc off)
+quiet-any d fault was prompts.Off WithBegun e key is off = absurd (cc off)
+quiet-any d fault was prompts.Off WithTyped e key is off = absurd (cc off)
+quiet-any d fault was prompts.Off Replacing e key is off = absurd (cc off)
+quiet-any d fault was prompts.Line search_state e key is off = question-quiet d fault was e key (ap is_quiet (is ∙ off))
+quiet-any d fault was prompts.Name search_state e key is off = question-quiet d fault was e key (ap is_quiet (is ∙ off))
+quiet-any d fault was prompts.Code search_state e key is off = question-quiet d fault was e key (ap is_quiet (is ∙ off))
 
-quiet-user : (d : Data) (fault : Option StoreFault) (e : Editor) (key : Key) → e.seek ≡ Off → IsQuiet (after_user d fault e key)
-quiet-user d fault e key off = quiet-any d fault (before e) e.ask e.seek (cleared e) key refl off
+quiet-user : (d : Data) (fault : Option StoreFault) (e : Editor) (key : Key) → e.search_state ≡ Off → IsQuiet (after_user d fault e key)
+quiet-user d fault e key off = quiet-any d fault (before e) e.prompt e.search_state (cleared e) key refl off
 
-ended-off : (d : Data) (e : Editor) → e.seek ≡ Off → (paste_ended d e).seek ≡ Off
-ended-off d e off = ended-by d e (λ (x : Editor). x.seek ≡ Off) off off (λ list. refl) (λ list. refl) off
+ended-off : (d : Data) (e : Editor) → e.search_state ≡ Off → (paste_ended d e).search_state ≡ Off
+ended-off d e off = ended-by d e (λ (x : Editor). x.search_state ≡ Off) off off (λ list. refl) (λ list. refl) off
 
-quiet-in-paste : (d : Data) (fault : Option StoreFault) (e : Editor) (key : Key) → e.seek ≡ Off → IsQuiet (after_in_paste d fault e key)
+quiet-in-paste : (d : Data) (fault : Option StoreFault) (e : Editor) (key : Key) → e.search_state ≡ Off → IsQuiet (after_in_paste d fault e key)
 quiet-in-paste d fault e (Insert c) off = ap is_quiet off
 quiet-in-paste d fault e Repaint off = quiet-user d fault e Repaint off
 quiet-in-paste d fault e key off = quiet-user d fault (paste_ended d e) key (ended-off d e off)
 
 press-sound : (d : Data) (fault : Option StoreFault) (e : Editor) (key : Key) (pasted : Option (List ℕ)) → e.pasted ≡ pasted → IsAlone e → IsUtf8 e.content.text
     → IsUtf8 (after_press d fault pasted e key).content.text → IsSound d e → IsSound d (after_press d fault pasted e key)
-press-sound d fault e key None is alone u v h = any-sound d fault (before e) e.ask e.seek (cleared e) key refl refl u v h
+press-sound d fault e key None is alone u v h = any-sound d fault (before e) e.prompt e.search_state (cleared e) key refl refl u v h
 press-sound d fault e key (Some list) is alone u v h =
     quiet-sound d (after_in_paste d fault e key) (quiet-in-paste d fault e key (free-in-paste e list is alone).1)
 
@@ -348,7 +348,7 @@ end-sound-by d e h =
 key-sound : (d : Data) (fault : Option StoreFault) (e : Editor) (key : Key) → IsAlone e → HasRows e → HasRows (after_key d fault e key) → IsSound d e
     → IsSound d (after_key d fault e key)
 key-sound d fault e key alone old new h =
-    each-key d fault e (λ k now. HasRows now → IsSound d now) (λ height width has. (h.0, sized-stands d e height width old has.columns e.seek h.1))
+    each-key d fault e (λ k now. HasRows now → IsSound d now) (λ height width has. (h.0, sized-stands d e height width old has.columns e.search_state h.1))
     (λ notice has. h) (λ has. begun-sound d e h, λ has. end-sound-by d e h)
     (λ k told has. press-sound d fault e k e.pasted refl alone old.text has.text h) key new
 
@@ -371,4 +371,4 @@ shown-stands d text height width base typed has shown =
     let e = after_typing d start typed in
     let sound = typed-sound d start typed (inl refl) has (quiet-sound d start refl) in
     let there : IsThere d e = subst (Stands d e) shown sound.1 in
-    record { aim_is = there.0; here = there.1.0; place_is = there.1.1 }
+    record { purpose_is = there.0; here = there.1.0; place_is = there.1.1 }

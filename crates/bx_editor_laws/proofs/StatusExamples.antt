@@ -13,7 +13,7 @@ use Rattle.bx_editor.proofs.Computed.{tables, start, ascii_columns}
 
 -- the status row of a window of `width` columns where these characters are sought in an empty text
 abbrev sought_row : ℕ → Option Message → List ℕ → List Col
-sought_row width message cs = status_columns tables (record (start [] 2 width) { query = encode_utf8_all cs; seek = Typed; message = message })
+sought_row width message cs = status_columns tables (record (start [] 2 width) { query = encode_utf8_all cs; search_state = Typed; message = message })
 
 -- columns of characters that are one column each, any characters
 abbrev letters_of : List ℕ → List Col

@@ -20,18 +20,18 @@ use Rattle.bx_editor.specs.declared.undo_groups.typing.Typing.{Typing}
 use Rattle.bx_text.specs.Edits.{inserted, splice}
 use Rattle.bx_ucd.specs.Data.{Data}
 use Rattle.bx_editor.specs.declared.questions.answers.Prompt.{Prompt}
-use Rattle.bx_editor.specs.declared.questions.answers.Prompt.TheVariants as asks
-use Rattle.bx_editor.specs.declared.search_state.SearchPurpose.TheVariants as aims
+use Rattle.bx_editor.specs.declared.questions.answers.Prompt.TheVariants as prompts
+use Rattle.bx_editor.specs.declared.search_state.SearchPurpose.TheVariants as purposes
 use Rattle.bx_editor.specs.declared.message.Message.TheVariants as messages
 use Rattle.bx_editor.specs.declared.search_state.SearchState.{SearchState}
-use Rattle.bx_editor.specs.declared.search_state.SearchState.TheVariants as seeks
+use Rattle.bx_editor.specs.declared.search_state.SearchState.TheVariants as search_states
 use Rattle.bx_editor.specs.declared.cursor.Soft.{Soft}
 use Rattle.bx_editor.specs.declared.cursor.Soft.TheVariants as softness
-use Rattle.bx_editor.specs.Asking.{without_ask, with_wrap}
+use Rattle.bx_editor.specs.Asking.{without_prompt, with_wrap}
 use Rattle.bx_editor.specs.Editor.{Editor, after_redo, after_quit, after_save, after_step, after_undo, at_start, cleared, place_after}
-use Rattle.bx_editor.specs.Editor.{stored_behind, with_exchange, with_insertion, with_removal, by_run, is_changed_at}
-use Rattle.bx_editor.specs.Editor.{run_goal, run_length}
-use Rattle.bx_editor.specs.Effects.{Effect, Types, BeginsLine, Puts, Removes, RemovesWord, Steps, StepsRun, Goes, GoesByRows, Marks, Selects}
+use Rattle.bx_editor.specs.Editor.{stored_behind, with_exchange, with_insertion, with_removal, by_group, is_changed_at}
+use Rattle.bx_editor.specs.Editor.{group_goal, group_length}
+use Rattle.bx_editor.specs.Effects.{Effect, Types, BeginsLine, Puts, Removes, RemovesWord, Steps, StepsGroup, Goes, GoesByRows, Marks, Selects}
 use Rattle.bx_editor.specs.Effects.{Unmarks, Copies, Cuts, Seeks, SeeksNext, Saves, Quits, Turns, Helps, AsksLine, AsksName, Tells, Rests, Before, before, by}
 use Rattle.bx_editor.specs.Erasing.{after_erasing, after_erasing_word, after_removing, removed_on}
 use Rattle.bx_editor.specs.Keys.{Answer, Letter, Shortens, GoesBack, Stays, Ends, after_any, after_asking, after_in_paste, after_key, after_press, after_pressing, after_user}
@@ -155,11 +155,11 @@ stepped-chain : (s : List ℕ) (at : Option ℕ) (way : HistoryStep) (n : ℕ) (
 stepped-chain s at steps.Undo n t h = undone-chain s at n t h
 stepped-chain s at steps.Redo n t h = redone-chain s at n t h
 
-run-by : (s : List ℕ) (way : HistoryStep) (e : Editor) (change : Option Change) → Has s e → Has s (by_run way e change)
+run-by : (s : List ℕ) (way : HistoryStep) (e : Editor) (change : Option Change) → Has s e → Has s (by_group way e change)
 run-by s way e None h = h
 run-by s way e (Some change) h =
-    let chain = stepped-chain s e.stored way (run_length way e) e.content h.chain in
-    record { chain = chain; unchanged = λ is. (chain.is_at (run_goal way e) (unchanged-at (run_goal way e) e.stored is)).now (run-ends way e) }
+    let chain = stepped-chain s e.stored way (group_length way e) e.content h.chain in
+    record { chain = chain; unchanged = λ is. (chain.is_at (group_goal way e) (unchanged-at (group_goal way e) e.stored is)).now (run-ends way e) }
 
 -- ---- each effect
 
@@ -194,7 +194,7 @@ effect s d fault was e Puts h = put s d e h
 effect s d fault was e (Removes how start stop) h = erasing s d was.typing how e start stop h
 effect s d fault was e (RemovesWord start stop) h = erasing-word s d e start stop h
 effect s d fault was e (Steps way) h = step s way e h
-effect s d fault was e (StepsRun way) h = run-by s way e (next_changes way (run_length way e) e.content) h
+effect s d fault was e (StepsGroup way) h = run-by s way e (next_changes way (group_length way e) e.content) h
 effect s d fault was e (Goes place) h = h
 effect s d fault was e (GoesByRows way n) h = h
 effect s d fault was e Marks h =
@@ -204,10 +204,10 @@ effect s d fault was e Selects h = select s e e.mark e.soft h
 effect s d fault was e Unmarks h = h
 effect s d fault was e Copies h = copy s d e h
 effect s d fault was e Cuts h = cut s d e h
-effect s d fault was e (Seeks aim) h = h
+effect s d fault was e (Seeks purpose) h = h
 effect s d fault was e SeeksNext h =
     let free = unselected e in
-    either (length (sought d free) == 0) s (after_beginning aims.Find free) (search_from d (next_or_start d free) (record free { seek = seeks.Off; aim = aims.Find })) h h
+    either (length (sought d free) == 0) s (after_beginning purposes.Find free) (search_from d (next_or_start d free) (record free { search_state = search_states.Off; purpose = purposes.Find })) h h
 effect s d fault was e Saves h = save s e fault h
 effect s d fault was e Quits h = quit s e was.again h
 effect s d fault was e Turns h = h
@@ -253,7 +253,7 @@ sought-has s d = record {
   placed = λ e place h. h;
   typed = λ e typing h. h;
   begun = λ e h. h;
-  sought = λ e seek aim origin query other at count h. h;
+  sought = λ e search_state purpose origin query other at count h. h;
 }
 
 module _ (s : List ℕ) (d : Data) (fault : Option StoreFault) (was : Before) (e : Editor) (key : Key) (h : Has s e) where
@@ -298,35 +298,35 @@ question s d = record {
   told = λ e message h. h;
   placed = λ e place h. h;
   typed = λ e typing h. h;
-  asked = λ e ask answer h. h;
+  asked = λ e prompt answer h. h;
 }
 
 question-answer : (s : List ℕ) (d : Data) (fault : Option StoreFault) (was : Before) (e : Editor) (key : Key) (one : Answer)
     → (is_end one || not (is_save key)) ≡ true → Has s e → Has (stored_by s e (is_save key) fault) (answered_question d fault was e key one)
 question-answer s d fault was e key (Letter c) it h =
     no-save s e (answered_question d fault was e key (Letter c)) fault (is_save key) it
-    (letter-keeps d (Has s) (question s d) was.typing e.ask e c h)
+    (letter-keeps d (Has s) (question s d) was.typing e.prompt e c h)
 question-answer s d fault was e key Shortens it h =
-    no-save s e (answered_question d fault was e key Shortens) fault (is_save key) it (shorter-keeps d (Has s) (question s d) e.ask e h)
+    no-save s e (answered_question d fault was e key Shortens) fault (is_save key) it (shorter-keeps d (Has s) (question s d) e.prompt e h)
 question-answer s d fault was e key GoesBack it h = no-save s e (answered_question d fault was e key GoesBack) fault (is_save key) it h
 question-answer s d fault was e key Stays it h = no-save s e (answered_question d fault was e key Stays) fault (is_save key) it h
-question-answer s d fault was e key _ it h = pressed s d fault was (without_ask e) key h
+question-answer s d fault was e key _ it h = pressed s d fault was (without_prompt e) key h
 
 asking : (s : List ℕ) (d : Data) (fault : Option StoreFault) (was : Before) (e : Editor) (key : Key) → Has s e
     → Has (stored_by s e (is_save key) fault) (after_asking d fault was e key)
 asking s d fault was e key h = question-answer s d fault was e key (answer_of key) ((each d e key).1) h
 
-any : (s : List ℕ) (d : Data) (fault : Option StoreFault) (was : Before) (ask : Prompt) (seek : SearchState) (e : Editor) (key : Key) → Has s e
-    → Has (stored_by s e (is_save key) fault) (after_any d fault was ask seek e key)
-any s d fault was asks.Off seeks.Off e key h = pressed s d fault was e key h
-any s d fault was asks.Off seeks.Begun e key h = query s d fault was e key h (answer_of key) ((each d e key).1)
-any s d fault was asks.Off seeks.Typed e key h = query s d fault was e key h (answer_of key) ((each d e key).1)
-any s d fault was asks.Off seeks.WithBegun e key h = replacement s d fault was e key h (answer_of key) ((each d e key).1)
-any s d fault was asks.Off seeks.WithTyped e key h = replacement s d fault was e key h (answer_of key) ((each d e key).1)
-any s d fault was asks.Off seeks.Replacing e key h = at-match s d fault was e key h (answer_of key) ((each d e key).1)
-any s d fault was asks.Line seek e key h = asking s d fault was e key h
-any s d fault was asks.Name seek e key h = asking s d fault was e key h
-any s d fault was asks.Code seek e key h = asking s d fault was e key h
+any : (s : List ℕ) (d : Data) (fault : Option StoreFault) (was : Before) (prompt : Prompt) (search_state : SearchState) (e : Editor) (key : Key) → Has s e
+    → Has (stored_by s e (is_save key) fault) (after_any d fault was prompt search_state e key)
+any s d fault was prompts.Off search_states.Off e key h = pressed s d fault was e key h
+any s d fault was prompts.Off search_states.Begun e key h = query s d fault was e key h (answer_of key) ((each d e key).1)
+any s d fault was prompts.Off search_states.Typed e key h = query s d fault was e key h (answer_of key) ((each d e key).1)
+any s d fault was prompts.Off search_states.WithBegun e key h = replacement s d fault was e key h (answer_of key) ((each d e key).1)
+any s d fault was prompts.Off search_states.WithTyped e key h = replacement s d fault was e key h (answer_of key) ((each d e key).1)
+any s d fault was prompts.Off search_states.Replacing e key h = at-match s d fault was e key h (answer_of key) ((each d e key).1)
+any s d fault was prompts.Line search_state e key h = asking s d fault was e key h
+any s d fault was prompts.Name search_state e key h = asking s d fault was e key h
+any s d fault was prompts.Code search_state e key h = asking s d fault was e key h
 
 -- ---- in a paste
 
@@ -338,14 +338,14 @@ ended s d e h =
 in-paste : (s : List ℕ) (d : Data) (fault : Option StoreFault) (e : Editor) (key : Key) → Has s e
     → Has (stored_by s (paste_ended d e) (is_save key) fault) (after_in_paste d fault e key)
 in-paste s d fault e (Insert c) h = h
-in-paste s d fault e Repaint h = any s d fault (before e) e.ask e.seek (cleared e) Repaint h
-in-paste s d fault e key h = let x = paste_ended d e in any s d fault (before x) x.ask x.seek (cleared x) key (ended s d e h)
+in-paste s d fault e Repaint h = any s d fault (before e) e.prompt e.search_state (cleared e) Repaint h
+in-paste s d fault e key h = let x = paste_ended d e in any s d fault (before x) x.prompt x.search_state (cleared x) key (ended s d e h)
 
 press : (s : List ℕ) (d : Data) (fault : Option StoreFault) (e : Editor) (key : Key) (pasted : Option (List ℕ)) → e.pasted ≡ pasted → Has s e
     → Has (stored_by s (paste_ended d e) (is_save key) fault) (after_press d fault pasted e key)
 press s d fault e key None none h =
     subst (λ (x : Editor). Has (stored_by s x (is_save key) fault) (after_user d fault e key)) (sym (none-ended d e none))
-    (any s d fault (before e) e.ask e.seek (cleared e) key h)
+    (any s d fault (before e) e.prompt e.search_state (cleared e) key h)
 press s d fault e key (Some list) is h = in-paste s d fault e key h
 
 begun : (s : List ℕ) → IsKeptPasting (Has s)

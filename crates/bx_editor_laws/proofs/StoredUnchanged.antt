@@ -6,9 +6,9 @@ use Rattle.bx_keys.specs.declared.key.Key.TheVariants.{Redo, RedoRun, Save, Undo
 use Rattle.bx_text.specs.Edits.{Edit}
 use Rattle.bx_ucd.specs.Data.{Data}
 use Rattle.bx_editor.specs.declared.questions.answers.Prompt.{Prompt}
-use Rattle.bx_editor.specs.declared.questions.answers.Prompt.TheVariants as asks
+use Rattle.bx_editor.specs.declared.questions.answers.Prompt.TheVariants as prompts
 use Rattle.bx_editor.specs.declared.search_state.SearchState.{SearchState}
-use Rattle.bx_editor.specs.declared.search_state.SearchState.TheVariants as seeks
+use Rattle.bx_editor.specs.declared.search_state.SearchState.TheVariants as search_states
 use Rattle.bx_editor.specs.Editor.{Editor, at_start, cleared, is_changed_at}
 use Rattle.bx_editor.specs.Effects.{Before, before}
 use Rattle.bx_editor.specs.Keys.{after_any, after_key, after_press}
@@ -56,20 +56,20 @@ module _ (n : ℕ) (d : Data) where
 abbrev IsStored : Editor → Type 0
 IsStored e = e.stored ≡ Some (length e.content.past)
 
-save-any : (d : Data) (was : Before) (ask : Prompt) (seek : SearchState) (e : Editor) → IsStored (after_any d None was ask seek e Save)
-save-any d was asks.Off seeks.Off e = refl
-save-any d was asks.Off seeks.Begun e = refl
-save-any d was asks.Off seeks.Typed e = refl
-save-any d was asks.Off seeks.WithBegun e = refl
-save-any d was asks.Off seeks.WithTyped e = refl
-save-any d was asks.Off seeks.Replacing e = refl
-save-any d was asks.Line seek e = refl
-save-any d was asks.Name seek e = refl
-save-any d was asks.Code seek e = refl
+save-any : (d : Data) (was : Before) (prompt : Prompt) (search_state : SearchState) (e : Editor) → IsStored (after_any d None was prompt search_state e Save)
+save-any d was prompts.Off search_states.Off e = refl
+save-any d was prompts.Off search_states.Begun e = refl
+save-any d was prompts.Off search_states.Typed e = refl
+save-any d was prompts.Off search_states.WithBegun e = refl
+save-any d was prompts.Off search_states.WithTyped e = refl
+save-any d was prompts.Off search_states.Replacing e = refl
+save-any d was prompts.Line search_state e = refl
+save-any d was prompts.Name search_state e = refl
+save-any d was prompts.Code search_state e = refl
 
 save-stores : (d : Data) (e : Editor) (pasted : Option (List ℕ)) → IsStored (after_press d None pasted e Save)
-save-stores d e None = save-any d (before e) e.ask e.seek (cleared e)
-save-stores d e (Some list) = let x = paste_ended d e in save-any d (before x) x.ask x.seek (cleared x)
+save-stores d e None = save-any d (before e) e.prompt e.search_state (cleared e)
+save-stores d e (Some list) = let x = paste_ended d e in save-any d (before x) x.prompt x.search_state (cleared x)
 
 pub stored-is-unchanged : StoredIsUnchanged
 stored-is-unchanged = record {

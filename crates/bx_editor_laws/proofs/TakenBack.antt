@@ -12,14 +12,14 @@ use Rattle.bx_document.specs.declared.history.HistoryStep.TheVariants as steps
 use Rattle.bx_document.specs.History.{next_changes, stepped_times}
 use Rattle.bx_ucd.specs.Data.{Data}
 use Rattle.bx_editor.specs.declared.questions.answers.Prompt.{Prompt}
-use Rattle.bx_editor.specs.declared.questions.answers.Prompt.TheVariants as asks
-use Rattle.bx_editor.specs.declared.search_state.SearchPurpose.TheVariants as aims
+use Rattle.bx_editor.specs.declared.questions.answers.Prompt.TheVariants as prompts
+use Rattle.bx_editor.specs.declared.search_state.SearchPurpose.TheVariants as purposes
 use Rattle.bx_editor.specs.declared.search_state.SearchState.{SearchState}
 use Rattle.bx_editor.specs.declared.search_state.SearchState.TheVariants.{Off, Begun, Typed, WithBegun, WithTyped, Replacing}
 use Rattle.bx_editor.specs.declared.cursor.Soft.TheVariants as softness
-use Rattle.bx_editor.specs.Asking.{without_ask}
+use Rattle.bx_editor.specs.Asking.{without_prompt}
 use Rattle.bx_editor.specs.Editor.{Editor, after_undo, after_redo, after_save, after_step, at_start, cleared, with_exchange}
-use Rattle.bx_editor.specs.Editor.{with_insertion, with_removal, by_run, run_length}
+use Rattle.bx_editor.specs.Editor.{with_insertion, with_removal, by_group, group_length}
 use Rattle.bx_editor.specs.Effects.{Effect, Seeks, SeeksNext, AsksLine, AsksName, Before, before, by}
 use Rattle.bx_editor.specs.Keys.{after_any, after_asking, after_key, after_seeking, answer_of, answered_match, answered_replacement, effect_of}
 use Rattle.bx_editor.specs.Functions.{after_keys}
@@ -111,9 +111,9 @@ step_has first steps.Undo e h = undo_has first e e.content.past refl h
 step_has first steps.Redo e h = redo_has first e e.content.future refl h
 
 run_has : (first : List ℕ) (step : HistoryStep) (e : Editor) (change : Option Change) → HasVersions first e.content
-    → HasVersions first (by_run step e change).content
+    → HasVersions first (by_group step e change).content
 run_has first step e None h = h
-run_has first step e (Some change) h = stepped_has first step (run_length step e) e.content h
+run_has first step e (Some change) h = stepped_has first step (group_length step e) e.content h
 
 save_has : (first : List ℕ) (e : Editor) (fault : Option StoreFault) → HasVersions first e.content → HasVersions first (after_save e fault).content
 save_has first e None h = h
@@ -126,7 +126,7 @@ pressing_has d first = record {
   inserted = insertion_has first d;
   removed = removal_has first d;
   stepped = step_has first;
-  run = λ step e h. run_has first step e (next_changes step (run_length step e) e.content) h;
+  run = λ step e h. run_has first step e (next_changes step (group_length step e) e.content) h;
   saved = save_has first;
   quit = λ e ended message h. h;
   based = λ e base h. h;
@@ -137,11 +137,11 @@ pressing_has d first = record {
 
 asking_has : (d : Data) (fault : Option StoreFault) (was : Before) (first : List ℕ) (e : Editor) (effect : Effect) → HasVersions first e.content
     → asks_or_seeks effect ≡ true → HasVersions first (by d fault was e effect).content
-asking_has d fault was first e (Seeks aim) h is = h
+asking_has d fault was first e (Seeks purpose) h is = h
 asking_has d fault was first e SeeksNext h is =
     let free = unselected e in
-    either_has (length (sought d free) == 0) first (after_beginning aims.Find free)
-    (search_from d (next_or_start d free) (record free { seek = Off; aim = aims.Find })) h h
+    either_has (length (sought d free) == 0) first (after_beginning purposes.Find free)
+    (search_from d (next_or_start d free) (record free { search_state = Off; purpose = purposes.Find })) h h
 asking_has d fault was first e AsksLine h is = h
 asking_has d fault was first e AsksName h is = h
 asking_has d fault was first e _ h is = absurd (cc is)
@@ -159,7 +159,7 @@ sought_has d first = record {
   placed = λ e place h. h;
   typed = λ e typing h. h;
   begun = λ e h. h;
-  sought = λ e seek aim origin query other at count h. h;
+  sought = λ e search_state purpose origin query other at count h. h;
 }
 
 answered_has : (d : Data) (fault : Option StoreFault) (was : Before) (first : List ℕ) (e : Editor) (key : Key) → HasVersions first e.content
@@ -188,26 +188,26 @@ question_has d first = record {
   told = λ e message h. h;
   placed = λ e place h. h;
   typed = λ e typing h. h;
-  asked = λ e ask answer h. h;
+  asked = λ e prompt answer h. h;
 }
 
 asked_has : (d : Data) (fault : Option StoreFault) (was : Before) (first : List ℕ) (e : Editor) (key : Key) → HasVersions first e.content
     → HasVersions first (after_asking d fault was e key).content
 asked_has d fault was first e key h =
     question-keeps d (λ x. HasVersions first x.content) (question_has d first) fault was e key (answer_of key) h
-    (by_has d fault was first (without_ask e) (effect_of d (without_ask e) key) h)
+    (by_has d fault was first (without_prompt e) (effect_of d (without_prompt e) key) h)
 
-any_has : (d : Data) (fault : Option StoreFault) (was : Before) (first : List ℕ) (ask : Prompt) (seek : SearchState) (e : Editor) (key : Key) → HasVersions first e.content
-    → HasVersions first (after_any d fault was ask seek e key).content
-any_has d fault was first asks.Off Off e key h = by_has d fault was first e (effect_of d e key) h
-any_has d fault was first asks.Off Begun e key h = answered_has d fault was first e key h
-any_has d fault was first asks.Off Typed e key h = answered_has d fault was first e key h
-any_has d fault was first asks.Off WithBegun e key h = other_has d fault was first e key h
-any_has d fault was first asks.Off WithTyped e key h = other_has d fault was first e key h
-any_has d fault was first asks.Off Replacing e key h = match_has d fault was first e key h
-any_has d fault was first asks.Line seek e key h = asked_has d fault was first e key h
-any_has d fault was first asks.Name seek e key h = asked_has d fault was first e key h
-any_has d fault was first asks.Code seek e key h = asked_has d fault was first e key h
+any_has : (d : Data) (fault : Option StoreFault) (was : Before) (first : List ℕ) (prompt : Prompt) (search_state : SearchState) (e : Editor) (key : Key) → HasVersions first e.content
+    → HasVersions first (after_any d fault was prompt search_state e key).content
+any_has d fault was first prompts.Off Off e key h = by_has d fault was first e (effect_of d e key) h
+any_has d fault was first prompts.Off Begun e key h = answered_has d fault was first e key h
+any_has d fault was first prompts.Off Typed e key h = answered_has d fault was first e key h
+any_has d fault was first prompts.Off WithBegun e key h = other_has d fault was first e key h
+any_has d fault was first prompts.Off WithTyped e key h = other_has d fault was first e key h
+any_has d fault was first prompts.Off Replacing e key h = match_has d fault was first e key h
+any_has d fault was first prompts.Line search_state e key h = asked_has d fault was first e key h
+any_has d fault was first prompts.Name search_state e key h = asked_has d fault was first e key h
+any_has d fault was first prompts.Code search_state e key h = asked_has d fault was first e key h
 
 -- in a paste
 pasting_has : (first : List ℕ) → IsKeptPasting (λ e. HasVersions first e.content)
@@ -220,7 +220,7 @@ key_has d fault first e key h =
     each-key d fault e (λ k new. P new) (λ height width. h) (λ notice. h)
     (start-keeps P (pasting_has first) e h, paste-end-keeps d P (pressing_has d first) (pasting_has first) e h)
     (λ k other.
-    press-keeps d fault e P k (λ x has. any_has d fault (before x) first x.ask x.seek (cleared x) k has)
+    press-keeps d fault e P k (λ x has. any_has d fault (before x) first x.prompt x.search_state (cleared x) k has)
     (λ x has. ended-keeps d P (pressing_has d first) (pasting_has first) x has) (λ c. h) h)
     key
 
@@ -237,33 +237,33 @@ all_typed_has d text height width base typed = typing_has d text (at_start text 
 
 -- an editor once a key has led to another text of its history
 abbrev stepped : Editor → Edited → ℕ → Editor
-stepped e content place = record e { content = content; place = place; mark = None; soft = softness.Off; seek = Off; ask = asks.Off; changed = true }
+stepped e content place = record e { content = content; place = place; mark = None; soft = softness.Off; search_state = Off; prompt = prompts.Off; changed = true }
 
-undone_is : (d : Data) (was : Before) (ask : Prompt) (seek : SearchState) (e : Editor) (text : List ℕ) (edit : Edit) (past future : List Edit) → e.ask ≡ ask
-    → after_any d None was ask seek (record e { content = version text (edit ∷ past) future }) Undo
+undone_is : (d : Data) (was : Before) (prompt : Prompt) (search_state : SearchState) (e : Editor) (text : List ℕ) (edit : Edit) (past future : List Edit) → e.prompt ≡ prompt
+    → after_any d None was prompt search_state (record e { content = version text (edit ∷ past) future }) Undo
     ≡ stepped e (version edit.before.text past (edit ∷ future)) edit.before.place
-undone_is d was asks.Off Off e text edit past future is = ap (λ a. record (stepped e (version edit.before.text past (edit ∷ future)) edit.before.place) { ask = a }) is
-undone_is d was asks.Off Begun e text edit past future is = ap (λ a. record (stepped e (version edit.before.text past (edit ∷ future)) edit.before.place) { ask = a }) is
-undone_is d was asks.Off Typed e text edit past future is = ap (λ a. record (stepped e (version edit.before.text past (edit ∷ future)) edit.before.place) { ask = a }) is
-undone_is d was asks.Off WithBegun e text edit past future is = ap (λ a. record (stepped e (version edit.before.text past (edit ∷ future)) edit.before.place) { ask = a }) is
-undone_is d was asks.Off WithTyped e text edit past future is = ap (λ a. record (stepped e (version edit.before.text past (edit ∷ future)) edit.before.place) { ask = a }) is
-undone_is d was asks.Off Replacing e text edit past future is = ap (λ a. record (stepped e (version edit.before.text past (edit ∷ future)) edit.before.place) { ask = a }) is
-undone_is d was asks.Line seek e text edit past future is = refl
-undone_is d was asks.Name seek e text edit past future is = refl
-undone_is d was asks.Code seek e text edit past future is = refl
+undone_is d was prompts.Off Off e text edit past future is = ap (λ a. record (stepped e (version edit.before.text past (edit ∷ future)) edit.before.place) { prompt = a }) is
+undone_is d was prompts.Off Begun e text edit past future is = ap (λ a. record (stepped e (version edit.before.text past (edit ∷ future)) edit.before.place) { prompt = a }) is
+undone_is d was prompts.Off Typed e text edit past future is = ap (λ a. record (stepped e (version edit.before.text past (edit ∷ future)) edit.before.place) { prompt = a }) is
+undone_is d was prompts.Off WithBegun e text edit past future is = ap (λ a. record (stepped e (version edit.before.text past (edit ∷ future)) edit.before.place) { prompt = a }) is
+undone_is d was prompts.Off WithTyped e text edit past future is = ap (λ a. record (stepped e (version edit.before.text past (edit ∷ future)) edit.before.place) { prompt = a }) is
+undone_is d was prompts.Off Replacing e text edit past future is = ap (λ a. record (stepped e (version edit.before.text past (edit ∷ future)) edit.before.place) { prompt = a }) is
+undone_is d was prompts.Line search_state e text edit past future is = refl
+undone_is d was prompts.Name search_state e text edit past future is = refl
+undone_is d was prompts.Code search_state e text edit past future is = refl
 
-redone_is : (d : Data) (was : Before) (ask : Prompt) (seek : SearchState) (e : Editor) (text : List ℕ) (edit : Edit) (past future : List Edit) → e.ask ≡ ask
-    → after_any d None was ask seek (record e { content = version text past (edit ∷ future) }) Redo
+redone_is : (d : Data) (was : Before) (prompt : Prompt) (search_state : SearchState) (e : Editor) (text : List ℕ) (edit : Edit) (past future : List Edit) → e.prompt ≡ prompt
+    → after_any d None was prompt search_state (record e { content = version text past (edit ∷ future) }) Redo
     ≡ stepped e (version edit.after.text (edit ∷ past) future) edit.after.place
-redone_is d was asks.Off Off e text edit past future is = ap (λ a. record (stepped e (version edit.after.text (edit ∷ past) future) edit.after.place) { ask = a }) is
-redone_is d was asks.Off Begun e text edit past future is = ap (λ a. record (stepped e (version edit.after.text (edit ∷ past) future) edit.after.place) { ask = a }) is
-redone_is d was asks.Off Typed e text edit past future is = ap (λ a. record (stepped e (version edit.after.text (edit ∷ past) future) edit.after.place) { ask = a }) is
-redone_is d was asks.Off WithBegun e text edit past future is = ap (λ a. record (stepped e (version edit.after.text (edit ∷ past) future) edit.after.place) { ask = a }) is
-redone_is d was asks.Off WithTyped e text edit past future is = ap (λ a. record (stepped e (version edit.after.text (edit ∷ past) future) edit.after.place) { ask = a }) is
-redone_is d was asks.Off Replacing e text edit past future is = ap (λ a. record (stepped e (version edit.after.text (edit ∷ past) future) edit.after.place) { ask = a }) is
-redone_is d was asks.Line seek e text edit past future is = refl
-redone_is d was asks.Name seek e text edit past future is = refl
-redone_is d was asks.Code seek e text edit past future is = refl
+redone_is d was prompts.Off Off e text edit past future is = ap (λ a. record (stepped e (version edit.after.text (edit ∷ past) future) edit.after.place) { prompt = a }) is
+redone_is d was prompts.Off Begun e text edit past future is = ap (λ a. record (stepped e (version edit.after.text (edit ∷ past) future) edit.after.place) { prompt = a }) is
+redone_is d was prompts.Off Typed e text edit past future is = ap (λ a. record (stepped e (version edit.after.text (edit ∷ past) future) edit.after.place) { prompt = a }) is
+redone_is d was prompts.Off WithBegun e text edit past future is = ap (λ a. record (stepped e (version edit.after.text (edit ∷ past) future) edit.after.place) { prompt = a }) is
+redone_is d was prompts.Off WithTyped e text edit past future is = ap (λ a. record (stepped e (version edit.after.text (edit ∷ past) future) edit.after.place) { prompt = a }) is
+redone_is d was prompts.Off Replacing e text edit past future is = ap (λ a. record (stepped e (version edit.after.text (edit ∷ past) future) edit.after.place) { prompt = a }) is
+redone_is d was prompts.Line search_state e text edit past future is = refl
+redone_is d was prompts.Name search_state e text edit past future is = refl
+redone_is d was prompts.Code search_state e text edit past future is = refl
 
 none_behind : (past : List Edit) → mark_behind None past ≡ None
 none_behind [] = refl
@@ -274,10 +274,10 @@ all_back : (d : Data) (first : List ℕ) (e : Editor) (text : List ℕ) (past fu
 all_back d first e text [] future settled h = record { text_is = h; past_is = refl; place_is = refl; mark_is = refl }
 all_back d first e text (edit ∷ past) future settled h =
     let now : Editor = record e { content = version text (edit ∷ past) future } in
-    let taken_back : Editor = record (cleared e) { place = edit.before.place; mark = None; soft = softness.Off; seek = Off; ask = asks.Off; changed = true; goal = None } in
+    let taken_back : Editor = record (cleared e) { place = edit.before.place; mark = None; soft = softness.Off; search_state = Off; prompt = prompts.Off; changed = true; goal = None } in
     let back = all_back d first taken_back edit.before.text past (edit ∷ future) settled h.1 in
     subst (λ new. IsBackAt first now (after_keys d None new (replicate (length past) Undo)))
-    (sym (any-key d None now Undo settled refl ∙ ap behind (undone_is d (before e) e.ask e.seek (cleared e) text edit past future refl)))
+    (sym (any-key d None now Undo settled refl ∙ ap behind (undone_is d (before e) e.prompt e.search_state (cleared e) text edit past future refl)))
     (record { text_is = back.text_is; past_is = back.past_is; place_is = back.place_is; mark_is = back.mark_is ∙ none_behind past })
 
 -- an editor of any text after one Undo, and after one Redo
@@ -291,13 +291,13 @@ undo_once : (d : Data) (e : Editor) (text : List ℕ) (edit : Edit) (past future
     → after_key d None (record e { content = version text (edit ∷ past) future }) Undo ≡ undone_once e text edit past future
 undo_once d e text edit past future settled =
     any-key d None (record e { content = version text (edit ∷ past) future }) Undo settled refl
-    ∙ ap behind (undone_is d (before e) e.ask e.seek (cleared e) text edit past future refl)
+    ∙ ap behind (undone_is d (before e) e.prompt e.search_state (cleared e) text edit past future refl)
 
 redo_once : (d : Data) (e : Editor) (text : List ℕ) (edit : Edit) (past future : List Edit) → e.pasted ≡ None
     → after_key d None (record e { content = version text past (edit ∷ future) }) Redo ≡ redone_once e text edit past future
 redo_once d e text edit past future settled =
     any-key d None (record e { content = version text past (edit ∷ future) }) Redo settled refl
-    ∙ ap behind (redone_is d (before e) e.ask e.seek (cleared e) text edit past future refl)
+    ∙ ap behind (redone_is d (before e) e.prompt e.search_state (cleared e) text edit past future refl)
 
 redo_back : (d : Data) (first : List ℕ) (e : Editor) (text : List ℕ) (past future : List Edit) → e.pasted ≡ None → IsPastOf first text past → past ≢ []
     → (after_keys d None (record e { content = version text past future }) (Undo ∷ Redo ∷ [])).content ≡ version text past future

@@ -10,10 +10,10 @@ use Rattle.bx_editor.specs.declared.cursor.Soft.{Soft}
 use Rattle.bx_editor.specs.declared.cursor.Soft.TheVariants as softness
 use Rattle.bx_editor.specs.declared.message.Message.TheVariants.{MarkOff, MarkSet, Unsaved}
 use Rattle.bx_editor.specs.declared.questions.answers.Prompt.{Prompt}
-use Rattle.bx_editor.specs.declared.questions.answers.Prompt.TheVariants as asks
+use Rattle.bx_editor.specs.declared.questions.answers.Prompt.TheVariants as prompts
 use Rattle.bx_editor.specs.declared.search_state.SearchState.{SearchState}
 use Rattle.bx_editor.specs.declared.search_state.SearchState.TheVariants.{Off, Begun, Typed, WithBegun, WithTyped, Replacing}
-use Rattle.bx_editor.specs.Asking.{without_ask}
+use Rattle.bx_editor.specs.Asking.{without_prompt}
 use Rattle.bx_editor.specs.Editor.{Editor, after_quit, after_save, cleared}
 use Rattle.bx_editor.specs.Effects.{Effect, Saves, Quits, Turns, Marks, Helps, AsksLine, AsksName, Tells, Unmarks, Selects, Rests, Before, before, by}
 use Rattle.bx_editor.specs.Keys.{Answer, GoesBack, Stays, Ends, after_any, after_key, after_press, after_user, answer_of, answered, answered_match}
@@ -31,7 +31,7 @@ abbrev Keeps : Editor → Editor → Type 0
 Keeps e new =
     (new.content ≡ e.content) × ((new.undo_groups ≡ e.undo_groups) × ((new.held ≡ e.held) × ((new.query ≡ e.query)
     × ((new.replacement ≡ e.replacement) × (((new.answer ≡ e.answer) ⊎ (new.answer ≡ [])) × (((new.pasted ≡ e.pasted)
-    ⊎ ((e.pasted ≡ None) × (new.pasted ≡ Some []))) × ((new.place ≡ e.place) ⊎ ((e.seek ≢ Off) × (new.place ≡ e.origin)))))))))
+    ⊎ ((e.pasted ≡ None) × (new.pasted ≡ Some []))) × ((new.place ≡ e.place) ⊎ ((e.search_state ≢ Off) × (new.place ≡ e.origin)))))))))
 
 told : (e new : Editor) → Keeps e new → KeepsTexts e new
 told e new h = record {
@@ -118,20 +118,20 @@ same : (e : Editor) → Keeps e e
 same e = (refl, (refl, (refl, (refl, (refl, (inl refl, (inl refl, inl refl)))))))
 
 -- the cursor is back where the search began
-back : (e : Editor) → e.seek ≢ Off → Keeps e (record e { place = e.origin })
+back : (e : Editor) → e.search_state ≢ Off → Keeps e (record e { place = e.origin })
 back e on = (refl, (refl, (refl, (refl, (refl, (inl refl, (inl refl, inr (on, refl))))))))
 
 module _ (d : Data) (fault : Option StoreFault) (was : Before) (key : Key) (quiet : IsQuiet d key) where
   pressing : (e x : Editor) → Keeps e x → Keeps e (by d fault was x (effect_of d x key))
   pressing e x h = by-quiet d fault was e x (effect_of d x key) (quiet.effect x) h
 
-  sought : (e : Editor) (answer : Answer) → e.seek ≢ Off → is_quiet_answer answer ≡ true → Keeps e (answered d fault was e key answer)
+  sought : (e : Editor) (answer : Answer) → e.search_state ≢ Off → is_quiet_answer answer ≡ true → Keeps e (answered d fault was e key answer)
   sought e GoesBack on is = back e on
   sought e Stays on is = same e
   sought e Ends on is = pressing e e (same e)
   sought e _ on is = absurd (cc is)
 
-  replacing : (e : Editor) (answer : Answer) → e.seek ≢ Off → is_quiet_answer answer ≡ true → Keeps e (answered_replacement d fault was e key answer)
+  replacing : (e : Editor) (answer : Answer) → e.search_state ≢ Off → is_quiet_answer answer ≡ true → Keeps e (answered_replacement d fault was e key answer)
   replacing e GoesBack on is = back e on
   replacing e Stays on is = same e
   replacing e Ends on is = pressing e (without_search e) (same e)
@@ -146,22 +146,22 @@ module _ (d : Data) (fault : Option StoreFault) (was : Before) (key : Key) (quie
   asked : (e : Editor) (answer : Answer) → is_quiet_answer answer ≡ true → Keeps e (answered_question d fault was e key answer)
   asked e GoesBack is = same e
   asked e Stays is = same e
-  asked e Ends is = pressing e (without_ask e) (same e)
+  asked e Ends is = pressing e (without_prompt e) (same e)
   asked e _ is = absurd (cc is)
 
-  anywhere : (ask : Prompt) (seek : SearchState) (e : Editor) → e.seek ≡ seek → Keeps e (after_any d fault was ask seek e key)
-  anywhere asks.Off Off e is = pressing e e (same e)
-  anywhere asks.Off Begun e is = sought e (answer_of key) (λ off. let both = sym is ∙ off in cc both) quiet.answer
-  anywhere asks.Off Typed e is = sought e (answer_of key) (λ off. let both = sym is ∙ off in cc both) quiet.answer
-  anywhere asks.Off WithBegun e is = replacing e (answer_of key) (λ off. let both = sym is ∙ off in cc both) quiet.answer
-  anywhere asks.Off WithTyped e is = replacing e (answer_of key) (λ off. let both = sym is ∙ off in cc both) quiet.answer
-  anywhere asks.Off Replacing e is = at-match e (answer_of key) quiet.answer
-  anywhere asks.Line seek e is = asked e (answer_of key) quiet.answer
-  anywhere asks.Name seek e is = asked e (answer_of key) quiet.answer
-  anywhere asks.Code seek e is = asked e (answer_of key) quiet.answer
+  anywhere : (prompt : Prompt) (search_state : SearchState) (e : Editor) → e.search_state ≡ search_state → Keeps e (after_any d fault was prompt search_state e key)
+  anywhere prompts.Off Off e is = pressing e e (same e)
+  anywhere prompts.Off Begun e is = sought e (answer_of key) (λ off. let both = sym is ∙ off in cc both) quiet.answer
+  anywhere prompts.Off Typed e is = sought e (answer_of key) (λ off. let both = sym is ∙ off in cc both) quiet.answer
+  anywhere prompts.Off WithBegun e is = replacing e (answer_of key) (λ off. let both = sym is ∙ off in cc both) quiet.answer
+  anywhere prompts.Off WithTyped e is = replacing e (answer_of key) (λ off. let both = sym is ∙ off in cc both) quiet.answer
+  anywhere prompts.Off Replacing e is = at-match e (answer_of key) quiet.answer
+  anywhere prompts.Line search_state e is = asked e (answer_of key) quiet.answer
+  anywhere prompts.Name search_state e is = asked e (answer_of key) quiet.answer
+  anywhere prompts.Code search_state e is = asked e (answer_of key) quiet.answer
 
 user : (d : Data) (fault : Option StoreFault) (e : Editor) (key : Key) → IsQuiet d key → Keeps e (after_user d fault e key)
-user d fault e key quiet = anywhere d fault (before e) key quiet e.ask e.seek (cleared e) refl
+user d fault e key quiet = anywhere d fault (before e) key quiet e.prompt e.search_state (cleared e) refl
 
 -- ---- any key
 
@@ -183,17 +183,17 @@ painted : (d : Data) (fault : Option StoreFault) (e : Editor) (pasted : Option (
 painted d fault e None = user d fault e Repaint (record { effect = λ x. refl; answer = refl })
 painted d fault e (Some list) = user d fault e Repaint (record { effect = λ x. refl; answer = refl })
 
-begun : (e : Editor) (ask : Prompt) (seek : SearchState) (pasted : Option (List ℕ)) → e.pasted ≡ pasted → Keeps e (paste_begun ask seek pasted e)
-begun e asks.Off Off None is = (refl, (refl, (refl, (refl, (refl, (inl refl, (inr (is, refl), inl refl)))))))
-begun e asks.Off Off (Some list) is = same e
-begun e asks.Off Begun pasted is = same e
-begun e asks.Off Typed pasted is = same e
-begun e asks.Off WithBegun pasted is = same e
-begun e asks.Off WithTyped pasted is = same e
-begun e asks.Off Replacing pasted is = same e
-begun e asks.Line seek pasted is = same e
-begun e asks.Name seek pasted is = same e
-begun e asks.Code seek pasted is = same e
+begun : (e : Editor) (prompt : Prompt) (search_state : SearchState) (pasted : Option (List ℕ)) → e.pasted ≡ pasted → Keeps e (paste_begun prompt search_state pasted e)
+begun e prompts.Off Off None is = (refl, (refl, (refl, (refl, (refl, (inl refl, (inr (is, refl), inl refl)))))))
+begun e prompts.Off Off (Some list) is = same e
+begun e prompts.Off Begun pasted is = same e
+begun e prompts.Off Typed pasted is = same e
+begun e prompts.Off WithBegun pasted is = same e
+begun e prompts.Off WithTyped pasted is = same e
+begun e prompts.Off Replacing pasted is = same e
+begun e prompts.Line search_state pasted is = same e
+begun e prompts.Name search_state pasted is = same e
+begun e prompts.Code search_state pasted is = same e
 
 any : (d : Data) (fault : Option StoreFault) (e : Editor) (key : Key) → may_refuse e key ≡ false → Keeps e (after_key d fault e key)
 any d fault e Save h = user-key d fault e Save (record { effect = λ x. refl; answer = refl }) refl (unpasted Save e.pasted refl h)
@@ -207,7 +207,7 @@ any d fault e Tell h = user-key d fault e Tell (record { effect = λ x. refl; an
 any d fault e Cancel h = user-key d fault e Cancel (record { effect = λ x. refl; answer = refl }) refl (unpasted Cancel e.pasted refl h)
 any d fault e Select h = user-key d fault e Select (record { effect = λ x. refl; answer = refl }) refl (unpasted Select e.pasted refl h)
 any d fault e Repaint h = painted d fault e e.pasted
-any d fault e PasteStart h = begun e e.ask e.seek e.pasted refl
+any d fault e PasteStart h = begun e e.prompt e.search_state e.pasted refl
 any d fault e PasteEnd h = subst (Keeps e) (sym (none-ended d e (unpasted PasteEnd e.pasted refl h))) (same e)
 any d fault e (Size height width) h = same e
 any d fault e (Notice notice) h = same e

@@ -94,7 +94,7 @@ module _ (d : Data) (e : Editor) (has : HasRows e) (place : IsTextPlace d e.cont
   stays = record { to_place = λ not. refl; to_edge = λ full more. absurd (omega (arith, more)) }
 
   -- there and back, from where the column is as if it was kept
-  module _ (off : e.seek ≡ Off) (settled : e.pasted ≡ None) (paged : Bool) (kept : ℕ) (begins : Begins d e off settled paged kept) where
+  module _ (off : e.search_state ≡ Off) (settled : e.pasted ≡ None) (paged : Bool) (kept : ℕ) (begins : Begins d e off settled paged kept) where
     -- where a row is entered
     abbrev at : ℕ → ℕ
     at j = enter d e.base e.width some e.content.text has.text kept j
@@ -134,7 +134,7 @@ module _ (d : Data) (e : Editor) (has : HasRows e) (place : IsTextPlace d e.cont
         ∙ ap (as-in last) same))
 
   -- where no column is kept
-  module _ (off : e.seek ≡ Off) (settled : e.pasted ≡ None) (none : e.goal ≡ None) (paged : Bool) where
+  module _ (off : e.search_state ≡ Off) (settled : e.pasted ≡ None) (none : e.goal ≡ None) (paged : Bool) where
     begun : Begins d e off settled paged column
     begun = keys-from d e off settled paged column none refl
 
@@ -153,7 +153,7 @@ module _ (d : Data) (e : Editor) (has : HasRows e) (place : IsTextPlace d e.cont
         leads-back (suc m) new (up-back off settled paged column begun m above)
 
   -- where one is kept, in which the place's row is entered at the place
-  module _ (off : e.seek ≡ Off) (settled : e.pasted ≡ None) (kept : ℕ) (entered : IsEntered d e kept) (paged : Bool) where
+  module _ (off : e.search_state ≡ Off) (settled : e.pasted ≡ None) (kept : ℕ) (entered : IsEntered d e kept) (paged : Bool) where
     here : enter d e.base e.width some e.content.text has.text kept k ≡ e.place
     here = ap (λ x. unwrap_or x 0) entered.entered
 

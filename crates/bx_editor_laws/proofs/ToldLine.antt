@@ -18,7 +18,7 @@ use Rattle.bx_view.specs.Places.{IsTextPlace}
 use Rattle.bx_view.specs.TextRows.{cell_of, text_rows}
 use Rattle.bx_view.specs.declared.position.Position.{Position}
 use Rattle.bx_view.proofs.Numbered.{lead-back}
-use Rattle.bx_editor.specs.Asking.{after_answer_letter, after_going, gone_to, longest_line, with_answer, without_ask}
+use Rattle.bx_editor.specs.Asking.{after_answer_letter, after_going, gone_to, longest_line, with_answer, without_prompt}
 use Rattle.bx_editor_laws.specs.AskingLaws.{HasTextPlace, IsUntouched, ToldNumbersLeadBack, is_enter, told_numbers}
 use Rattle.bx_editor.specs.Editor.{Editor, cleared, with_place, with_typing}
 use Rattle.bx_editor.specs.Keys.{after_key, as_left}
@@ -65,18 +65,18 @@ module _ (d : Data) (e : Editor) (has : HasTextPlace d e) where
       lead-back d Auto 1 e.content.text has.text e.place at has.place (record { column = refl; paragraph = refl; unit = refl })
 
   -- an editor with this answer goes nowhere
-  pub stays-there : e.answer ≡ told_numbers d e → after_going d e ≡ without_ask e
+  pub stays-there : e.answer ≡ told_numbers d e → after_going d e ≡ without_prompt e
   stays-there is =
-      ap (λ a. gone_to d (without_ask e) (asked (chars a))) is
-      ∙ ap (λ cs. gone_to d (without_ask e) (asked cs)) (letters-chars (told_numbers d e) letters-told)
-      ∙ ap (gone_to d (without_ask e)) (told-asked p u (omega arith) some-u small-p small-u)
-      ∙ ap (with_place (without_ask e)) place-told
+      ap (λ a. gone_to d (without_prompt e) (asked (chars a))) is
+      ∙ ap (λ cs. gone_to d (without_prompt e) (asked cs)) (letters-chars (told_numbers d e) letters-told)
+      ∙ ap (gone_to d (without_prompt e)) (told-asked p u (omega arith) some-u small-p small-u)
+      ∙ ap (with_place (without_prompt e)) place-told
 
 -- ---- it is typed
 
 -- a part of it is typed
 record IsTyping (first e : Editor) (answer : List ℕ) : Type 0 where
-  pub ask : e.ask ≡ Line
+  pub prompt : e.prompt ≡ Line
   pub typing : e.typing ≡ typings.Off
   pub answer_is : e.answer ≡ answer
   pub settled : e.pasted ≡ None
@@ -89,7 +89,7 @@ no-end-by c true e letter =
     let wrong : is_line_letter 0xA ≡ true = ap is_line_letter (sym end) ∙ letter in
     absurd (cc wrong)
 
-on-line : (e : Editor) → e.ask ≡ Line → e.ask ≢ Off
+on-line : (e : Editor) → e.prompt ≡ Line → e.prompt ≢ Off
 on-line e is none = let wrong : Line ≡ Off = sym is ∙ none in cc wrong
 
 longer : (answer : List ℕ) (c : ℕ) → AreLetters answer → IsLetter c → length answer < 16 → lengthened longest_line answer c ≡ answer ++ c ∷ []
@@ -105,8 +105,8 @@ type-on d first e answer c h all letter room =
     let was = cleared e in
     let typed = with_answer was (lengthened longest_line e.answer c) in
     let is : after_key d None e (keys.Insert c) ≡ as_left (keys.Insert c) (with_typing (with_answer was (answer ++ c ∷ [])) typings.Off) =
-    asked-key d None e (keys.Insert c) h.settled (on-line e h.ask) refl
-    ∙ ap₂ (λ t a. as_left (keys.Insert c) (after_answer_letter d t a was c)) h.typing h.ask
+    asked-key d None e (keys.Insert c) h.settled (on-line e h.prompt) refl
+    ∙ ap₂ (λ t a. as_left (keys.Insert c) (after_answer_letter d t a was c)) h.typing h.prompt
     ∙ ap (λ b. as_left (keys.Insert c) (with_typing (if b then after_going d was else (if is_line_letter c then typed else was)) typings.Off))
     (no-end-by c (c == 0xA) refl letter.line)
     ∙ ap (λ b. as_left (keys.Insert c) (with_typing (if b then typed else was) typings.Off)) letter.line
@@ -114,7 +114,7 @@ type-on d first e answer c h all letter room =
     (ap (λ a. lengthened longest_line a c) h.answer_is ∙ longer answer c all letter room) in
     subst (λ (x : Editor). IsTyping first x (answer ++ c ∷ [])) (sym is)
     (record {
-      ask = h.ask;
+      prompt = h.prompt;
       typing = refl;
       answer_is = refl;
       settled = h.settled;
@@ -157,26 +157,26 @@ told-still : (d : Data) (first e : Editor) → Leaves first e → told_numbers d
 told-still d first e left =
     ap₂ (λ (t : Edited) place. decimal (paragraph_number d t.text place + 1) ++ (codes ":" ++ decimal (unit_number d t.text place))) (sym left.content) (sym left.place)
 
-ended : (d : Data) (first e : Editor) (key : Key) → after_key d None e key ≡ as_left key (after_answer_letter d e.typing e.ask (cleared e) 0xA)
-    → IsTyping first e (told_numbers d first) → HasTextPlace d first → IsUntouched first (after_key d None e key) × ((after_key d None e key).ask ≡ Off)
+ended : (d : Data) (first e : Editor) (key : Key) → after_key d None e key ≡ as_left key (after_answer_letter d e.typing e.prompt (cleared e) 0xA)
+    → IsTyping first e (told_numbers d first) → HasTextPlace d first → IsUntouched first (after_key d None e key) × ((after_key d None e key).prompt ≡ Off)
 ended d first e key is h has =
     let was = cleared e in
     let left : Leaves first was = record { content = h.leaves.content; pasted = h.leaves.pasted; place = h.leaves.place; held = h.leaves.held; hard = h.leaves.hard } in
     let there = stays-there d was (has-still d first was left has) (h.answer_is ∙ told-still d first was left) in
-    let new = with_typing (without_ask was) typings.Off in
+    let new = with_typing (without_prompt was) typings.Off in
     let whole : after_key d None e key ≡ as_left key new =
-    is ∙ ap₂ (λ t a. as_left key (after_answer_letter d t a was 0xA)) h.typing h.ask ∙ ap (λ x. as_left key (with_typing x typings.Off)) there in
+    is ∙ ap₂ (λ t a. as_left key (after_answer_letter d t a was 0xA)) h.typing h.prompt ∙ ap (λ x. as_left key (with_typing x typings.Off)) there in
     let stays : Leaves was new = record { content = refl; pasted = refl; place = refl; held = refl; hard = λ s. (refl, s) } in
-    subst (λ (x : Editor). IsUntouched first x × (x.ask ≡ Off)) (sym whole)
+    subst (λ (x : Editor). IsUntouched first x × (x.prompt ≡ Off)) (sym whole)
     (untouched first (as_left key new) (leaves-trans first e (as_left key new) h.leaves (left-leaves e new key stays)), refl)
 
 entered : (d : Data) (first e : Editor) (enter : Key) → is_enter enter ≡ true → IsTyping first e (told_numbers d first) → HasTextPlace d first
-    → IsUntouched first (after_key d None e enter) × ((after_key d None e enter).ask ≡ Off)
+    → IsUntouched first (after_key d None e enter) × ((after_key d None e enter).prompt ≡ Off)
 entered d first e (keys.Insert c) end h has =
     let same : c ≡ 0xA = grind (arith, nat_tests, end) in
     ended d first e (keys.Insert c)
-    (asked-key d None e (keys.Insert c) h.settled (on-line e h.ask) refl ∙ ap (λ x. as_left (keys.Insert c) (after_answer_letter d e.typing e.ask (cleared e) x)) same) h has
-entered d first e keys.NewLine end h has = ended d first e keys.NewLine (asked-key d None e keys.NewLine h.settled (on-line e h.ask) refl) h has
+    (asked-key d None e (keys.Insert c) h.settled (on-line e h.prompt) refl ∙ ap (λ x. as_left (keys.Insert c) (after_answer_letter d e.typing e.prompt (cleared e) x)) same) h has
+entered d first e keys.NewLine end h has = ended d first e keys.NewLine (asked-key d None e keys.NewLine h.settled (on-line e h.prompt) refl) h has
 entered d first e _ end h has = absurd (cc end)
 
 -- ---- the law
@@ -185,7 +185,7 @@ begun : (d : Data) (e : Editor) → e.pasted ≡ None → IsTyping e (after_key 
 begun d e settled =
     subst (λ (x : Editor). IsTyping e x []) (sym (line-is d e settled))
     (record {
-      ask = refl;
+      prompt = refl;
       typing = refl;
       answer_is = refl;
       settled = settled;
@@ -202,5 +202,5 @@ told-numbers-lead-back d e has = record {
   typed = λ settled enter end.
       let told = told_numbers d e in
       let all = all-typed d e (after_key d None e keys.GoTo) [] told (enter ∷ []) (begun d e settled) tt (letters-told d e has) (omega (arith, short-told d e has)) in
-      subst (λ (x : Editor). IsUntouched e x × (x.ask ≡ Off)) (sym all.keys) (entered d e all.there enter end all.typing has);
+      subst (λ (x : Editor). IsUntouched e x × (x.prompt ≡ Off)) (sym all.keys) (entered d e all.there enter end all.typing has);
 }

@@ -9,7 +9,7 @@ use Rattle.unicode_segmentation.specs.Grapheme.{graphemes}
 use Rattle.bx_common.specs.Characters.{are_ascii_printable}
 use Rattle.bx_common.specs.declared.base.Base.{Base}
 use Rattle.bx_editor.specs.declared.questions.answers.Prompt.{Prompt}
-use Rattle.bx_editor.specs.declared.questions.answers.Prompt.TheVariants as asks
+use Rattle.bx_editor.specs.declared.questions.answers.Prompt.TheVariants as prompts
 use Rattle.bx_editor.specs.questions.Told.{told_text}
 use Rattle.bx_editor.proofs.questions_lemmas.Printable as text_proofs
 use Rattle.bx_keys.specs.declared.key.Key.TheVariants.{Tell}
@@ -134,23 +134,23 @@ tells-what-stands d e has = record {
 
 -- what Tell leaves
 abbrev told : Editor → Prompt → SearchState → Editor
-told e ask seek = record (cleared e) { ask = ask; seek = seek; message = Some Told; goal = None; soft = aged e.soft }
+told e prompt search_state = record (cleared e) { prompt = prompt; search_state = search_state; message = Some Told; goal = None; soft = aged e.soft }
 
-tell-any : (d : Data) (was : Before) (ask : Prompt) (seek : SearchState) (e : Editor) → let new = after_any d None was ask seek (cleared e) Tell in
-    as_left Tell new ≡ told e new.ask new.seek
-tell-any d was asks.Off Off e = refl
-tell-any d was asks.Off Begun e = refl
-tell-any d was asks.Off Typed e = refl
-tell-any d was asks.Off WithBegun e = refl
-tell-any d was asks.Off WithTyped e = refl
-tell-any d was asks.Off Replacing e = refl
-tell-any d was asks.Line seek e = refl
-tell-any d was asks.Name seek e = refl
-tell-any d was asks.Code seek e = refl
+tell-any : (d : Data) (was : Before) (prompt : Prompt) (search_state : SearchState) (e : Editor) → let new = after_any d None was prompt search_state (cleared e) Tell in
+    as_left Tell new ≡ told e new.prompt new.search_state
+tell-any d was prompts.Off Off e = refl
+tell-any d was prompts.Off Begun e = refl
+tell-any d was prompts.Off Typed e = refl
+tell-any d was prompts.Off WithBegun e = refl
+tell-any d was prompts.Off WithTyped e = refl
+tell-any d was prompts.Off Replacing e = refl
+tell-any d was prompts.Line search_state e = refl
+tell-any d was prompts.Name search_state e = refl
+tell-any d was prompts.Code search_state e = refl
 
 pub tell-shows : TellShows
 tell-shows d e settled =
     subst (λ (new : Editor). (status_text d new ≡ status_line e.changed (paragraph_number d e.content.text e.place + 1) (unit_number d e.content.text e.place)
     ++ (codes " " ++ told_at_place d e)) × IsUntouched e new)
-    (sym (any-key d None e Tell settled refl ∙ tell-any d (before e) e.ask e.seek e))
+    (sym (any-key d None e Tell settled refl ∙ tell-any d (before e) e.prompt e.search_state e))
     (refl, record { content_is = refl; place_is = refl; held_is = refl; mark_is = λ h. refl })

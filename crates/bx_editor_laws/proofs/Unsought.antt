@@ -10,7 +10,7 @@ use Rattle.bx_editor.proofs.EffectsKept as kept
 
 -- no search is on
 abbrev pub IsUnsought : Editor → Type 0
-IsUnsought e = e.seek ≡ Off
+IsUnsought e = e.search_state ≡ Off
 
 save : (e : Editor) (fault : Option StoreFault) → IsUnsought e → IsUnsought (after_save e fault)
 save e None h = h
@@ -32,14 +32,14 @@ pressing d = record {
 
 -- the effect seeks
 abbrev pub is_seeking : Effect → Bool
-is_seeking (Seeks aim) = true
+is_seeking (Seeks purpose) = true
 is_seeking SeeksNext = true
 is_seeking _ = false
 
 asking : (d : Data) (fault : Option StoreFault) (was : Before) (e : Editor) (one : Effect) → is_seeking one ≡ false
     → kept.asks_or_seeks one ≡ true → IsUnsought e
     → IsUnsought (by d fault was e one)
-asking d fault was e (Seeks aim) plain is h = absurd (cc plain)
+asking d fault was e (Seeks purpose) plain is h = absurd (cc plain)
 asking d fault was e SeeksNext plain is h = absurd (cc plain)
 asking d fault was e AsksLine plain is h = h
 asking d fault was e AsksName plain is h = h

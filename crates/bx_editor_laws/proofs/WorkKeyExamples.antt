@@ -120,7 +120,7 @@ cr_lf_is_one_edit = refl
 
 -- place, whether a search is on, and the message
 abbrev found : List ℕ → List Key → ℕ × (SearchState × Option Message)
-found text keys = let e = after (start text 2 40) keys in (e.place, (e.seek, e.message))
+found text keys = let e = after (start text 2 40) keys in (e.place, (e.search_state, e.message))
 
 -- a search for b that has ended
 abbrev sought_b : List Key

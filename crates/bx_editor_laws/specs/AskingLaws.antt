@@ -31,7 +31,7 @@ use Rattle.bx_editor.specs.declared.message.Message.{Message}
 use Rattle.bx_editor.specs.declared.message.Message.TheVariants.{MoreThanOneLine, TextFull}
 use Rattle.bx_editor.specs.declared.cursor.Soft.TheVariants as softness
 use Rattle.bx_editor.specs.Answers.{IsAnswer}
-use Rattle.bx_editor.specs.Asking.{after_going, longest_code, with_answer, without_ask, cursor_end, spans_lines}
+use Rattle.bx_editor.specs.Asking.{after_going, longest_code, with_answer, without_prompt, cursor_end, spans_lines}
 use Rattle.bx_editor.specs.Editor.{Editor, at_start, place_after}
 use Rattle.bx_editor.specs.Functions.{HasRows, after_keys}
 use Rattle.bx_editor.specs.Keys.{after_key}
@@ -57,8 +57,8 @@ erases _ = false
 
 -- a question is on, and one stays on while these keys are typed
 abbrev pub StaysAsked : Data → Editor → List (Key × Option StoreFault) → Type 0
-StaysAsked d e [] = e.ask ≢ Off
-StaysAsked d e (key ∷ typed) = (e.ask ≢ Off) × StaysAsked d (after_key d key.1 e key.0) typed
+StaysAsked d e [] = e.prompt ≢ Off
+StaysAsked d e (key ∷ typed) = (e.prompt ≢ Off) × StaysAsked d (after_key d key.1 e key.0) typed
 
 -- text with its past and future, place and held text are as in `e`, and so is a mark that no selection set
 pub record IsUntouched (e new : Editor) : Type 0 where
@@ -71,9 +71,9 @@ pub record IsUntouched (e new : Editor) : Type 0 where
 -- message, an earlier Quit and a kept column are gone. Whatever is typed while a question is on leaves all else untouched.
 pub record ChangesItself (d : Data) (e : Editor) : Type 0 where
   pub key : (key : Key) (fault : Option StoreFault) → (types key || erases key) ≡ true → let new = after_key d fault e key in
-      new.ask ≢ Off
+      new.prompt ≢ Off
       → new ≡ record e {
-        ask = new.ask;
+        prompt = new.prompt;
         answer = new.answer;
         message = None;
         quit_before = false;
@@ -84,7 +84,7 @@ pub record ChangesItself (d : Data) (e : Editor) : Type 0 where
   pub keys : (typed : List (Key × Option StoreFault)) → StaysAsked d e typed → IsUntouched e (after_typing d e typed)
 
 abbrev pub QuestionsChangeThemselves : Type 0
-QuestionsChangeThemselves = (d : Data) (e : Editor) → e.ask ≢ Off → e.pasted ≡ None → ChangesItself d e
+QuestionsChangeThemselves = (d : Data) (e : Editor) → e.prompt ≢ Off → e.pasted ≡ None → ChangesItself d e
 
 -- ---- going to the line that is told
 
@@ -108,9 +108,9 @@ pub record HasTextPlace (d : Data) (e : Editor) : Type 0 where
 -- is short enough to be typed, where no paste is under way.
 pub record LeadsToItself (d : Data) (e : Editor) : Type 0 where
   pub told : status_text d e ≡ (if e.changed then codes "* " else codes "- ") ++ (told_numbers d e ++ message_part (told_at_place d e) e.message)
-  pub answered : let asked = with_answer e (told_numbers d e) in after_going d asked ≡ without_ask asked
+  pub answered : let asked = with_answer e (told_numbers d e) in after_going d asked ≡ without_prompt asked
   pub typed : e.pasted ≡ None → (enter : Key) → is_enter enter ≡ true
-      → let new = after_keys d None e (GoTo ∷ (map Insert (told_numbers d e) ++ enter ∷ [])) in IsUntouched e new × (new.ask ≡ Off)
+      → let new = after_keys d None e (GoTo ∷ (map Insert (told_numbers d e) ++ enter ∷ [])) in IsUntouched e new × (new.prompt ≡ Off)
 
 abbrev pub ToldNumbersLeadBack : Type 0
 ToldNumbersLeadBack = (d : Data) (e : Editor) → HasTextPlace d e → LeadsToItself d e
@@ -130,7 +130,7 @@ AnswerIsARun =
 pub record IsPutIn (d : Data) (e : Editor) (bytes : List ℕ) (new : Editor) : Type 0 where
   pub text_is : new.content.text ≡ take e.place e.content.text ++ bytes ++ drop e.place e.content.text
   pub place_is : new.place ≡ place_after d e new.content.text (e.place + length bytes)
-  pub ask_is : new.ask ≡ Off
+  pub prompt_is : new.prompt ≡ Off
 
 -- outside a paste Name and a letter put the letter's character in, if there is room; but where the character begins what another
 -- one ends, only without a region
@@ -160,13 +160,13 @@ pub record IsWrapped (d : Data) (e : Editor) (opener closer : ℕ) (new : Editor
   pub text_is : new.content.text ≡ wrapped_region e opener closer
   pub place_is : new.place ≡ place_after d e (wrapped_region e opener closer) (wrapped_end (cursor_end e) (region e).0 (region e).1 (encode_utf8 opener))
   pub mark_is : new.mark ≡ None
-  pub ask_is : new.ask ≡ Off
+  pub prompt_is : new.prompt ≡ Off
 
 -- text, place, held text and mark stay, with a message
 pub record IsRefusedWith (message : Message) (e new : Editor) : Type 0 where
   pub untouched : IsUntouched e new
   pub message_is : new.message ≡ Some message
-  pub ask_is : new.ask ≡ Off
+  pub prompt_is : new.prompt ≡ Off
 
 -- a region in one line is wrapped if there is room; otherwise a message tells why it is not
 pub record WrapsRegion (d : Data) (e : Editor) (opener closer : ℕ) (new : Editor) : Type 0 where
@@ -263,8 +263,8 @@ pub record IsShown (g : Glyph) : Type 0 where
 
 -- the answer is short, its characters are narrow, and all glyphs of a prompt are shown
 pub record ShowsPrompt (d : Data) (e : Editor) : Type 0 where
-  pub answer : IsAnswer e.ask e.answer
-  pub glyphs : e.ask ≢ Off → All IsShown (prompt_glyphs d e e.ask)
+  pub answer : IsAnswer e.prompt e.answer
+  pub glyphs : e.prompt ≢ Off → All IsShown (prompt_glyphs d e e.prompt)
 
 -- answer and prompt are so whatever was typed over an opened text
 abbrev pub PromptsAreShown : Type 0

@@ -8,7 +8,7 @@ use Rattle.bx_keys.specs.declared.key.Key.TheVariants.{Quit, Undo, Redo, Mark, C
 use Rattle.bx_store.specs.declared.store.StoreFault.{StoreFault}
 use Rattle.bx_text.specs.Edits.{Edit}
 use Rattle.bx_ucd.specs.Data.{Data}
-use Rattle.bx_editor.specs.declared.questions.answers.Prompt.TheVariants as asks
+use Rattle.bx_editor.specs.declared.questions.answers.Prompt.TheVariants as prompts
 use Rattle.bx_find.specs.Nearest.{IsFirst, IsLast, MatchesAt}
 use Rattle.bx_view.specs.Moves.{place_at}
 use Rattle.bx_editor.specs.declared.message.Message.{Message}
@@ -109,7 +109,7 @@ pub record HasPut (d : Data) (e : Editor) (text : List ℕ) (offset : ℕ) (new 
 -- twice, if there is room, and the cursor at the end of what was put
 abbrev pub CopyPutsTwice : Type 0
 CopyPutsTwice =
-    (d : Data) (e : Editor) → e.ask ≡ asks.Off → e.seek ≡ Off → e.pasted ≡ None → IsPart e (region e) → length (twice e (region e)) ≤ largest_text
+    (d : Data) (e : Editor) → e.prompt ≡ prompts.Off → e.search_state ≡ Off → e.pasted ≡ None → IsPart e (region e) → length (twice e (region e)) ≤ largest_text
     → HasPut d e (twice e (region e)) (e.place + length (bytes_in e (region e))) (after_keys d None e (Copy ∷ Put ∷ []))
 
 -- outside a paste, cutting and putting back at once leaves the text unchanged, if the cut leaves the cursor where the cut text
@@ -124,9 +124,9 @@ PutRestoresCut =
 -- gone. A search, a question and a selection end, nothing goes on, and an earlier Quit and a kept column are forgotten.
 pub record AreTwoMarks (e new : Editor) : Type 0 where
   pub here : (e.mark ≡ None) ⊎ (e.mark ≡ Some e.place)
-      → new ≡ record e { soft = softness.Off; seek = Off; ask = asks.Off; typing = typings.Off; message = new.message; quit_before = false; goal = None }
+      → new ≡ record e { soft = softness.Off; search_state = Off; prompt = prompts.Off; typing = typings.Off; message = new.message; quit_before = false; goal = None }
   pub elsewhere : (mark : ℕ) → e.mark ≡ Some mark → mark ≢ e.place
-      → new ≡ record e { mark = None; soft = softness.Off; seek = Off; ask = asks.Off; typing = typings.Off; message = new.message; quit_before = false; goal = None }
+      → new ≡ record e { mark = None; soft = softness.Off; search_state = Off; prompt = prompts.Off; typing = typings.Off; message = new.message; quit_before = false; goal = None }
 
 abbrev pub MarkTwiceIsNothing : Type 0
 MarkTwiceIsNothing = (d : Data) (e : Editor) → e.pasted ≡ None → AreTwoMarks e (after_keys d None e (Mark ∷ Mark ∷ []))
@@ -145,8 +145,8 @@ only_at place e = record e {
   place = place;
   mark = hard_mark e.soft e.mark;
   soft = softness.Off;
-  seek = Off;
-  ask = asks.Off;
+  search_state = Off;
+  prompt = prompts.Off;
   typing = typings.Off;
   message = None;
   quit_before = false;
@@ -168,18 +168,18 @@ GoesToBothEnds = (d : Data) (e : Editor) → e.pasted ≡ None → ReachesBothEn
 -- editor of the code
 pub record Seeks (d : Data) (e : Editor) : Type 0 where
   pub text : IsUtf8 e.content.text
-  pub unasked : e.ask ≡ asks.Off
+  pub unasked : e.prompt ≡ prompts.Off
   pub settled : e.pasted ≡ None
-  pub on : is_queried e.seek ≡ true
+  pub on : is_queried e.search_state ≡ true
   pub letters : sought d e ≢ []
 
 -- no match of the query begins at or after the offset `x`
 abbrev pub NoneFrom : Data → Editor → ℕ → Type 0
-NoneFrom d e x = (i : ℕ) → x ≤ i → ¬ (MatchesAt d (reading e.aim) (sought d e) e.content.text i)
+NoneFrom d e x = (i : ℕ) → x ≤ i → ¬ (MatchesAt d (reading e.purpose) (sought d e) e.content.text i)
 
 -- no match of the query begins before the offset `x`
 abbrev pub NoneBefore : Data → Editor → ℕ → Type 0
-NoneBefore d e x = (i : ℕ) → i < x → ¬ (MatchesAt d (reading e.aim) (sought d e) e.content.text i)
+NoneBefore d e x = (i : ℕ) → i < x → ¬ (MatchesAt d (reading e.purpose) (sought d e) e.content.text i)
 
 -- the cursor went to the place of the offset, with this message or none
 abbrev pub WentTo : Data → Editor → Editor → Option Message → ℕ → Type 0
@@ -194,16 +194,16 @@ Stayed e new = (new.place ≡ e.place) × (new.message ≡ Some NotFound)
 abbrev pub FindGoesToNext : Type 0
 FindGoesToNext =
     (d : Data) (e : Editor) → Seeks d e → let x = next_or_start d e in let new = after_key d None e Find in
-    ((at : ℕ) × IsFirst d (reading e.aim) (sought d e) e.content.text x at × WentTo d e new None at)
-    ⊎ ((NoneFrom d e x × ((at : ℕ) × IsFirst d (reading e.aim) (sought d e) e.content.text 0 at × WentTo d e new (Some FromStart) at))
+    ((at : ℕ) × IsFirst d (reading e.purpose) (sought d e) e.content.text x at × WentTo d e new None at)
+    ⊎ ((NoneFrom d e x × ((at : ℕ) × IsFirst d (reading e.purpose) (sought d e) e.content.text 0 at × WentTo d e new (Some FromStart) at))
     ⊎ (NoneFrom d e 0 × Stayed e new))
 
 -- FindBack goes to the last match before the place; if there is none, to the last match of the text, with a message
 abbrev pub FindBackGoesToPrevious : Type 0
 FindBackGoesToPrevious =
     (d : Data) (e : Editor) → Seeks d e → let end = length e.content.text in let new = after_key d None e FindBack in
-    ((at : ℕ) × IsLast d (reading e.aim) (sought d e) e.content.text e.place at × WentTo d e new None at)
-    ⊎ ((NoneBefore d e e.place × ((at : ℕ) × IsLast d (reading e.aim) (sought d e) e.content.text end at × WentTo d e new (Some FromEnd) at))
+    ((at : ℕ) × IsLast d (reading e.purpose) (sought d e) e.content.text e.place at × WentTo d e new None at)
+    ⊎ ((NoneBefore d e e.place × ((at : ℕ) × IsLast d (reading e.purpose) (sought d e) e.content.text end at × WentTo d e new (Some FromEnd) at))
     ⊎ (NoneBefore d e end × Stayed e new))
 
 -- a key that begins a search where none is on
@@ -229,16 +229,16 @@ finds _ = false
 
 -- whether a key begins another search: one that finds, while the replacement is asked for
 abbrev pub begins_anew : SearchState → Key → Bool
-begins_anew seek key = asks_replacement seek && finds key
+begins_anew search_state key = asks_replacement search_state && finds key
 
 -- a search is on, and the same one stays on while these keys are typed
 abbrev pub StaysOn : Data → Editor → List (Key × Option StoreFault) → Type 0
-StaysOn d e [] = is_on e.seek ≡ true
-StaysOn d e (key ∷ typed) = (is_on e.seek ≡ true) × ((begins_anew e.seek key.0 ≡ false) × StaysOn d (after_key d key.1 e key.0) typed)
+StaysOn d e [] = is_on e.search_state ≡ true
+StaysOn d e (key ∷ typed) = (is_on e.search_state ≡ true) × ((begins_anew e.search_state key.0 ≡ false) × StaysOn d (after_key d key.1 e key.0) typed)
 
 -- no search is on; place and text with its past and future are as in `e`, and so is the mark, unless it is an old selection's
 pub record IsGivenUp (e new : Editor) : Type 0 where
-  pub seek_is : new.seek ≡ Off
+  pub search_state_is : new.search_state ≡ Off
   pub place_is : new.place ≡ e.place
   pub mark_is : new.mark ≡ mark_left e.soft e.mark
   pub content_is : new.content ≡ e.content
@@ -246,5 +246,5 @@ pub record IsGivenUp (e new : Editor) : Type 0 where
 -- giving up a search that began outside a paste puts the cursor back where it was then, whatever was typed in the search
 abbrev pub GivingUpGoesBack : Type 0
 GivingUpGoesBack =
-    (d : Data) (e : Editor) (begin give : Key) (typed : List (Key × Option StoreFault)) → e.seek ≡ Off → e.pasted ≡ None → BeginsSearch begin → GivesUp give
+    (d : Data) (e : Editor) (begin give : Key) (typed : List (Key × Option StoreFault)) → e.search_state ≡ Off → e.pasted ≡ None → BeginsSearch begin → GivesUp give
     → let begun = after_key d None e begin in StaysOn d begun typed → IsGivenUp e (after_key d None (after_typing d begun typed) give)

@@ -6,7 +6,7 @@ use Rattle.bx_keys.specs.declared.key.Key.{Key}
 use Rattle.bx_keys.specs.declared.key.Key.TheVariants.{Insert, UndoRun}
 use Rattle.bx_store.specs.declared.store.StoreFault.{StoreFault}
 use Rattle.bx_ucd.specs.Data.{Data}
-use Rattle.bx_editor.specs.declared.questions.answers.Prompt.TheVariants as asks
+use Rattle.bx_editor.specs.declared.questions.answers.Prompt.TheVariants as prompts
 use Rattle.bx_editor.specs.declared.search_state.SearchState.TheVariants.{Off}
 use Rattle.bx_editor.specs.Editor.{Editor, at_start}
 use Rattle.bx_editor.specs.Keys.{after_key, ends_paste}
@@ -36,8 +36,8 @@ PastesEndByKeys =
 
 -- nothing is asked or sought
 pub record IsFree (e : Editor) : Type 0 where
-  pub unasked : e.ask ≡ asks.Off
-  pub unsought : e.seek ≡ Off
+  pub unasked : e.prompt ≡ prompts.Off
+  pub unsought : e.search_state ≡ Off
 
 -- whatever was typed over an opened text, a paste is under way only outside a search and a question
 abbrev pub PastesAreAlone : Type 0

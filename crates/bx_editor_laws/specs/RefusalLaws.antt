@@ -33,7 +33,7 @@ pub record KeepsTexts (e new : Editor) : Type 0 where
   pub replacement_is : new.replacement ≡ e.replacement
   pub answer_is : (new.answer ≡ e.answer) ⊎ (new.answer ≡ [])
   pub pasted_is : (new.pasted ≡ e.pasted) ⊎ ((e.pasted ≡ None) × (new.pasted ≡ Some []))
-  pub place_is : (new.place ≡ e.place) ⊎ ((e.seek ≢ Off) × (new.place ≡ e.origin))
+  pub place_is : (new.place ≡ e.place) ⊎ ((e.search_state ≢ Off) × (new.place ≡ e.origin))
 
 -- A key that may not be refused for want of memory needs none: it keeps these texts. Where no paste is under way, Save and Quit are
 -- such keys.

@@ -5,7 +5,7 @@ use Rattle.std.specs.Prelude.{Contains, IsUtf8, Option, Some, None}
 use Rattle.bx_common.specs.Characters.{largest_text}
 use Rattle.bx_common.specs.declared.base.Base.{Base}
 use Rattle.bx_ucd.specs.Data.{Data}
-use Rattle.bx_editor.specs.declared.questions.answers.Prompt.TheVariants as asks
+use Rattle.bx_editor.specs.declared.questions.answers.Prompt.TheVariants as prompts
 use Rattle.bx_find.specs.Nearest.{IsFirst, MatchesAt}
 use Rattle.bx_find.specs.Letters.{letters}
 use Rattle.bx_find.specs.Matches.{is_attached, match_end}
@@ -15,7 +15,7 @@ use Rattle.bx_keys.specs.declared.key.Key.{Key}
 use Rattle.bx_keys.specs.declared.key.Key.TheVariants.{Find, Replace, UndoRun}
 use Rattle.bx_store.specs.declared.store.StoreFault.{StoreFault}
 use Rattle.bx_view.specs.Moves.{place_at}
-use Rattle.bx_editor.specs.declared.search_state.SearchPurpose.TheVariants as aims
+use Rattle.bx_editor.specs.declared.search_state.SearchPurpose.TheVariants as purposes
 use Rattle.bx_editor.specs.declared.message.Message.TheVariants.{Replaced, TextFull}
 use Rattle.bx_editor.specs.declared.search_state.SearchState.TheVariants.{Off, Replacing}
 use Rattle.bx_editor_laws.specs.AskingLaws.{is_enter}
@@ -32,7 +32,7 @@ use Rattle.bx_editor.specs.Search.{sought}
 
 -- letters are read closely, the query stands at the offset `at` of the editor, and the cursor is at the place of that offset
 pub record StandsThere (d : Data) (e : Editor) : Type 0 where
-  pub aim_is : e.aim ≡ aims.Replace
+  pub purpose_is : e.purpose ≡ purposes.Replace
   pub here : MatchesAt d Close (sought d e) e.content.text e.at
   pub place_is : e.place ≡ place_at (rows d e) e.at
 
@@ -46,15 +46,15 @@ abbrev pub ShownStands : Type 0
 ShownStands =
     (d : Data) (text : List ℕ) (height width : ℕ) (base : Base) (typed : List (Key × Option StoreFault))
     → let start = at_start text height width base in HaveRows d start typed
-    → let e = after_typing d start typed in e.seek ≡ Replacing → StandsThere d e
+    → let e = after_typing d start typed in e.search_state ≡ Replacing → StandsThere d e
 
 -- a match is shown, as in an editor of the code, and no paste is under way
 pub record IsShowing (d : Data) (e : Editor) : Type 0 where
   pub text : IsUtf8 e.content.text
   pub replacement : IsUtf8 e.replacement
-  pub unasked : e.ask ≡ asks.Off
+  pub unasked : e.prompt ≡ prompts.Off
   pub settled : e.pasted ≡ None
-  pub shown : e.seek ≡ Replacing
+  pub shown : e.search_state ≡ Replacing
   pub stands : StandsThere d e
 
 -- ---- where replacing leads
@@ -63,14 +63,14 @@ pub record IsShowing (d : Data) (e : Editor) : Type 0 where
 -- has ended, and the number of the replaced matches is told.
 abbrev pub GoesOn : Data → Editor → ℕ → Type 0
 GoesOn d new x =
-    ((new.seek ≡ Replacing) × (IsFirst d Close (sought d new) new.content.text x new.at × (new.place ≡ place_at (rows d new) new.at)))
-    ⊎ ((new.seek ≡ Off) × ((new.message ≡ Some (Replaced new.count)) × ((i : ℕ) → x ≤ i → ¬ (MatchesAt d Close (sought d new) new.content.text i))))
+    ((new.search_state ≡ Replacing) × (IsFirst d Close (sought d new) new.content.text x new.at × (new.place ≡ place_at (rows d new) new.at)))
+    ⊎ ((new.search_state ≡ Off) × ((new.message ≡ Some (Replaced new.count)) × ((i : ℕ) → x ≤ i → ¬ (MatchesAt d Close (sought d new) new.content.text i))))
 
 -- there is no room: text, place and the number of replaced matches stay, and the match is still shown
 pub record IsFull (e new : Editor) : Type 0 where
   pub content_is : new.content ≡ e.content
   pub place_is : new.place ≡ e.place
-  pub shown : new.seek ≡ Replacing
+  pub shown : new.search_state ≡ Replacing
   pub at_is : new.at ≡ e.at
   pub count_is : new.count ≡ e.count
   pub message_is : new.message ≡ Some TextFull
@@ -88,7 +88,7 @@ pub record HasReplacedOne (d : Data) (e new : Editor) : Type 0 where
   pub text_is : new.content.text ≡ with_one d e
   pub count_is : new.count ≡ e.count + 1
   pub goes_on : GoesOn d new (e.at + length e.replacement)
-  pub ended : new.seek ≡ Off → new.place ≡ place_after d e (with_one d e) (e.at + length e.replacement)
+  pub ended : new.search_state ≡ Off → new.place ≡ place_after d e (with_one d e) (e.at + length e.replacement)
 
 -- the match is replaced if there is room
 pub record ReplacesMatch (d : Data) (e new : Editor) : Type 0 where
@@ -107,7 +107,7 @@ pub record PassesOver (d : Data) (e new : Editor) : Type 0 where
   pub content_is : new.content ≡ e.content
   pub count_is : new.count ≡ e.count
   pub goes_on : GoesOn d new (behind_character e.content.text e.at)
-  pub ended : new.seek ≡ Off → new.place ≡ e.place
+  pub ended : new.search_state ≡ Off → new.place ≡ e.place
 
 abbrev pub FindPassesOver : Type 0
 FindPassesOver = (d : Data) (e : Editor) → IsShowing d e → PassesOver d e (after_key d None e Find)
@@ -150,7 +150,7 @@ pub record HasReplacedAll (d : Data) (e : Editor) (spans : List (ℕ × ℕ)) (n
   pub text_is : new.content.text ≡ with_all e spans
   pub place_is : new.place ≡ place_after d e (with_all e spans) (e.at + length (swapped e.at e.content.text e.replacement spans))
   pub count_is : new.count ≡ e.count + length spans
-  pub seek_is : new.seek ≡ Off
+  pub search_state_is : new.search_state ≡ Off
   pub message_is : new.message ≡ Some (Replaced new.count)
 
 -- all matches from the shown one on, the spans, are replaced if there is room for all; else none is
@@ -172,7 +172,7 @@ DoesReplace key = (is_enter key ≡ true) ⊎ (key ≡ Replace)
 -- outside a paste one UndoRun takes back all that a key replaced
 abbrev pub ReplacedComesBack : Type 0
 ReplacedComesBack =
-    (d : Data) (e : Editor) (key : Key) → e.ask ≡ asks.Off → e.seek ≡ Replacing → e.pasted ≡ None → DoesReplace key
+    (d : Data) (e : Editor) (key : Key) → e.prompt ≡ prompts.Off → e.search_state ≡ Replacing → e.pasted ≡ None → DoesReplace key
     → length e.content.past < length (after_key d None e key).content.past → IsBackBefore e (after_keys d None e (key ∷ UndoRun ∷ []))
 
 -- ---- replacing by the same letters

@@ -13,7 +13,7 @@ use Rattle.bx_editor.specs.declared.undo_groups.typing.Kind.{Kind}
 use Rattle.bx_editor.specs.declared.undo_groups.typing.Kind.TheVariants.{Blank, Letter}
 use Rattle.bx_editor.specs.declared.undo_groups.typing.Typing.TheVariants as typings
 use Rattle.bx_ucd.specs.Data.{Data}
-use Rattle.bx_editor.specs.declared.questions.answers.Prompt.TheVariants as asks
+use Rattle.bx_editor.specs.declared.questions.answers.Prompt.TheVariants as prompts
 use Rattle.bx_editor.specs.declared.search_state.SearchState.TheVariants.{Off}
 use Rattle.bx_editor.specs.Editor.{Editor, at_start, is_changed_at}
 use Rattle.bx_editor.specs.Keys.{after_key, is_save}
@@ -96,7 +96,7 @@ pub record IsWord (d : Data) (letters blanks : List ℕ) : Type 0 where
 -- word and the blanks after it, if there was room for them
 abbrev pub WordIsARun : Type 0
 WordIsARun =
-    (d : Data) (e : Editor) (letters blanks : List ℕ) → e.ask ≡ asks.Off → e.seek ≡ Off → e.pasted ≡ None → e.typing ≡ typings.Off
+    (d : Data) (e : Editor) (letters blanks : List ℕ) → e.prompt ≡ prompts.Off → e.search_state ≡ Off → e.pasted ≡ None → e.typing ≡ typings.Off
     → IsWord d letters blanks
     → length e.content.text + length (encode_utf8_all (letters ++ blanks)) ≤ largest_text
     → IsBackBefore e (after_key d None (after_keys d None e (map Insert (letters ++ blanks))) UndoRun)

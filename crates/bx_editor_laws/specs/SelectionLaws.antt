@@ -9,7 +9,7 @@ use Rattle.bx_keys.specs.declared.key.Key.TheVariants.{WordLeft, WordRight, Text
 use Rattle.bx_keys.specs.declared.key.Key.TheVariants.{EraseWord, DeleteWord, ErasePoint, NewLine}
 use Rattle.bx_keys.specs.declared.key.Key.TheVariants.{Cancel, LineUp, LineDown, PageBack, PageOn, Point, Select, UndoRun}
 use Rattle.bx_ucd.specs.Data.{Data}
-use Rattle.bx_editor.specs.declared.questions.answers.Prompt.TheVariants as asks
+use Rattle.bx_editor.specs.declared.questions.answers.Prompt.TheVariants as prompts
 use Rattle.bx_editor.specs.declared.message.Message.TheVariants.{TextFull}
 use Rattle.bx_editor.specs.declared.search_state.SearchState.TheVariants as searches
 use Rattle.bx_editor.specs.declared.cursor.Soft.TheVariants.{Off, Old}
@@ -68,28 +68,28 @@ seeks _ = false
 -- outside a search and a paste, a key that seeks leaves or removes the mark as a move does
 abbrev pub SeekingTakesSelectionOff : Type 0
 SeekingTakesSelectionOff =
-    (d : Data) (e : Editor) (key : Key) → e.seek ≡ searches.Off → e.pasted ≡ None → seeks key ≡ true → LeavesMark d e key
+    (d : Data) (e : Editor) (key : Key) → e.search_state ≡ searches.Off → e.pasted ≡ None → seeks key ≡ true → LeavesMark d e key
 
 -- ---- Cancel
 
 -- Outside a question Cancel removes the mark, a selection's too; in one it ends the question, and the mark stays. The message, an
 -- earlier Quit and a kept column are gone, and the next edit begins an undo group; nothing else changes.
 pub record IsCancelled (e new : Editor) : Type 0 where
-  pub unmarked : e.ask ≡ asks.Off
+  pub unmarked : e.prompt ≡ prompts.Off
       → new ≡ record e { mark = None; soft = Off; typing = typings.Off; message = None; quit_before = false; goal = None }
-  pub unasked : e.ask ≢ asks.Off
-      → new ≡ record e { ask = asks.Off; soft = aged e.soft; typing = typings.Off; message = None; quit_before = false; goal = None }
+  pub unasked : e.prompt ≢ prompts.Off
+      → new ≡ record e { prompt = prompts.Off; soft = aged e.soft; typing = typings.Off; message = None; quit_before = false; goal = None }
 
 -- outside a search and a paste
 abbrev pub CancelUnmarks : Type 0
-CancelUnmarks = (d : Data) (e : Editor) → e.seek ≡ searches.Off → e.pasted ≡ None → IsCancelled e (after_key d None e Cancel)
+CancelUnmarks = (d : Data) (e : Editor) → e.search_state ≡ searches.Off → e.pasted ≡ None → IsCancelled e (after_key d None e Cancel)
 
 -- ---- a selection gives way
 
 -- nothing is asked, no search is on, no paste is under way, and the region is a selection
 pub record HasSelection (e : Editor) : Type 0 where
-  pub no_question : e.ask ≡ asks.Off
-  pub no_search : e.seek ≡ searches.Off
+  pub no_question : e.prompt ≡ prompts.Off
+  pub no_search : e.search_state ≡ searches.Off
   pub no_paste : e.pasted ≡ None
   pub soft : e.soft ≢ Off
   pub part : IsPart e (region e)

@@ -3,7 +3,7 @@
 use Rattle.std.specs.Prelude.{◌≡◌, ℕ, ◌+◌, ◌<◌, ◌≤◌, false, ◌++◌, length, take, drop, None, IsUtf8}
 use Rattle.bx_keys.specs.declared.key.Key.TheVariants.{DeleteWord, EraseWord, UndoRun}
 use Rattle.bx_ucd.specs.Data.{Data}
-use Rattle.bx_editor.specs.declared.questions.answers.Prompt.TheVariants as asks
+use Rattle.bx_editor.specs.declared.questions.answers.Prompt.TheVariants as prompts
 use Rattle.bx_view.specs.declared.moves.Logical.TheVariants.{Back, Forward}
 use Rattle.bx_view.specs.Laws.{IsGreatestBefore, IsLeastBehind}
 use Rattle.bx_view.specs.Words.{text_stops}
@@ -16,8 +16,8 @@ use Rattle.bx_editor_laws.specs.RunLaws.{IsBackBefore}
 -- outside a search, a question and a paste, and without a selection; the text is UTF-8, as in every editor of the code
 pub record IsPlain (e : Editor) : Type 0 where
   pub text : IsUtf8 e.content.text
-  pub unasked : e.ask ≡ asks.Off
-  pub unsought : e.seek ≡ Off
+  pub unasked : e.prompt ≡ prompts.Off
+  pub unsought : e.search_state ≡ Off
   pub settled : e.pasted ≡ None
   pub unselected : is_selection e ≡ false
 

@@ -5,7 +5,7 @@ use Rattle.std.specs.Prelude.{Some, None, All, Contains}
 use Rattle.bx_keys.specs.declared.key.Key.{Key}
 use Rattle.bx_keys.specs.declared.key.Key.TheVariants.{ErasePoint, Find, FindNext, LineDown, LineUp, PageBack, PageOn}
 use Rattle.bx_ucd.specs.Data.{Data}
-use Rattle.bx_editor.specs.declared.questions.answers.Prompt.TheVariants as asks
+use Rattle.bx_editor.specs.declared.questions.answers.Prompt.TheVariants as prompts
 use Rattle.bx_rows.specs.RowPicture.{columns_used}
 use Rattle.bx_paragraph.specs.declared.slots.Slot.{Slot}
 use Rattle.bx_paragraph.specs.Slots.{covers, row_slots}
@@ -33,7 +33,7 @@ pub record ErasesEnd (d : Data) (e new : Editor) : Type 0 where
 -- place
 abbrev pub ErasePointLeavesBeginning : Type 0
 ErasePointLeavesBeginning =
-    (d : Data) (e : Editor) → HasRows e → e.ask ≡ asks.Off → e.seek ≡ Off → e.pasted ≡ None → is_selection e ≡ false
+    (d : Data) (e : Editor) → HasRows e → e.prompt ≡ prompts.Off → e.search_state ≡ Off → e.pasted ≡ None → is_selection e ≡ false
     → IsTextPlace d e.content.text e.place
     → ErasesEnd d e (after_key d None e ErasePoint)
 
@@ -43,8 +43,8 @@ ErasePointLeavesBeginning =
 -- search is on, and the place at which the latest search began stays
 abbrev pub FindNextIsFindTwice : Type 0
 FindNextIsFindTwice =
-    (d : Data) (e : Editor) → e.seek ≡ Off → sought d e ≢ []
-    → after_key d None e FindNext ≡ record (after_keys d None e (Find ∷ Find ∷ [])) { seek = Off; origin = e.origin }
+    (d : Data) (e : Editor) → e.search_state ≡ Off → sought d e ≢ []
+    → after_key d None e FindNext ≡ record (after_keys d None e (Find ∷ Find ∷ [])) { search_state = Off; origin = e.origin }
 
 -- ---- moves from row to row and back
 
@@ -83,7 +83,7 @@ pub record LineMovesLeadBack (d : Data) (e : Editor) (n : ℕ) : Type 0 where
 -- these moves lead back so outside a search and a paste, where no column is kept
 abbrev pub LineMovesGoBack : Type 0
 LineMovesGoBack =
-    (d : Data) (e : Editor) (n : ℕ) → HasRows e → e.seek ≡ Off → e.pasted ≡ None → e.goal ≡ None → IsTextPlace d e.content.text e.place
+    (d : Data) (e : Editor) (n : ℕ) → HasRows e → e.search_state ≡ Off → e.pasted ≡ None → e.goal ≡ None → IsTextPlace d e.content.text e.place
     → LineMovesLeadBack d e n
 
 -- `n` pages down and up again lead back, if there are as many rows below; and `n` pages up and down again, if there are as many above.
@@ -97,7 +97,7 @@ pub record PageMovesLeadBack (d : Data) (e : Editor) (n : ℕ) : Type 0 where
 -- these moves lead back as those by rows do
 abbrev pub PageMovesGoBack : Type 0
 PageMovesGoBack =
-    (d : Data) (e : Editor) (n : ℕ) → HasRows e → e.seek ≡ Off → e.pasted ≡ None → e.goal ≡ None → IsTextPlace d e.content.text e.place
+    (d : Data) (e : Editor) (n : ℕ) → HasRows e → e.search_state ≡ Off → e.pasted ≡ None → e.goal ≡ None → IsTextPlace d e.content.text e.place
     → PageMovesLeadBack d e n
 
 -- a column is kept, and the cursor is where its row is entered in that column, as after a move that keeps it
@@ -118,7 +118,7 @@ pub record MovesReturn (d : Data) (e : Editor) (n : ℕ) : Type 0 where
 
 abbrev pub KeptMovesGoBack : Type 0
 KeptMovesGoBack =
-    (d : Data) (e : Editor) (n column : ℕ) → HasRows e → e.seek ≡ Off → e.pasted ≡ None → IsTextPlace d e.content.text e.place
+    (d : Data) (e : Editor) (n column : ℕ) → HasRows e → e.search_state ≡ Off → e.pasted ≡ None → IsTextPlace d e.content.text e.place
     → IsEntered d e column → MovesReturn d e n
 
 -- the keys that keep a column
@@ -133,6 +133,6 @@ keeps_column _ = false
 -- them, the column that they keep is the cursor's before the first
 abbrev pub ColumnIsKept : Type 0
 ColumnIsKept =
-    (d : Data) (e : Editor) (first : Key) (keys : List Key) → e.seek ≡ Off → e.pasted ≡ None → e.goal ≡ None
+    (d : Data) (e : Editor) (first : Key) (keys : List Key) → e.search_state ≡ Off → e.pasted ≡ None → e.goal ≡ None
     → keeps_column first ≡ true → All (λ key. keeps_column key ≡ true) keys
     → (after_keys d None e (first ∷ keys)).goal ≡ Some (cell_of e.width (rows d e) e.place)

@@ -41,20 +41,20 @@ fn push_rows<D: BidiData>(
 /// Appends the lines of paragraph `number`, from 0, each after a line feed.
 pub(crate) fn push_paragraph<D: BidiData>(
     page: &mut Vec<u8>,
-    source: &TextRef<'_, D>,
+    text_ref: &TextRef<'_, D>,
     number: usize,
     style: Style,
 ) -> Result<(), PrintError>
-    requires number { number < count source.now }
+    requires number { number < count text_ref.now }
     ensures lines { OnOk result (page.new.items ≡ page.old.items
-        ++ body_lines (D.data source.now.tables.now)
-        style.placeholders style.base style.columns (body_at source.now number)) }
+        ++ body_lines (D.data text_ref.now.tables.now)
+        style.placeholders style.base style.columns (body_at text_ref.now number)) }
     ensures some { OnOk result (length page.old.items < length page.new.items) }
     ensures memory { OnErr result (result ≡ Err PrintError.OutOfMemory) }
 {
-    let span = source.index.span(number);
-    let body = source.text.copy_range(span.start, span.stop)?;
+    let span = text_ref.index.span(number);
+    let body = text_ref.text.copy_range(span.start, span.stop)?;
     let alloc = *page.allocator();
-    let layout = ParagraphLayout::of(alloc, body, source.tables, style.columns, style.base)?;
-    push_rows(page, &layout, source.tables, style.placeholders)
+    let layout = ParagraphLayout::of(alloc, body, text_ref.tables, style.columns, style.base)?;
+    push_rows(page, &layout, text_ref.tables, style.placeholders)
 }

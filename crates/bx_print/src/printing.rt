@@ -19,25 +19,25 @@ use std::io::Write;
 /// Prints the paragraphs of a text. Lines wait in `pending`, which is empty at first, until `send_full` writes them.
 fn print_paragraphs<D: BidiData, W: Write>(
     pending: &mut Vec<u8>,
-    source: &TextRef<'_, D>,
+    text_ref: &TextRef<'_, D>,
     style: Style,
     writer: &mut W,
 ) -> Result<(), PrintError>
     requires empty { pending.old.items ≡ [] }
     ensures page { OnOk result (Appends (W.contents writer.old) (W.contents writer.new)
-        (page (D.data source.now.tables.now) style.placeholders style.base style.columns (bytes source.now))) }
+        (page (D.data text_ref.now.tables.now) style.placeholders style.base style.columns (bytes text_ref.now))) }
     ensures front { WritesFront
-        (page (D.data source.now.tables.now) style.placeholders style.base style.columns (bytes source.now))
+        (page (D.data text_ref.now.tables.now) style.placeholders style.base style.columns (bytes text_ref.now))
         (W.contents writer.old) (W.contents writer.new) }
     ensures cause { IsErrOf result PrintError.TooLong → ⊥ }
 {
-    let count = source.index.count();
-    push_paragraph(pending, source, 0, style)?;
+    let count = text_ref.index.count();
+    push_paragraph(pending, text_ref, 0, style)?;
     // the first row has no line feed before it
     pending.remove(0);
     for number in 1..count {
         send_full(writer, pending)?;
-        push_paragraph(pending, source, number, style)?;
+        push_paragraph(pending, text_ref, number, style)?;
     }
     finish(writer, pending)
 }
@@ -68,6 +68,6 @@ pub fn print<D: BidiData, W: Write>(
     };
     let index = Index::build(alloc, &text, tables)?;
     let mut pending = Vec::new(alloc);
-    let source = TextRef::of(&text, &index, tables);
-    print_paragraphs(&mut pending, &source, style, writer)
+    let text_ref = TextRef::of(&text, &index, tables);
+    print_paragraphs(&mut pending, &text_ref, style, writer)
 }

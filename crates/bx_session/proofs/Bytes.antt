@@ -131,10 +131,10 @@ pub after_byte_is : {D : Type 0} (ucd : D → Data) (fault : Option StoreFault) 
     → is_painted old.session b ≡ true → key ≡ key_of_byte old.session b
     → mid ≡ record old { session = unpainted_after_byte (ucd old.tables) fault old.session b }
     → new.session ≡ painted_after (ucd mid.tables) mid.session key → new.session ≡ after_byte (ucd old.tables) fault old.session b
-after_byte_is {D} ucd fault old mid new b key asks is e painted =
+after_byte_is {D} ucd fault old mid new b key prompts is e painted =
     let d = ucd old.tables in
     let u = unpainted_after_byte d fault old.session b in
-    with_clip_if (is_painted old.session b) u (painted_after d u (key_of_byte old.session b)) new.session asks
+    with_clip_if (is_painted old.session b) u (painted_after d u (key_of_byte old.session b)) new.session prompts
     (painted
     ∙ ap (λ (x : SessionState D). painted_after (ucd x.tables) x.session key) e
     ∙ ap (painted_after d u) is)
@@ -151,9 +151,9 @@ quiet_is {D} ucd fault old new b unasked e =
 pub owing_is : {D : Type 0} (ucd : D → Data) (fault : Option StoreFault) (old mid new : SessionState D) (b : ℕ) (result : Result Status Refused)
     → is_painted old.session b ≡ true → mid ≡ record old { session = unpainted_after_byte (ucd old.tables) fault old.session b }
     → new.session ≡ with_painting_owed mid.session → result ≡ Err Paint → AfterByte (ucd old.tables) fault old.session b result new.session
-owing_is {D} ucd fault old mid new b result asks e owed is =
+owing_is {D} ucd fault old mid new b result prompts e owed is =
     subst (λ r. AfterByte (ucd old.tables) fault old.session b r new.session) (sym is)
-    (owed ∙ ap (λ (x : SessionState D). with_painting_owed x.session) e, asks)
+    (owed ∙ ap (λ (x : SessionState D). with_painting_owed x.session) e, prompts)
 
 -- ---- a byte that completes no key
 

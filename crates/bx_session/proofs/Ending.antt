@@ -6,7 +6,7 @@ use Rattle.bx_keys.specs.declared.key.Key.TheVariants.{Save, Quit}
 use Rattle.bx_store.specs.declared.store.StoreFault.{StoreFault}
 use Rattle.bx_ucd.specs.Data.{Data}
 use Rattle.bx_editor.specs.declared.questions.answers.Prompt.{Prompt}
-use Rattle.bx_editor.specs.declared.questions.answers.Prompt.TheVariants as asks
+use Rattle.bx_editor.specs.declared.questions.answers.Prompt.TheVariants as prompts
 use Rattle.bx_editor.specs.declared.search_state.SearchState.{SearchState}
 use Rattle.bx_editor.specs.declared.search_state.SearchState.TheVariants.{Off}
 use Rattle.bx_editor.specs.Editor.{Editor}
@@ -65,25 +65,25 @@ refused_paste e some = by e.pasted some where
 pub not_pasting : (d : Data) (e : Editor) → e.pasted ≡ None → paste_ended d e ≡ e
 not_pasting d e none = ap (ended_with d e) none
 
-quit_session : (d : Data) (ask : Prompt) (seek : SearchState) (s : Session)
-    → session_after_replayed d ask seek (record s { editor = paste_ended d s.editor }) Quit ≡ session_after_replayed d ask seek s Quit
-quit_session d asks.Off Off s =
+quit_session : (d : Data) (prompt : Prompt) (search_state : SearchState) (s : Session)
+    → session_after_replayed d prompt search_state (record s { editor = paste_ended d s.editor }) Quit ≡ session_after_replayed d prompt search_state s Quit
+quit_session d prompts.Off Off s =
     let e : Editor = paste_ended d s.editor in
     ap (λ (x : Editor). record s { editor = after_passed_quit x }) (not_pasting d e (over d s.editor))
-quit_session d asks.Off seek s = ap (λ (x : Editor). record s { editor = x; known = known_after s.known Quit x }) (quit_ahead d None s.editor)
-quit_session d ask seek s = ap (λ (x : Editor). record s { editor = x; known = known_after s.known Quit x }) (quit_ahead d None s.editor)
+quit_session d prompts.Off search_state s = ap (λ (x : Editor). record s { editor = x; known = known_after s.known Quit x }) (quit_ahead d None s.editor)
+quit_session d prompt search_state s = ap (λ (x : Editor). record s { editor = x; known = known_after s.known Quit x }) (quit_ahead d None s.editor)
 
 -- a Quit, once the paste has ended
 pub quit_passed : {D : Type 0} (ucd : D → Data) (old mid new : SessionState D)
     → mid ≡ record old { session = record old.session { editor = paste_ended (ucd old.tables) old.session.editor } }
-    → new ≡ record mid { session = session_after_replayed (ucd mid.tables) mid.session.editor.ask mid.session.editor.seek mid.session Quit }
+    → new ≡ record mid { session = session_after_replayed (ucd mid.tables) mid.session.editor.prompt mid.session.editor.search_state mid.session Quit }
     → new ≡ record old { session = session_replayed_on (ucd old.tables) old.session Quit }
 quit_passed {D} ucd old mid new is passed =
     let d = ucd old.tables in
     let e : Editor = paste_ended d old.session.editor in
     passed
-    ∙ ap (λ (x : SessionState D). record x { session = session_after_replayed (ucd x.tables) x.session.editor.ask x.session.editor.seek x.session Quit }) is
-    ∙ ap (λ (s : Session). record old { session = s }) (quit_session d e.ask e.seek old.session)
+    ∙ ap (λ (x : SessionState D). record x { session = session_after_replayed (ucd x.tables) x.session.editor.prompt x.session.editor.search_state x.session Quit }) is
+    ∙ ap (λ (s : Session). record old { session = s }) (quit_session d e.prompt e.search_state old.session)
 
 -- a Save, once the paste has ended
 pub save_passed : {D : Type 0} (ucd : D → Data) (old mid new : SessionState D)

@@ -9,7 +9,7 @@ use Rattle.bx_grid.specs.Picture.{PictureState}
 use Rattle.bx_store.specs.declared.store.StoreFault.{StoreFault}
 use Rattle.bx_ucd.specs.Data.{Data}
 use Rattle.bx_editor.specs.declared.questions.answers.Prompt.{Prompt}
-use Rattle.bx_editor.specs.declared.questions.answers.Prompt.TheVariants as asks
+use Rattle.bx_editor.specs.declared.questions.answers.Prompt.TheVariants as prompts
 use Rattle.bx_document.specs.History.{next_changes}
 use Rattle.bx_document.specs.Swapped.{behind_character, last_stop, swapped}
 use Rattle.bx_document.specs.declared.history.HistoryStep.{HistoryStep}
@@ -24,10 +24,10 @@ use Rattle.bx_editor.specs.declared.search_state.SearchState.{SearchState}
 use Rattle.bx_editor.specs.declared.search_state.SearchState.TheVariants.{Off, Begun, Typed, WithBegun, WithTyped, Replacing}
 use Rattle.bx_editor.specs.declared.cursor.Soft.{Soft}
 use Rattle.bx_editor.specs.declared.cursor.Soft.TheVariants as softness
-use Rattle.bx_editor.specs.Asking.{without_ask}
-use Rattle.bx_editor.specs.Editor.{Editor, after_quit, after_redo, after_save, after_step, after_undo, cleared, with_exchange, by_run}
-use Rattle.bx_editor.specs.Editor.{run_length}
-use Rattle.bx_editor.specs.Effects.{Effect, Types, BeginsLine, Puts, Removes, RemovesWord, Steps, StepsRun, Goes, GoesByRows, Marks, Selects, Unmarks, Copies}
+use Rattle.bx_editor.specs.Asking.{without_prompt}
+use Rattle.bx_editor.specs.Editor.{Editor, after_quit, after_redo, after_save, after_step, after_undo, cleared, with_exchange, by_group}
+use Rattle.bx_editor.specs.Editor.{group_length}
+use Rattle.bx_editor.specs.Effects.{Effect, Types, BeginsLine, Puts, Removes, RemovesWord, Steps, StepsGroup, Goes, GoesByRows, Marks, Selects, Unmarks, Copies}
 use Rattle.bx_editor.specs.Effects.{Cuts, Seeks, SeeksNext, Saves, Quits, Turns, Helps, AsksLine, AsksName, Tells, Rests, Before, before, by}
 use Rattle.bx_editor.specs.Erasing.{after_erasing, after_erasing_word, after_removing, or_selection, removed_on}
 use Rattle.bx_editor.specs.Keys.{Answer, Letter, Shortens, GoesBack, Next, Previous, Replaces, Stays, Ends, after_any, after_asking, after_key, after_press, after_user, answer_of}
@@ -106,7 +106,7 @@ module _ (key : Key) where
   step_kept history.Undo e = undo_kept e e.content.past
   step_kept history.Redo e = redo_kept e e.content.future
 
-  run_kept : (step : HistoryStep) (e : Editor) (change : Option Change) → Keeps e (by_run step e change)
+  run_kept : (step : HistoryStep) (e : Editor) (change : Option Change) → Keeps e (by_group step e change)
   run_kept step e None = refl
   run_kept step e (Some change) = refl
 
@@ -150,7 +150,7 @@ module _ (key : Key) where
   by_kept d fault was e (Removes how start stop) is = erasing_kept d was.typing how e start stop
   by_kept d fault was e (RemovesWord start stop) is = word_kept d e start stop
   by_kept d fault was e (Steps step) is = step_kept step e
-  by_kept d fault was e (StepsRun step) is = run_kept step e (next_changes step (run_length step e) e.content)
+  by_kept d fault was e (StepsGroup step) is = run_kept step e (next_changes step (group_length step e) e.content)
   by_kept d fault was e (Goes place) is = refl
   by_kept d fault was e (GoesByRows way n) is = refl
   by_kept d fault was e Marks is = mark_kept e
@@ -158,7 +158,7 @@ module _ (key : Key) where
   by_kept d fault was e Unmarks is = refl
   by_kept d fault was e Copies is = copy_kept d e
   by_kept d fault was e Cuts is = cut_kept d e
-  by_kept d fault was e (Seeks aim) is = refl
+  by_kept d fault was e (Seeks purpose) is = refl
   by_kept d fault was e SeeksNext is = kept_if (length (sought d (unselected e)) == 0) e _ _ refl refl
   by_kept d fault was e Saves is = save_kept e fault
   by_kept d fault was e Quits is = quit_kept e was.again (sym is)
@@ -206,13 +206,13 @@ module _ (key : Key) where
 
   asking_replacement_kept : (d : Data) (e : Editor) → Keeps e (after_asking_replacement d e)
   asking_replacement_kept d e =
-      let aimed : Editor = record e { aim = Replace } in
+      let aimed : Editor = record e { purpose = Replace } in
       let landing = landing_from d e.place aimed in
       kept_if (length (sought d aimed) == 0) e _ _ refl (asked_kept e (landed aimed landing) landing.place refl)
 
   sought_end_kept : (d : Data) (typing : Typing) (e : Editor) → Keeps e (after_sought_end d typing e)
   sought_end_kept d typing e =
-      kept_if (is_replacing e.aim) e _ _ (kept_if (is_paste typing) e _ _ refl (asking_replacement_kept d e)) (kept_if (is_paste typing) e _ _ refl refl)
+      kept_if (is_replacing e.purpose) e _ _ (kept_if (is_paste typing) e _ _ refl (asking_replacement_kept d e)) (kept_if (is_paste typing) e _ _ refl refl)
 
   sought_letter_kept : (d : Data) (typing : Typing) (e : Editor) (c : ℕ) → Keeps e (after_sought_letter d typing e c)
   sought_letter_kept d typing e c = kept_if (c == 0xA) e _ _ (sought_end_kept d typing e) (letter_kept d e c)
@@ -268,25 +268,25 @@ module _ (key : Key) where
     told = λ x message h. h;
     placed = λ x place h. h;
     typed = λ x typing h. h;
-    asked = λ x ask answer h. h;
+    asked = λ x prompt answer h. h;
   }
 
   asking_kept : (d : Data) (fault : Option StoreFault) (was : Before) (e : Editor) → Keeps e (after_asking d fault was e key)
   asking_kept d fault was e =
       question-keeps d (Keeps e) (question_kept d e) fault was e key (answer_of key) refl
-      (ends d fault was (without_ask e))
+      (ends d fault was (without_prompt e))
 
-  any_kept : (d : Data) (fault : Option StoreFault) (was : Before) (ask : Prompt) (seek : SearchState) (e : Editor)
-      → Keeps e (after_any d fault was ask seek e key)
-  any_kept d fault was asks.Off Off e = ends d fault was e
-  any_kept d fault was asks.Off Begun e = answered_kept d fault was e (answer_of key)
-  any_kept d fault was asks.Off Typed e = answered_kept d fault was e (answer_of key)
-  any_kept d fault was asks.Off WithBegun e = replacement_kept d fault was e (answer_of key)
-  any_kept d fault was asks.Off WithTyped e = replacement_kept d fault was e (answer_of key)
-  any_kept d fault was asks.Off Replacing e = match_kept d fault was e (answer_of key)
-  any_kept d fault was asks.Line seek e = asking_kept d fault was e
-  any_kept d fault was asks.Name seek e = asking_kept d fault was e
-  any_kept d fault was asks.Code seek e = asking_kept d fault was e
+  any_kept : (d : Data) (fault : Option StoreFault) (was : Before) (prompt : Prompt) (search_state : SearchState) (e : Editor)
+      → Keeps e (after_any d fault was prompt search_state e key)
+  any_kept d fault was prompts.Off Off e = ends d fault was e
+  any_kept d fault was prompts.Off Begun e = answered_kept d fault was e (answer_of key)
+  any_kept d fault was prompts.Off Typed e = answered_kept d fault was e (answer_of key)
+  any_kept d fault was prompts.Off WithBegun e = replacement_kept d fault was e (answer_of key)
+  any_kept d fault was prompts.Off WithTyped e = replacement_kept d fault was e (answer_of key)
+  any_kept d fault was prompts.Off Replacing e = match_kept d fault was e (answer_of key)
+  any_kept d fault was prompts.Line search_state e = asking_kept d fault was e
+  any_kept d fault was prompts.Name search_state e = asking_kept d fault was e
+  any_kept d fault was prompts.Code search_state e = asking_kept d fault was e
 
   -- ---- a paste
 
@@ -302,7 +302,7 @@ module _ (key : Key) where
   ended_kept d e = ended_with_kept d e e.pasted
 
   user_kept : (d : Data) (fault : Option StoreFault) (e : Editor) → Keeps e (after_user d fault e key)
-  user_kept d fault e = any_kept d fault (before e) e.ask e.seek (cleared e)
+  user_kept d fault e = any_kept d fault (before e) e.prompt e.search_state (cleared e)
 
   press_kept : (d : Data) (fault : Option StoreFault) (e : Editor) → Keeps e (after_press d fault e.pasted e key)
   press_kept d fault e =
@@ -358,16 +358,16 @@ ended_goes_on d e =
     let kept = ended_kept PasteEnd d e in (ap (λ (p : Part). p.ended) kept, same_size PasteEnd e (paste_ended d e) kept)
 
 -- what a Quit does does not depend on a Save
-quit_alike : (d : Data) (fault : Option StoreFault) (was : Before) (ask : Prompt) (seek : SearchState) (e : Editor)
-    → after_any d fault was ask seek e Quit ≡ after_any d None was ask seek e Quit
-quit_alike d fault was asks.Off Off e = refl
-quit_alike d fault was asks.Off seek e = refl
-quit_alike d fault was ask seek e = refl
+quit_alike : (d : Data) (fault : Option StoreFault) (was : Before) (prompt : Prompt) (search_state : SearchState) (e : Editor)
+    → after_any d fault was prompt search_state e Quit ≡ after_any d None was prompt search_state e Quit
+quit_alike d fault was prompts.Off Off e = refl
+quit_alike d fault was prompts.Off search_state e = refl
+quit_alike d fault was prompt search_state e = refl
 
 quit_pressed : (d : Data) (fault : Option StoreFault) (e : Editor) (pasted : Option (List ℕ)) → after_press d fault pasted e Quit ≡ after_press d None pasted e Quit
-quit_pressed d fault e None = ap (as_left Quit) (quit_alike d fault (before e) e.ask e.seek (cleared e))
+quit_pressed d fault e None = ap (as_left Quit) (quit_alike d fault (before e) e.prompt e.search_state (cleared e))
 quit_pressed d fault e (Some list) =
-    let x : Editor = paste_ended d e in ap (as_left Quit) (quit_alike d fault (before x) x.ask x.seek (cleared x))
+    let x : Editor = paste_ended d e in ap (as_left Quit) (quit_alike d fault (before x) x.prompt x.search_state (cleared x))
 
 -- nor does whether any key ends the session
 pub same_ended : (d : Data) (fault : Option StoreFault) (e : Editor) (key : Key) → (after_key d fault e key).ended ≡ (after_key d None e key).ended

@@ -9,9 +9,9 @@ use Rattle.bx_grid.specs.Picture.{PictureState}
 use Rattle.bx_store.specs.declared.store.StoreFault.{StoreFault}
 use Rattle.bx_ucd.specs.Data.{Data}
 use Rattle.bx_editor.specs.declared.questions.answers.Prompt.{Prompt}
-use Rattle.bx_editor.specs.declared.questions.answers.Prompt.TheVariants as asks
+use Rattle.bx_editor.specs.declared.questions.answers.Prompt.TheVariants as prompts
 use Rattle.bx_editor.specs.declared.search_state.SearchState.{SearchState}
-use Rattle.bx_editor.specs.declared.search_state.SearchState.TheVariants as seeks
+use Rattle.bx_editor.specs.declared.search_state.SearchState.TheVariants as search_states
 use Rattle.bx_editor.specs.Editor.{Editor, with_typing}
 use Rattle.bx_editor.specs.Keys.{after_key, after_press, asks_for_whole, needs_no_painting}
 use Rattle.bx_editor.specs.Putting.{after_paste_start, after_pasted_letter, paste_begun}
@@ -41,21 +41,21 @@ letter_quiet d e c =
       width = refl;
     }
 
-begun_is : (e : Editor) (ask : Prompt) (seek : SearchState) (list : List ℕ) → paste_begun ask seek (Some list) e ≡ e
-begun_is e asks.Off seeks.Off list = refl
-begun_is e asks.Off seeks.Begun list = refl
-begun_is e asks.Off seeks.Typed list = refl
-begun_is e asks.Off seeks.WithBegun list = refl
-begun_is e asks.Off seeks.WithTyped list = refl
-begun_is e asks.Off seeks.Replacing list = refl
-begun_is e asks.Line seek list = refl
-begun_is e asks.Name seek list = refl
-begun_is e asks.Code seek list = refl
+begun_is : (e : Editor) (prompt : Prompt) (search_state : SearchState) (list : List ℕ) → paste_begun prompt search_state (Some list) e ≡ e
+begun_is e prompts.Off search_states.Off list = refl
+begun_is e prompts.Off search_states.Begun list = refl
+begun_is e prompts.Off search_states.Typed list = refl
+begun_is e prompts.Off search_states.WithBegun list = refl
+begun_is e prompts.Off search_states.WithTyped list = refl
+begun_is e prompts.Off search_states.Replacing list = refl
+begun_is e prompts.Line search_state list = refl
+begun_is e prompts.Name search_state list = refl
+begun_is e prompts.Code search_state list = refl
 
 start_is : (e : Editor) (pasted : Option (List ℕ)) → e.pasted ≡ pasted → is_some pasted ≡ true → after_paste_start e ≡ with_typing e Paste
 start_is e None is some = absurd (cc some)
 start_is e (Some list) is some =
-    ap (λ (x : Editor). with_typing x Paste) (ap (λ pasted. paste_begun e.ask e.seek pasted e) is ∙ begun_is e e.ask e.seek list)
+    ap (λ (x : Editor). with_typing x Paste) (ap (λ pasted. paste_begun e.prompt e.search_state pasted e) is ∙ begun_is e e.prompt e.search_state list)
 
 start_quiet : (d : Data) (e : Editor) → is_some e.pasted ≡ true → IsQuiet d e (after_paste_start e)
 start_quiet d e some =

@@ -7,7 +7,7 @@ use Rattle.bx_keys.specs.Keys.{key_after, rest_after}
 use Rattle.bx_keys.specs.Waiting.{head_of}
 use Rattle.bx_ucd.specs.Data.{Data}
 use Rattle.bx_editor.specs.declared.questions.answers.Prompt.{Prompt}
-use Rattle.bx_editor.specs.declared.questions.answers.Prompt.TheVariants as asks
+use Rattle.bx_editor.specs.declared.questions.answers.Prompt.TheVariants as prompts
 use Rattle.bx_editor.specs.Editor.{Editor, cleared}
 use Rattle.bx_editor.specs.declared.search_state.SearchState.{SearchState}
 use Rattle.bx_editor.specs.declared.search_state.SearchState.TheVariants.{Off, Begun, Typed, WithBegun, WithTyped, Replacing}
@@ -27,73 +27,73 @@ use Rattle.bx_session.proofs.Ending.{quit_user}
 
 -- ---- the keys of a replay
 
-pub each-replayed : (d : Data) (ask : Prompt) (seek : SearchState) (e : Editor) (P : Key → Editor → Type 0) → P Save (after_passed_save (paste_ended d e))
-    → P Quit (after_replayed d ask seek e Quit) → ((key : Key) → is_other key ≡ true → P key (after_key d None e key)) → (key : Key)
-    → P key (after_replayed d ask seek e key)
-each-replayed d ask seek e P save quit other Save = save
-each-replayed d ask seek e P save quit other Quit = quit
-each-replayed d ask seek e P save quit other key = other key refl
+pub each-replayed : (d : Data) (prompt : Prompt) (search_state : SearchState) (e : Editor) (P : Key → Editor → Type 0) → P Save (after_passed_save (paste_ended d e))
+    → P Quit (after_replayed d prompt search_state e Quit) → ((key : Key) → is_other key ≡ true → P key (after_key d None e key)) → (key : Key)
+    → P key (after_replayed d prompt search_state e key)
+each-replayed d prompt search_state e P save quit other Save = save
+each-replayed d prompt search_state e P save quit other Quit = quit
+each-replayed d prompt search_state e P save quit other key = other key refl
 
 -- and the session that each leaves
-pub each-session : (d : Data) (ask : Prompt) (seek : SearchState) (s : Session) (P : Key → Session → Type 0)
-    → P Save (record s { editor = after_passed_save (paste_ended d s.editor) }) → P Quit (session_after_replayed d ask seek s Quit)
-    → ((key : Key) → is_other key ≡ true → P key (session_after_key d None s key)) → (key : Key) → P key (session_after_replayed d ask seek s key)
-each-session d ask seek s P save quit other Save = save
-each-session d ask seek s P save quit other Quit = quit
-each-session d ask seek s P save quit other key = other key refl
+pub each-session : (d : Data) (prompt : Prompt) (search_state : SearchState) (s : Session) (P : Key → Session → Type 0)
+    → P Save (record s { editor = after_passed_save (paste_ended d s.editor) }) → P Quit (session_after_replayed d prompt search_state s Quit)
+    → ((key : Key) → is_other key ≡ true → P key (session_after_key d None s key)) → (key : Key) → P key (session_after_replayed d prompt search_state s key)
+each-session d prompt search_state s P save quit other Save = save
+each-session d prompt search_state s P save quit other Quit = quit
+each-session d prompt search_state s P save quit other key = other key refl
 
 -- a key that a replay applies as it is
-other_replayed : (d : Data) (ask : Prompt) (seek : SearchState) (e : Editor) (key : Key) → is_other key ≡ true → after_key d None e key ≡ after_replayed d ask seek e key
-other_replayed d ask seek e =
-    each-replayed d ask seek e (λ key new. is_other key ≡ true → after_key d None e key ≡ new) (λ other. absurd (cc other)) (λ other. absurd (cc other))
+other_replayed : (d : Data) (prompt : Prompt) (search_state : SearchState) (e : Editor) (key : Key) → is_other key ≡ true → after_key d None e key ≡ after_replayed d prompt search_state e key
+other_replayed d prompt search_state e =
+    each-replayed d prompt search_state e (λ key new. is_other key ≡ true → after_key d None e key ≡ new) (λ other. absurd (cc other)) (λ other. absurd (cc other))
     (λ key other same. refl)
 
-quit_editor : (d : Data) (ask : Prompt) (seek : SearchState) (s : Session) → (session_after_replayed d ask seek s Quit).editor ≡ after_replayed d ask seek s.editor Quit
-quit_editor d asks.Off Off s = refl
-quit_editor d asks.Off seek s = refl
-quit_editor d ask seek s = refl
+quit_editor : (d : Data) (prompt : Prompt) (search_state : SearchState) (s : Session) → (session_after_replayed d prompt search_state s Quit).editor ≡ after_replayed d prompt search_state s.editor Quit
+quit_editor d prompts.Off Off s = refl
+quit_editor d prompts.Off search_state s = refl
+quit_editor d prompt search_state s = refl
 
-quit_rest : (d : Data) (ask : Prompt) (seek : SearchState) (s : Session) → (session_after_replayed d ask seek s Quit).rest ≡ s.rest
-quit_rest d asks.Off Off s = refl
-quit_rest d asks.Off seek s = refl
-quit_rest d ask seek s = refl
+quit_rest : (d : Data) (prompt : Prompt) (search_state : SearchState) (s : Session) → (session_after_replayed d prompt search_state s Quit).rest ≡ s.rest
+quit_rest d prompts.Off Off s = refl
+quit_rest d prompts.Off search_state s = refl
+quit_rest d prompt search_state s = refl
 
-editor_is : (d : Data) (ask : Prompt) (seek : SearchState) (s : Session) (key : Key) → (session_after_replayed d ask seek s key).editor ≡ after_replayed d ask seek s.editor key
-editor_is d ask seek s =
-    each-session d ask seek s (λ key new. new.editor ≡ after_replayed d ask seek s.editor key) refl (quit_editor d ask seek s)
-    (λ key other. other_replayed d ask seek s.editor key other)
+editor_is : (d : Data) (prompt : Prompt) (search_state : SearchState) (s : Session) (key : Key) → (session_after_replayed d prompt search_state s key).editor ≡ after_replayed d prompt search_state s.editor key
+editor_is d prompt search_state s =
+    each-session d prompt search_state s (λ key new. new.editor ≡ after_replayed d prompt search_state s.editor key) refl (quit_editor d prompt search_state s)
+    (λ key other. other_replayed d prompt search_state s.editor key other)
 
-rest_stays : (d : Data) (ask : Prompt) (seek : SearchState) (s : Session) (key : Key) → (session_after_replayed d ask seek s key).rest ≡ s.rest
-rest_stays d ask seek s = each-session d ask seek s (λ key new. new.rest ≡ s.rest) refl (quit_rest d ask seek s) (λ key other. refl)
+rest_stays : (d : Data) (prompt : Prompt) (search_state : SearchState) (s : Session) (key : Key) → (session_after_replayed d prompt search_state s key).rest ≡ s.rest
+rest_stays d prompt search_state s = each-session d prompt search_state s (λ key new. new.rest ≡ s.rest) refl (quit_rest d prompt search_state s) (λ key other. refl)
 
 -- ---- a replay ends no session
 
 -- a Quit that gives up a search or a question, where a paste ends first
-given_up : (d : Data) (ask : Prompt) (seek : SearchState) (e : Editor) → (paste_ended d e).ask ≡ ask → (paste_ended d e).seek ≡ seek
-    → ((x : Editor) → (after_any d None (before x) ask seek (cleared x) Quit).ended ≡ x.ended) → (after_key d None e Quit).ended ≡ e.ended
-given_up d ask seek e asked is left =
+given_up : (d : Data) (prompt : Prompt) (search_state : SearchState) (e : Editor) → (paste_ended d e).prompt ≡ prompt → (paste_ended d e).search_state ≡ search_state
+    → ((x : Editor) → (after_any d None (before x) prompt search_state (cleared x) Quit).ended ≡ x.ended) → (after_key d None e Quit).ended ≡ e.ended
+given_up d prompt search_state e asked is left =
     let x : Editor = paste_ended d e in
     ap (λ (y : Editor). y.ended) (quit_user d None e)
     ∙ ap₂ (λ (a : Prompt) (s : SearchState). (after_any d None (before x) a s (cleared x) Quit).ended) asked is
     ∙ left x
     ∙ (ended_goes_on d e).0
 
-quit_goes_on : (d : Data) (ask : Prompt) (seek : SearchState) (e : Editor) → (paste_ended d e).ask ≡ ask → (paste_ended d e).seek ≡ seek
-    → (after_replayed d ask seek e Quit).ended ≡ e.ended
-quit_goes_on d asks.Off Off e asked is = (ended_goes_on d e).0
-quit_goes_on d asks.Off Begun e asked is = given_up d asks.Off Begun e asked is (λ x. refl)
-quit_goes_on d asks.Off Typed e asked is = given_up d asks.Off Typed e asked is (λ x. refl)
-quit_goes_on d asks.Off WithBegun e asked is = given_up d asks.Off WithBegun e asked is (λ x. refl)
-quit_goes_on d asks.Off WithTyped e asked is = given_up d asks.Off WithTyped e asked is (λ x. refl)
-quit_goes_on d asks.Off Replacing e asked is = given_up d asks.Off Replacing e asked is (λ x. refl)
-quit_goes_on d asks.Line seek e asked is = given_up d asks.Line seek e asked is (λ x. refl)
-quit_goes_on d asks.Name seek e asked is = given_up d asks.Name seek e asked is (λ x. refl)
-quit_goes_on d asks.Code seek e asked is = given_up d asks.Code seek e asked is (λ x. refl)
+quit_goes_on : (d : Data) (prompt : Prompt) (search_state : SearchState) (e : Editor) → (paste_ended d e).prompt ≡ prompt → (paste_ended d e).search_state ≡ search_state
+    → (after_replayed d prompt search_state e Quit).ended ≡ e.ended
+quit_goes_on d prompts.Off Off e asked is = (ended_goes_on d e).0
+quit_goes_on d prompts.Off Begun e asked is = given_up d prompts.Off Begun e asked is (λ x. refl)
+quit_goes_on d prompts.Off Typed e asked is = given_up d prompts.Off Typed e asked is (λ x. refl)
+quit_goes_on d prompts.Off WithBegun e asked is = given_up d prompts.Off WithBegun e asked is (λ x. refl)
+quit_goes_on d prompts.Off WithTyped e asked is = given_up d prompts.Off WithTyped e asked is (λ x. refl)
+quit_goes_on d prompts.Off Replacing e asked is = given_up d prompts.Off Replacing e asked is (λ x. refl)
+quit_goes_on d prompts.Line search_state e asked is = given_up d prompts.Line search_state e asked is (λ x. refl)
+quit_goes_on d prompts.Name search_state e asked is = given_up d prompts.Name search_state e asked is (λ x. refl)
+quit_goes_on d prompts.Code search_state e asked is = given_up d prompts.Code search_state e asked is (λ x. refl)
 
 goes_on : (d : Data) (e : Editor) (key : Key) → e.ended ≡ false → (replayed_on d e key).ended ≡ false
 goes_on d e key h =
     let over : Editor = paste_ended d e in
-    each-replayed d over.ask over.seek e (λ k new. new.ended ≡ e.ended) (ended_goes_on d e).0 (quit_goes_on d over.ask over.seek e refl refl)
+    each-replayed d over.prompt over.search_state e (λ k new. new.ended ≡ e.ended) (ended_goes_on d e).0 (quit_goes_on d over.prompt over.search_state e refl refl)
     (λ k other. key_goes_on d None e k (not_quitting k other)) key
     ∙ h
 
@@ -111,9 +111,9 @@ applies_any d s None h = record { editor = refl; rest_is = refl; goes_on = h }
 applies_any d s (Some key) h =
     let from : Session = session_scrolled d s in
     let over : Editor = paste_ended d from.editor in record {
-      editor = editor_is d over.ask over.seek from key;
-      rest_is = rest_stays d over.ask over.seek from key;
-      goes_on = ap (λ (e : Editor). e.ended) (editor_is d over.ask over.seek from key) ∙ goes_on d from.editor key h;
+      editor = editor_is d over.prompt over.search_state from key;
+      rest_is = rest_stays d over.prompt over.search_state from key;
+      goes_on = ap (λ (e : Editor). e.ended) (editor_is d over.prompt over.search_state from key) ∙ goes_on d from.editor key h;
     }
 
 applies_at : (ended : Bool) (d : Data) (s : Session) (b : ℕ) → s.editor.ended ≡ ended → ended ≡ false

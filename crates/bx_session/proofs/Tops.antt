@@ -13,9 +13,9 @@ use Rattle.bx_view.proofs.Rising.{rank-few, rank-here}
 use Rattle.bx_view.proofs.Walking.{rows-rise, text-rank}
 use Rattle.bx_grid.specs.Picture.{PictureState}
 use Rattle.bx_editor.specs.declared.questions.answers.Prompt.{Prompt}
-use Rattle.bx_editor.specs.declared.questions.answers.Prompt.TheVariants as asks
+use Rattle.bx_editor.specs.declared.questions.answers.Prompt.TheVariants as prompts
 use Rattle.bx_editor.specs.declared.search_state.SearchState.{SearchState}
-use Rattle.bx_editor.specs.declared.search_state.SearchState.TheVariants as seeks
+use Rattle.bx_editor.specs.declared.search_state.SearchState.TheVariants as search_states
 use Rattle.bx_editor.specs.Editor.{Editor, at_start, rows, text_height, with_top}
 use Rattle.bx_editor.specs.Functions.{HasRows}
 use Rattle.bx_editor.specs.Picture.{StandsOnItsCell, blank_picture, next_top, picture, region_rows}
@@ -29,19 +29,19 @@ module _ (d : Data) (e : Editor) (shown : ℕ) (clipboard : Bool) where
   abbrev new : Editor
   new = record e { top = shown; clipboard = clipboard }
 
-  same-part : (seek : SearchState) → seen_in d new seek ≡ seen_in d e seek
-  same-part seeks.Off = refl
-  same-part seeks.Begun = refl
-  same-part seeks.Typed = refl
-  same-part seeks.WithBegun = refl
-  same-part seeks.WithTyped = refl
-  same-part seeks.Replacing = refl
+  same-part : (search_state : SearchState) → seen_in d new search_state ≡ seen_in d e search_state
+  same-part search_states.Off = refl
+  same-part search_states.Begun = refl
+  same-part search_states.Typed = refl
+  same-part search_states.WithBegun = refl
+  same-part search_states.WithTyped = refl
+  same-part search_states.Replacing = refl
 
-  same-prompt : (ask : Prompt) → prompt_glyphs d new ask ≡ prompt_glyphs d e ask
-  same-prompt asks.Off = refl
-  same-prompt asks.Line = refl
-  same-prompt asks.Name = refl
-  same-prompt asks.Code = refl
+  same-prompt : (prompt : Prompt) → prompt_glyphs d new prompt ≡ prompt_glyphs d e prompt
+  same-prompt prompts.Off = refl
+  same-prompt prompts.Line = refl
+  same-prompt prompts.Name = refl
+  same-prompt prompts.Code = refl
 
   -- the picture with this part of the text in the other rendition, and this prompt
   abbrev with_parts : ℕ → ℕ × ℕ → List Glyph → PictureState
@@ -58,7 +58,7 @@ module _ (d : Data) (e : Editor) (shown : ℕ) (clipboard : Bool) where
       }
 
   pub looks_same : (top : ℕ) → picture d new top ≡ picture d e top
-  looks_same top = ap₂ (with_parts top) (same-part e.seek) (same-prompt e.ask)
+  looks_same top = ap₂ (with_parts top) (same-part e.search_state) (same-prompt e.prompt)
 
 -- scrolling changes no row's look
 pub top_unseen : (d : Data) (e : Editor) (shown top : ℕ) → picture d (with_top e shown) top ≡ picture d e top

@@ -102,7 +102,7 @@ FeedsAll-prefixed d p s store (a ∷ answered) s' store' h = (
   h.1,
   h.2,
   Feeds-prefixed d p s store a.0 a.1 h.0 h.1 h.3,
-  (λ asks. paints-prefixed d p s a.0 a.1 h.0 (h.4 asks)),
+  (λ prompts. paints-prefixed d p s a.0 a.1 h.0 (h.4 prompts)),
   FeedsAll-prefixed d p h.0 h.1 answered s' store' h.5,
 )
 

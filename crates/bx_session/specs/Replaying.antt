@@ -4,7 +4,7 @@ use Rattle.bx_keys.specs.declared.key.Key.{Key}
 use Rattle.bx_keys.specs.declared.key.Key.TheVariants.{Quit, Save}
 use Rattle.bx_ucd.specs.Data.{Data}
 use Rattle.bx_editor.specs.declared.questions.answers.Prompt.{Prompt}
-use Rattle.bx_editor.specs.declared.questions.answers.Prompt.TheVariants as asks
+use Rattle.bx_editor.specs.declared.questions.answers.Prompt.TheVariants as prompts
 use Rattle.bx_view.specs.Moves.{place_from}
 use Rattle.bx_editor.specs.Editor.{Editor, cleared, rows, with_place}
 use Rattle.bx_editor.specs.declared.search_state.SearchState.{SearchState}
@@ -17,16 +17,16 @@ use Rattle.bx_editor.specs.Picture.{scrolled}
 use Rattle.bx_session.specs.Session.{Session, after_spending, key_of_byte, session_after_key, with_painting_owed}
 
 -- The effect of a key in a replay. A Save and a Quit end what any key ends, first a paste, and a Save a search and a question too; a
--- Quit gives up a search or a question. Neither stores a text, nor ends the session. `ask` and `seek` are what stands once a paste has
+-- Quit gives up a search or a question. Neither stores a text, nor ends the session. `prompt` and `search_state` are what stands once a paste has
 -- ended.
 abbrev pub after_replayed : Data → Prompt → SearchState → Editor → Key → Editor
-after_replayed d ask seek e Save = after_passed_save (paste_ended d e)
-after_replayed d asks.Off Off e Quit = after_passed_quit (paste_ended d e)
-after_replayed d ask seek e key = after_key d None e key
+after_replayed d prompt search_state e Save = after_passed_save (paste_ended d e)
+after_replayed d prompts.Off Off e Quit = after_passed_quit (paste_ended d e)
+after_replayed d prompt search_state e key = after_key d None e key
 
 -- the same, in the editor's own state of question and search
 abbrev pub replayed_on : Data → Editor → Key → Editor
-replayed_on d e key = let over = paste_ended d e in after_replayed d over.ask over.seek e key
+replayed_on d e key = let over = paste_ended d e in after_replayed d over.prompt over.search_state e key
 
 -- The editor after keys of a journal in sequence. Before each of them it scrolls to the cursor, as the painting before that key did in
 -- the session, since a key can point at a row of the picture.
@@ -36,12 +36,12 @@ after_all_replayed d e (key ∷ keys) = after_all_replayed d (replayed_on d (scr
 
 -- the session after a key of a journal, in these states of question and search
 abbrev pub session_after_replayed : Data → Prompt → SearchState → Session → Key → Session
-session_after_replayed d ask seek s Save = record s { editor = after_passed_save (paste_ended d s.editor) }
-session_after_replayed d asks.Off Off s Quit = record s { editor = after_passed_quit (paste_ended d s.editor) }
-session_after_replayed d ask seek s key = session_after_key d None s key
+session_after_replayed d prompt search_state s Save = record s { editor = after_passed_save (paste_ended d s.editor) }
+session_after_replayed d prompts.Off Off s Quit = record s { editor = after_passed_quit (paste_ended d s.editor) }
+session_after_replayed d prompt search_state s key = session_after_key d None s key
 
 abbrev pub session_replayed_on : Data → Session → Key → Session
-session_replayed_on d s key = let over = paste_ended d s.editor in session_after_replayed d over.ask over.seek s key
+session_replayed_on d s key = let over = paste_ended d s.editor in session_after_replayed d over.prompt over.search_state s key
 
 -- the session scrolled to its cursor; nothing is painted
 abbrev pub session_scrolled : Data → Session → Session

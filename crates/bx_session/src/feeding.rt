@@ -114,7 +114,7 @@ impl<D: BidiData + Drop> Session<D> {
             (text_to_save (D.data self.old.tables) self.old.session.editor)
             (store_state S.contents S.faults store.old) (store_state S.contents S.faults store.new)
             × OnOk result (self.new ≡ record self.old { session = unpainted_after_byte (D.data self.old.tables) fault self.old.session byte }) }
-        ensures asks { IfOk result (λ entered. entered.0 ≡ is_painted self.old.session byte) }
+        ensures prompts { IfOk result (λ entered. entered.0 ≡ is_painted self.old.session byte) }
         ensures key { IfOk result (λ entered. entered.1 ≡ key_of_byte self.old.session byte) }
         ensures untouched { is_save_byte self.old.session byte ≡ false → store.new ≡ store.old }
         ensures err { OnErr result (self.new ≡ record self.old { session = after_spending self.old.session byte }) }
@@ -122,17 +122,17 @@ impl<D: BidiData + Drop> Session<D> {
         ensures refused { OnErr result (result ≡ Err Refused.Edit) }
     {
         let key = self.decode(byte);
-        let asks = self.asks_for_painting(key);
+        let prompts = self.asks_for_painting(key);
         match key {
             Some(Key::Save) => {
                 self.save(store)?;
-                Ok((asks, key))
+                Ok((prompts, key))
             }
             Some(pressed) => {
                 self.press(pressed, None)?;
-                Ok((asks, key))
+                Ok((prompts, key))
             }
-            None => Ok((asks, key)),
+            None => Ok((prompts, key)),
         }
     }
 
@@ -157,8 +157,8 @@ impl<D: BidiData + Drop> Session<D> {
         ensures idle { is_idle self.old.session byte ≡ true → IsOk result }
         ensures unchanged { is_idle self.old.session byte ≡ true → self.new.session ≡ after_spending self.old.session byte }
     {
-        let (asks, key) = self.enter(byte, store)?;
-        if !asks {
+        let (prompts, key) = self.enter(byte, store)?;
+        if !prompts {
             return Ok(self.status());
         }
         self.paint_after(key)?;

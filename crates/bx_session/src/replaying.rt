@@ -50,12 +50,12 @@ impl<D: BidiData + Drop> Session<D> {
     fn pass_quit(&mut self) -> Result<(), Refused>
         requires no_paste { self.old.session.editor.pasted ≡ None }
         ensures after_key { self.new ≡ record self.old {
-          session = session_after_replayed (D.data self.old.tables) self.old.session.editor.ask self.old.session.editor.seek
+          session = session_after_replayed (D.data self.old.tables) self.old.session.editor.prompt self.old.session.editor.search_state
               self.old.session Key.Quit;
         } }
         ensures ok { IsOk result }
     {
-        match (self.editor.ask(), self.editor.seek()) {
+        match (self.editor.prompt(), self.editor.search_state()) {
             (Prompt::Off, SearchState::Off) => {
                 self.editor.pass_quit();
                 Ok(())

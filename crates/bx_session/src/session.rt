@@ -136,24 +136,24 @@ impl<D: BidiData + Drop> Session<D> {
     }
 
     /// How far the search is, or that none is on. Allocates nothing.
-    pub fn seek(&self) -> SearchState
-        ensures { result ≡ self.now.session.editor.seek }
+    pub fn search_state(&self) -> SearchState
+        ensures { result ≡ self.now.session.editor.search_state }
     {
-        self.editor.seek()
+        self.editor.search_state()
     }
 
     /// What the search, or the latest one, is for. Allocates nothing.
-    pub fn aim(&self) -> SearchPurpose
-        ensures { result ≡ self.now.session.editor.aim }
+    pub fn purpose(&self) -> SearchPurpose
+        ensures { result ≡ self.now.session.editor.purpose }
     {
-        self.editor.aim()
+        self.editor.purpose()
     }
 
     /// What the user is asked, or that there is no question. Allocates nothing.
-    pub fn ask(&self) -> Prompt
-        ensures { result ≡ self.now.session.editor.ask }
+    pub fn prompt(&self) -> Prompt
+        ensures { result ≡ self.now.session.editor.prompt }
     {
-        self.editor.ask()
+        self.editor.prompt()
     }
 
     /// The answer to the question, or to the latest one. Allocates nothing.

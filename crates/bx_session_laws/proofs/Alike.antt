@@ -16,14 +16,14 @@ use Rattle.bx_editor.specs.declared.undo_groups.typing.Kind.TheVariants.{Separat
 use Rattle.bx_editor.specs.declared.undo_groups.typing.Removal.{Removal}
 use Rattle.bx_editor.specs.declared.undo_groups.typing.Typing.{Typing}
 use Rattle.bx_editor.specs.undo_groups.Groups.{edited, run_end, run_start, after_insertion, after_removal, goes_on, goes_on_removing, kind_of}
-use Rattle.bx_editor.specs.declared.search_state.SearchPurpose.TheVariants as aims
+use Rattle.bx_editor.specs.declared.search_state.SearchPurpose.TheVariants as purposes
 use Rattle.bx_editor.specs.declared.message.Message.TheVariants.{TextFull, Copied, LineCopied, MarkOff, MarkSet, NothingToCopy, NothingToPut}
-use Rattle.bx_editor.specs.declared.search_state.SearchState.TheVariants as seeks
+use Rattle.bx_editor.specs.declared.search_state.SearchState.TheVariants as search_states
 use Rattle.bx_editor.specs.declared.cursor.Soft.{Soft}
 use Rattle.bx_editor.specs.declared.cursor.Soft.TheVariants as softness
 use Rattle.bx_editor.specs.Editor.{Editor, after_redo, after_step, after_undo, place_after, stored_behind, with_insertion, with_removal}
-use Rattle.bx_editor.specs.Editor.{with_typing, by_run, is_changed_at, run_length}
-use Rattle.bx_editor.specs.Effects.{Effect, Types, BeginsLine, Puts, Removes, RemovesWord, Steps, StepsRun, Goes, GoesByRows, Marks, Selects, Unmarks, Copies}
+use Rattle.bx_editor.specs.Editor.{with_typing, by_group, is_changed_at, group_length}
+use Rattle.bx_editor.specs.Effects.{Effect, Types, BeginsLine, Puts, Removes, RemovesWord, Steps, StepsGroup, Goes, GoesByRows, Marks, Selects, Unmarks, Copies}
 use Rattle.bx_editor.specs.Effects.{Cuts, Seeks, SeeksNext, Saves, Quits, Turns, Helps, AsksLine, AsksName, Tells, Rests, Before, before, by}
 use Rattle.bx_editor.specs.Erasing.{after_erasing, after_erasing_word, after_removing, or_selection, removed_on}
 use Rattle.bx_editor.specs.Keys.{effect_of}
@@ -207,16 +207,16 @@ step_alike history.Undo e f = undo_alike e f e.content.past
 step_alike history.Redo e f = redo_alike e f e.content.future
 
 run_alike : (step : HistoryStep) (e f : Editor) (change : Option Change)
-    → Alike e (by_run step e change) (having (lasting e) f) (by_run step (having (lasting e) f) change)
-run_alike step e f None = idle e (by_run step e None) (having (lasting e) f) (by_run step (having (lasting e) f) None) refl refl refl
+    → Alike e (by_group step e change) (having (lasting e) f) (by_group step (having (lasting e) f) change)
+run_alike step e f None = idle e (by_group step e None) (having (lasting e) f) (by_group step (having (lasting e) f) None) refl refl refl
 run_alike history.Undo e f (Some change) = record { lasts = refl; deeds = TakesRun history.Undo ∷ []; first = refl; other = refl }
 run_alike history.Redo e f (Some change) = record { lasts = refl; deeds = TakesRun history.Redo ∷ []; first = refl; other = refl }
 
 runs_alike : (step : HistoryStep) (e f : Editor)
-    → Alike e (by_run step e (next_changes step (run_length step e) e.content)) (having (lasting e) f)
-    (by_run step (having (lasting e) f) (next_changes step (run_length step (having (lasting e) f)) e.content))
-runs_alike history.Undo e f = run_alike history.Undo e f (next_changes history.Undo (run_length history.Undo e) e.content)
-runs_alike history.Redo e f = run_alike history.Redo e f (next_changes history.Redo (run_length history.Redo e) e.content)
+    → Alike e (by_group step e (next_changes step (group_length step e) e.content)) (having (lasting e) f)
+    (by_group step (having (lasting e) f) (next_changes step (group_length step (having (lasting e) f)) e.content))
+runs_alike history.Undo e f = run_alike history.Undo e f (next_changes history.Undo (group_length history.Undo e) e.content)
+runs_alike history.Redo e f = run_alike history.Redo e f (next_changes history.Redo (group_length history.Redo e) e.content)
 
 -- ---- the mark, and what it marks
 
@@ -262,9 +262,9 @@ next_alike d e f =
     let g = having (lasting e) f in
     let free = unselected e in
     let free' = unselected g in
-    let found : Editor → Editor = λ x. search_from d (next_or_start d x) (record x { seek = seeks.Off; aim = aims.Find }) in
-    either_alike (length (sought d free) == 0) e (after_beginning aims.Find free) (found free) g (after_beginning aims.Find free') (found free')
-    (idle e (after_beginning aims.Find free) g (after_beginning aims.Find free') refl refl refl) (idle e (found free) g (found free') refl refl refl)
+    let found : Editor → Editor = λ x. search_from d (next_or_start d x) (record x { search_state = search_states.Off; purpose = purposes.Find }) in
+    either_alike (length (sought d free) == 0) e (after_beginning purposes.Find free) (found free) g (after_beginning purposes.Find free') (found free')
+    (idle e (after_beginning purposes.Find free) g (after_beginning purposes.Find free') refl refl refl) (idle e (found free) g (found free') refl refl refl)
 
 -- ---- a key outside a search
 
@@ -278,7 +278,7 @@ by_alike d fault was was' e f Puts s q = put_alike d e f
 by_alike d fault was was' e f (Removes how start stop) s q = erasing_alike d was.typing how e f start stop
 by_alike d fault was was' e f (RemovesWord start stop) s q = word_alike d e f start stop
 by_alike d fault was was' e f (Steps step) s q = step_alike step e f
-by_alike d fault was was' e f (StepsRun step) s q = runs_alike step e f
+by_alike d fault was was' e f (StepsGroup step) s q = runs_alike step e f
 by_alike d fault was was' e f (Goes place) s q = record { lasts = refl; deeds = []; first = refl; other = refl }
 by_alike d fault was was' e f (GoesByRows way n) s q = record { lasts = refl; deeds = []; first = refl; other = refl }
 by_alike d fault was was' e f Marks s q = mark_alike e f
@@ -286,7 +286,7 @@ by_alike d fault was was' e f Selects s q = select_alike e f e.mark e.soft
 by_alike d fault was was' e f Unmarks s q = record { lasts = refl; deeds = []; first = refl; other = refl }
 by_alike d fault was was' e f Copies s q = copy_alike d e f
 by_alike d fault was was' e f Cuts s q = cut_alike d e f
-by_alike d fault was was' e f (Seeks aim) s q = record { lasts = refl; deeds = []; first = refl; other = refl }
+by_alike d fault was was' e f (Seeks purpose) s q = record { lasts = refl; deeds = []; first = refl; other = refl }
 by_alike d fault was was' e f SeeksNext s q = next_alike d e f
 by_alike d fault was was' e f Saves s q = absurd (cc s)
 by_alike d fault was was' e f Quits s q = absurd (cc q)

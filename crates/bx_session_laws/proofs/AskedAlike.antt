@@ -7,7 +7,7 @@ use Rattle.bx_text.specs.Edits.{fits, fits_both}
 use Rattle.bx_ucd.specs.Data.{Data}
 use Rattle.bx_editor.specs.declared.questions.line.Target.{Target}
 use Rattle.bx_editor.specs.declared.questions.answers.Prompt.{Prompt}
-use Rattle.bx_editor.specs.declared.questions.answers.Prompt.TheVariants as asks
+use Rattle.bx_editor.specs.declared.questions.answers.Prompt.TheVariants as prompts
 use Rattle.bx_editor.specs.questions.Names.{coded, is_code_letter, asks_code, closing, named}
 use Rattle.bx_editor.specs.questions.Answers.{asked, is_line_letter}
 use Rattle.bx_document.specs.Swapped.{wrapped_text}
@@ -16,7 +16,7 @@ use Rattle.bx_editor.specs.undo_groups.Groups.{after_insertion, kind_of}
 use Rattle.bx_editor.specs.declared.message.Message.TheVariants.{TextFull, MoreThanOneLine}
 use Rattle.bx_editor.specs.Asking.{after_answer_letter, after_code, after_code_letter, after_going, after_line_letter, after_name_letter}
 use Rattle.bx_editor.specs.Asking.{after_named, after_shorter_answer, gone_to, longest_code, longest_line, unless_paste, with_answer}
-use Rattle.bx_editor.specs.Asking.{with_character, without_ask, after_wrapping, spans_lines, with_wrap}
+use Rattle.bx_editor.specs.Asking.{with_character, without_prompt, after_wrapping, spans_lines, with_wrap}
 use Rattle.bx_editor.specs.Editor.{Editor, place_after, with_insertion, with_typing}
 use Rattle.bx_editor.specs.Effects.{Before}
 use Rattle.bx_editor.specs.Keys.{Answer, Letter, Shortens, GoesBack, Next, Previous, Replaces, Stays, Ends, after_pressing, answered_question}
@@ -28,7 +28,7 @@ use Rattle.bx_session_laws.proofs.Lasting.{Lasting, Serves, lasting, having}
 use Rattle.bx_session_laws.proofs.Alike.{Alike, either_alike, idle, going_on, insertion_alike, pressed_alike, Edits, work}
 
 -- nothing is asked any more
-unasked_alike : (e new f new' : Editor) → Alike (without_ask e) new (without_ask f) new' → Alike e new f new'
+unasked_alike : (e new f new' : Editor) → Alike (without_prompt e) new (without_prompt f) new' → Alike e new f new'
 unasked_alike e new f new' h = record { lasts = h.lasts; deeds = h.deeds; first = h.first; other = h.other }
 
 going_alike : (d : Data) (e f : Editor) (target : Option Target)
@@ -45,7 +45,7 @@ line_letter_alike d typing e f c =
     either_alike (c == 0xA) e (if is_paste typing then e else went e) (if is_line_letter c then longer e else e) g
     (if is_paste typing then g else went g) (if is_line_letter c then longer g else g)
     (either_alike (is_paste typing) e e (went e) g g (went g) (idle e e g g refl refl refl)
-    (unasked_alike e (went e) g (went g) (going_alike d (without_ask e) f (asked (chars e.answer)))))
+    (unasked_alike e (went e) g (went g) (going_alike d (without_prompt e) f (asked (chars e.answer)))))
     (either_alike (is_line_letter c) e (longer e) e g (longer g) g (idle e (longer e) g (longer g) refl refl refl) (idle e e g g refl refl refl))
 
 coded_alike : (d : Data) (e f : Editor) (c : ℕ) → Alike e (with_character d e c) (having (lasting e) f) (with_character d (having (lasting e) f) c)
@@ -102,13 +102,13 @@ name_letter_alike : (d : Data) (e f : Editor) (letter : ℕ) (c : Option ℕ)
     → Alike e (after_name_letter d e letter c) (having (lasting e) f) (after_name_letter d (having (lasting e) f) letter c)
 name_letter_alike d e f letter (Some c) =
     let g = having (lasting e) f in
-    unasked_alike e (after_name_letter d e letter (Some c)) g (after_name_letter d g letter (Some c)) (named_alike d (without_ask e) f c (closing letter))
+    unasked_alike e (after_name_letter d e letter (Some c)) g (after_name_letter d g letter (Some c)) (named_alike d (without_prompt e) f c (closing letter))
 name_letter_alike d e f letter None =
     let g = having (lasting e) f in
-    let code : Editor → Editor = λ x. record x { ask = asks.Code } in
-    either_alike (asks_code letter) e (code e) (if letter == 0xA then without_ask e else e) g (code g) (if letter == 0xA then without_ask g else g)
+    let code : Editor → Editor = λ x. record x { prompt = prompts.Code } in
+    either_alike (asks_code letter) e (code e) (if letter == 0xA then without_prompt e else e) g (code g) (if letter == 0xA then without_prompt g else g)
     (idle e (code e) g (code g) refl refl refl)
-    (either_alike (letter == 0xA) e (without_ask e) e g (without_ask g) g (idle e (without_ask e) g (without_ask g) refl refl refl)
+    (either_alike (letter == 0xA) e (without_prompt e) e g (without_prompt g) g (idle e (without_prompt e) g (without_prompt g) refl refl refl)
     (idle e e g g refl refl refl))
 
 code_alike : (d : Data) (e f : Editor) (c : Option ℕ) → Alike e (after_code d e c) (having (lasting e) f) (after_code d (having (lasting e) f) c)
@@ -121,9 +121,9 @@ code_letter_alike d e f letter =
     let g = having (lasting e) f in
     let c = coded e.answer in
     let longer : Editor → Editor = λ x. with_answer x (lengthened longest_code x.answer letter) in
-    let given : Editor → Editor = λ x. after_code d (without_ask x) c in
+    let given : Editor → Editor = λ x. after_code d (without_prompt x) c in
     either_alike (letter == 0xA) e (given e) (if is_code_letter letter then longer e else e) g (given g) (if is_code_letter letter then longer g else g)
-    (unasked_alike e (given e) g (given g) (code_alike d (without_ask e) f c))
+    (unasked_alike e (given e) g (given g) (code_alike d (without_prompt e) f c))
     (either_alike (is_code_letter letter) e (longer e) e g (longer g) g (idle e (longer e) g (longer g) refl refl refl) (idle e e g g refl refl refl))
 
 unless_paste_alike : (typing : Typing) (e new f new' : Editor) → lasting e ≡ lasting f → Alike e new f new'
@@ -132,43 +132,43 @@ unless_paste_alike typing e new f new' same h =
     either_alike (is_paste typing) e (with_typing e typing) new f (with_typing f typing) new'
     (idle e (with_typing e typing) f (with_typing f typing) (ap (λ (l : Lasting). record l { typing = typing }) same) refl refl) h
 
-answer_letter_alike : (d : Data) (typing : Typing) (ask : Prompt) (e f : Editor) (c : ℕ)
-    → Alike e (after_answer_letter d typing ask e c) (having (lasting e) f) (after_answer_letter d typing ask (having (lasting e) f) c)
-answer_letter_alike d typing asks.Off e f c = record { lasts = refl; deeds = []; first = refl; other = refl }
-answer_letter_alike d typing asks.Line e f c =
+answer_letter_alike : (d : Data) (typing : Typing) (prompt : Prompt) (e f : Editor) (c : ℕ)
+    → Alike e (after_answer_letter d typing prompt e c) (having (lasting e) f) (after_answer_letter d typing prompt (having (lasting e) f) c)
+answer_letter_alike d typing prompts.Off e f c = record { lasts = refl; deeds = []; first = refl; other = refl }
+answer_letter_alike d typing prompts.Line e f c =
     let g = having (lasting e) f in
     going_on (only_paste typing) e (after_line_letter d typing e c) g (after_line_letter d typing g c) (line_letter_alike d typing e f c)
-answer_letter_alike d typing asks.Name e f c =
+answer_letter_alike d typing prompts.Name e f c =
     let g = having (lasting e) f in
     unless_paste_alike typing e (after_name_letter d e c (named c)) g (after_name_letter d g c (named c)) refl (name_letter_alike d e f c (named c))
-answer_letter_alike d typing asks.Code e f c =
+answer_letter_alike d typing prompts.Code e f c =
     let g = having (lasting e) f in
     unless_paste_alike typing e (after_code_letter d e c) g (after_code_letter d g c) refl (code_letter_alike d e f c)
 
-shorter_alike : (ask : Prompt) (e f : Editor) → Alike e (after_shorter_answer ask e) (having (lasting e) f) (after_shorter_answer ask (having (lasting e) f))
-shorter_alike asks.Off e f = record { lasts = refl; deeds = []; first = refl; other = refl }
-shorter_alike asks.Line e f = record { lasts = refl; deeds = []; first = refl; other = refl }
-shorter_alike asks.Name e f = record { lasts = refl; deeds = []; first = refl; other = refl }
-shorter_alike asks.Code e f =
+shorter_alike : (prompt : Prompt) (e f : Editor) → Alike e (after_shorter_answer prompt e) (having (lasting e) f) (after_shorter_answer prompt (having (lasting e) f))
+shorter_alike prompts.Off e f = record { lasts = refl; deeds = []; first = refl; other = refl }
+shorter_alike prompts.Line e f = record { lasts = refl; deeds = []; first = refl; other = refl }
+shorter_alike prompts.Name e f = record { lasts = refl; deeds = []; first = refl; other = refl }
+shorter_alike prompts.Code e f =
     let g = having (lasting e) f in
-    let name : Editor → Editor = λ x. record x { ask = asks.Name } in
+    let name : Editor → Editor = λ x. record x { prompt = prompts.Name } in
     let shorter : Editor → Editor = λ x. with_answer x (shortened x.answer) in
     either_alike (length e.answer == 0) e (name e) (shorter e) g (name g) (shorter g) (idle e (name e) g (name g) refl refl refl)
     (idle e (shorter e) g (shorter g) refl refl refl)
 
 ends_alike : (d : Data) (fault : Option StoreFault) (was was' : Before) (e f : Editor) (key : Key) → Serves e f key
     → let g = having (lasting e) f in
-    Alike e (after_pressing d fault was (without_ask e) key) g (after_pressing d None (record was' { typing = was.typing }) (without_ask g) key)
+    Alike e (after_pressing d fault was (without_prompt e) key) g (after_pressing d None (record was' { typing = was.typing }) (without_prompt g) key)
 ends_alike d fault was was' e f key other =
     let g = having (lasting e) f in
-    unasked_alike e (after_pressing d fault was (without_ask e) key) g (after_pressing d None (record was' { typing = was.typing }) (without_ask g) key)
-    (pressed_alike d fault was was' (without_ask e) f key other)
+    unasked_alike e (after_pressing d fault was (without_prompt e) key) g (after_pressing d None (record was' { typing = was.typing }) (without_prompt g) key)
+    (pressed_alike d fault was was' (without_prompt e) f key other)
 
 pub question_alike : (d : Data) (fault : Option StoreFault) (was was' : Before) (e f : Editor) (key : Key) (answer : Answer) → Serves e f key
     → Alike e (answered_question d fault was e key answer) (having (lasting e) f)
     (answered_question d None (record was' { typing = was.typing }) (having (lasting e) f) key answer)
-question_alike d fault was was' e f key (Letter c) other = answer_letter_alike d was.typing e.ask e f c
-question_alike d fault was was' e f key Shortens other = shorter_alike e.ask e f
+question_alike d fault was was' e f key (Letter c) other = answer_letter_alike d was.typing e.prompt e f c
+question_alike d fault was was' e f key Shortens other = shorter_alike e.prompt e f
 question_alike d fault was was' e f key GoesBack other = record { lasts = refl; deeds = []; first = refl; other = refl }
 question_alike d fault was was' e f key Next other = ends_alike d fault was was' e f key other
 question_alike d fault was was' e f key Previous other = ends_alike d fault was was' e f key other

@@ -13,7 +13,7 @@ use Rattle.bx_text.specs.Edits.{Edit}
 use Rattle.bx_store.specs.declared.store.StoreFault.{StoreFault}
 use Rattle.bx_ucd.specs.Data.{Data}
 use Rattle.bx_editor.specs.declared.questions.answers.Prompt.{Prompt}
-use Rattle.bx_editor.specs.declared.questions.answers.Prompt.TheVariants as asks
+use Rattle.bx_editor.specs.declared.questions.answers.Prompt.TheVariants as prompts
 use Rattle.bx_editor.specs.declared.message.Message.TheVariants.{Unsaved}
 use Rattle.bx_editor.specs.Editor.{Editor, after_save, cleared}
 use Rattle.bx_editor.specs.Effects.{before}
@@ -65,8 +65,8 @@ key_traces : (d : Data) (first : List ℕ) (e : Editor) (key : Key) → Traces f
 key_traces d first e key h =
     let over : Editor = paste_ended d e in
     let traces = over_traces d first e h in
-    each-replayed d over.ask over.seek e (λ k new. Traces first (work new)) (save_traces first over traces)
-    (subst (Traces first) (sym (quit_works d over.ask over.seek e refl refl)) traces)
+    each-replayed d over.prompt over.search_state e (λ k new. Traces first (work new)) (save_traces first over traces)
+    (subst (Traces first) (sym (quit_works d over.prompt over.search_state e refl refl)) traces)
     (λ k other. (let alike = key_alike d None e e k (other, inr refl) in
     subst (Traces first) (sym alike.first) (deeds_trace first alike.deeds (work e) h))) key
 
@@ -95,16 +95,16 @@ replaying_more d s (b ∷ bs) more = replaying_more d (after_replay d s b) bs mo
 -- ---- a Quit in a session
 
 -- it changes at most whether the session has ended
-quit_leaves : (d : Data) (fault : Option StoreFault) (ask : Prompt) (seek : SearchState) (e : Editor)
-    → (ended : Bool) × (work (after_any d fault (before e) ask seek (cleared e) Quit) ≡ record (work e) { ended = ended })
-quit_leaves d fault asks.Off Off e = by_end (not e.changed || e.quit_before) where
+quit_leaves : (d : Data) (fault : Option StoreFault) (prompt : Prompt) (search_state : SearchState) (e : Editor)
+    → (ended : Bool) × (work (after_any d fault (before e) prompt search_state (cleared e) Quit) ≡ record (work e) { ended = ended })
+quit_leaves d fault prompts.Off Off e = by_end (not e.changed || e.quit_before) where
   by_end : (ends : Bool) → (ended : Bool)
       × (work (if ends then record (cleared e) { quit_before = true; ended = true } else record (cleared e) { quit_before = true; message = Some Unsaved })
       ≡ record (work e) { ended = ended })
   by_end true = (true, refl)
   by_end false = (e.ended, refl)
-quit_leaves d fault asks.Off seek e = (e.ended, refl)
-quit_leaves d fault ask seek e = (e.ended, refl)
+quit_leaves d fault prompts.Off search_state e = (e.ended, refl)
+quit_leaves d fault prompt search_state e = (e.ended, refl)
 
 -- ---- a session that counts as unchanged has a known text
 
@@ -145,7 +145,7 @@ over_knows d P e h =
 quit_knows : (d : Data) (fault : Option StoreFault) (P : List ℕ → Type 0) (e : Editor) → Knows P (work e) → Knows P (work (after_key d fault e Quit))
 quit_knows d fault P e h =
     let over : Editor = paste_ended d e in
-    let leaves = quit_leaves d fault over.ask over.seek over in
+    let leaves = quit_leaves d fault over.prompt over.search_state over in
     subst (λ (new : Editor). Knows P (work new)) (sym (quit_user d fault e))
     (subst (Knows P) (sym leaves.1) (ended_knows P (work over) leaves.0 (over_knows d P e h)))
 
@@ -154,7 +154,7 @@ key_knows : (d : Data) (fault : Option StoreFault) (first : List ℕ) (store sto
     → Knows (IsKnownIn first store') (work (after_key d fault e key))
 key_knows d fault first store store' e key =
     let P = IsKnownIn first store' in
-    each-replayed d e.ask e.seek e (λ k new. StoreAfter (is_save k) fault (text_to_save d e) store store' → Knows (IsKnownIn first store) (work e)
+    each-replayed d e.prompt e.search_state e (λ k new. StoreAfter (is_save k) fault (text_to_save d e) store store' → Knows (IsKnownIn first store) (work e)
     → Knows P (work (after_key d fault e k)))
     (λ stores h. subst (Knows P) (sym (save_works d fault e))
     (after_saving fault first store store' (paste_ended d e) stores (over_knows d (IsKnownIn first store) e h)))
@@ -194,16 +194,16 @@ both_tell d e f same h =
     (over_tells d e f) h
 
 quit_tells : (d : Data) (fault : Option StoreFault) (e f : Editor) → let g = having (lasting e) f in
-    let over_g = paste_ended d g in Tells (work e) (work g) → Tells (work (after_key d fault e Quit)) (work (after_replayed d over_g.ask over_g.seek g Quit))
+    let over_g = paste_ended d g in Tells (work e) (work g) → Tells (work (after_key d fault e Quit)) (work (after_replayed d over_g.prompt over_g.search_state g Quit))
 quit_tells d fault e f h =
     let g = having (lasting e) f in
     let x : Editor = paste_ended d e in
     let y : Editor = paste_ended d g in
-    let leaves = quit_leaves d fault x.ask x.seek x in
-    let new = after_replayed d y.ask y.seek g Quit in
+    let leaves = quit_leaves d fault x.prompt x.search_state x in
+    let new = after_replayed d y.prompt y.search_state g Quit in
     subst (λ (z : Editor). Tells (work z) (work new)) (sym (quit_user d fault e))
     (subst (λ (w : Work). Tells w (work new)) (sym leaves.1)
-    (subst (Tells (record (work x) { ended = leaves.0 })) (sym (quit_works d y.ask y.seek g refl refl))
+    (subst (Tells (record (work x) { ended = leaves.0 })) (sym (quit_works d y.prompt y.search_state g refl refl))
     (ended_tells (work x) (work y) leaves.0 (over_tells d e f h))))
 
 like_tells : (d : Data) (fault : Option StoreFault) (e f : Editor) (key : Key) → Points e.top f.top key → let g = having (lasting e) f in
@@ -211,7 +211,7 @@ like_tells : (d : Data) (fault : Option StoreFault) (e f : Editor) (key : Key) �
 like_tells d fault e f key points h =
     let g = having (lasting e) f in
     let y : Editor = paste_ended d g in
-    each-replayed d y.ask y.seek g (λ k new. Points e.top f.top k → Tells (work (after_key d fault e k)) (work new))
+    each-replayed d y.prompt y.search_state g (λ k new. Points e.top f.top k → Tells (work (after_key d fault e k)) (work new))
     (λ points. subst (λ (w : Work). Tells w (work (after_passed_save y))) (sym (save_works d fault e))
     (save_tells fault (paste_ended d e) y (over_tells d e f h))) (λ points. quit_tells d fault e f h)
     (λ k other points. (let alike = key_alike d fault e f k (other, points) in
@@ -379,7 +379,7 @@ unsent d all new replayed is h = subst (λ (x : Session). HasBack (once_pasted d
   soft = h.soft;
   held = h.held;
   query = h.query;
-  aim = h.aim;
+  purpose = h.purpose;
   replacement = h.replacement;
   pasted = h.pasted;
   base = h.base;

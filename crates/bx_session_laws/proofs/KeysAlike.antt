@@ -9,7 +9,7 @@ use Rattle.bx_editor.specs.declared.undo_groups.typing.Typing.{Typing}
 use Rattle.bx_editor.specs.declared.undo_groups.typing.Typing.TheVariants as typings
 use Rattle.bx_ucd.specs.Data.{Data}
 use Rattle.bx_editor.specs.declared.questions.answers.Prompt.{Prompt}
-use Rattle.bx_editor.specs.declared.questions.answers.Prompt.TheVariants as asks
+use Rattle.bx_editor.specs.declared.questions.answers.Prompt.TheVariants as prompts
 use Rattle.bx_editor.specs.declared.message.Message.TheVariants.{TextFull}
 use Rattle.bx_editor.specs.declared.search_state.SearchState.{SearchState}
 use Rattle.bx_editor.specs.declared.search_state.SearchState.TheVariants.{Off, Begun, Typed, WithBegun, WithTyped, Replacing}
@@ -33,7 +33,7 @@ use Rattle.bx_session_laws.proofs.ReplacingAlike.{asking_alike, match_alike, rep
 letter_alike : (d : Data) (e f : Editor) (c : ℕ) → Alike e (after_letter d e c) (having (lasting e) f) (after_letter d (having (lasting e) f) c)
 letter_alike d e f c =
     let g = having (lasting e) f in
-    let longer : Editor → Editor = λ x. search_from d x.place (with_query x (lengthened longest_query (kept x.seek x.query) c)) in
+    let longer : Editor → Editor = λ x. search_from d x.place (with_query x (lengthened longest_query (kept x.search_state x.query) c)) in
     either_alike (is_no_letter d c) e e (longer e) g g (longer g) (idle e e g g refl refl refl) (idle e (longer e) g (longer g) refl refl refl)
 
 -- a line end, which may begin a paste
@@ -42,7 +42,7 @@ end_alike d typing e f =
     let g = having (lasting e) f in
     let left : Editor → Editor = λ x. without_search x in
     let begun : Editor → Editor = λ x. with_paste (without_search x) in
-    either_alike (is_replacing e.aim) e (if is_paste typing then e else after_asking_replacement d e) (if is_paste typing then begun e else left e) g
+    either_alike (is_replacing e.purpose) e (if is_paste typing then e else after_asking_replacement d e) (if is_paste typing then begun e else left e) g
     (if is_paste typing then g else after_asking_replacement d g) (if is_paste typing then begun g else left g)
     (either_alike (is_paste typing) e e (after_asking_replacement d e) g g (after_asking_replacement d g) (idle e e g g refl refl refl) (asking_alike d e f))
     (either_alike (is_paste typing) e (begun e) (left e) g (begun g) (left g) (idle e (begun e) g (begun g) refl refl refl)
@@ -57,7 +57,7 @@ sought_letter_alike d typing e f c =
 
 over : (e new f new' : Editor) → Alike e new f new' → Alike e (without_search new) f (without_search new')
 over e new f new' h = record {
-  lasts = ap (λ (l : Lasting). record l { seek = Off }) h.lasts;
+  lasts = ap (λ (l : Lasting). record l { search_state = Off }) h.lasts;
   deeds = h.deeds;
   first = h.first;
   other = h.other;
@@ -79,25 +79,25 @@ answered_alike d fault was was' e f key Ends other = over e _ (having (lasting e
 
 -- ---- whether a search or a question is on or not
 
-any_alike : (d : Data) (fault : Option StoreFault) (was was' : Before) (ask : Prompt) (seek : SearchState) (e f : Editor) (key : Key) → Serves e f key
-    → Alike e (after_any d fault was ask seek e key) (having (lasting e) f)
-    (after_any d None (record was' { typing = was.typing }) ask seek (having (lasting e) f) key)
-any_alike d fault was was' asks.Off Off e f key other = pressed_alike d fault was was' e f key other
-any_alike d fault was was' asks.Off Begun e f key other = answered_alike d fault was was' e f key (answer_of key) other
-any_alike d fault was was' asks.Off Typed e f key other = answered_alike d fault was was' e f key (answer_of key) other
-any_alike d fault was was' asks.Off WithBegun e f key other = replacement_alike d fault was was' e f key (answer_of key) other
-any_alike d fault was was' asks.Off WithTyped e f key other = replacement_alike d fault was was' e f key (answer_of key) other
-any_alike d fault was was' asks.Off Replacing e f key other = match_alike d fault was was' e f key (answer_of key) other
-any_alike d fault was was' asks.Line seek e f key other = question_alike d fault was was' e f key (answer_of key) other
-any_alike d fault was was' asks.Name seek e f key other = question_alike d fault was was' e f key (answer_of key) other
-any_alike d fault was was' asks.Code seek e f key other = question_alike d fault was was' e f key (answer_of key) other
+any_alike : (d : Data) (fault : Option StoreFault) (was was' : Before) (prompt : Prompt) (search_state : SearchState) (e f : Editor) (key : Key) → Serves e f key
+    → Alike e (after_any d fault was prompt search_state e key) (having (lasting e) f)
+    (after_any d None (record was' { typing = was.typing }) prompt search_state (having (lasting e) f) key)
+any_alike d fault was was' prompts.Off Off e f key other = pressed_alike d fault was was' e f key other
+any_alike d fault was was' prompts.Off Begun e f key other = answered_alike d fault was was' e f key (answer_of key) other
+any_alike d fault was was' prompts.Off Typed e f key other = answered_alike d fault was was' e f key (answer_of key) other
+any_alike d fault was was' prompts.Off WithBegun e f key other = replacement_alike d fault was was' e f key (answer_of key) other
+any_alike d fault was was' prompts.Off WithTyped e f key other = replacement_alike d fault was was' e f key (answer_of key) other
+any_alike d fault was was' prompts.Off Replacing e f key other = match_alike d fault was was' e f key (answer_of key) other
+any_alike d fault was was' prompts.Line search_state e f key other = question_alike d fault was was' e f key (answer_of key) other
+any_alike d fault was was' prompts.Name search_state e f key other = question_alike d fault was was' e f key (answer_of key) other
+any_alike d fault was was' prompts.Code search_state e f key other = question_alike d fault was was' e f key (answer_of key) other
 
 -- ---- a key where no paste is under way, or once it has ended
 
 user_alike : (d : Data) (fault : Option StoreFault) (e f : Editor) (key : Key) → Serves e f key
     → Alike e (after_user d fault e key) (having (lasting e) f) (after_user d None (having (lasting e) f) key)
 user_alike d fault e f key other =
-    let h = any_alike d fault (before e) (before f) e.ask e.seek (cleared e) (cleared f) key other in record {
+    let h = any_alike d fault (before e) (before f) e.prompt e.search_state (cleared e) (cleared f) key other in record {
       lasts = ap (λ (l : Lasting). record l { goal = goal_behind key l.goal; soft = soft_behind key l.soft }) h.lasts;
       deeds = h.deeds;
       first = h.first;
@@ -137,18 +137,18 @@ top_by d e (Some list) =
     (record left { message = Some TextFull }) e.top
     (if_top (is_selection left) (with_selection_replaced d left list) (with_insertion d left list false) e.top refl refl) refl)
 
-begun_alike : (e f : Editor) (ask : Prompt) (seek : SearchState) (pasted : Option (List ℕ))
-    → Alike e (paste_begun ask seek pasted e) (having (lasting e) f) (paste_begun ask seek pasted (having (lasting e) f))
-begun_alike e f asks.Off Off None = record { lasts = refl; deeds = []; first = refl; other = refl }
-begun_alike e f asks.Off Off (Some list) = record { lasts = refl; deeds = []; first = refl; other = refl }
-begun_alike e f asks.Off Begun pasted = record { lasts = refl; deeds = []; first = refl; other = refl }
-begun_alike e f asks.Off Typed pasted = record { lasts = refl; deeds = []; first = refl; other = refl }
-begun_alike e f asks.Off WithBegun pasted = record { lasts = refl; deeds = []; first = refl; other = refl }
-begun_alike e f asks.Off WithTyped pasted = record { lasts = refl; deeds = []; first = refl; other = refl }
-begun_alike e f asks.Off Replacing pasted = record { lasts = refl; deeds = []; first = refl; other = refl }
-begun_alike e f asks.Line seek pasted = record { lasts = refl; deeds = []; first = refl; other = refl }
-begun_alike e f asks.Name seek pasted = record { lasts = refl; deeds = []; first = refl; other = refl }
-begun_alike e f asks.Code seek pasted = record { lasts = refl; deeds = []; first = refl; other = refl }
+begun_alike : (e f : Editor) (prompt : Prompt) (search_state : SearchState) (pasted : Option (List ℕ))
+    → Alike e (paste_begun prompt search_state pasted e) (having (lasting e) f) (paste_begun prompt search_state pasted (having (lasting e) f))
+begun_alike e f prompts.Off Off None = record { lasts = refl; deeds = []; first = refl; other = refl }
+begun_alike e f prompts.Off Off (Some list) = record { lasts = refl; deeds = []; first = refl; other = refl }
+begun_alike e f prompts.Off Begun pasted = record { lasts = refl; deeds = []; first = refl; other = refl }
+begun_alike e f prompts.Off Typed pasted = record { lasts = refl; deeds = []; first = refl; other = refl }
+begun_alike e f prompts.Off WithBegun pasted = record { lasts = refl; deeds = []; first = refl; other = refl }
+begun_alike e f prompts.Off WithTyped pasted = record { lasts = refl; deeds = []; first = refl; other = refl }
+begun_alike e f prompts.Off Replacing pasted = record { lasts = refl; deeds = []; first = refl; other = refl }
+begun_alike e f prompts.Line search_state pasted = record { lasts = refl; deeds = []; first = refl; other = refl }
+begun_alike e f prompts.Name search_state pasted = record { lasts = refl; deeds = []; first = refl; other = refl }
+begun_alike e f prompts.Code search_state pasted = record { lasts = refl; deeds = []; first = refl; other = refl }
 
 -- deeds after deeds
 deeds_on : (one more : List Deed) (w : Work) → after_deeds (one ++ more) w ≡ after_deeds more (after_deeds one w)
@@ -197,7 +197,7 @@ key_alike d fault e f =
     (λ height width other. record { lasts = refl; deeds = []; first = refl; other = refl })
     (λ notice other. record { lasts = refl; deeds = []; first = refl; other = refl }) (
       λ other.
-          going_on typings.Paste e (paste_begun e.ask e.seek e.pasted e) g (paste_begun e.ask e.seek e.pasted g) (begun_alike e f e.ask e.seek e.pasted),
+          going_on typings.Paste e (paste_begun e.prompt e.search_state e.pasted e) g (paste_begun e.prompt e.search_state e.pasted g) (begun_alike e f e.prompt e.search_state e.pasted),
       λ other. going_on typings.Off e (paste_ended d e) g (paste_ended d g) (ended_alike d e f),
     )
     (λ key small other. subst (Alike e (after_press d fault e.pasted e key) g) (sym (pressed-key d None g key small)) (press_alike d fault e f key e.pasted other))

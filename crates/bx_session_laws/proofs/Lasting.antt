@@ -29,13 +29,13 @@ pub record Lasting : Type 0 where
   pub soft : Soft
   pub held : List ℕ
   pub query : List ℕ
-  pub seek : SearchState
-  pub aim : SearchPurpose
+  pub search_state : SearchState
+  pub purpose : SearchPurpose
   pub origin : ℕ
   pub replacement : List ℕ
   pub at : ℕ
   pub count : ℕ
-  pub ask : Prompt
+  pub prompt : Prompt
   pub answer : List ℕ
   pub pasted : Option (List ℕ)
   pub typing : Typing
@@ -53,13 +53,13 @@ lasting e = record {
   soft = e.soft;
   held = e.held;
   query = e.query;
-  seek = e.seek;
-  aim = e.aim;
+  search_state = e.search_state;
+  purpose = e.purpose;
   origin = e.origin;
   replacement = e.replacement;
   at = e.at;
   count = e.count;
-  ask = e.ask;
+  prompt = e.prompt;
   answer = e.answer;
   pasted = e.pasted;
   typing = e.typing;
@@ -79,13 +79,13 @@ having l e = record e {
   soft = l.soft;
   held = l.held;
   query = l.query;
-  seek = l.seek;
-  aim = l.aim;
+  search_state = l.search_state;
+  purpose = l.purpose;
   origin = l.origin;
   replacement = l.replacement;
   at = l.at;
   count = l.count;
-  ask = l.ask;
+  prompt = l.prompt;
   answer = l.answer;
   pasted = l.pasted;
   typing = l.typing;

@@ -140,20 +140,20 @@ is_fed = (
   storing [],
   refl,
   (None, refl, (refl, refl)),
-  (λ asks. tt),
+  (λ prompts. tt),
   (
     of_x (0x61 ∷ 0x13 ∷ []),
     storing (codes "ax"),
     refl,
     (None, refl, (refl, refl)),
-    (λ asks. tt),
+    (λ prompts. tt),
     (
       of_x (0x61 ∷ 0x13 ∷ 0x62 ∷ []),
       storing (codes "ax"),
       refl,
       (None, refl, (refl, refl)),
-      (λ asks. tt),
-      (of_x (0x61 ∷ 0x13 ∷ 0x62 ∷ 0x1a ∷ []), storing (codes "ax"), refl, (None, refl, (refl, refl)), (λ asks. tt), (refl, refl)),
+      (λ prompts. tt),
+      (of_x (0x61 ∷ 0x13 ∷ 0x62 ∷ 0x1a ∷ []), storing (codes "ax"), refl, (None, refl, (refl, refl)), (λ prompts. tt), (refl, refl)),
     ),
   ),
 )
@@ -234,7 +234,7 @@ replay_of bytes = unpainted_at tables (record over_ab { journal = bytes })
 
 -- before any key
 settled : IsSettled (after_replaying tables (at_offset tables over_ab) over_ab.journal).editor
-settled = record { seek = refl; ask = refl; pasted = refl; typing = refl; stored = λ h. absurd (cc h) }
+settled = record { search_state = refl; prompt = refl; pasted = refl; typing = refl; stored = λ h. absurd (cc h) }
 
 module _ {J : Type 0} (contents : J → Option (List ℕ)) (failures : J → ℕ) (law : JournalsGiveBack contents failures) (new : Session)
     (store store' : StoreState) (writer writer' : Option (List ℕ)) (journal journal' : RecorderState J) where

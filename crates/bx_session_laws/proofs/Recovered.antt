@@ -11,12 +11,12 @@ use Rattle.bx_keys.specs.Waiting.{head_of}
 use Rattle.bx_store.specs.declared.store.StoreFault.{StoreFault}
 use Rattle.bx_ucd.specs.Data.{Data}
 use Rattle.bx_editor.specs.declared.questions.answers.Prompt.{Prompt}
-use Rattle.bx_editor.specs.declared.questions.answers.Prompt.TheVariants as asks
+use Rattle.bx_editor.specs.declared.questions.answers.Prompt.TheVariants as prompts
 use Rattle.bx_editor.specs.declared.undo_groups.typing.Typing.TheVariants as typings
 use Rattle.bx_editor.specs.declared.message.Message.TheVariants.{Unsaved}
 use Rattle.bx_editor.specs.declared.search_state.SearchState.{SearchState}
 use Rattle.bx_editor.specs.declared.search_state.SearchState.TheVariants.{Off}
-use Rattle.bx_editor.specs.Asking.{without_ask}
+use Rattle.bx_editor.specs.Asking.{without_prompt}
 use Rattle.bx_editor.specs.Editor.{Editor, after_save, cleared}
 use Rattle.bx_editor.specs.Effects.{before}
 use Rattle.bx_editor.specs.Keys.{after_any, after_key}
@@ -50,7 +50,7 @@ abbrev pub Points : ℕ → ℕ → Key → Type 0
 Points top other key = (is_point key ≡ false) ⊎ (other ≡ top)
 
 save_lasts : (e : Editor) (fault : Option StoreFault)
-    → lasting (behind (without_ask (without_search (after_save (cleared e) fault)))) ≡ lasting (after_passed_save e)
+    → lasting (behind (without_prompt (without_search (after_save (cleared e) fault)))) ≡ lasting (after_passed_save e)
 save_lasts e None = refl
 save_lasts e (Some fault) = refl
 
@@ -61,7 +61,7 @@ save_alike d fault e f one =
     let x : Editor = paste_ended d e in
     let still : HasOnePrompt x = keeps-one-prompt d None e keys.PasteEnd one in
     sym (ap lasting (save_ahead d fault e)) ∙ ap lasting (save-ends d fault x (over d e) still) ∙ save_lasts x fault
-    ∙ ap (λ (l : Lasting). record l { seek = Off; ask = asks.Off; typing = typings.Off; soft = aged l.soft; goal = None }) (ended_alike d e f).lasts
+    ∙ ap (λ (l : Lasting). record l { search_state = Off; prompt = prompts.Off; typing = typings.Off; soft = aged l.soft; goal = None }) (ended_alike d e f).lasts
 
 quit_by : (ends : Bool) (e : Editor)
     → lasting (behind (if ends then record e { quit_before = true; ended = true } else record e { quit_before = true; message = Some Unsaved }))
@@ -71,46 +71,46 @@ quit_by false e = refl
 
 -- what a Quit of a replay leaves, once it has ended a paste, by the states of question and search
 abbrev quit_left : Data → Prompt → SearchState → Editor → Editor
-quit_left d asks.Off Off e = after_passed_quit e
-quit_left d ask seek e = behind (after_any d None (before e) ask seek (cleared e) Quit)
+quit_left d prompts.Off Off e = after_passed_quit e
+quit_left d prompt search_state e = behind (after_any d None (before e) prompt search_state (cleared e) Quit)
 
-replayed_quit : (d : Data) (ask : Prompt) (seek : SearchState) (e : Editor) → (paste_ended d e).ask ≡ ask → (paste_ended d e).seek ≡ seek
-    → after_replayed d ask seek e Quit ≡ quit_left d ask seek (paste_ended d e)
-replayed_quit d asks.Off Off e asked is = refl
-replayed_quit d asks.Off seek e asked is =
+replayed_quit : (d : Data) (prompt : Prompt) (search_state : SearchState) (e : Editor) → (paste_ended d e).prompt ≡ prompt → (paste_ended d e).search_state ≡ search_state
+    → after_replayed d prompt search_state e Quit ≡ quit_left d prompt search_state (paste_ended d e)
+replayed_quit d prompts.Off Off e asked is = refl
+replayed_quit d prompts.Off search_state e asked is =
     quit_user d None e ∙ ap₂ (λ (a : Prompt) (s : SearchState). behind (after_any d None (before (paste_ended d e)) a s (cleared (paste_ended d e)) Quit)) asked is
-replayed_quit d ask seek e asked is =
+replayed_quit d prompt search_state e asked is =
     quit_user d None e ∙ ap₂ (λ (a : Prompt) (s : SearchState). behind (after_any d None (before (paste_ended d e)) a s (cleared (paste_ended d e)) Quit)) asked is
 
 -- where the same lasts, one editor has all of the other's
 own : (e f : Editor) → lasting e ≡ lasting f → having (lasting e) f ≡ f
 own e f same = ap (λ l. having l f) same
 
-quit_lasts : (d : Data) (fault : Option StoreFault) (ask : Prompt) (seek : SearchState) (e f : Editor) → lasting e ≡ lasting f
-    → lasting (behind (after_any d fault (before e) ask seek (cleared e) Quit)) ≡ lasting (quit_left d ask seek f)
-quit_lasts d fault asks.Off Off e f same =
+quit_lasts : (d : Data) (fault : Option StoreFault) (prompt : Prompt) (search_state : SearchState) (e f : Editor) → lasting e ≡ lasting f
+    → lasting (behind (after_any d fault (before e) prompt search_state (cleared e) Quit)) ≡ lasting (quit_left d prompt search_state f)
+quit_lasts d fault prompts.Off Off e f same =
     quit_by (not e.changed || e.quit_before) (cleared e)
     ∙ ap (λ (l : Lasting). record l { typing = typings.Off; soft = aged l.soft; goal = None }) same
-quit_lasts d fault asks.Off seek e f same = ap (λ x. lasting (quit_left d asks.Off seek x)) (own e f same)
-quit_lasts d fault ask seek e f same = ap (λ x. lasting (quit_left d ask seek x)) (own e f same)
+quit_lasts d fault prompts.Off search_state e f same = ap (λ x. lasting (quit_left d prompts.Off search_state x)) (own e f same)
+quit_lasts d fault prompt search_state e f same = ap (λ x. lasting (quit_left d prompt search_state x)) (own e f same)
 
 quit_alike : (d : Data) (fault : Option StoreFault) (e f : Editor) → let g = having (lasting e) f in
-    let over_g = paste_ended d g in lasting (after_key d fault e Quit) ≡ lasting (after_replayed d over_g.ask over_g.seek g Quit)
+    let over_g = paste_ended d g in lasting (after_key d fault e Quit) ≡ lasting (after_replayed d over_g.prompt over_g.search_state g Quit)
 quit_alike d fault e f =
     let g = having (lasting e) f in
     let x : Editor = paste_ended d e in
     let y : Editor = paste_ended d g in
     let same = (ended_alike d e f).lasts in
-    ap lasting (quit_user d fault e) ∙ quit_lasts d fault x.ask x.seek x y same
-    ∙ ap (λ (l : Lasting). lasting (quit_left d l.ask l.seek y)) same
-    ∙ ap lasting (sym (replayed_quit d y.ask y.seek g refl refl))
+    ap lasting (quit_user d fault e) ∙ quit_lasts d fault x.prompt x.search_state x y same
+    ∙ ap (λ (l : Lasting). lasting (quit_left d l.prompt l.search_state y)) same
+    ∙ ap lasting (sym (replayed_quit d y.prompt y.search_state g refl refl))
 
 key_lasts : (d : Data) (fault : Option StoreFault) (e f : Editor) (key : Key) → HasOnePrompt e → Points e.top f.top key
     → lasting (after_key d fault e key) ≡ lasting (replayed_on d (having (lasting e) f) key)
 key_lasts d fault e f key one =
     let g = having (lasting e) f in
     let y : Editor = paste_ended d g in
-    each-replayed d y.ask y.seek g (λ k new. Points e.top f.top k → lasting (after_key d fault e k) ≡ lasting new)
+    each-replayed d y.prompt y.search_state g (λ k new. Points e.top f.top k → lasting (after_key d fault e k) ≡ lasting new)
     (λ points. save_alike d fault e f one) (λ points. quit_alike d fault e f)
     (λ k other points. (key_alike d fault e f k (other, points)).lasts) key
 

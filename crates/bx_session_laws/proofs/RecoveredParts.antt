@@ -5,7 +5,7 @@ use Rattle.bx_keys.specs.declared.key.Key.{Key}
 use Rattle.bx_keys.specs.declared.key.Key.TheVariants as keys
 use Rattle.bx_ucd.specs.Data.{Data}
 use Rattle.bx_editor.specs.declared.questions.answers.Prompt.{Prompt}
-use Rattle.bx_editor.specs.declared.questions.answers.Prompt.TheVariants as asks
+use Rattle.bx_editor.specs.declared.questions.answers.Prompt.TheVariants as prompts
 use Rattle.bx_editor.specs.declared.undo_groups.typing.Typing.{Typing}
 use Rattle.bx_editor.specs.declared.undo_groups.typing.Typing.TheVariants as typings
 use Rattle.bx_editor.specs.Editor.{Editor}
@@ -35,16 +35,16 @@ use Rattle.bx_session_laws.proofs.TopsKept.{ended_top}
 -- ---- for each part
 
 same_lasts : (e f : Editor) → f.content ≡ e.content → f.undo_groups ≡ e.undo_groups → f.place ≡ e.place → f.mark ≡ e.mark → f.soft ≡ e.soft → f.held ≡ e.held → f.query ≡ e.query
-    → f.seek ≡ e.seek → f.aim ≡ e.aim → f.origin ≡ e.origin → f.replacement ≡ e.replacement → f.at ≡ e.at → f.count ≡ e.count
-    → f.ask ≡ e.ask → f.answer ≡ e.answer → f.pasted ≡ e.pasted → f.typing ≡ e.typing
+    → f.search_state ≡ e.search_state → f.purpose ≡ e.purpose → f.origin ≡ e.origin → f.replacement ≡ e.replacement → f.at ≡ e.at → f.count ≡ e.count
+    → f.prompt ≡ e.prompt → f.answer ≡ e.answer → f.pasted ≡ e.pasted → f.typing ≡ e.typing
     → f.base ≡ e.base → f.goal ≡ e.goal → f.height ≡ e.height → f.width ≡ e.width → lasting e ≡ lasting f
-same_lasts e f content runs place mark soft held query seek aim origin other at count ask answer pasted typing base goal height width =
+same_lasts e f content runs place mark soft held query search_state purpose origin other at count prompt answer pasted typing base goal height width =
     let was = lasting e in
     let placed : Lasting = record was { content = f.content; undo_groups = f.undo_groups; place = f.place } in
     let filled : Lasting = record placed { mark = f.mark; soft = f.soft; held = f.held; query = f.query } in
-    let began : Lasting = record filled { seek = f.seek; aim = f.aim; origin = f.origin } in
+    let began : Lasting = record filled { search_state = f.search_state; purpose = f.purpose; origin = f.origin } in
     let searched : Lasting = record began { replacement = f.replacement; at = f.at; count = f.count } in
-    let sought : Lasting = record searched { ask = f.ask; answer = f.answer; pasted = f.pasted; typing = f.typing } in
+    let sought : Lasting = record searched { prompt = f.prompt; answer = f.answer; pasted = f.pasted; typing = f.typing } in
     ap (λ x. record was { content = x }) (sym content)
     ∙ ap (λ x. record was { content = f.content; undo_groups = x }) (sym runs)
     ∙ ap (λ x. record was { content = f.content; undo_groups = f.undo_groups; place = x }) (sym place)
@@ -52,16 +52,16 @@ same_lasts e f content runs place mark soft held query seek aim origin other at 
     ∙ ap (λ x. record placed { mark = f.mark; soft = x }) (sym soft)
     ∙ ap (λ x. record placed { mark = f.mark; soft = f.soft; held = x }) (sym held)
     ∙ ap (λ x. record placed { mark = f.mark; soft = f.soft; held = f.held; query = x }) (sym query)
-    ∙ ap (λ x. record filled { seek = x }) (sym seek)
-    ∙ ap (λ x. record filled { seek = f.seek; aim = x }) (sym aim)
-    ∙ ap (λ x. record filled { seek = f.seek; aim = f.aim; origin = x }) (sym origin)
+    ∙ ap (λ x. record filled { search_state = x }) (sym search_state)
+    ∙ ap (λ x. record filled { search_state = f.search_state; purpose = x }) (sym purpose)
+    ∙ ap (λ x. record filled { search_state = f.search_state; purpose = f.purpose; origin = x }) (sym origin)
     ∙ ap (λ x. record began { replacement = x }) (sym other)
     ∙ ap (λ x. record began { replacement = f.replacement; at = x }) (sym at)
     ∙ ap (λ x. record began { replacement = f.replacement; at = f.at; count = x }) (sym count)
-    ∙ ap (λ x. record searched { ask = x }) (sym ask)
-    ∙ ap (λ x. record searched { ask = f.ask; answer = x }) (sym answer)
-    ∙ ap (λ x. record searched { ask = f.ask; answer = f.answer; pasted = x }) (sym pasted)
-    ∙ ap (λ x. record searched { ask = f.ask; answer = f.answer; pasted = f.pasted; typing = x }) (sym typing)
+    ∙ ap (λ x. record searched { prompt = x }) (sym prompt)
+    ∙ ap (λ x. record searched { prompt = f.prompt; answer = x }) (sym answer)
+    ∙ ap (λ x. record searched { prompt = f.prompt; answer = f.answer; pasted = x }) (sym pasted)
+    ∙ ap (λ x. record searched { prompt = f.prompt; answer = f.answer; pasted = f.pasted; typing = x }) (sym typing)
     ∙ ap (λ x. record sought { base = x }) (sym base)
     ∙ ap (λ x. record sought { base = f.base; goal = x }) (sym goal)
     ∙ ap (λ x. record sought { base = f.base; goal = f.goal; height = x }) (sym height)
@@ -70,7 +70,7 @@ same_lasts e f content runs place mark soft held query seek aim origin other at 
 follows : (s r : Session) → HasBackMidway s r → Follows s r
 follows s r h =
     let p = h.parts in record {
-      lasts = same_lasts s.editor r.editor p.content p.undo_groups p.place p.mark p.soft p.held p.query h.seek p.aim h.origin p.replacement h.at h.count h.ask h.answer p.pasted h.typing p.base p.goal p.height p.width;
+      lasts = same_lasts s.editor r.editor p.content p.undo_groups p.place p.mark p.soft p.held p.query h.search_state p.purpose h.origin p.replacement h.at h.count h.prompt h.answer p.pasted h.typing p.base p.goal p.height p.width;
       rest_is = sym p.rest;
       goes_on = p.goes_on;
       one = h.one;
@@ -86,7 +86,7 @@ has_back s r h = record {
     soft = ap (λ (l : Lasting). l.soft) (sym h.lasts);
     held = ap (λ (l : Lasting). l.held) (sym h.lasts);
     query = ap (λ (l : Lasting). l.query) (sym h.lasts);
-    aim = ap (λ (l : Lasting). l.aim) (sym h.lasts);
+    purpose = ap (λ (l : Lasting). l.purpose) (sym h.lasts);
     replacement = ap (λ (l : Lasting). l.replacement) (sym h.lasts);
     pasted = ap (λ (l : Lasting). l.pasted) (sym h.lasts);
     base = ap (λ (l : Lasting). l.base) (sym h.lasts);
@@ -96,11 +96,11 @@ has_back s r h = record {
     rest = sym h.rest_is;
     goes_on = h.goes_on;
   };
-  seek = ap (λ (l : Lasting). l.seek) (sym h.lasts);
+  search_state = ap (λ (l : Lasting). l.search_state) (sym h.lasts);
   origin = ap (λ (l : Lasting). l.origin) (sym h.lasts);
   at = ap (λ (l : Lasting). l.at) (sym h.lasts);
   count = ap (λ (l : Lasting). l.count) (sym h.lasts);
-  ask = ap (λ (l : Lasting). l.ask) (sym h.lasts);
+  prompt = ap (λ (l : Lasting). l.prompt) (sym h.lasts);
   answer = ap (λ (l : Lasting). l.answer) (sym h.lasts);
   one = h.one;
   typing = ap (λ (l : Lasting). l.typing) (sym h.lasts);
@@ -126,7 +126,7 @@ ended_back d s r h =
       soft = ap (λ (l : Lasting). l.soft) same;
       held = ap (λ (l : Lasting). l.held) same;
       query = ap (λ (l : Lasting). l.query) same;
-      aim = ap (λ (l : Lasting). l.aim) same;
+      purpose = ap (λ (l : Lasting). l.purpose) same;
       replacement = ap (λ (l : Lasting). l.replacement) same;
       pasted = ap (λ (l : Lasting). l.pasted) same;
       base = ap (λ (l : Lasting). l.base) same;
@@ -141,28 +141,28 @@ ended_back d s r h =
 
 settled_at : (d : Data) (text : List ℕ) (height width : ℕ) (base : Base) (clipboard : Bool) (offset : Option ℕ) (unsaved : Bool)
     → IsSettled (changed_if unsaved (after_going_to d (clipboard_if clipboard (at_opening d text height width base)) offset)).editor
-settled_at d text height width base true None true = record { seek = refl; ask = refl; pasted = refl; typing = refl; stored = λ h. refl }
-settled_at d text height width base true None false = record { seek = refl; ask = refl; pasted = refl; typing = refl; stored = λ h. absurd (cc h) }
-settled_at d text height width base true (Some offset) true = record { seek = refl; ask = refl; pasted = refl; typing = refl; stored = λ h. refl }
+settled_at d text height width base true None true = record { search_state = refl; prompt = refl; pasted = refl; typing = refl; stored = λ h. refl }
+settled_at d text height width base true None false = record { search_state = refl; prompt = refl; pasted = refl; typing = refl; stored = λ h. absurd (cc h) }
+settled_at d text height width base true (Some offset) true = record { search_state = refl; prompt = refl; pasted = refl; typing = refl; stored = λ h. refl }
 settled_at d text height width base true (Some offset) false =
-    record { seek = refl; ask = refl; pasted = refl; typing = refl; stored = λ h. absurd (cc h) }
-settled_at d text height width base false None true = record { seek = refl; ask = refl; pasted = refl; typing = refl; stored = λ h. refl }
-settled_at d text height width base false None false = record { seek = refl; ask = refl; pasted = refl; typing = refl; stored = λ h. absurd (cc h) }
-settled_at d text height width base false (Some offset) true = record { seek = refl; ask = refl; pasted = refl; typing = refl; stored = λ h. refl }
+    record { search_state = refl; prompt = refl; pasted = refl; typing = refl; stored = λ h. absurd (cc h) }
+settled_at d text height width base false None true = record { search_state = refl; prompt = refl; pasted = refl; typing = refl; stored = λ h. refl }
+settled_at d text height width base false None false = record { search_state = refl; prompt = refl; pasted = refl; typing = refl; stored = λ h. absurd (cc h) }
+settled_at d text height width base false (Some offset) true = record { search_state = refl; prompt = refl; pasted = refl; typing = refl; stored = λ h. refl }
 settled_at d text height width base false (Some offset) false =
-    record { seek = refl; ask = refl; pasted = refl; typing = refl; stored = λ h. absurd (cc h) }
+    record { search_state = refl; prompt = refl; pasted = refl; typing = refl; stored = λ h. absurd (cc h) }
 
 save_settles : (d : Data) (s : Session) (byte : ℕ) → key_of_byte s byte ≡ Some keys.Save → IsSettled (after_replay d s byte).editor
 save_settles d s byte is =
     subst (λ (key : Option Key). IsSettled (with_painting_owed (after_replayed_key d (after_spending s byte) key)).editor) (sym is)
-    (record { seek = refl; ask = refl; pasted = over d (scrolled d (after_spending s byte).editor); typing = refl; stored = λ h. refl })
+    (record { search_state = refl; prompt = refl; pasted = over d (scrolled d (after_spending s byte).editor); typing = refl; stored = λ h. refl })
 
 -- where a journal leaves the editor settled, the end of the replay and the painting make no difference
 end_lasts : (e : Editor) → IsSettled e → lasting (replay.at_replay_end e) ≡ lasting e
 end_lasts e settled =
     let was = lasting e in
-    ap (λ (seek : SearchState). record was { seek = seek; ask = asks.Off; typing = typings.Off }) (sym settled.seek)
-    ∙ ap (λ (ask : Prompt). record was { ask = ask; typing = typings.Off }) (sym settled.ask)
+    ap (λ (search_state : SearchState). record was { search_state = search_state; prompt = prompts.Off; typing = typings.Off }) (sym settled.search_state)
+    ∙ ap (λ (prompt : Prompt). record was { prompt = prompt; typing = typings.Off }) (sym settled.prompt)
     ∙ ap (λ (typing : Typing). record was { typing = typing }) (sym settled.typing)
 
 settled_lasts : (d : Data) (e : Editor) → IsSettled e → lasting (replay.at_replay_end (paste_ended d e)) ≡ lasting e

@@ -61,7 +61,7 @@ matches_alike d e f stop new n =
 
 ended_alike : (e new f new' : Editor) → Alike e new f new' → Alike e (after_ending new) f (after_ending new')
 ended_alike e new f new' h = record {
-  lasts = ap (λ (l : Lasting). record l { seek = Off }) h.lasts;
+  lasts = ap (λ (l : Lasting). record l { search_state = Off }) h.lasts;
   deeds = h.deeds;
   first = h.first;
   other = h.other;
@@ -70,7 +70,7 @@ ended_alike e new f new' h = record {
 at_alike : (d : Data) (at : Option ℕ) (e new f new' : Editor) → Alike e new f new' → Alike e (at_match d new at) f (at_match d new' at)
 at_alike d None e new f new' h = ended_alike e new f new' h
 at_alike d (Some at) e new f new' h = record {
-  lasts = ap (λ (l : Lasting). record l { seek = Replacing; at = at; place = place_at (text_rows d l.base l.width l.content.text) at }) h.lasts;
+  lasts = ap (λ (l : Lasting). record l { search_state = Replacing; at = at; place = place_at (text_rows d l.base l.width l.content.text) at }) h.lasts;
   deeds = h.deeds;
   first = h.first;
   other = h.other;
@@ -125,15 +125,15 @@ shown_alike e f None = same e f
 shown_alike e f (Some at) = record { lasts = refl; deeds = []; first = refl; other = refl }
 
 asked_alike : (e f : Editor) (landing : Landing) (place : Option ℕ) → let g = having (lasting e) f in
-    Alike e (asked_at place (landed (record e { aim = Replace }) landing)) g (asked_at place (landed (record g { aim = Replace }) landing))
+    Alike e (asked_at place (landed (record e { purpose = Replace }) landing)) g (asked_at place (landed (record g { purpose = Replace }) landing))
 asked_alike e f landing None = record { lasts = refl; deeds = []; first = refl; other = refl }
 asked_alike e f landing (Some place) = record { lasts = refl; deeds = []; first = refl; other = refl }
 
 pub asking_alike : (d : Data) (e f : Editor) → Alike e (after_asking_replacement d e) (having (lasting e) f) (after_asking_replacement d (having (lasting e) f))
 asking_alike d e f =
     let g = having (lasting e) f in
-    let aimed : Editor = record e { aim = Replace } in
-    let aimed' : Editor = record g { aim = Replace } in
+    let aimed : Editor = record e { purpose = Replace } in
+    let aimed' : Editor = record g { purpose = Replace } in
     let landing = landing_from d e.place aimed in
     either_alike (length (sought d aimed) == 0) e aimed (asked_at landing.place (landed aimed landing)) g aimed'
     (asked_at landing.place (landed aimed' landing)) (idle e aimed g aimed' refl refl refl) (asked_alike e f landing landing.place)
@@ -148,7 +148,7 @@ replacement_letter_alike : (d : Data) (typing : Typing) (e f : Editor) (c : ℕ)
     → Alike e (after_replacement_letter d typing e c) (having (lasting e) f) (after_replacement_letter d typing (having (lasting e) f) c)
 replacement_letter_alike d typing e f c =
     let g = having (lasting e) f in
-    let longer : Editor → Editor = λ x. with_replacement x (lengthened longest_query (kept x.seek x.replacement) c) in
+    let longer : Editor → Editor = λ x. with_replacement x (lengthened longest_query (kept x.search_state x.replacement) c) in
     either_alike (c == 0xA) e (if is_paste typing then e else after_showing d e) (replacement_typed d e c) g
     (if is_paste typing then g else after_showing d g) (replacement_typed d g c)
     (either_alike (is_paste typing) e e (after_showing d e) g g (after_showing d g) (same e f) (shown_alike e f (next_match d e e.place)))

@@ -9,7 +9,7 @@ use Rattle.unicode_width.proofs.Computing.{unicode_width}
 use Rattle.bx_editor.specs.declared.undo_groups.typing.Typing.{Typing}
 use Rattle.bx_editor.specs.declared.undo_groups.typing.Typing.TheVariants as typings
 use Rattle.bx_editor.specs.declared.questions.answers.Prompt.{Prompt}
-use Rattle.bx_editor.specs.declared.questions.answers.Prompt.TheVariants as asks
+use Rattle.bx_editor.specs.declared.questions.answers.Prompt.TheVariants as prompts
 use Rattle.bx_editor.specs.declared.search_state.SearchState.{SearchState}
 use Rattle.bx_editor.specs.declared.search_state.SearchState.TheVariants.{Off}
 use Rattle.bx_editor.specs.declared.cursor.Soft.{Soft}
@@ -33,7 +33,7 @@ abbrev replayed : List ℕ → Editor
 replayed bytes = (over (codes "abc") bytes).editor
 
 abbrev left : List ℕ → List ℕ × ℕ × SearchState
-left bytes = let e = replayed bytes in (e.content.text, e.place, e.seek)
+left bytes = let e = replayed bytes in (e.content.text, e.place, e.search_state)
 
 -- Find and c
 abbrev finding_c : List ℕ
@@ -74,25 +74,25 @@ coding_a = csi (codes "86~") ++ codes "u61"
 
 -- text, place and question
 abbrev asked : List ℕ → List ℕ × ℕ × Prompt
-asked bytes = let e = (over (codes "a\nb") bytes).editor in (e.content.text, e.place, e.ask)
+asked bytes = let e = (over (codes "a\nb") bytes).editor in (e.content.text, e.place, e.prompt)
 
-pub an_open_question_is_closed : asked going_to_2 ≡ (codes "a\nb", 0, asks.Off)
+pub an_open_question_is_closed : asked going_to_2 ≡ (codes "a\nb", 0, prompts.Off)
 unfolding unicode_segmentation unicode_width digits
 an_open_question_is_closed = refl
 
-pub an_answered_one_has_gone : asked (going_to_2 ++ 0xA ∷ codes "x") ≡ (codes "a\nxb", 3, asks.Off)
+pub an_answered_one_has_gone : asked (going_to_2 ++ 0xA ∷ codes "x") ≡ (codes "a\nxb", 3, prompts.Off)
 unfolding unicode_segmentation unicode_width digits
 an_answered_one_has_gone = refl
 
-pub a_quit_gives_a_question_up : asked (going_to_2 ++ 0x11 ∷ 0xA ∷ []) ≡ (codes "\na\nb", 1, asks.Off)
+pub a_quit_gives_a_question_up : asked (going_to_2 ++ 0x11 ∷ 0xA ∷ []) ≡ (codes "\na\nb", 1, prompts.Off)
 unfolding unicode_segmentation unicode_width digits
 a_quit_gives_a_question_up = refl
 
-pub a_save_ends_a_question : asked (going_to_2 ++ 0x13 ∷ 0xA ∷ []) ≡ (codes "\na\nb", 1, asks.Off)
+pub a_save_ends_a_question : asked (going_to_2 ++ 0x13 ∷ 0xA ∷ []) ≡ (codes "\na\nb", 1, prompts.Off)
 unfolding unicode_segmentation unicode_width digits
 a_save_ends_a_question = refl
 
-pub a_code_puts_its_character_in : asked (coding_a ++ 0xA ∷ []) ≡ (codes "aa\nb", 1, asks.Off)
+pub a_code_puts_its_character_in : asked (coding_a ++ 0xA ∷ []) ≡ (codes "aa\nb", 1, prompts.Off)
 unfolding unicode_segmentation unicode_width digits
 a_code_puts_its_character_in = refl
 

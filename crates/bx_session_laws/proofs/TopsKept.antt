@@ -6,11 +6,11 @@ use Rattle.bx_keys.specs.declared.key.Key.TheVariants.{Quit}
 use Rattle.bx_store.specs.declared.store.StoreFault.{StoreFault}
 use Rattle.bx_ucd.specs.Data.{Data}
 use Rattle.bx_editor.specs.declared.questions.answers.Prompt.{Prompt}
-use Rattle.bx_editor.specs.declared.questions.answers.Prompt.TheVariants as asks
-use Rattle.bx_editor.specs.declared.search_state.SearchPurpose.TheVariants as aims
+use Rattle.bx_editor.specs.declared.questions.answers.Prompt.TheVariants as prompts
+use Rattle.bx_editor.specs.declared.search_state.SearchPurpose.TheVariants as purposes
 use Rattle.bx_editor.specs.declared.search_state.SearchState.{SearchState}
 use Rattle.bx_editor.specs.declared.search_state.SearchState.TheVariants.{Off, Begun, Typed, WithBegun, WithTyped, Replacing}
-use Rattle.bx_editor.specs.Asking.{without_ask}
+use Rattle.bx_editor.specs.Asking.{without_prompt}
 use Rattle.bx_editor.specs.Editor.{Editor, after_save, cleared, with_exchange}
 use Rattle.bx_editor.specs.Effects.{Effect, Seeks, SeeksNext, AsksLine, AsksName, Before, before, by}
 use Rattle.bx_editor.specs.Keys.{after_any, after_asking, after_key, after_seeking, after_user, answer_of, answered_match, answered_replacement, effect_of}
@@ -51,13 +51,13 @@ module _ (top : ℕ) where
 
   -- another search begins, or ends at once
   next : (d : Data) (e : Editor) (none : Bool) → IsTop e → let free = unselected e in
-      IsTop (if none then after_beginning aims.Find free else search_from d (next_or_start d free) (record free { seek = Off; aim = aims.Find }))
+      IsTop (if none then after_beginning purposes.Find free else search_from d (next_or_start d free) (record free { search_state = Off; purpose = purposes.Find }))
   next d e true h = h
   next d e false h = h
 
   begins : (d : Data) (fault : Option StoreFault) (was : Before) (e : Editor) (one : Effect) → IsTop e → kept_by.asks_or_seeks one ≡ true
       → IsTop (by d fault was e one)
-  begins d fault was e (Seeks aim) h is = h
+  begins d fault was e (Seeks purpose) h is = h
   begins d fault was e SeeksNext h is = next d e (length (sought d (unselected e)) == 0) h
   begins d fault was e AsksLine h is = h
   begins d fault was e AsksName h is = h
@@ -74,7 +74,7 @@ module _ (top : ℕ) where
     placed = λ e place h. h;
     typed = λ e typing h. h;
     begun = λ e h. h;
-    sought = λ e seek aim origin query other at count h. h;
+    sought = λ e search_state purpose origin query other at count h. h;
   }
 
   query : (d : Data) (fault : Option StoreFault) (was : Before) (e : Editor) (key : Key) → IsTop e → IsTop (after_seeking d fault was e key)
@@ -99,28 +99,28 @@ module _ (top : ℕ) where
     told = λ e message h. h;
     placed = λ e place h. h;
     typed = λ e typing h. h;
-    asked = λ e ask answer h. h;
+    asked = λ e prompt answer h. h;
   }
 
   question : (d : Data) (fault : Option StoreFault) (was : Before) (e : Editor) (key : Key) → IsTop e → IsTop (after_asking d fault was e key)
   question d fault was e key h =
-      let free = without_ask e in
+      let free = without_prompt e in
       questions.question-keeps d IsTop (answering d) fault was e key (answer_of key) h (effect d fault was free (effect_of d free key) h)
 
-  any : (d : Data) (fault : Option StoreFault) (was : Before) (ask : Prompt) (seek : SearchState) (e : Editor) (key : Key) → IsTop e
-      → IsTop (after_any d fault was ask seek e key)
-  any d fault was asks.Off Off e key h = effect d fault was e (effect_of d e key) h
-  any d fault was asks.Off Begun e key h = query d fault was e key h
-  any d fault was asks.Off Typed e key h = query d fault was e key h
-  any d fault was asks.Off WithBegun e key h = other d fault was e key h
-  any d fault was asks.Off WithTyped e key h = other d fault was e key h
-  any d fault was asks.Off Replacing e key h = match d fault was e key h
-  any d fault was asks.Line seek e key h = question d fault was e key h
-  any d fault was asks.Name seek e key h = question d fault was e key h
-  any d fault was asks.Code seek e key h = question d fault was e key h
+  any : (d : Data) (fault : Option StoreFault) (was : Before) (prompt : Prompt) (search_state : SearchState) (e : Editor) (key : Key) → IsTop e
+      → IsTop (after_any d fault was prompt search_state e key)
+  any d fault was prompts.Off Off e key h = effect d fault was e (effect_of d e key) h
+  any d fault was prompts.Off Begun e key h = query d fault was e key h
+  any d fault was prompts.Off Typed e key h = query d fault was e key h
+  any d fault was prompts.Off WithBegun e key h = other d fault was e key h
+  any d fault was prompts.Off WithTyped e key h = other d fault was e key h
+  any d fault was prompts.Off Replacing e key h = match d fault was e key h
+  any d fault was prompts.Line search_state e key h = question d fault was e key h
+  any d fault was prompts.Name search_state e key h = question d fault was e key h
+  any d fault was prompts.Code search_state e key h = question d fault was e key h
 
   user : (d : Data) (fault : Option StoreFault) (e : Editor) (key : Key) → IsTop e → IsTop (after_user d fault e key)
-  user d fault e key h = any d fault (before e) e.ask e.seek (cleared e) key h
+  user d fault e key h = any d fault (before e) e.prompt e.search_state (cleared e) key h
 
   -- a paste
   pasting : kept_by.IsKeptPasting IsTop
@@ -142,12 +142,12 @@ pub key_top : (d : Data) (fault : Option StoreFault) (e : Editor) (key : Key) �
 key_top d fault e key = key_keeps e.top d fault e key refl
 
 -- and so it is in a replay
-quit_top : (d : Data) (ask : Prompt) (seek : SearchState) (e : Editor) → (after_replayed d ask seek e Quit).top ≡ e.top
-quit_top d asks.Off Off e = ended_top d e
-quit_top d asks.Off seek e = key_top d None e Quit
-quit_top d ask seek e = key_top d None e Quit
+quit_top : (d : Data) (prompt : Prompt) (search_state : SearchState) (e : Editor) → (after_replayed d prompt search_state e Quit).top ≡ e.top
+quit_top d prompts.Off Off e = ended_top d e
+quit_top d prompts.Off search_state e = key_top d None e Quit
+quit_top d prompt search_state e = key_top d None e Quit
 
 pub replayed_top : (d : Data) (e : Editor) (key : Key) → (replayed_on d e key).top ≡ e.top
 replayed_top d e key =
     let over : Editor = paste_ended d e in
-    each-replayed d over.ask over.seek e (λ k new. new.top ≡ e.top) (ended_top d e) (quit_top d over.ask over.seek e) (λ k other. key_top d None e k) key
+    each-replayed d over.prompt over.search_state e (λ k new. new.top ≡ e.top) (ended_top d e) (quit_top d over.prompt over.search_state e) (λ k other. key_top d None e k) key

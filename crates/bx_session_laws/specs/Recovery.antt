@@ -7,7 +7,7 @@ use Rattle.bx_keys.specs.Waiting.{keys_from}
 use Rattle.bx_keys.specs.declared.key.Key.{Key}
 use Rattle.bx_keys.specs.declared.key.Key.TheVariants.{Point, Save}
 use Rattle.bx_ucd.specs.Data.{Data}
-use Rattle.bx_editor.specs.declared.questions.answers.Prompt.TheVariants as asks
+use Rattle.bx_editor.specs.declared.questions.answers.Prompt.TheVariants as prompts
 use Rattle.bx_editor.specs.declared.undo_groups.typing.Typing.TheVariants as typings
 use Rattle.bx_editor.specs.Editor.{Editor, at_start}
 use Rattle.bx_editor.specs.Functions.{HasRows}
@@ -66,7 +66,7 @@ pub record HasBack (had replayed : Session) : Type 0 where
   pub soft : replayed.editor.soft ≡ had.editor.soft
   pub held : replayed.editor.held ≡ had.editor.held
   pub query : replayed.editor.query ≡ had.editor.query
-  pub aim : replayed.editor.aim ≡ had.editor.aim
+  pub purpose : replayed.editor.purpose ≡ had.editor.purpose
   pub replacement : replayed.editor.replacement ≡ had.editor.replacement
   pub pasted : replayed.editor.pasted ≡ had.editor.pasted
   pub base : replayed.editor.base ≡ had.editor.base
@@ -81,11 +81,11 @@ pub record HasBack (had replayed : Session) : Type 0 where
 -- with.
 pub record HasBackMidway (had replayed : Session) : Type 0 where
   pub parts : HasBack had replayed
-  pub seek : replayed.editor.seek ≡ had.editor.seek
+  pub search_state : replayed.editor.search_state ≡ had.editor.search_state
   pub origin : replayed.editor.origin ≡ had.editor.origin
   pub at : replayed.editor.at ≡ had.editor.at
   pub count : replayed.editor.count ≡ had.editor.count
-  pub ask : replayed.editor.ask ≡ had.editor.ask
+  pub prompt : replayed.editor.prompt ≡ had.editor.prompt
   pub answer : replayed.editor.answer ≡ had.editor.answer
   pub one : HasOnePrompt had.editor
   pub typing : replayed.editor.typing ≡ had.editor.typing
@@ -99,8 +99,8 @@ pub record HasTop (d : Data) (had replayed : Session) : Type 0 where
 -- unchanged: no search is on, nothing is asked, no paste is under way, the next edit begins a run, and no undo leads from a changed
 -- text to a stored one.
 pub record IsSettled (e : Editor) : Type 0 where
-  pub seek : e.seek ≡ Off
-  pub ask : e.ask ≡ asks.Off
+  pub search_state : e.search_state ≡ Off
+  pub prompt : e.prompt ≡ prompts.Off
   pub pasted : e.pasted ≡ None
   pub typing : e.typing ≡ typings.Off
   pub stored : e.changed ≡ true → e.stored ≡ None

@@ -82,31 +82,31 @@ impl View {
     /// other than the text's first, where a CR before it and an LF may join into one separator.
     pub fn edit<D: BidiData>(
         &mut self,
-        source: &TextRef<'_, D>,
+        text_ref: &TextRef<'_, D>,
         start: usize,
         stop: usize,
         new: &str,
     ) -> Result<Option<usize>, OutOfMemory>
-        requires data { IsViewBy source.now self.old }
-        ensures keeps { Keeps source.now self.old self.new }
+        requires data { IsViewBy text_ref.now self.old }
+        ensures keeps { Keeps text_ref.now self.old self.new }
         ensures place { IfOk result (λ found. IfSome found (λ o. o ≡ place_from
-            (rows_by (D.data source.now.tables.now) self.old (splice (bytes source.now) start stop new.now))
+            (rows_by (D.data text_ref.now.tables.now) self.old (splice (bytes text_ref.now) start stop new.now))
             (start + length new.now))) }
         ensures text_place { IfOk result (λ found. IfSome found
-            (IsTextPlace (D.data source.now.tables.now) (splice (bytes source.now) start stop new.now))) }
+            (IsTextPlace (D.data text_ref.now.tables.now) (splice (bytes text_ref.now) start stop new.now))) }
         ensures order { IfOk result (λ found. IfSome found (λ o. start + length new.now ≤ o)) }
     {
-        let span = paragraph_under(source, start);
-        if stop < start || span.stop < stop || has_separator(new, source.tables) {
+        let span = paragraph_under(text_ref, start);
+        if stop < start || span.stop < stop || has_separator(new, text_ref.tables) {
             return Ok(None);
         }
         let first = span.start;
-        let Some(i) = find_in(&self.cache, &mut self.recent, source.text, span) else {
+        let Some(i) = find_in(&self.cache, &mut self.recent, text_ref.text, span) else {
             return Ok(None);
         };
-        lay_out_in(&mut self.cache, i, source.tables, self.base, self.w)?;
+        lay_out_in(&mut self.cache, i, text_ref.tables, self.base, self.w)?;
         let range = start - first..stop - first;
-        let is_edited = edit_in(&mut self.cache, i, range, new, source.tables, self.base)?;
+        let is_edited = edit_in(&mut self.cache, i, range, new, text_ref.tables, self.base)?;
         if !is_edited {
             return Ok(None);
         }
@@ -114,7 +114,7 @@ impl View {
             return Ok(None);
         }
         let offset = start - first + new.len();
-        let place = place_in_body(&self.cache[i], offset, source.tables)?;
+        let place = place_in_body(&self.cache[i], offset, text_ref.tables)?;
         Ok(Some(first + place))
     }
 
@@ -122,17 +122,17 @@ impl View {
     /// is not cached or the range exceeds it. Allocates nothing.
     pub fn cached_range<D: BidiData>(
         &mut self,
-        source: &TextRef<'_, D>,
+        text_ref: &TextRef<'_, D>,
         start: usize,
         stop: usize,
     ) -> Option<CachedRange>
         ensures { self.new ≡ self.old }
     {
-        let span = paragraph_under(source, start);
+        let span = paragraph_under(text_ref, start);
         if stop < start || span.stop < stop {
             return None;
         }
-        let cached = find_in(&self.cache, &mut self.recent, source.text, span)?;
+        let cached = find_in(&self.cache, &mut self.recent, text_ref.text, span)?;
         let range = Range {
             start: start - span.start,
             stop: stop - span.start,

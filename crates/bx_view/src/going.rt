@@ -42,11 +42,11 @@ fn unit_start(body: &str, number: usize) -> usize
 }
 
 /// The number, from 0, of a paragraph by its number from 1, where 0 means 1; the last one, if there are fewer.
-fn paragraph_number<D: BidiData>(source: &TextRef<'_, D>, paragraph: usize) -> usize
-    ensures number { result ≡ min (paragraph - 1) (count source.now - 1) }
-    ensures there { result < count source.now }
+fn paragraph_number<D: BidiData>(text_ref: &TextRef<'_, D>, paragraph: usize) -> usize
+    ensures number { result ≡ min (paragraph - 1) (count text_ref.now - 1) }
+    ensures there { result < count text_ref.now }
 {
-    let last = source.index.count() - 1;
+    let last = text_ref.index.count() - 1;
     paragraph.saturating_sub(1).min(last)
 }
 
@@ -55,19 +55,19 @@ impl View {
     /// paragraph too large it is in the last one, for a unit too large it is the paragraph's end.
     pub fn place_of<D: BidiData>(
         &mut self,
-        source: &TextRef<'_, D>,
+        text_ref: &TextRef<'_, D>,
         paragraph: usize,
         unit: usize,
     ) -> Result<usize, OutOfMemory>
-        requires data { IsViewBy source.now self.old }
-        ensures keeps { Keeps source.now self.old self.new }
-        ensures place { IfOk result (λ o. o ≡ place_of (D.data source.now.tables.now) (bytes source.now) paragraph unit) }
-        ensures text_place { IfOk result (IsTextPlace (D.data source.now.tables.now) (bytes source.now)) }
+        requires data { IsViewBy text_ref.now self.old }
+        ensures keeps { Keeps text_ref.now self.old self.new }
+        ensures place { IfOk result (λ o. o ≡ place_of (D.data text_ref.now.tables.now) (bytes text_ref.now) paragraph unit) }
+        ensures text_place { IfOk result (IsTextPlace (D.data text_ref.now.tables.now) (bytes text_ref.now)) }
     {
-        let number = paragraph_number(source, paragraph);
-        let span = span_of(source, number);
-        let cached = self.find(source, span)?;
-        let body = self.paragraph(source, span.number, cached).body();
+        let number = paragraph_number(text_ref, paragraph);
+        let span = span_of(text_ref, number);
+        let cached = self.find(text_ref, span)?;
+        let body = self.paragraph(text_ref, span.number, cached).body();
         Ok(span.start + unit_start(body, unit.saturating_sub(1)))
     }
 }

@@ -26,32 +26,32 @@ impl View {
     /// Lends a row with its paragraph and tables.
     pub fn row<'t, D: BidiData>(
         &self,
-        source: &TextRef<'t, D>,
+        text_ref: &TextRef<'t, D>,
         at: RowAt,
     ) -> LayoutRowRef<'_, 't, D>
-        requires row { Stands source.now self.now at }
+        requires row { Stands text_ref.now self.now at }
         ensures start { result.start ≡ at.start }
         ensures columns { columns result ≡ self.now.w }
         ensures number { result.number ≡ at.row }
-        ensures tables { result.tables.now ≡ source.now.tables.now }
-        ensures paragraph { IsOfText source.now self.now at.paragraph result.paragraph.now }
-        ensures row { OfRow source.now self.now at (λ r. placed result ≡ r) }
+        ensures tables { result.tables.now ≡ text_ref.now.tables.now }
+        ensures paragraph { IsOfText text_ref.now self.now at.paragraph result.paragraph.now }
+        ensures row { OfRow text_ref.now self.now at (λ r. placed result ≡ r) }
     {
-        let paragraph = self.paragraph(source, at.paragraph, at.cached);
+        let paragraph = self.paragraph(text_ref, at.paragraph, at.cached);
         LayoutRowRef {
             paragraph,
-            tables: source.tables,
+            tables: text_ref.tables,
             number: at.row,
             start: at.start,
         }
     }
 
     /// The offset at which a row begins, in bytes of the text.
-    pub fn first_in<D: BidiData>(&self, source: &TextRef<'_, D>, at: RowAt) -> usize
-        requires row { Stands source.now self.now at }
-        ensures { OfRow source.now self.now at (λ r. result ≡ first r) }
+    pub fn first_in<D: BidiData>(&self, text_ref: &TextRef<'_, D>, at: RowAt) -> usize
+        requires row { Stands text_ref.now self.now at }
+        ensures { OfRow text_ref.now self.now at (λ r. result ≡ first r) }
     {
-        let paragraph = self.paragraph(source, at.paragraph, at.cached);
+        let paragraph = self.paragraph(text_ref, at.paragraph, at.cached);
         at.start + paragraph.first(at.row)
     }
 }

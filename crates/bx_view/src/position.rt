@@ -26,18 +26,18 @@ impl View {
     /// The position of a place in its row, `at`.
     pub(crate) fn position<D: BidiData>(
         &self,
-        source: &TextRef<'_, D>,
+        text_ref: &TextRef<'_, D>,
         at: RowAt,
         place: usize,
     ) -> Result<Position, OutOfMemory>
-        requires row { StandsOn source.now self.now at (row_of (rows source.now self.now) place) }
-        requires paragraph { at.paragraph ≡ paragraph_of (lengths (D.data source.now.tables.now) (bytes source.now)) place }
+        requires row { StandsOn text_ref.now self.now at (row_of (rows text_ref.now self.now) place) }
+        requires paragraph { at.paragraph ≡ paragraph_of (lengths (D.data text_ref.now.tables.now) (bytes text_ref.now)) place }
         requires order { at.start ≤ place }
-        ensures { IfOk result (IsPosition (D.data source.now.tables.now) self.now.w (bytes source.now) (rows source.now self.now) place) }
+        ensures { IfOk result (IsPosition (D.data text_ref.now.tables.now) self.now.w (bytes text_ref.now) (rows text_ref.now self.now) place) }
     {
         // `count` promises that the number of paragraphs is a `usize`.
-        let _count = source.index.count();
-        let row = self.row(source, at);
+        let _count = text_ref.index.count();
+        let row = self.row(text_ref, at);
         let standing = row.standing(place - at.start)?;
         Ok(Position {
             column: standing.column,
@@ -49,16 +49,16 @@ impl View {
     /// The column, from 1, of the cell of a place.
     pub fn cell_of<D: BidiData>(
         &mut self,
-        source: &TextRef<'_, D>,
+        text_ref: &TextRef<'_, D>,
         place: usize,
     ) -> Result<u16, OutOfMemory>
-        requires data { IsViewBy source.now self.old }
-        ensures keeps { Keeps source.now self.old self.new }
-        ensures cell { IfOk result (λ column. column ≡ cell_of self.old.w (rows source.now self.old) place) }
+        requires data { IsViewBy text_ref.now self.old }
+        ensures keeps { Keeps text_ref.now self.old self.new }
+        ensures cell { IfOk result (λ column. column ≡ cell_of self.old.w (rows text_ref.now self.old) place) }
         ensures inside { IfOk result (λ column. (1 ≤ column) × (column ≤ self.old.w)) }
     {
-        let at = self.row_at(source, place)?;
-        let position = self.position(source, at, place)?;
+        let at = self.row_at(text_ref, place)?;
+        let position = self.position(text_ref, at, place)?;
         Ok(position.column)
     }
 }

@@ -18,27 +18,27 @@ impl View {
     /// The glyphs of a row from left to right, blanks included.
     pub fn picture<D: BidiData>(
         &self,
-        source: &TextRef<'_, D>,
+        text_ref: &TextRef<'_, D>,
         at: RowAt,
     ) -> Result<RowPicture<'_>, OutOfMemory>
-        requires row { Stands source.now self.now at }
-        ensures picture { OfRow source.now self.now at (λ r. IfOk result
-            (λ p. map glyph_of p.glyphs.items ≡ text_row_glyphs (D.data source.now.tables.now) self.now.w r)) }
+        requires row { Stands text_ref.now self.now at }
+        ensures picture { OfRow text_ref.now self.now at (λ r. IfOk result
+            (λ p. map glyph_of p.glyphs.items ≡ text_row_glyphs (D.data text_ref.now.tables.now) self.now.w r)) }
         ensures glyphs { IfOk result (λ p. All (λ g. is_one_glyph (cow_str_bytes g.text) ≡ true) p.glyphs.items) }
         ensures widths { IfOk result (λ p. All (λ g. run_width (cow_str_bytes g.text) ≡ g.columns) p.glyphs.items) }
         ensures columns { IfOk result (λ p. sum_by (λ g. g.columns) p.glyphs.items ≡ self.now.w) }
     {
         // The proof compares the picture, so it has a name.
-        let picture = self.row(source, at).picture()?;
+        let picture = self.row(text_ref, at).picture()?;
         Ok(picture)
     }
 
     /// The body of a row's paragraph, and the row's number in it, from 0.
-    pub fn row_in_body<D: BidiData>(&self, source: &TextRef<'_, D>, at: RowAt) -> (&str, usize)
-        requires row { Stands source.now self.now at }
-        ensures { OfRow source.now self.now at (λ r. r.row ≡ row_at_body (rows_of_body source.now self.now result.0.now) result.1) }
+    pub fn row_in_body<D: BidiData>(&self, text_ref: &TextRef<'_, D>, at: RowAt) -> (&str, usize)
+        requires row { Stands text_ref.now self.now at }
+        ensures { OfRow text_ref.now self.now at (λ r. r.row ≡ row_at_body (rows_of_body text_ref.now self.now result.0.now) result.1) }
     {
-        let paragraph = self.paragraph(source, at.paragraph, at.cached);
+        let paragraph = self.paragraph(text_ref, at.paragraph, at.cached);
         (paragraph.body(), at.row)
     }
 }

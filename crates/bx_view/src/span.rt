@@ -8,31 +8,31 @@ use bx_text::{ParagraphWalk, TextSpan};
 use bx_ucd::BidiData;
 
 /// The body of the walk's current paragraph.
-pub fn current_span<D: BidiData>(source: &TextRef<'_, D>, walk: &ParagraphWalk<'_>) -> TextSpan
-    requires walk { walk.now.paragraphs ≡ lengths (D.data source.now.tables.now) (bytes source.now) }
-    requires number { walk.now.number < count source.now }
+pub fn current_span<D: BidiData>(text_ref: &TextRef<'_, D>, walk: &ParagraphWalk<'_>) -> TextSpan
+    requires walk { walk.now.paragraphs ≡ lengths (D.data text_ref.now.tables.now) (bytes text_ref.now) }
+    requires number { walk.now.number < count text_ref.now }
     ensures number { result.number ≡ walk.now.number }
-    ensures is { IsSpan source.now result }
+    ensures is { IsSpan text_ref.now result }
 {
     // Only the contract names the text.
-    let _ = source;
+    let _ = text_ref;
     walk.span()
 }
 
 /// The body of paragraph `number`, from 0.
-pub(crate) fn span_of<D: BidiData>(source: &TextRef<'_, D>, number: usize) -> TextSpan
-    requires { number < count source.now }
+pub(crate) fn span_of<D: BidiData>(text_ref: &TextRef<'_, D>, number: usize) -> TextSpan
+    requires { number < count text_ref.now }
     ensures number { result.number ≡ number }
-    ensures is { IsSpan source.now result }
+    ensures is { IsSpan text_ref.now result }
 {
-    source.index.span(number)
+    text_ref.index.span(number)
 }
 
 /// The body of the paragraph that an offset falls in.
-pub(crate) fn paragraph_under<D: BidiData>(source: &TextRef<'_, D>, offset: usize) -> TextSpan
-    ensures number { result.number ≡ paragraph_of (lengths (D.data source.now.tables.now) (bytes source.now)) offset }
-    ensures is { IsSpan source.now result }
+pub(crate) fn paragraph_under<D: BidiData>(text_ref: &TextRef<'_, D>, offset: usize) -> TextSpan
+    ensures number { result.number ≡ paragraph_of (lengths (D.data text_ref.now.tables.now) (bytes text_ref.now)) offset }
+    ensures is { IsSpan text_ref.now result }
     ensures order { result.start ≤ offset }
 {
-    source.index.span_at(offset)
+    text_ref.index.span_at(offset)
 }

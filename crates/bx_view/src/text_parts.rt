@@ -24,14 +24,14 @@ impl View {
     /// part, nothing is computed.
     pub fn slots_in<D: BidiData>(
         &self,
-        source: &TextRef<'_, D>,
+        text_ref: &TextRef<'_, D>,
         at: RowAt,
         part: Range,
     ) -> Result<Vec<Slot>, OutOfMemory>
-        requires row { Stands source.now self.now at }
-        ensures { OfRow source.now self.now at (λ r. IfOk result (λ v. v.items ≡ slots_in self.now.w (part.start, part.stop) r)) }
+        requires row { Stands text_ref.now self.now at }
+        ensures { OfRow text_ref.now self.now at (λ r. IfOk result (λ v. v.items ≡ slots_in self.now.w (part.start, part.stop) r)) }
     {
-        let row = self.row(source, at);
+        let row = self.row(text_ref, at);
         let start = part.start.saturating_sub(row.start);
         let stop = part.stop.saturating_sub(row.start);
         if start >= stop || row.paragraph.body().len() < start {

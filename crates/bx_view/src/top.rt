@@ -28,28 +28,28 @@ impl View {
     /// of rows from it down to `at`.
     fn top_above<D: BidiData>(
         &mut self,
-        source: &TextRef<'_, D>,
+        text_ref: &TextRef<'_, D>,
         at: RowAt,
         old: usize,
         t: usize,
     ) -> Result<(RowAt, usize), OutOfMemory>
-        requires row { Stands source.now self.old at }
+        requires row { Stands text_ref.now self.old at }
         requires some { 0 < t }
-        ensures keeps { Keeps source.now self.old self.new }
-        ensures top { (n k : ℕ) → StandsOn source.now self.old at n → BeginsAt source.now self.old k old
-            → IfOk result (λ r. StandsOn source.now self.new r.0 (nearest_top k n t)) }
-        ensures above { (n k : ℕ) → StandsOn source.now self.old at n → BeginsAt source.now self.old k old
+        ensures keeps { Keeps text_ref.now self.old self.new }
+        ensures top { (n k : ℕ) → StandsOn text_ref.now self.old at n → BeginsAt text_ref.now self.old k old
+            → IfOk result (λ r. StandsOn text_ref.now self.new r.0 (nearest_top k n t)) }
+        ensures above { (n k : ℕ) → StandsOn text_ref.now self.old at n → BeginsAt text_ref.now self.old k old
             → IfOk result (λ r. nearest_top k n t + r.1 ≡ n) }
         ensures few { IfOk result (λ r. r.1 < t) }
     {
-        let mut walk = self.walk_from(source, at);
+        let mut walk = self.walk_from(text_ref, at);
         let mut here = at;
         let mut above = 0;
         while above + 1 < t {
-            if self.first_in(source, here) <= old {
+            if self.first_in(text_ref, here) <= old {
                 return Ok((here, above));
             }
-            let Some(before) = self.row_before_along(source, &mut walk, here)? else {
+            let Some(before) = self.row_before_along(text_ref, &mut walk, here)? else {
                 return Ok((here, above));
             };
             here = before;
@@ -62,28 +62,28 @@ impl View {
     /// make the place's row visible.
     pub fn locate<D: BidiData>(
         &mut self,
-        source: &TextRef<'_, D>,
+        text_ref: &TextRef<'_, D>,
         top: usize,
         place: usize,
         t: usize,
     ) -> Result<Located, OutOfMemory>
-        requires data { IsViewBy source.now self.old }
+        requires data { IsViewBy text_ref.now self.old }
         requires some { 0 < t }
-        ensures keeps { Keeps source.now self.old self.new }
-        ensures top { IfOk result (λ l. StandsOn source.now self.new l.top
-            (nearest_top (row_of (rows source.now self.old) top) (row_of (rows source.now self.old) place) t)) }
-        ensures above { IfOk result (λ l. nearest_top (row_of (rows source.now self.old) top) (row_of (rows source.now self.old) place) t + l.above
-            ≡ row_of (rows source.now self.old) place) }
+        ensures keeps { Keeps text_ref.now self.old self.new }
+        ensures top { IfOk result (λ l. StandsOn text_ref.now self.new l.top
+            (nearest_top (row_of (rows text_ref.now self.old) top) (row_of (rows text_ref.now self.old) place) t)) }
+        ensures above { IfOk result (λ l. nearest_top (row_of (rows text_ref.now self.old) top) (row_of (rows text_ref.now self.old) place) t + l.above
+            ≡ row_of (rows text_ref.now self.old) place) }
         ensures few { IfOk result (λ l. l.above < t) }
         ensures position { IfOk result (λ l.
-            IsPosition (D.data source.now.tables.now) self.old.w (bytes source.now) (rows source.now self.old) place l.position) }
+            IsPosition (D.data text_ref.now.tables.now) self.old.w (bytes text_ref.now) (rows text_ref.now self.old) place l.position) }
         ensures inside { IfOk result (λ l. (1 ≤ l.position.column) × (l.position.column ≤ self.old.w)) }
     {
-        let shown = self.row_at(source, top)?;
-        let old = self.first_in(source, shown);
-        let own = self.row_near(source, shown, place)?;
-        let position = self.position(source, own, place)?;
-        let (top, above) = self.top_above(source, own, old, t)?;
+        let shown = self.row_at(text_ref, top)?;
+        let old = self.first_in(text_ref, shown);
+        let own = self.row_near(text_ref, shown, place)?;
+        let position = self.position(text_ref, own, place)?;
+        let (top, above) = self.top_above(text_ref, own, old, t)?;
         Ok(Located {
             top,
             above,

@@ -110,25 +110,25 @@ impl View {
     /// cached.
     pub fn find<D: BidiData>(
         &mut self,
-        source: &TextRef<'_, D>,
+        text_ref: &TextRef<'_, D>,
         span: TextSpan,
     ) -> Result<usize, OutOfMemory>
-        requires data { IsViewBy source.now self.old }
-        requires span { IsSpan source.now span }
-        ensures keeps { Keeps source.now self.old self.new }
-        ensures body { IfOk result (Caches (body_at source.now span.number) self.new.w self.new.cache) }
+        requires data { IsViewBy text_ref.now self.old }
+        requires span { IsSpan text_ref.now span }
+        ensures keeps { Keeps text_ref.now self.old self.new }
+        ensures body { IfOk result (Caches (body_at text_ref.now span.number) self.new.w self.new.cache) }
     {
-        if let Some(i) = find_in(&self.cache, &mut self.recent, source.text, span) {
-            lay_out_in(&mut self.cache, i, source.tables, self.base, self.w)?;
+        if let Some(i) = find_in(&self.cache, &mut self.recent, text_ref.text, span) {
+            lay_out_in(&mut self.cache, i, text_ref.tables, self.base, self.w)?;
             return Ok(i);
         }
-        let Ok(body) = source.text.copy_range(span.start, span.stop) else {
+        let Ok(body) = text_ref.text.copy_range(span.start, span.stop) else {
             return Err(OutOfMemory);
         };
         let alloc = *self.cache.allocator();
-        let layout = ParagraphLayout::of(alloc, body, source.tables, self.w, self.base)?;
-        let limit = cache_limit(source.text.len());
-        let i = add(&mut self.cache, layout, source.tables, self.base, limit)?;
+        let layout = ParagraphLayout::of(alloc, body, text_ref.tables, self.w, self.base)?;
+        let limit = cache_limit(text_ref.text.len());
+        let i = add(&mut self.cache, layout, text_ref.tables, self.base, limit)?;
         self.recent = i;
         Ok(i)
     }
@@ -136,16 +136,16 @@ impl View {
     /// The cached paragraph at index `cached`, which has the body of the text's paragraph `number`, from 0.
     pub fn paragraph<D: BidiData>(
         &self,
-        source: &TextRef<'_, D>,
+        text_ref: &TextRef<'_, D>,
         number: usize,
         cached: usize,
     ) -> &ParagraphLayout
-        requires data { IsViewBy source.now self.now }
-        requires cached { Caches (body_at source.now number) self.now.w self.now.cache cached }
-        ensures { IsOfText source.now self.now number result.now }
+        requires data { IsViewBy text_ref.now self.now }
+        requires cached { Caches (body_at text_ref.now number) self.now.w self.now.cache cached }
+        ensures { IsOfText text_ref.now self.now number result.now }
     {
         // Only the contract names the text and the paragraph's number.
-        let _ = source;
+        let _ = text_ref;
         let _ = number;
         &self.cache[cached]
     }
@@ -153,21 +153,21 @@ impl View {
     /// The row that an offset falls in, in its paragraph, whose body is cached at index `cached`.
     fn row_in<D: BidiData>(
         &self,
-        source: &TextRef<'_, D>,
+        text_ref: &TextRef<'_, D>,
         span: TextSpan,
         cached: usize,
         offset: usize,
     ) -> RowAt
-        requires data { IsViewBy source.now self.now }
-        requires number { span.number ≡ paragraph_of (lengths (D.data source.now.tables.now) (bytes source.now)) offset }
-        requires span { IsSpan source.now span }
+        requires data { IsViewBy text_ref.now self.now }
+        requires number { span.number ≡ paragraph_of (lengths (D.data text_ref.now.tables.now) (bytes text_ref.now)) offset }
+        requires span { IsSpan text_ref.now span }
         requires order { span.start ≤ offset }
-        requires cached { Caches (body_at source.now span.number) self.now.w self.now.cache cached }
-        ensures row { StandsOn source.now self.now result (row_of (rows source.now self.now) offset) }
+        requires cached { Caches (body_at text_ref.now span.number) self.now.w self.now.cache cached }
+        ensures row { StandsOn text_ref.now self.now result (row_of (rows text_ref.now self.now) offset) }
         ensures paragraph { result.paragraph ≡ span.number }
         ensures start { result.start ≡ span.start }
     {
-        let paragraph = self.paragraph(source, span.number, cached);
+        let paragraph = self.paragraph(text_ref, span.number, cached);
         RowAt {
             paragraph: span.number,
             start: span.start,
@@ -179,76 +179,80 @@ impl View {
     /// The row that an offset of the text falls in.
     pub fn row_at<D: BidiData>(
         &mut self,
-        source: &TextRef<'_, D>,
+        text_ref: &TextRef<'_, D>,
         offset: usize,
     ) -> Result<RowAt, OutOfMemory>
-        requires data { IsViewBy source.now self.old }
-        ensures keeps { Keeps source.now self.old self.new }
-        ensures row { IfOk result (λ at. StandsOn source.now self.new at (row_of (rows source.now self.new) offset)) }
-        ensures paragraph { IfOk result (λ at. at.paragraph ≡ paragraph_of (lengths (D.data source.now.tables.now) (bytes source.now)) offset) }
+        requires data { IsViewBy text_ref.now self.old }
+        ensures keeps { Keeps text_ref.now self.old self.new }
+        ensures row { IfOk result (λ at. StandsOn text_ref.now self.new at (row_of (rows text_ref.now self.new) offset)) }
+        ensures paragraph { IfOk result (λ at. at.paragraph ≡ paragraph_of (lengths (D.data text_ref.now.tables.now) (bytes text_ref.now)) offset) }
         ensures order { IfOk result (λ at. at.start ≤ offset) }
     {
-        let span = paragraph_under(source, offset);
-        let cached = self.find(source, span)?;
-        Ok(self.row_in(source, span, cached, offset))
+        let span = paragraph_under(text_ref, offset);
+        let cached = self.find(text_ref, span)?;
+        Ok(self.row_in(text_ref, span, cached, offset))
     }
 
     /// A walk over the text's paragraphs, at the one of a row.
     pub fn walk_from<'a, D: BidiData>(
         &self,
-        source: &TextRef<'a, D>,
+        text_ref: &TextRef<'a, D>,
         at: RowAt,
     ) -> ParagraphWalk<'a>
-        requires row { Stands source.now self.now at }
-        ensures { IsAlong source.now result at }
+        requires row { Stands text_ref.now self.now at }
+        ensures { IsAlong text_ref.now result at }
     {
         // Only the contract names the view.
         let _ = self;
-        source.index.walk_at(at.paragraph, at.start)
+        text_ref.index.walk_at(at.paragraph, at.start)
     }
 
     /// The row after `at`, if there is one.
     pub fn next_row<D: BidiData>(
         &mut self,
-        source: &TextRef<'_, D>,
+        text_ref: &TextRef<'_, D>,
         at: RowAt,
     ) -> Result<Option<RowAt>, OutOfMemory>
-        requires row { Stands source.now self.old at }
-        ensures keeps { Keeps source.now self.old self.new }
-        ensures next { (n : ℕ) → StandsOn source.now self.old at n → IfOk result (IsNext source.now self.new n) }
+        requires row { Stands text_ref.now self.old at }
+        ensures keeps { Keeps text_ref.now self.old self.new }
+        ensures next { (n : ℕ) → StandsOn text_ref.now self.old at n → IfOk result (IsNext text_ref.now self.new n) }
         ensures same { IfOk result (IsSameAtEnd self.old self.new) }
     {
-        let rows = self.paragraph(source, at.paragraph, at.cached).row_count();
+        let rows = self
+            .paragraph(text_ref, at.paragraph, at.cached)
+            .row_count();
         if at.row + 1 < rows {
             return Ok(Some(below(at)));
         }
-        let mut walk = self.walk_from(source, at);
-        self.next_row_along(source, &mut walk, at)
+        let mut walk = self.walk_from(text_ref, at);
+        self.next_row_along(text_ref, &mut walk, at)
     }
 
     /// Like `next_row`, but advances `walk`, which is at the paragraph of `at`.
     pub fn next_row_along<D: BidiData>(
         &mut self,
-        source: &TextRef<'_, D>,
+        text_ref: &TextRef<'_, D>,
         walk: &mut ParagraphWalk<'_>,
         at: RowAt,
     ) -> Result<Option<RowAt>, OutOfMemory>
-        requires row { Stands source.now self.old at }
-        requires along { IsAlong source.now walk.old at }
-        ensures keeps { Keeps source.now self.old self.new }
-        ensures next { (n : ℕ) → StandsOn source.now self.old at n → IfOk result (IsNext source.now self.new n) }
+        requires row { Stands text_ref.now self.old at }
+        requires along { IsAlong text_ref.now walk.old at }
+        ensures keeps { Keeps text_ref.now self.old self.new }
+        ensures next { (n : ℕ) → StandsOn text_ref.now self.old at n → IfOk result (IsNext text_ref.now self.new n) }
         ensures same { IfOk result (IsSameAtEnd self.old self.new) }
-        ensures along { IfOk result (λ o. IfSome o (IsAlong source.now walk.new)) }
+        ensures along { IfOk result (λ o. IfSome o (IsAlong text_ref.now walk.new)) }
     {
-        let rows = self.paragraph(source, at.paragraph, at.cached).row_count();
+        let rows = self
+            .paragraph(text_ref, at.paragraph, at.cached)
+            .row_count();
         if at.row + 1 < rows {
             return Ok(Some(below(at)));
         }
         if !walk.to_next() {
             return Ok(None);
         }
-        let span = current_span(source, walk);
-        let cached = self.find(source, span)?;
+        let span = current_span(text_ref, walk);
+        let cached = self.find(text_ref, span)?;
         Ok(Some(RowAt {
             paragraph: span.number,
             start: span.start,
@@ -260,34 +264,34 @@ impl View {
     /// The row before `at`, if there is one.
     pub fn row_before<D: BidiData>(
         &mut self,
-        source: &TextRef<'_, D>,
+        text_ref: &TextRef<'_, D>,
         at: RowAt,
     ) -> Result<Option<RowAt>, OutOfMemory>
-        requires row { Stands source.now self.old at }
-        ensures keeps { Keeps source.now self.old self.new }
-        ensures before { (n : ℕ) → StandsOn source.now self.old at n → IfOk result (IsBefore source.now self.new n) }
+        requires row { Stands text_ref.now self.old at }
+        ensures keeps { Keeps text_ref.now self.old self.new }
+        ensures before { (n : ℕ) → StandsOn text_ref.now self.old at n → IfOk result (IsBefore text_ref.now self.new n) }
         ensures same { IfOk result (IsSameAtEnd self.old self.new) }
     {
         if at.row > 0 {
             return Ok(Some(above(at)));
         }
-        let mut walk = self.walk_from(source, at);
-        self.row_before_along(source, &mut walk, at)
+        let mut walk = self.walk_from(text_ref, at);
+        self.row_before_along(text_ref, &mut walk, at)
     }
 
     /// Like `row_before`, for many steps in turn: `walk`, which is at the paragraph of `at`, goes along.
     pub fn row_before_along<D: BidiData>(
         &mut self,
-        source: &TextRef<'_, D>,
+        text_ref: &TextRef<'_, D>,
         walk: &mut ParagraphWalk<'_>,
         at: RowAt,
     ) -> Result<Option<RowAt>, OutOfMemory>
-        requires row { Stands source.now self.old at }
-        requires along { IsAlong source.now walk.old at }
-        ensures keeps { Keeps source.now self.old self.new }
-        ensures before { (n : ℕ) → StandsOn source.now self.old at n → IfOk result (IsBefore source.now self.new n) }
+        requires row { Stands text_ref.now self.old at }
+        requires along { IsAlong text_ref.now walk.old at }
+        ensures keeps { Keeps text_ref.now self.old self.new }
+        ensures before { (n : ℕ) → StandsOn text_ref.now self.old at n → IfOk result (IsBefore text_ref.now self.new n) }
         ensures same { IfOk result (IsSameAtEnd self.old self.new) }
-        ensures along { IfOk result (λ o. IfSome o (IsAlong source.now walk.new)) }
+        ensures along { IfOk result (λ o. IfSome o (IsAlong text_ref.now walk.new)) }
     {
         if at.row > 0 {
             return Ok(Some(above(at)));
@@ -295,9 +299,9 @@ impl View {
         if !walk.to_previous() {
             return Ok(None);
         }
-        let span = current_span(source, walk);
-        let cached = self.find(source, span)?;
-        let rows = self.paragraph(source, span.number, cached).row_count();
+        let span = current_span(text_ref, walk);
+        let cached = self.find(text_ref, span)?;
+        let rows = self.paragraph(text_ref, span.number, cached).row_count();
         Ok(Some(RowAt {
             paragraph: span.number,
             start: span.start,
@@ -309,21 +313,21 @@ impl View {
     /// The row that an offset of the text falls in. In the paragraph of `at`, which is found already, it needs no search.
     pub(crate) fn row_near<D: BidiData>(
         &mut self,
-        source: &TextRef<'_, D>,
+        text_ref: &TextRef<'_, D>,
         at: RowAt,
         offset: usize,
     ) -> Result<RowAt, OutOfMemory>
-        requires row { Stands source.now self.old at }
-        ensures keeps { Keeps source.now self.old self.new }
-        ensures row { IfOk result (λ at. StandsOn source.now self.new at (row_of (rows source.now self.new) offset)) }
-        ensures paragraph { IfOk result (λ at. at.paragraph ≡ paragraph_of (lengths (D.data source.now.tables.now) (bytes source.now)) offset) }
+        requires row { Stands text_ref.now self.old at }
+        ensures keeps { Keeps text_ref.now self.old self.new }
+        ensures row { IfOk result (λ at. StandsOn text_ref.now self.new at (row_of (rows text_ref.now self.new) offset)) }
+        ensures paragraph { IfOk result (λ at. at.paragraph ≡ paragraph_of (lengths (D.data text_ref.now.tables.now) (bytes text_ref.now)) offset) }
         ensures order { IfOk result (λ at. at.start ≤ offset) }
     {
-        let span = paragraph_under(source, offset);
+        let span = paragraph_under(text_ref, offset);
         if span.number == at.paragraph {
-            return Ok(self.row_in(source, span, at.cached, offset));
+            return Ok(self.row_in(text_ref, span, at.cached, offset));
         }
-        let cached = self.find(source, span)?;
-        Ok(self.row_in(source, span, cached, offset))
+        let cached = self.find(text_ref, span)?;
+        Ok(self.row_in(text_ref, span, cached, offset))
     }
 }

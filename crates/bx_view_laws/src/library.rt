@@ -25,39 +25,39 @@ use std::alloc::{AllocError, Global};
 /// The row starts of the walk's current paragraph in a window of `w` columns, as offsets of its body.
 fn starts_in<D: BidiData>(
     alloc: Global,
-    source: &TextRef<'_, D>,
+    text_ref: &TextRef<'_, D>,
     walk: &ParagraphWalk<'_>,
     w: u16,
 ) -> Result<Vec<RowStart>, OutOfMemory>
-    requires walk { walk.now.paragraphs ≡ lengths (D.data source.now.tables.now) (bytes source.now) }
-    requires number { walk.now.number < count source.now }
-    ensures { IfOk result (λ v. v.items ≡ row_starts (D.data source.now.tables.now) w (body_at source.now walk.now.number)) }
+    requires walk { walk.now.paragraphs ≡ lengths (D.data text_ref.now.tables.now) (bytes text_ref.now) }
+    requires number { walk.now.number < count text_ref.now }
+    ensures { IfOk result (λ v. v.items ≡ row_starts (D.data text_ref.now.tables.now) w (body_at text_ref.now walk.now.number)) }
 {
-    let span = current_span(source, walk);
-    let Ok(body) = source.text.copy_range(span.start, span.stop) else {
+    let span = current_span(text_ref, walk);
+    let Ok(body) = text_ref.text.copy_range(span.start, span.stop) else {
         return Err(OutOfMemory);
     };
     // The proof compares the row starts, so they have a name.
-    let starts = row_starts(alloc, body.as_str(), source.tables, w)?;
+    let starts = row_starts(alloc, body.as_str(), text_ref.tables, w)?;
     Ok(starts)
 }
 
 /// The number of rows of the paragraphs before paragraph `number`, from 0, in a window of `w` columns.
 fn rows_before<D: BidiData>(
     alloc: Global,
-    source: &TextRef<'_, D>,
+    text_ref: &TextRef<'_, D>,
     w: u16,
     number: usize,
 ) -> Result<usize, OutOfMemory>
     requires side { is_side w ≡ true }
-    requires number { number ≤ count source.now }
-    ensures { IfOk result (λ n. (base : Base) → n ≡ rows_ahead (D.data source.now.tables.now) base w (bytes source.now) number) }
+    requires number { number ≤ count text_ref.now }
+    ensures { IfOk result (λ n. (base : Base) → n ≡ rows_ahead (D.data text_ref.now.tables.now) base w (bytes text_ref.now) number) }
 {
-    let mut walk = source.index.walk_at(0, 0);
+    let mut walk = text_ref.index.walk_at(0, 0);
     let mut ahead = 0;
     let mut done = 0;
     while done < number {
-        let starts = starts_in(alloc, source, &walk, w)?;
+        let starts = starts_in(alloc, text_ref, &walk, w)?;
         ahead += starts.len();
         let _more = walk.to_next();
         done += 1;
@@ -81,13 +81,13 @@ fn in_text(alloc: Global, start: usize, slots: &[Slot]) -> Result<Vec<usize>, Al
 pub fn row_count<D: BidiData>(
     alloc: Global,
     view: &View,
-    source: &TextRef<'_, D>,
+    text_ref: &TextRef<'_, D>,
 ) -> Result<usize, OutOfMemory>
-    ensures { IfOk result (λ n. n ≡ length (rows source.now view.now)) }
+    ensures { IfOk result (λ n. n ≡ length (rows text_ref.now view.now)) }
 {
-    let count = source.index.count();
+    let count = text_ref.index.count();
     // The proof compares the number, so it has a name.
-    let rows = rows_before(alloc, source, view.width(), count)?;
+    let rows = rows_before(alloc, text_ref, view.width(), count)?;
     Ok(rows)
 }
 
@@ -95,16 +95,16 @@ pub fn row_count<D: BidiData>(
 pub fn row_of<D: BidiData>(
     alloc: Global,
     view: &mut View,
-    source: &TextRef<'_, D>,
+    text_ref: &TextRef<'_, D>,
     offset: usize,
 ) -> Result<usize, OutOfMemory>
-    requires data { IsViewBy source.now view.old }
-    ensures keeps { Keeps source.now view.old view.new }
-    ensures row { IfOk result (λ n. n ≡ row_of (rows source.now view.old) offset) }
+    requires data { IsViewBy text_ref.now view.old }
+    ensures keeps { Keeps text_ref.now view.old view.new }
+    ensures row { IfOk result (λ n. n ≡ row_of (rows text_ref.now view.old) offset) }
 {
-    let at = view.row_at(source, offset)?;
+    let at = view.row_at(text_ref, offset)?;
     let w = view.width();
-    let ahead = rows_before(alloc, source, w, at.paragraph)?;
+    let ahead = rows_before(alloc, text_ref, w, at.paragraph)?;
     Ok(ahead + at.row)
 }
 
@@ -112,20 +112,20 @@ pub fn row_of<D: BidiData>(
 pub fn first<D: BidiData>(
     alloc: Global,
     view: &View,
-    source: &TextRef<'_, D>,
+    text_ref: &TextRef<'_, D>,
     row: usize,
 ) -> Result<Option<usize>, OutOfMemory>
-    ensures { IfOk result (λ o. o ≡ option_map first (slice_get (rows source.now view.now) row)) }
+    ensures { IfOk result (λ o. o ≡ option_map first (slice_get (rows text_ref.now view.now) row)) }
 {
     let w = view.width();
-    let count = source.index.count();
-    let mut walk = source.index.walk_at(0, 0);
+    let count = text_ref.index.count();
+    let mut walk = text_ref.index.walk_at(0, 0);
     let mut left = row;
     let mut done = 0;
     while done < count {
-        let starts = starts_in(alloc, source, &walk, w)?;
+        let starts = starts_in(alloc, text_ref, &walk, w)?;
         if left < starts.len() {
-            let span = current_span(source, &walk);
+            let span = current_span(text_ref, &walk);
             return Ok(Some(span.start + starts[left].offset));
         }
         left -= starts.len();
@@ -138,16 +138,16 @@ pub fn first<D: BidiData>(
 /// The places of the row that a place falls in, in visual order from left to right.
 pub fn slots<D: BidiData>(
     view: &mut View,
-    source: &TextRef<'_, D>,
+    text_ref: &TextRef<'_, D>,
     place: usize,
 ) -> Result<Vec<usize>, OutOfMemory>
-    requires data { IsViewBy source.now view.old }
-    ensures keeps { Keeps source.now view.old view.new }
+    requires data { IsViewBy text_ref.now view.old }
+    ensures keeps { Keeps text_ref.now view.old view.new }
     ensures slots { IfOk result (λ v. v.items
-        ≡ slots view.old.w (row_at (rows source.now view.old) (row_of (rows source.now view.old) place))) }
+        ≡ slots view.old.w (row_at (rows text_ref.now view.old) (row_of (rows text_ref.now view.old) place))) }
 {
-    let at = view.row_at(source, place)?;
-    let row = view.row(source, at);
+    let at = view.row_at(text_ref, place)?;
+    let row = view.row(text_ref, at);
     let slots = row.slots()?;
     Ok(in_text(*slots.allocator(), row.start, &slots)?)
 }
@@ -156,18 +156,18 @@ pub fn slots<D: BidiData>(
 /// make the row of `place` visible.
 pub fn follow<D: BidiData>(
     view: &mut View,
-    source: &TextRef<'_, D>,
+    text_ref: &TextRef<'_, D>,
     top: usize,
     place: usize,
     t: usize,
 ) -> Result<usize, OutOfMemory>
-    requires data { IsViewBy source.now view.old }
+    requires data { IsViewBy text_ref.now view.old }
     requires some { 0 < t }
-    ensures keeps { Keeps source.now view.old view.new }
-    ensures top { IfOk result (λ o. o ≡ follow (rows source.now view.old) top place t) }
-    ensures text_place { IfOk result (IsTextPlace (D.data source.now.tables.now) (bytes source.now)) }
-    ensures boundary { IfOk result (λ o. IsCharBoundary (bytes source.now) o) }
+    ensures keeps { Keeps text_ref.now view.old view.new }
+    ensures top { IfOk result (λ o. o ≡ follow (rows text_ref.now view.old) top place t) }
+    ensures text_place { IfOk result (IsTextPlace (D.data text_ref.now.tables.now) (bytes text_ref.now)) }
+    ensures boundary { IfOk result (λ o. IsCharBoundary (bytes text_ref.now) o) }
 {
-    let located = view.locate(source, top, place, t)?;
-    Ok(view.first_in(source, located.top))
+    let located = view.locate(text_ref, top, place, t)?;
+    Ok(view.first_in(text_ref, located.top))
 }

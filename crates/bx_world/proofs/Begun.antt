@@ -11,7 +11,7 @@ use Rattle.bx_grid.specs.Terminal.{Terminal, reads}
 use Rattle.bx_ucd.specs.Data.{Data}
 use Rattle.bx_editor.specs.Editor.{Editor}
 use Rattle.bx_editor.specs.declared.questions.answers.Prompt.{Prompt}
-use Rattle.bx_editor.specs.declared.questions.answers.Prompt.TheVariants as asks
+use Rattle.bx_editor.specs.declared.questions.answers.Prompt.TheVariants as prompts
 use Rattle.bx_editor.specs.declared.search_state.SearchState.{SearchState}
 use Rattle.bx_editor.specs.declared.search_state.SearchState.TheVariants.{Off, Begun, Typed, WithBegun, WithTyped, Replacing}
 use Rattle.bx_editor.specs.Putting.{paste_ended}
@@ -103,30 +103,30 @@ passed_stays t s e height width = record {
       (ap (λ h. (t.height == h) && (t.width == s.editor.width)) (sym height) ∙ ap (λ w. (t.height == e.height) && (t.width == w)) (sym width) ∙ on);
 }
 
-quit_stays : (d : Data) (t : Terminal) (ask : Prompt) (seek : SearchState) (s : Session) → StaysKnown t s (session_after_replayed d ask seek s Quit)
-quit_stays d t asks.Off Off s =
+quit_stays : (d : Data) (t : Terminal) (prompt : Prompt) (search_state : SearchState) (s : Session) → StaysKnown t s (session_after_replayed d prompt search_state s Quit)
+quit_stays d t prompts.Off Off s =
     let size = (ended_goes_on d s.editor).1 in passed_stays t s (after_passed_quit (paste_ended d s.editor)) size.0 size.1
-quit_stays d t asks.Off Begun s = key_stays d t s Quit
-quit_stays d t asks.Off Typed s = key_stays d t s Quit
-quit_stays d t asks.Off WithBegun s = key_stays d t s Quit
-quit_stays d t asks.Off WithTyped s = key_stays d t s Quit
-quit_stays d t asks.Off Replacing s = key_stays d t s Quit
-quit_stays d t asks.Line seek s = key_stays d t s Quit
-quit_stays d t asks.Name seek s = key_stays d t s Quit
-quit_stays d t asks.Code seek s = key_stays d t s Quit
+quit_stays d t prompts.Off Begun s = key_stays d t s Quit
+quit_stays d t prompts.Off Typed s = key_stays d t s Quit
+quit_stays d t prompts.Off WithBegun s = key_stays d t s Quit
+quit_stays d t prompts.Off WithTyped s = key_stays d t s Quit
+quit_stays d t prompts.Off Replacing s = key_stays d t s Quit
+quit_stays d t prompts.Line search_state s = key_stays d t s Quit
+quit_stays d t prompts.Name search_state s = key_stays d t s Quit
+quit_stays d t prompts.Code search_state s = key_stays d t s Quit
 
-replayed_stays : (d : Data) (t : Terminal) (ask : Prompt) (seek : SearchState) (s : Session) (key : Key) → StaysKnown t s (session_after_replayed d ask seek s key)
-replayed_stays d t ask seek s =
+replayed_stays : (d : Data) (t : Terminal) (prompt : Prompt) (search_state : SearchState) (s : Session) (key : Key) → StaysKnown t s (session_after_replayed d prompt search_state s key)
+replayed_stays d t prompt search_state s =
     let size = (ended_goes_on d s.editor).1 in
-    each-session d ask seek s (λ key new. StaysKnown t s new) (passed_stays t s (after_passed_save (paste_ended d s.editor)) size.0 size.1)
-    (quit_stays d t ask seek s) (λ key other. key_stays d t s key)
+    each-session d prompt search_state s (λ key new. StaysKnown t s new) (passed_stays t s (after_passed_save (paste_ended d s.editor)) size.0 size.1)
+    (quit_stays d t prompt search_state s) (λ key other. key_stays d t s key)
 
 any_stays : (d : Data) (t : Terminal) (s : Session) (key : Option Key) → StaysKnown t s (after_replayed_key d s key)
 any_stays d t s None = stays_at t s
 any_stays d t s (Some key) =
     let from : Session = session_scrolled d s in
     let over : Editor = paste_ended d from.editor in
-    stays_on t s from (session_replayed_on d from key) (passed_stays t s (scrolled d s.editor) refl refl) (replayed_stays d t over.ask over.seek from key)
+    stays_on t s from (session_replayed_on d from key) (passed_stays t s (scrolled d s.editor) refl refl) (replayed_stays d t over.prompt over.search_state from key)
 
 byte_stays : (d : Data) (t : Terminal) (s : Session) (b : ℕ) → StaysKnown t s (after_replay d s b)
 byte_stays d t s b =

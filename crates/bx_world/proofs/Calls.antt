@@ -145,7 +145,7 @@ fed d fault w b new was is paints = by_painting (is_painted w.session b) refl is
 
   by_painting : (painted : Bool) → is_painted w.session b ≡ painted → new ≡ (if painted then painted_after d u (key_of_byte w.session b) else u)
       → IsInStep d (with_byte w b new)
-  by_painting true asks same = fed_in_step d fault w b new was same (paints asks)
+  by_painting true prompts same = fed_in_step d fault w b new was same (paints prompts)
   by_painting false none same = rw same (quiet_in_step d fault w b was none)
 
 pub byte_in_step : (d : Data) (w : World) (new : Session) (store store' : StoreState) (b : ℕ) (answer : Result Status Refused) → IsInStep d w

@@ -18,8 +18,8 @@ pub struct Seen<'a, D: BidiData + Drop> {
 }
 
 /// The word for a search.
-fn word_of_search(seek: SearchState) -> &'static str {
-    match seek {
+fn word_of_search(search_state: SearchState) -> &'static str {
+    match search_state {
         SearchState::Off => "off",
         SearchState::Begun => "begun",
         SearchState::Typed => "typed",
@@ -30,16 +30,16 @@ fn word_of_search(seek: SearchState) -> &'static str {
 }
 
 /// The word for what a search is for.
-fn word_of_aim(aim: SearchPurpose) -> &'static str {
-    match aim {
+fn word_of_aim(purpose: SearchPurpose) -> &'static str {
+    match purpose {
         SearchPurpose::Find => "find",
         SearchPurpose::Replace => "replace",
     }
 }
 
 /// The word for a question.
-fn word_of_question(ask: Prompt) -> &'static str {
-    match ask {
+fn word_of_question(prompt: Prompt) -> &'static str {
+    match prompt {
         Prompt::Off => "off",
         Prompt::Line => "line",
         Prompt::Name => "name",
@@ -64,10 +64,10 @@ impl<D: BidiData + Drop> Seen<'_, D> {
             Look::Mark => add_mark(looks, session.mark()),
             Look::Held => add_bytes(looks, session.held().as_bytes()),
             Look::Query => add_bytes(looks, session.query().as_bytes()),
-            Look::SearchState => looks.push_str(word_of_search(session.seek())),
-            Look::SearchPurpose => looks.push_str(word_of_aim(session.aim())),
+            Look::SearchState => looks.push_str(word_of_search(session.search_state())),
+            Look::SearchPurpose => looks.push_str(word_of_aim(session.purpose())),
             Look::Other => add_bytes(looks, session.replacement().as_bytes()),
-            Look::Prompt => looks.push_str(word_of_question(session.ask())),
+            Look::Prompt => looks.push_str(word_of_question(session.prompt())),
             Look::Answer => add_bytes(looks, session.answer().as_bytes()),
             Look::Changed => add_flag(looks, session.changed()),
             Look::Ended => add_flag(looks, session.ended()),

@@ -12,19 +12,19 @@ use bx_ucd::BidiData;
 /// The row `count` rows above `at`, or the text's first row if there are fewer.
 pub(crate) fn rows_up<D: BidiData>(
     view: &mut View,
-    source: &TextRef<'_, D>,
+    text_ref: &TextRef<'_, D>,
     at: RowAt,
     count: usize,
 ) -> Result<RowAt, OutOfMemory>
-    requires row { Stands source.now view.old at }
-    ensures keeps { Keeps source.now view.old view.new }
-    ensures row { (n : ℕ) → StandsOn source.now view.old at n → IfOk result (λ b. StandsOn source.now view.new b (n - count)) }
+    requires row { Stands text_ref.now view.old at }
+    ensures keeps { Keeps text_ref.now view.old view.new }
+    ensures row { (n : ℕ) → StandsOn text_ref.now view.old at n → IfOk result (λ b. StandsOn text_ref.now view.new b (n - count)) }
 {
-    let mut walk = view.walk_from(source, at);
+    let mut walk = view.walk_from(text_ref, at);
     let mut here = at;
     let mut done = 0;
     while done < count {
-        let Some(before) = view.row_before_along(source, &mut walk, here)? else {
+        let Some(before) = view.row_before_along(text_ref, &mut walk, here)? else {
             return Ok(here);
         };
         here = before;
@@ -36,20 +36,20 @@ pub(crate) fn rows_up<D: BidiData>(
 /// The row `count` rows below `at`, or the text's last row if there are fewer.
 pub(crate) fn rows_down<D: BidiData>(
     view: &mut View,
-    source: &TextRef<'_, D>,
+    text_ref: &TextRef<'_, D>,
     at: RowAt,
     count: usize,
 ) -> Result<RowAt, OutOfMemory>
-    requires row { Stands source.now view.old at }
-    ensures keeps { Keeps source.now view.old view.new }
-    ensures row { (n : ℕ) → StandsOn source.now view.old at n
-        → IfOk result (λ b. StandsOn source.now view.new b (min (n + count) (length (rows source.now view.old) - 1))) }
+    requires row { Stands text_ref.now view.old at }
+    ensures keeps { Keeps text_ref.now view.old view.new }
+    ensures row { (n : ℕ) → StandsOn text_ref.now view.old at n
+        → IfOk result (λ b. StandsOn text_ref.now view.new b (min (n + count) (length (rows text_ref.now view.old) - 1))) }
 {
-    let mut walk = view.walk_from(source, at);
+    let mut walk = view.walk_from(text_ref, at);
     let mut here = at;
     let mut done = 0;
     while done < count {
-        let Some(next) = view.next_row_along(source, &mut walk, here)? else {
+        let Some(next) = view.next_row_along(text_ref, &mut walk, here)? else {
             return Ok(here);
         };
         here = next;
@@ -61,24 +61,24 @@ pub(crate) fn rows_down<D: BidiData>(
 /// The row `count` rows above or below `at`, or the text's first or last row if there are fewer.
 fn row_away<D: BidiData>(
     view: &mut View,
-    source: &TextRef<'_, D>,
+    text_ref: &TextRef<'_, D>,
     way: Vertical,
     count: usize,
     at: RowAt,
 ) -> Result<RowAt, OutOfMemory>
-    requires row { Stands source.now view.old at }
-    ensures keeps { Keeps source.now view.old view.new }
-    ensures row { (n : ℕ) → StandsOn source.now view.old at n
-        → IfOk result (λ b. StandsOn source.now view.new b (row_away (length (rows source.now view.old)) way count n)) }
+    requires row { Stands text_ref.now view.old at }
+    ensures keeps { Keeps text_ref.now view.old view.new }
+    ensures row { (n : ℕ) → StandsOn text_ref.now view.old at n
+        → IfOk result (λ b. StandsOn text_ref.now view.new b (row_away (length (rows text_ref.now view.old)) way count n)) }
 {
     // The proof compares the row, so each arm names it.
     match way {
         Vertical::Up => {
-            let there = rows_up(view, source, at, count)?;
+            let there = rows_up(view, text_ref, at, count)?;
             Ok(there)
         }
         Vertical::Down => {
-            let there = rows_down(view, source, at, count)?;
+            let there = rows_down(view, text_ref, at, count)?;
             Ok(there)
         }
     }
@@ -88,42 +88,42 @@ fn row_away<D: BidiData>(
 /// from 1; if it is the place's own, the place stays.
 pub(crate) fn rows_away<D: BidiData>(
     view: &mut View,
-    source: &TextRef<'_, D>,
+    text_ref: &TextRef<'_, D>,
     way: Vertical,
     count: usize,
     column: u16,
     place: usize,
 ) -> Result<usize, OutOfMemory>
-    requires data { IsViewBy source.now view.old }
-    ensures keeps { Keeps source.now view.old view.new }
-    ensures place { IfOk result (λ o. o ≡ rows_away view.old.w (rows source.now view.old) way count column place) }
+    requires data { IsViewBy text_ref.now view.old }
+    ensures keeps { Keeps text_ref.now view.old view.new }
+    ensures place { IfOk result (λ o. o ≡ rows_away view.old.w (rows text_ref.now view.old) way count column place) }
 {
-    let at = view.row_at(source, place)?;
+    let at = view.row_at(text_ref, place)?;
     // A row is known by its first offset: no other begins there.
-    let own = view.first_in(source, at);
-    let there = row_away(view, source, way, count, at)?;
-    let first = view.first_in(source, there);
+    let own = view.first_in(text_ref, at);
+    let there = row_away(view, text_ref, way, count, at)?;
+    let first = view.first_in(text_ref, there);
     if first == own {
         return Ok(place);
     }
-    let entry = entry(&view.row(source, there), column)?;
+    let entry = entry(&view.row(text_ref, there), column)?;
     Ok(entry.unwrap_or(place))
 }
 
 /// The place after a move of `count` rows up or down into the column of the place's cell.
 pub(crate) fn rows_straight<D: BidiData>(
     view: &mut View,
-    source: &TextRef<'_, D>,
+    text_ref: &TextRef<'_, D>,
     way: Vertical,
     count: usize,
     place: usize,
 ) -> Result<usize, OutOfMemory>
-    requires data { IsViewBy source.now view.old }
-    ensures keeps { Keeps source.now view.old view.new }
-    ensures place { IfOk result (λ o. o ≡ rows_away view.old.w (rows source.now view.old) way count (cell_of view.old.w (rows source.now view.old) place) place) }
+    requires data { IsViewBy text_ref.now view.old }
+    ensures keeps { Keeps text_ref.now view.old view.new }
+    ensures place { IfOk result (λ o. o ≡ rows_away view.old.w (rows text_ref.now view.old) way count (cell_of view.old.w (rows text_ref.now view.old) place) place) }
 {
-    let column = view.cell_of(source, place)?;
+    let column = view.cell_of(text_ref, place)?;
     // The proof compares the place, so it has a name.
-    let place = rows_away(view, source, way, count, column, place)?;
+    let place = rows_away(view, text_ref, way, count, column, place)?;
     Ok(place)
 }

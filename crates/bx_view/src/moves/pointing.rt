@@ -16,22 +16,22 @@ use bx_ucd::BidiData;
 /// below the text the text's last row is pointed at.
 pub fn pointed_at<D: BidiData>(
     view: &mut View,
-    source: &TextRef<'_, D>,
+    text_ref: &TextRef<'_, D>,
     top: usize,
     row: u16,
     column: u16,
 ) -> Result<usize, OutOfMemory>
-    requires data { IsViewBy source.now view.old }
-    ensures keeps { Keeps source.now view.old view.new }
-    ensures place { IfOk result (λ o. o ≡ pointed_at view.old.w (rows source.now view.old) top row column) }
-    ensures text_place { IfOk result (IsTextPlace (D.data source.now.tables.now) (bytes source.now)) }
-    ensures boundary { IfOk result (λ o. IsCharBoundary (bytes source.now) o) }
+    requires data { IsViewBy text_ref.now view.old }
+    ensures keeps { Keeps text_ref.now view.old view.new }
+    ensures place { IfOk result (λ o. o ≡ pointed_at view.old.w (rows text_ref.now view.old) top row column) }
+    ensures text_place { IfOk result (IsTextPlace (D.data text_ref.now.tables.now) (bytes text_ref.now)) }
+    ensures boundary { IfOk result (λ o. IsCharBoundary (bytes text_ref.now) o) }
 {
     // `width` promises that the width is from 1 to 500.
     let _side = view.width();
-    let first = view.row_at(source, top)?;
+    let first = view.row_at(text_ref, top)?;
     let below = usize::from(row.saturating_sub(1));
-    let there = rows_down(view, source, first, below)?;
-    let entry = entry(&view.row(source, there), column)?;
+    let there = rows_down(view, text_ref, first, below)?;
+    let entry = entry(&view.row(text_ref, there), column)?;
     Ok(entry.unwrap_or(0))
 }

@@ -10,30 +10,30 @@ use bx_ucd::BidiData;
 /// The first place of the row that a place falls in.
 pub(crate) fn row_home<D: BidiData>(
     view: &mut View,
-    source: &TextRef<'_, D>,
+    text_ref: &TextRef<'_, D>,
     place: usize,
 ) -> Result<usize, OutOfMemory>
-    requires data { IsViewBy source.now view.old }
-    ensures keeps { Keeps source.now view.old view.new }
-    ensures home { IfOk result (λ home. home ≡ row_home (rows source.now view.old) place) }
+    requires data { IsViewBy text_ref.now view.old }
+    ensures keeps { Keeps text_ref.now view.old view.new }
+    ensures home { IfOk result (λ home. home ≡ row_home (rows text_ref.now view.old) place) }
 {
-    let at = view.row_at(source, place)?;
-    let paragraph = view.paragraph(source, at.paragraph, at.cached);
+    let at = view.row_at(text_ref, place)?;
+    let paragraph = view.paragraph(text_ref, at.paragraph, at.cached);
     Ok(at.start + paragraph.first(at.row))
 }
 
 /// The last place of the row that a place falls in: the paragraph's end in its last row, else the start of the row's last unit.
 pub(crate) fn row_end<D: BidiData>(
     view: &mut View,
-    source: &TextRef<'_, D>,
+    text_ref: &TextRef<'_, D>,
     place: usize,
 ) -> Result<usize, OutOfMemory>
-    requires data { IsViewBy source.now view.old }
-    ensures keeps { Keeps source.now view.old view.new }
-    ensures end { IfOk result (λ o. o ≡ row_end (rows source.now view.old) place) }
+    requires data { IsViewBy text_ref.now view.old }
+    ensures keeps { Keeps text_ref.now view.old view.new }
+    ensures end { IfOk result (λ o. o ≡ row_end (rows text_ref.now view.old) place) }
 {
-    let at = view.row_at(source, place)?;
+    let at = view.row_at(text_ref, place)?;
     // The proof compares the place, so it has a name.
-    let end = last_place(&view.row(source, at))?;
+    let end = last_place(&view.row(text_ref, at))?;
     Ok(end)
 }

@@ -12,65 +12,65 @@ use bx_ucd::BidiData;
 /// The next place after a place; at the text's end the place itself.
 fn step_forward<D: BidiData>(
     view: &mut View,
-    source: &TextRef<'_, D>,
+    text_ref: &TextRef<'_, D>,
     place: usize,
 ) -> Result<usize, OutOfMemory>
-    requires data { IsViewBy source.now view.old }
-    ensures keeps { Keeps source.now view.old view.new }
-    ensures place { IfOk result (λ o. o ≡ unwrap_or (find (nat_lt place) (places (rows source.now view.old))) place) }
+    requires data { IsViewBy text_ref.now view.old }
+    ensures keeps { Keeps text_ref.now view.old view.new }
+    ensures place { IfOk result (λ o. o ≡ unwrap_or (find (nat_lt place) (places (rows text_ref.now view.old))) place) }
 {
-    let at = view.row_at(source, place)?;
-    if let Some(after) = first_place_after(&view.row(source, at), place)? {
+    let at = view.row_at(text_ref, place)?;
+    if let Some(after) = first_place_after(&view.row(text_ref, at), place)? {
         return Ok(after);
     }
-    let Some(next) = view.next_row(source, at)? else {
+    let Some(next) = view.next_row(text_ref, at)? else {
         return Ok(place);
     };
-    Ok(view.first_in(source, next))
+    Ok(view.first_in(text_ref, next))
 }
 
 /// The last place before a place; at the text's start the place itself.
 fn step_back<D: BidiData>(
     view: &mut View,
-    source: &TextRef<'_, D>,
+    text_ref: &TextRef<'_, D>,
     place: usize,
 ) -> Result<usize, OutOfMemory>
-    requires data { IsViewBy source.now view.old }
-    ensures keeps { Keeps source.now view.old view.new }
+    requires data { IsViewBy text_ref.now view.old }
+    ensures keeps { Keeps text_ref.now view.old view.new }
     ensures place { IfOk result (λ o. o ≡ unwrap_or (find (λ p. nat_lt p place)
-        (reverse (places (rows source.now view.old)))) place) }
+        (reverse (places (rows text_ref.now view.old)))) place) }
 {
-    let at = view.row_at(source, place)?;
-    if let Some(before) = last_place_before(&view.row(source, at), place)? {
+    let at = view.row_at(text_ref, place)?;
+    if let Some(before) = last_place_before(&view.row(text_ref, at), place)? {
         return Ok(before);
     }
-    let Some(above) = view.row_before(source, at)? else {
+    let Some(above) = view.row_before(text_ref, at)? else {
         return Ok(place);
     };
     // The proof compares the place, so it has a name.
-    let last = last_place(&view.row(source, above))?;
+    let last = last_place(&view.row(text_ref, above))?;
     Ok(last)
 }
 
 /// The next or the previous place in text order; at either end of the text the place itself.
 pub(crate) fn step_logical<D: BidiData>(
     view: &mut View,
-    source: &TextRef<'_, D>,
+    text_ref: &TextRef<'_, D>,
     way: Logical,
     place: usize,
 ) -> Result<usize, OutOfMemory>
-    requires data { IsViewBy source.now view.old }
-    ensures keeps { Keeps source.now view.old view.new }
-    ensures step { IfOk result (λ o. o ≡ step_logical (rows source.now view.old) way place) }
+    requires data { IsViewBy text_ref.now view.old }
+    ensures keeps { Keeps text_ref.now view.old view.new }
+    ensures step { IfOk result (λ o. o ≡ step_logical (rows text_ref.now view.old) way place) }
 {
     // The proof compares the place, so each arm names it.
     match way {
         Logical::Forward => {
-            let place = step_forward(view, source, place)?;
+            let place = step_forward(view, text_ref, place)?;
             Ok(place)
         }
         Logical::Back => {
-            let place = step_back(view, source, place)?;
+            let place = step_back(view, text_ref, place)?;
             Ok(place)
         }
     }

@@ -12,38 +12,38 @@ use bx_ucd::BidiData;
 /// The place at the reading start of the next row, if there is one.
 fn start_after<D: BidiData>(
     view: &mut View,
-    source: &TextRef<'_, D>,
+    text_ref: &TextRef<'_, D>,
     at: RowAt,
 ) -> Result<Option<usize>, OutOfMemory>
-    requires row { Stands source.now view.old at }
-    ensures keeps { Keeps source.now view.old view.new }
-    ensures place { (n : ℕ) → StandsOn source.now view.old at n
-        → IfOk result (λ o. o ≡ start_of view.old.w (row_after (rows source.now view.old) n)) }
+    requires row { Stands text_ref.now view.old at }
+    ensures keeps { Keeps text_ref.now view.old view.new }
+    ensures place { (n : ℕ) → StandsOn text_ref.now view.old at n
+        → IfOk result (λ o. o ≡ start_of view.old.w (row_after (rows text_ref.now view.old) n)) }
 {
-    let Some(there) = view.next_row(source, at)? else {
+    let Some(there) = view.next_row(text_ref, at)? else {
         return Ok(None);
     };
     // The proof compares the place, so it has a name.
-    let place = reading_start(&view.row(source, there))?;
+    let place = reading_start(&view.row(text_ref, there))?;
     Ok(place)
 }
 
 /// The place at the reading end of the previous row, if there is one.
 fn end_before<D: BidiData>(
     view: &mut View,
-    source: &TextRef<'_, D>,
+    text_ref: &TextRef<'_, D>,
     at: RowAt,
 ) -> Result<Option<usize>, OutOfMemory>
-    requires row { Stands source.now view.old at }
-    ensures keeps { Keeps source.now view.old view.new }
-    ensures place { (n : ℕ) → StandsOn source.now view.old at n
-        → IfOk result (λ o. o ≡ end_of view.old.w (row_before (rows source.now view.old) n)) }
+    requires row { Stands text_ref.now view.old at }
+    ensures keeps { Keeps text_ref.now view.old view.new }
+    ensures place { (n : ℕ) → StandsOn text_ref.now view.old at n
+        → IfOk result (λ o. o ≡ end_of view.old.w (row_before (rows text_ref.now view.old) n)) }
 {
-    let Some(there) = view.row_before(source, at)? else {
+    let Some(there) = view.row_before(text_ref, at)? else {
         return Ok(None);
     };
     // The proof compares the place, so it has a name.
-    let place = reading_end(&view.row(source, there))?;
+    let place = reading_end(&view.row(text_ref, there))?;
     Ok(place)
 }
 
@@ -51,21 +51,21 @@ fn end_before<D: BidiData>(
 /// that side, else the reading end of the previous row. None if there is no such row.
 fn past<D: BidiData>(
     view: &mut View,
-    source: &TextRef<'_, D>,
+    text_ref: &TextRef<'_, D>,
     at: RowAt,
     side: Visual,
 ) -> Result<Option<usize>, OutOfMemory>
-    requires row { Stands source.now view.old at }
-    ensures keeps { Keeps source.now view.old view.new }
-    ensures place { (n : ℕ) → StandsOn source.now view.old at n
-        → IfOk result (λ o. o ≡ past view.old.w (rows source.now view.old) side n) }
+    requires row { Stands text_ref.now view.old at }
+    ensures keeps { Keeps text_ref.now view.old view.new }
+    ensures place { (n : ℕ) → StandsOn text_ref.now view.old at n
+        → IfOk result (λ o. o ≡ past view.old.w (rows text_ref.now view.old) side n) }
 {
     // The proof compares the place, so it has a name on both ways.
-    if reads_on(&view.row(source, at), side) {
-        let place = start_after(view, source, at)?;
+    if reads_on(&view.row(text_ref, at), side) {
+        let place = start_after(view, text_ref, at)?;
         return Ok(place);
     }
-    let place = end_before(view, source, at)?;
+    let place = end_before(view, text_ref, at)?;
     Ok(place)
 }
 
@@ -73,18 +73,18 @@ fn past<D: BidiData>(
 /// `place` itself.
 pub(crate) fn step_visual<D: BidiData>(
     view: &mut View,
-    source: &TextRef<'_, D>,
+    text_ref: &TextRef<'_, D>,
     side: Visual,
     place: usize,
 ) -> Result<usize, OutOfMemory>
-    requires data { IsViewBy source.now view.old }
-    ensures keeps { Keeps source.now view.old view.new }
-    ensures step { IfOk result (λ o. o ≡ step_visual view.old.w (rows source.now view.old) side place) }
+    requires data { IsViewBy text_ref.now view.old }
+    ensures keeps { Keeps text_ref.now view.old view.new }
+    ensures step { IfOk result (λ o. o ≡ step_visual view.old.w (rows text_ref.now view.old) side place) }
 {
-    let at = view.row_at(source, place)?;
-    if let Some(next) = place_beside(&view.row(source, at), side, place)? {
+    let at = view.row_at(text_ref, place)?;
+    if let Some(next) = place_beside(&view.row(text_ref, at), side, place)? {
         return Ok(next);
     }
-    let past = past(view, source, at, side)?;
+    let past = past(view, text_ref, at, side)?;
     Ok(past.unwrap_or(place))
 }

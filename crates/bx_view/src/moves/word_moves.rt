@@ -28,24 +28,24 @@ fn word_way(is_read_on: bool) -> Logical
 /// paragraph.
 fn stop_below<D: BidiData>(
     view: &mut View,
-    source: &TextRef<'_, D>,
+    text_ref: &TextRef<'_, D>,
     at: RowAt,
 ) -> Result<Option<usize>, OutOfMemory>
-    requires row { Stands source.now view.old at }
-    ensures keeps { Keeps source.now view.old view.new }
-    ensures stop { IfOk result (λ found. MatchOption found (at.paragraph + 1 ≡ count source.now)
-        (λ o. (at.paragraph + 1 < count source.now) × (o ≡ start_at source.now (at.paragraph + 1)
-        + unwrap_or (find (nat_le 0) (body_words (D.data source.now.tables.now) (body_at source.now (at.paragraph + 1))))
-        (length (body_at source.now (at.paragraph + 1)))))) }
+    requires row { Stands text_ref.now view.old at }
+    ensures keeps { Keeps text_ref.now view.old view.new }
+    ensures stop { IfOk result (λ found. MatchOption found (at.paragraph + 1 ≡ count text_ref.now)
+        (λ o. (at.paragraph + 1 < count text_ref.now) × (o ≡ start_at text_ref.now (at.paragraph + 1)
+        + unwrap_or (find (nat_le 0) (body_words (D.data text_ref.now.tables.now) (body_at text_ref.now (at.paragraph + 1))))
+        (length (body_at text_ref.now (at.paragraph + 1)))))) }
 {
-    let mut walk = view.walk_from(source, at);
+    let mut walk = view.walk_from(text_ref, at);
     if !walk.to_next() {
         return Ok(None);
     }
-    let span = current_span(source, &walk);
-    let cached = view.find(source, span)?;
-    let paragraph = view.paragraph(source, span.number, cached);
-    let first = first_stop(paragraph, source.tables);
+    let span = current_span(text_ref, &walk);
+    let cached = view.find(text_ref, span)?;
+    let paragraph = view.paragraph(text_ref, span.number, cached);
+    let first = first_stop(paragraph, text_ref.tables);
     Ok(Some(span.start + first))
 }
 
@@ -53,89 +53,89 @@ fn stop_below<D: BidiData>(
 /// such paragraph.
 fn start_above<D: BidiData>(
     view: &mut View,
-    source: &TextRef<'_, D>,
+    text_ref: &TextRef<'_, D>,
     at: RowAt,
     place: usize,
 ) -> Result<Option<usize>, OutOfMemory>
-    requires row { Stands source.now view.old at }
+    requires row { Stands text_ref.now view.old at }
     requires order { at.start ≤ place }
-    ensures keeps { Keeps source.now view.old view.new }
+    ensures keeps { Keeps text_ref.now view.old view.new }
     ensures start { IfOk result (λ found. MatchOption found (at.paragraph ≡ 0)
-        (λ o. (0 < at.paragraph) × (o ≡ start_at source.now (at.paragraph - 1)
-        + unwrap_or (find (λ o. nat_lt o (place - start_at source.now (at.paragraph - 1)))
-        (reverse (body_words (D.data source.now.tables.now) (body_at source.now (at.paragraph - 1))))) 0))) }
+        (λ o. (0 < at.paragraph) × (o ≡ start_at text_ref.now (at.paragraph - 1)
+        + unwrap_or (find (λ o. nat_lt o (place - start_at text_ref.now (at.paragraph - 1)))
+        (reverse (body_words (D.data text_ref.now.tables.now) (body_at text_ref.now (at.paragraph - 1))))) 0))) }
 {
-    let mut walk = view.walk_from(source, at);
+    let mut walk = view.walk_from(text_ref, at);
     if !walk.to_previous() {
         return Ok(None);
     }
-    let span = current_span(source, &walk);
-    let cached = view.find(source, span)?;
-    let paragraph = view.paragraph(source, span.number, cached);
-    let last = start_before(paragraph, place - span.start, source.tables);
+    let span = current_span(text_ref, &walk);
+    let cached = view.find(text_ref, span)?;
+    let paragraph = view.paragraph(text_ref, span.number, cached);
+    let last = start_before(paragraph, place - span.start, text_ref.tables);
     Ok(Some(span.start + last))
 }
 
 /// The first place after `place` at which a word begins or a body ends; if there is none, `place` itself.
 fn word_forward<D: BidiData>(
     view: &mut View,
-    source: &TextRef<'_, D>,
+    text_ref: &TextRef<'_, D>,
     place: usize,
 ) -> Result<usize, OutOfMemory>
-    requires data { IsViewBy source.now view.old }
-    ensures keeps { Keeps source.now view.old view.new }
-    ensures place { IfOk result (λ o. o ≡ step_word (D.data source.now.tables.now) (bytes source.now) Forward place) }
+    requires data { IsViewBy text_ref.now view.old }
+    ensures keeps { Keeps text_ref.now view.old view.new }
+    ensures place { IfOk result (λ o. o ≡ step_word (D.data text_ref.now.tables.now) (bytes text_ref.now) Forward place) }
 {
-    let at = view.row_at(source, place)?;
-    let paragraph = view.paragraph(source, at.paragraph, at.cached);
+    let at = view.row_at(text_ref, place)?;
+    let paragraph = view.paragraph(text_ref, at.paragraph, at.cached);
     let offset = place - at.start;
     if offset < paragraph.body().len() {
-        let stop = stop_after(paragraph, offset, source.tables);
+        let stop = stop_after(paragraph, offset, text_ref.tables);
         return Ok(at.start + stop);
     }
-    let below = stop_below(view, source, at)?;
+    let below = stop_below(view, text_ref, at)?;
     Ok(below.unwrap_or(place))
 }
 
 /// The last place before `place` at which a word or a body begins; if there is none, `place` itself.
 fn word_back<D: BidiData>(
     view: &mut View,
-    source: &TextRef<'_, D>,
+    text_ref: &TextRef<'_, D>,
     place: usize,
 ) -> Result<usize, OutOfMemory>
-    requires data { IsViewBy source.now view.old }
-    ensures keeps { Keeps source.now view.old view.new }
-    ensures place { IfOk result (λ o. o ≡ step_word (D.data source.now.tables.now) (bytes source.now) Back place) }
+    requires data { IsViewBy text_ref.now view.old }
+    ensures keeps { Keeps text_ref.now view.old view.new }
+    ensures place { IfOk result (λ o. o ≡ step_word (D.data text_ref.now.tables.now) (bytes text_ref.now) Back place) }
 {
-    let at = view.row_at(source, place)?;
+    let at = view.row_at(text_ref, place)?;
     if at.start < place {
-        let paragraph = view.paragraph(source, at.paragraph, at.cached);
-        let start = start_before(paragraph, place - at.start, source.tables);
+        let paragraph = view.paragraph(text_ref, at.paragraph, at.cached);
+        let start = start_before(paragraph, place - at.start, text_ref.tables);
         return Ok(at.start + start);
     }
-    let above = start_above(view, source, at, place)?;
+    let above = start_above(view, text_ref, at, place)?;
     Ok(above.unwrap_or(place))
 }
 
 /// The place after a move by a word in text order.
 pub(crate) fn step_word<D: BidiData>(
     view: &mut View,
-    source: &TextRef<'_, D>,
+    text_ref: &TextRef<'_, D>,
     way: Logical,
     place: usize,
 ) -> Result<usize, OutOfMemory>
-    requires data { IsViewBy source.now view.old }
-    ensures keeps { Keeps source.now view.old view.new }
-    ensures place { IfOk result (λ o. o ≡ step_word (D.data source.now.tables.now) (bytes source.now) way place) }
+    requires data { IsViewBy text_ref.now view.old }
+    ensures keeps { Keeps text_ref.now view.old view.new }
+    ensures place { IfOk result (λ o. o ≡ step_word (D.data text_ref.now.tables.now) (bytes text_ref.now) way place) }
 {
     // The proof compares the place, so each arm names it.
     match way {
         Logical::Forward => {
-            let place = word_forward(view, source, place)?;
+            let place = word_forward(view, text_ref, place)?;
             Ok(place)
         }
         Logical::Back => {
-            let place = word_back(view, source, place)?;
+            let place = word_back(view, text_ref, place)?;
             Ok(place)
         }
     }
@@ -144,17 +144,17 @@ pub(crate) fn step_word<D: BidiData>(
 /// The place after a move by a word toward a side: forward if the place's paragraph is read toward it, else back.
 pub(crate) fn word_towards<D: BidiData>(
     view: &mut View,
-    source: &TextRef<'_, D>,
+    text_ref: &TextRef<'_, D>,
     side: Visual,
     place: usize,
 ) -> Result<usize, OutOfMemory>
-    requires data { IsViewBy source.now view.old }
-    ensures keeps { Keeps source.now view.old view.new }
-    ensures place { IfOk result (λ o. o ≡ word_towards (D.data source.now.tables.now) (bytes source.now) (rows source.now view.old) side place) }
+    requires data { IsViewBy text_ref.now view.old }
+    ensures keeps { Keeps text_ref.now view.old view.new }
+    ensures place { IfOk result (λ o. o ≡ word_towards (D.data text_ref.now.tables.now) (bytes text_ref.now) (rows text_ref.now view.old) side place) }
 {
-    let at = view.row_at(source, place)?;
-    let way = word_way(reads_on(&view.row(source, at), side));
+    let at = view.row_at(text_ref, place)?;
+    let way = word_way(reads_on(&view.row(text_ref, at), side));
     // The proof compares the place, so it has a name.
-    let place = step_word(view, source, way, place)?;
+    let place = step_word(view, text_ref, way, place)?;
     Ok(place)
 }

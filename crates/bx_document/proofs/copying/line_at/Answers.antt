@@ -7,15 +7,15 @@ use Rattle.bx_document.proofs.copying.line_at.Goals as goal
 use Rattle.bx_document.proofs.copying.line_at.Goals.{After-separator}
 
 reached : (g : _) (c : After-separator g)
-    → c.span-span.result.stop + c.separator.result ≡ touched_stop (g.D.BidiData.data c.args.source.now.tables.now) c.args.source.now.text.now.edited.text c.args.offset
+    → c.span-span.result.stop + c.separator.result ≡ touched_stop (g.D.BidiData.data c.args.text_ref.now.tables.now) c.args.text_ref.now.text.now.edited.text c.args.offset
 reached g c =
-    let s = c.args.source.now in
+    let s = c.args.text_ref.now in
     stop_of_walk (g.D.BidiData.data s.tables.now) s.text.now.edited.text s.index.now.paragraphs s.utf8 s.indexed c.args.offset
     c.walk_at_offset-walk.result (c.span-span.result.start, c.span-span.result.stop) c.separator.result c.walk_at_offset-walk.ensures c.span-span.ensures.span c.separator.ensures
 
 pub overflow_add-result : goal.overflow_add-result
 overflow_add-result g c =
-    let s = c.args.source.now in
+    let s = c.args.text_ref.now in
     omega (
       arith,
       reached g ((goal.at.overflow_add-result g c).After-separator),
@@ -27,9 +27,9 @@ overflow_add-result g c =
 -- the line's two ends
 line : (g : _) (c : After-separator g)
     → (c.span-span.result.start, c.span-span.result.stop + c.separator.result)
-    ≡ line_of (g.D.BidiData.data c.args.source.now.tables.now) c.args.source.now.text.now.edited.text c.args.offset
+    ≡ line_of (g.D.BidiData.data c.args.text_ref.now.tables.now) c.args.text_ref.now.text.now.edited.text c.args.offset
 line g c =
-    let s = c.args.source.now in
+    let s = c.args.text_ref.now in
     let ucd = g.D.BidiData.data s.tables.now in
     let text = s.text.now.edited.text in
     let ls = s.index.now.paragraphs in
@@ -45,7 +45,7 @@ returns-clause-stop g c = ap (λ (s : ℕ × ℕ). s.1) (line g ((goal.at.return
 
 pub returns-clause-range : goal.returns-clause-range
 returns-clause-range g c =
-    let s = c.args.source.now in
+    let s = c.args.text_ref.now in
     let ucd = g.D.BidiData.data s.tables.now in
     let text = s.text.now.edited.text in
     let ls = s.index.now.paragraphs in

@@ -9,7 +9,7 @@ use Rattle.bx_document.proofs.touched.place_after.Goals as goal
 
 pub returns-in-Some-clause-text_place : goal.returns-in-Some-clause-text_place
 returns-in-Some-clause-text_place g c =
-    let s = c.args.source.now in
+    let s = c.args.text_ref.now in
     let range = c.args.range in
     subst (λ found. IfSome found (IsTextPlace (g.D.BidiData.data s.tables.now) (splice s.text.now.edited.text range.start range.end c.args.new.now)))
     c.in-Some.is c.in_ok-place.ensures.text_place
@@ -20,7 +20,7 @@ returns-in-Some-clause-order g c =
 
 pub returns-clause-place : goal.returns-clause-place
 returns-clause-place g c =
-    let s = c.args.source.now in
+    let s = c.args.text_ref.now in
     let ucd = g.D.BidiData.data s.tables.now in
     let range = c.args.range in
     let new = splice s.text.now.edited.text range.start range.end c.args.new.now in
@@ -29,7 +29,7 @@ returns-clause-place g c =
 
 pub returns-clause-order : goal.returns-clause-order
 returns-clause-order g c =
-    let s = c.args.source.now in
+    let s = c.args.text_ref.now in
     let range = c.args.range in
     let v = c.edit.new.self in
     place_order (g.D.BidiData.data s.tables.now) v.base v.w s.text.now.edited.text range.start range.end c.args.new.now c.in_ok-place-2.place

@@ -8,7 +8,7 @@ use Rattle.bx_document.proofs.touched.place_at_inside.Goals as goal
 
 pub overflow_add-result : goal.overflow_add-result
 overflow_add-result g c =
-    let s = c.args.source.now in
+    let s = c.args.text_ref.now in
     let text = s.text.now.edited.text in
     let range = c.args.range in
     let copy = ap (λ (t : TextState). t.edited.text) c.of-copy.ensures.text ∙ c.in_ok-text.ensures.text in
@@ -22,7 +22,7 @@ overflow_add-result g c =
 
 pub returns-clause-place : goal.returns-clause-place
 returns-clause-place g c =
-    let s = c.args.source.now in
+    let s = c.args.text_ref.now in
     let text = s.text.now.edited.text in
     let range = c.args.range in
     let copy = ap (λ (t : TextState). t.edited.text) c.of-copy.ensures.text ∙ c.in_ok-text.ensures.text in
@@ -35,7 +35,7 @@ returns-clause-place g c =
 
 pub returns-clause-text_place : goal.returns-clause-text_place
 returns-clause-text_place g c =
-    let s = c.args.source.now in
+    let s = c.args.text_ref.now in
     let text = s.text.now.edited.text in
     let range = c.args.range in
     let copy = ap (λ (t : TextState). t.edited.text) c.of-copy.ensures.text ∙ c.in_ok-text.ensures.text in

@@ -7,7 +7,7 @@ use Rattle.bx_document.proofs.touched.place_inside.Goals as goal
 
 pub overflow_add-result : goal.overflow_add-result
 overflow_add-result g c =
-    let s = c.args.source.now in
+    let s = c.args.text_ref.now in
     let copy = ap (λ (t : TextState). t.edited.text) c.of-copy.ensures.text ∙ c.in_ok-text.ensures.text in
     let is = found (g.D.BidiData.data s.tables.now) c.args.view.now s.text.now.edited.text
     c.args.range.start c.args.range.end c.args.new.now (string_bytes c.in_ok-first.characters) c.in_ok-first.first c.args.offset _ c.in_ok-place.place
@@ -19,7 +19,7 @@ overflow_add-result g c =
 
 pub returns-clause-place : goal.returns-clause-place
 returns-clause-place g c =
-    let s = c.args.source.now in
+    let s = c.args.text_ref.now in
     let copy = ap (λ (t : TextState). t.edited.text) c.of-copy.ensures.text ∙ c.in_ok-text.ensures.text in
     (found (g.D.BidiData.data s.tables.now) c.args.view.now s.text.now.edited.text
     c.args.range.start c.args.range.end c.args.new.now (string_bytes c.in_ok-first.characters) c.in_ok-first.first c.args.offset _ c.in_ok-place.place
@@ -30,7 +30,7 @@ returns-clause-place g c =
 
 pub returns-clause-text_place : goal.returns-clause-text_place
 returns-clause-text_place g c =
-    let s = c.args.source.now in
+    let s = c.args.text_ref.now in
     let copy = ap (λ (t : TextState). t.edited.text) c.of-copy.ensures.text ∙ c.in_ok-text.ensures.text in
     (found (g.D.BidiData.data s.tables.now) c.args.view.now s.text.now.edited.text
     c.args.range.start c.args.range.end c.args.new.now (string_bytes c.in_ok-first.characters) c.in_ok-first.first c.args.offset _ c.in_ok-place.place

@@ -7,7 +7,7 @@ use Rattle.bx_print.proofs.printing.print_paragraphs.Given as goal
 
 abbrev pub invariant-loop-number : goal.invariant-loop-number
 invariant-loop-number g l =
-    let ucd = g.D.BidiData.data l.source.tables.now in
+    let ucd = g.D.BidiData.data l.text_ref.tables.now in
     (written : List ℕ) × IsSent
     (lines_of ucd l.style.placeholders l.style.base l.style.columns)
-    (paragraphs ucd l.source.text.now.edited.text) (g.W.Write.contents l.fn.writer) (g.W.Write.contents l.writer) l.pending.items l.number written
+    (paragraphs ucd l.text_ref.text.now.edited.text) (g.W.Write.contents l.fn.writer) (g.W.Write.contents l.writer) l.pending.items l.number written

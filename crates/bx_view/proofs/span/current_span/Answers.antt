@@ -5,7 +5,7 @@ use Rattle.bx_view.proofs.span.current_span.Goals as goal
 
 pub returns-clause-is : goal.returns-clause-is
 returns-clause-is g c =
-    let s = c.args.source.now in
+    let s = c.args.text_ref.now in
     let ucd = g.D.BidiData.data s.tables.now in
     let text = s.text.now.edited.text in
     subst (λ n. IsSpan ucd text n c.span.result.start c.span.result.stop) (sym c.span.ensures.number)

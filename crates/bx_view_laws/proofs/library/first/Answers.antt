@@ -11,19 +11,19 @@ use Rattle.bx_view_laws.proofs.library.first.Goals as goal
 
 pub overflow_add-result : goal.overflow_add-result
 overflow_add-result g c =
-    let ucd = g.D.BidiData.data c.args.source.now.tables.now in
-    let text = c.args.source.now.text.now.edited.text in
+    let ucd = g.D.BidiData.data c.args.text_ref.now.tables.now in
+    let text = c.args.text_ref.now.text.now.edited.text in
     let base = c.args.view.now.base in
     let w = c.width-w.result in
     let some = side-some w (ap is_side c.width-w.ensures.width ∙ c.width-w.ensures.side) in
-    let utf8 = c.args.source.now.utf8 in
+    let utf8 = c.args.text_ref.now.utf8 in
     let i = c.loop-done.invariant in
     let done = c.loop-done.done in
     let within : done < count ucd text = omega (
       arith,
       c.loop-done-test.true,
       c.count-count.ensures.count,
-      ap length c.args.source.now.indexed,
+      ap length c.args.text_ref.now.indexed,
       lengths-count ucd text,
     ) in
     let items = c.in_ok-starts.starts.items in
@@ -33,23 +33,23 @@ overflow_add-result g c =
     let offset : c.index.result.now.offset ≡ (get_or items c.loop-done.left c.index.result.now).offset = ap (λ s. s.offset) c.index.ensures in
     let fits = start-fits ucd base w some text utf8 done c.loop-done.left c.args.row items within starts i.ahead there c.index.result.now
     c.current_span-span.result.start start in
-    omega (arith, fits, offset, c.args.source.now.short)
+    omega (arith, fits, offset, c.args.text_ref.now.short)
 
 pub returns-then-left-len : goal.returns-then-left-len
 returns-then-left-len g c =
-    let ucd = g.D.BidiData.data c.args.source.now.tables.now in
-    let text = c.args.source.now.text.now.edited.text in
+    let ucd = g.D.BidiData.data c.args.text_ref.now.tables.now in
+    let text = c.args.text_ref.now.text.now.edited.text in
     let base = c.args.view.now.base in
     let w = c.width-w.result in
     let some = side-some w (ap is_side c.width-w.ensures.width ∙ c.width-w.ensures.side) in
-    let utf8 = c.args.source.now.utf8 in
+    let utf8 = c.args.text_ref.now.utf8 in
     let i = c.loop-done.invariant in
     let done = c.loop-done.done in
     let within : done < count ucd text = omega (
       arith,
       c.loop-done-test.true,
       c.count-count.ensures.count,
-      ap length c.args.source.now.indexed,
+      ap length c.args.text_ref.now.indexed,
       lengths-count ucd text,
     ) in
     let items = c.in_ok-starts.starts.items in
@@ -64,19 +64,19 @@ returns-then-left-len g c =
 
 pub loop-done-preserved : goal.loop-done-preserved
 loop-done-preserved g c =
-    let ucd = g.D.BidiData.data c.args.source.now.tables.now in
-    let text = c.args.source.now.text.now.edited.text in
+    let ucd = g.D.BidiData.data c.args.text_ref.now.tables.now in
+    let text = c.args.text_ref.now.text.now.edited.text in
     let base = c.args.view.now.base in
     let w = c.width-w.result in
     let some = side-some w (ap is_side c.width-w.ensures.width ∙ c.width-w.ensures.side) in
-    let utf8 = c.args.source.now.utf8 in
+    let utf8 = c.args.text_ref.now.utf8 in
     let i = c.loop-done.invariant in
     let done = c.loop-done.done in
     let within : done < count ucd text = omega (
       arith,
       c.loop-done-test.true,
       c.count-count.ensures.count,
-      ap length c.args.source.now.indexed,
+      ap length c.args.text_ref.now.indexed,
       lengths-count ucd text,
     ) in
     let items = c.in_ok-starts.starts.items in
@@ -94,19 +94,19 @@ loop-done-preserved g c =
 
 pub returns : goal.returns
 returns g c =
-    let ucd = g.D.BidiData.data c.args.source.now.tables.now in
-    let text = c.args.source.now.text.now.edited.text in
+    let ucd = g.D.BidiData.data c.args.text_ref.now.tables.now in
+    let text = c.args.text_ref.now.text.now.edited.text in
     let base = c.args.view.now.base in
     let w = c.width-w.result in
     let some = side-some w (ap is_side c.width-w.ensures.width ∙ c.width-w.ensures.side) in
-    let utf8 = c.args.source.now.utf8 in
+    let utf8 = c.args.text_ref.now.utf8 in
     let i = c.loop-done.invariant in
     let done = c.loop-done.done in
     let past : count ucd text ≤ done = omega (
       arith,
       c.loop-done-test.false,
       c.count-count.ensures.count,
-      ap length c.args.source.now.indexed,
+      ap length c.args.text_ref.now.indexed,
       lengths-count ucd text,
     ) in
     none-counted ucd base w some text utf8 done c.loop-done.left c.args.row past i.ahead

@@ -7,11 +7,11 @@ use Rattle.bx_view_laws.proofs.library.first.Given as goal
 
 abbrev pub invariant-loop-done : goal.invariant-loop-done
 invariant-loop-done g l =
-    let ucd = g.D.BidiData.data l.source.tables.now in
-    let text = bytes l.source in
+    let ucd = g.D.BidiData.data l.text_ref.tables.now in
+    let text = bytes l.text_ref in
     record {
       paragraphs : l.walk.paragraphs ≡ lengths ucd text;
-      number : l.done < count l.source → l.walk.number ≡ l.done;
+      number : l.done < count l.text_ref → l.walk.number ≡ l.done;
       ahead : l.left + rows_ahead ucd l.fn.view.base l.w text l.done ≡ l.fn.row;
     }
 

@@ -12,8 +12,8 @@ use Rattle.bx_view_laws.proofs.library.follow.Goals as goal
 
 pub returns-clause-top : goal.returns-clause-top
 returns-clause-top g c =
-    let ucd = g.D.BidiData.data c.args.source.now.tables.now in
-    let text = c.args.source.now.text.now.edited.text in
+    let ucd = g.D.BidiData.data c.args.text_ref.now.tables.now in
+    let text = c.args.text_ref.now.text.now.edited.text in
     let old = c.args.view.now in
     let all = rows_by ucd old text in
     c.first_in.ensures _ c.in_ok-located.ensures.top
@@ -22,14 +22,14 @@ returns-clause-top g c =
 
 pub returns-clause-text_place : goal.returns-clause-text_place
 returns-clause-text_place g c =
-    let ucd = g.D.BidiData.data c.args.source.now.tables.now in
-    let text = c.args.source.now.text.now.edited.text in
+    let ucd = g.D.BidiData.data c.args.text_ref.now.tables.now in
+    let text = c.args.text_ref.now.text.now.edited.text in
     let old = c.args.view.now in
     let some = side-some old.w (sym (ap is_side c.locate.ensures.keeps.w) ∙ c.in_ok-located.ensures.top.side) in
-    let led = (text-places-kept ucd old.base old.w some text c.args.source.now.utf8).top c.args.top c.args.place c.args.t c.requires.some in
+    let led = (text-places-kept ucd old.base old.w some text c.args.text_ref.now.utf8).top c.args.top c.args.place c.args.t c.requires.some in
     subst (IsTextPlace ucd text) (sym (returns-clause-top g c)) led
 
 pub returns-clause-boundary : goal.returns-clause-boundary
 returns-clause-boundary g c =
-    place-between (g.D.BidiData.data c.args.source.now.tables.now) c.args.source.now.text.now.edited.text _ c.args.source.now.utf8
+    place-between (g.D.BidiData.data c.args.text_ref.now.tables.now) c.args.text_ref.now.text.now.edited.text _ c.args.text_ref.now.utf8
     (returns-clause-text_place g c)

@@ -9,34 +9,34 @@ use Rattle.bx_view_laws.proofs.library.rows_before.Goals as goal
 
 pub walk_at-walk-requires-clause-inside : goal.walk_at-walk-requires-clause-inside
 walk_at-walk-requires-clause-inside g c =
-    let s = c.args.source.now in
+    let s = c.args.text_ref.now in
     let ucd = g.D.BidiData.data s.tables.now in
     let text = s.text.now.edited.text in
     omega (arith, some-paragraph ucd text s.utf8, ap length s.indexed, lengths-count ucd text)
 
 pub overflow_add-ahead : goal.overflow_add-ahead
 overflow_add-ahead g c =
-    let ucd = g.D.BidiData.data c.args.source.now.tables.now in
-    let text = c.args.source.now.text.now.edited.text in
+    let ucd = g.D.BidiData.data c.args.text_ref.now.tables.now in
+    let text = c.args.text_ref.now.text.now.edited.text in
     let i = c.loop-done.invariant in
     let w = c.args.w in
     let some = side-some w c.requires.side in
     let within : c.loop-done.done < count ucd text = omega (arith, c.loop-done-test.true, c.requires.number) in
     let starts = c.in_ok-starts.ensures ∙ ap (λ k. row_starts ucd w (body_at ucd text k)) (i.number within) in
-    let more = ahead-more ucd Auto w some text c.args.source.now.utf8 c.loop-done.done c.loop-done.ahead c.in_ok-starts.starts.items
+    let more = ahead-more ucd Auto w some text c.args.text_ref.now.utf8 c.loop-done.done c.loop-done.ahead c.in_ok-starts.starts.items
     within starts (i.ahead Auto) in
     omega (
       arith,
       more,
-      few-ahead ucd Auto w some text c.args.source.now.utf8 (c.loop-done.done + 1),
-      c.args.source.now.short,
+      few-ahead ucd Auto w some text c.args.text_ref.now.utf8 (c.loop-done.done + 1),
+      c.args.text_ref.now.short,
       c.len-ahead.ensures,
     )
 
 pub loop-done-preserved : goal.loop-done-preserved
 loop-done-preserved g c =
-    let ucd = g.D.BidiData.data c.args.source.now.tables.now in
-    let text = c.args.source.now.text.now.edited.text in
+    let ucd = g.D.BidiData.data c.args.text_ref.now.tables.now in
+    let text = c.args.text_ref.now.text.now.edited.text in
     let i = c.loop-done.invariant in
     let w = c.args.w in
     let some = side-some w c.requires.side in
@@ -50,7 +50,7 @@ loop-done-preserved g c =
           (omega (arith, further, size));
       within = omega (arith, c.loop-done-test.true);
       ahead = λ base.
-          let more = ahead-more ucd base w some text c.args.source.now.utf8 c.loop-done.done c.loop-done.ahead c.in_ok-starts.starts.items
+          let more = ahead-more ucd base w some text c.args.text_ref.now.utf8 c.loop-done.done c.loop-done.ahead c.in_ok-starts.starts.items
           within starts (i.ahead base) in
           omega (arith, more, c.len-ahead.ensures);
     }

@@ -12,8 +12,8 @@ in_text-requires g c =
 
 pub returns-clause-slots : goal.returns-clause-slots
 returns-clause-slots g c =
-    let ucd = g.D.BidiData.data c.args.source.now.tables.now in
+    let ucd = g.D.BidiData.data c.args.text_ref.now.tables.now in
     let s = c.row-row.result in
     c.in_ok-in_text.ensures ∙ ap (λ ss. map (λ o. s.start + o) (map (λ s. s.offset) ss)) (c.deref.ensures.value ∙ c.in_ok-slots.ensures.slots)
     ∙ ap₂ slots c.row-row.ensures.columns (c.row-row.ensures.row _ c.in_ok-at.ensures.row)
-    ∙ kept ucd c.args.view.now c.row_at.new.self c.args.source.now.text.now.edited.text c.row_at.ensures.keeps (λ w rs. slots w (row_at rs (row_of rs c.args.place)))
+    ∙ kept ucd c.args.view.now c.row_at.new.self c.args.text_ref.now.text.now.edited.text c.row_at.ensures.keeps (λ w rs. slots w (row_at rs (row_of rs c.args.place)))

@@ -25,7 +25,7 @@ invariant_of-self-2 g c =
     refl c.self-2.invariant.1
     c.requires.text_place c.in_ok-between.ensures.text_place is in
     let i = c.self-2.inside in
-    edited g.D.BidiData.data i.view i.row_cache i.own c.exchange.new.self _ c.in_ok-exchange.ensures.ok c.self-2.invariant.0 keeps c.self-2.invariant.2
+    edited g.D.BidiData.data i.view i.row_cache i.indexed c.exchange.new.self _ c.in_ok-exchange.ensures.ok c.self-2.invariant.0 keeps c.self-2.invariant.2
 
 pub returns-clause-ok : goal.returns-clause-ok
 returns-clause-ok g c =
@@ -50,7 +50,7 @@ returns-clause-ok g c =
 
 pub returns-clause-text_place : goal.returns-clause-text_place
 returns-clause-text_place g c =
-    let own = c.self-2.inside.own in
+    let own = c.self-2.inside.indexed in
     let start = c.args.start in
     let new = c.args.new.now in
     let after = c.in_ok-after-2.after in

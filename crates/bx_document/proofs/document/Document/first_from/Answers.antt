@@ -8,7 +8,7 @@ pub returns-clause-found : goal.returns-clause-found
 returns-clause-found g c =
     subst (λ s. c.first_from.result
     ≡ first_from (g.D.BidiData.data s.tables) c.args.reading c.args.query.now s.document.content.text c.args.x)
-    (lent c.source-source.ensures.tables refl c.self.view_is) c.first_from.ensures.found
+    (lent c.text_ref-text_ref.ensures.tables refl c.self.view_is) c.first_from.ensures.found
 
 pub returns-clause-boundary : goal.returns-clause-boundary
 returns-clause-boundary g c =

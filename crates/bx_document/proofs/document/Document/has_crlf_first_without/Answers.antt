@@ -9,11 +9,11 @@ use Rattle.bx_document.proofs.document.Document.has_crlf_first_without.Goals as 
 
 pub after_range-before-requires : goal.after_range-before-requires
 after_range-before-requires g c =
-    let same = lent c.source-source.ensures.tables c.source-source.ensures.text c.self.view_is in
+    let same = lent c.text_ref-text_ref.ensures.tables c.text_ref-text_ref.ensures.text c.self.view_is in
     let range = subst (λ s. IsRange s.document.content.text c.args.start c.args.stop) (sym same) c.requires.range in
     record {
       range = record {
-        start_bounds = IsCharBoundary-start c.source-source.result.text.now.edited.text c.len-len.ensures.utf8;
+        start_bounds = IsCharBoundary-start c.text_ref-text_ref.result.text.now.edited.text c.len-len.ensures.utf8;
         stop_bounds = range.start_bounds;
         in_order = omega arith;
       };
@@ -21,8 +21,8 @@ after_range-before-requires g c =
 
 pub returns : goal.returns
 returns g c =
-    let same = lent c.source-source.ensures.tables c.source-source.ensures.text c.self.view_is in
-    let s = c.source-source.result in
+    let same = lent c.text_ref-text_ref.ensures.tables c.text_ref-text_ref.ensures.text c.self.view_is in
+    let s = c.text_ref-text_ref.result in
     let ucd = g.D.BidiData.data s.tables.now in
     let range = subst (λ s. IsRange s.document.content.text c.args.start c.args.stop) (sym same) c.requires.range in
     c.is_crlf.ensures ucd

@@ -17,4 +17,4 @@ invariant_of-self-2 g c =
     (c.self-2.view_is ∙ c.place_after.ensures.same) refl c.self-2.invariant.1 c.requires.text_place
     c.in_ok-after.ensures.text_place in
     let i = c.self-2.inside in
-    edited g.D.BidiData.data i.view i.row_cache i.own c.insert.new.self _ c.in_ok-insert.ensures.ok c.self-2.invariant.0 keeps c.self-2.invariant.2
+    edited g.D.BidiData.data i.view i.row_cache i.indexed c.insert.new.self _ c.in_ok-insert.ensures.ok c.self-2.invariant.0 keeps c.self-2.invariant.2

@@ -5,7 +5,7 @@ use Rattle.bx_document.proofs.document.Document.paragraph_at.Goals as goal
 
 pub overflow_add-result : goal.overflow_add-result
 overflow_add-result g c =
-    let s = c.source-source.result in
+    let s = c.text_ref-text_ref.result in
     let ucd = g.D.BidiData.data s.tables.now in
     let text = s.text.now.edited.text in
     omega (

@@ -10,13 +10,13 @@ use Rattle.bx_document.proofs.document.Document.place_after_wrap.Goals as goal
 
 pub wrapped-requires : goal.wrapped-requires
 wrapped-requires g c =
-    let same = lent c.source-source.ensures.tables c.source-source.ensures.text c.self.view_is in
+    let same = lent c.text_ref-text_ref.ensures.tables c.text_ref-text_ref.ensures.text c.self.view_is in
     subst (λ s. IsRange s.document.content.text c.args.start c.args.stop) (sym same) c.requires.range
 
 pub wrapped_end-offset-requires : goal.wrapped_end-offset-requires
 wrapped_end-offset-requires g c =
-    let same = lent c.source-source.ensures.tables c.source-source.ensures.text c.self.view_is in
-    let text = c.source-source.result.text.now.edited.text in
+    let same = lent c.text_ref-text_ref.ensures.tables c.text_ref-text_ref.ensures.text c.self.view_is in
+    let text = c.text_ref-text_ref.result.text.now.edited.text in
     let range = subst (λ s. IsRange s.document.content.text c.args.start c.args.stop) (sym same) c.requires.range in
     let both = subst (λ s. fits_both s.document.content.text c.args.front.now c.args.back.now ≡ true) (sym same) c.requires.fits in
     few text c.args.start c.args.stop c.args.front.now c.args.back.now
@@ -24,13 +24,13 @@ wrapped_end-offset-requires g c =
 
 pub place_inside-requires-clause-range : goal.place_inside-requires-clause-range
 place_inside-requires-clause-range g c =
-    let same = lent c.source-source.ensures.tables c.source-source.ensures.text c.self.view_is in
+    let same = lent c.text_ref-text_ref.ensures.tables c.text_ref-text_ref.ensures.text c.self.view_is in
     subst (λ s. IsRange s.document.content.text c.args.start c.args.stop) (sym same) c.requires.range
 
 pub place_inside-requires-clause-fits : goal.place_inside-requires-clause-fits
 place_inside-requires-clause-fits g c =
-    let same = lent c.source-source.ensures.tables c.source-source.ensures.text c.self.view_is in
-    let text = c.source-source.result.text.now.edited.text in
+    let same = lent c.text_ref-text_ref.ensures.tables c.text_ref-text_ref.ensures.text c.self.view_is in
+    let text = c.text_ref-text_ref.result.text.now.edited.text in
     let range = subst (λ s. IsRange s.document.content.text c.args.start c.args.stop) (sym same) c.requires.range in
     let both = subst (λ s. fits_both s.document.content.text c.args.front.now c.args.back.now ≡ true) (sym same) c.requires.fits in
     whole_fits text c.args.start c.args.stop c.args.front.now c.args.back.now c.as_str.result.now range
@@ -38,8 +38,8 @@ place_inside-requires-clause-fits g c =
 
 pub place_inside-requires-clause-inside : goal.place_inside-requires-clause-inside
 place_inside-requires-clause-inside g c =
-    let same = lent c.source-source.ensures.tables c.source-source.ensures.text c.self.view_is in
-    let text = c.source-source.result.text.now.edited.text in
+    let same = lent c.text_ref-text_ref.ensures.tables c.text_ref-text_ref.ensures.text c.self.view_is in
+    let text = c.text_ref-text_ref.result.text.now.edited.text in
     let range = subst (λ s. IsRange s.document.content.text c.args.start c.args.stop) (sym same) c.requires.range in
     let both = subst (λ s. fits_both s.document.content.text c.args.front.now c.args.back.now ≡ true) (sym same) c.requires.fits in
     offset_inside text c.args.start c.args.stop c.args.front.now c.args.back.now c.as_str.result.now range
@@ -47,9 +47,9 @@ place_inside-requires-clause-inside g c =
 
 pub returns-clause-place : goal.returns-clause-place
 returns-clause-place g c =
-    let same = lent c.source-source.ensures.tables c.source-source.ensures.text c.self.view_is in
+    let same = lent c.text_ref-text_ref.ensures.tables c.text_ref-text_ref.ensures.text c.self.view_is in
     let i = c.self.inside in
-    let s = c.source-source.result in
+    let s = c.text_ref-text_ref.result in
     let text = s.text.now.edited.text in
     let range = subst (λ s. IsRange s.document.content.text c.args.start c.args.stop) (sym same) c.requires.range in
     let both = subst (λ s. fits_both s.document.content.text c.args.front.now c.args.back.now ≡ true) (sym same) c.requires.fits in
@@ -62,8 +62,8 @@ returns-clause-place g c =
 
 pub returns-clause-text_place : goal.returns-clause-text_place
 returns-clause-text_place g c =
-    let same = lent c.source-source.ensures.tables c.source-source.ensures.text c.self.view_is in
-    let s = c.source-source.result in
+    let same = lent c.text_ref-text_ref.ensures.tables c.text_ref-text_ref.ensures.text c.self.view_is in
+    let s = c.text_ref-text_ref.result in
     let text = s.text.now.edited.text in
     let range = subst (λ s. IsRange s.document.content.text c.args.start c.args.stop) (sym same) c.requires.range in
     let both = subst (λ s. fits_both s.document.content.text c.args.front.now c.args.back.now ≡ true) (sym same) c.requires.fits in

@@ -10,25 +10,25 @@ use Rattle.bx_document.proofs.document.Document.place_behind.Goals as goal
 
 pub overflow_sub-result : goal.overflow_sub-result
 overflow_sub-result g c =
-    let same = lent c.source-source.ensures.tables c.source-source.ensures.text c.self.view_is in
+    let same = lent c.text_ref-text_ref.ensures.tables c.text_ref-text_ref.ensures.text c.self.view_is in
     let i = c.self.inside in
-    let s = c.source-source.result in
+    let s = c.text_ref-text_ref.result in
     let range = subst (λ s. IsRange s.document.content.text c.args.start c.args.stop) (sym same) c.requires.range in
     let bounds = subst (λ s. IsCharBoundary s.document.content.text c.args.offset) (sym same) c.requires.bounds in
     (last_moved (g.D.BidiData.data s.tables.now) i.view s.text.now.edited.text c.args.start c.args.stop c.args.new.now
-    c.in_ok-place.ensures.side c.source-source.result.utf8 range c.utf8.new c.args.offset c.stop_after.result c.in_ok-place.place
+    c.in_ok-place.ensures.side c.text_ref-text_ref.result.utf8 range c.utf8.new c.args.offset c.stop_after.result c.in_ok-place.place
     c.stop_after.ensures.stop c.stop_after.ensures.range.in_order (omega (arith, c.if-stop_after-offset.true)) bounds
     c.in_ok-place.ensures.place).behind
 
 pub returns-then-stop_after-offset-clause-place : goal.returns-then-stop_after-offset-clause-place
 returns-then-stop_after-offset-clause-place g c =
-    let same = lent c.source-source.ensures.tables c.source-source.ensures.text c.self.view_is in
+    let same = lent c.text_ref-text_ref.ensures.tables c.text_ref-text_ref.ensures.text c.self.view_is in
     let i = c.self.inside in
-    let s = c.source-source.result in
+    let s = c.text_ref-text_ref.result in
     let range = subst (λ s. IsRange s.document.content.text c.args.start c.args.stop) (sym same) c.requires.range in
     let bounds = subst (λ s. IsCharBoundary s.document.content.text c.args.offset) (sym same) c.requires.bounds in
     let moved = last_moved (g.D.BidiData.data s.tables.now) i.view s.text.now.edited.text c.args.start c.args.stop c.args.new.now
-    c.in_ok-place.ensures.side c.source-source.result.utf8 range c.utf8.new c.args.offset c.stop_after.result c.in_ok-place.place
+    c.in_ok-place.ensures.side c.text_ref-text_ref.result.utf8 range c.utf8.new c.args.offset c.stop_after.result c.in_ok-place.place
     c.stop_after.ensures.stop c.stop_after.ensures.range.in_order (omega (arith, c.if-stop_after-offset.true)) bounds
     c.in_ok-place.ensures.place in
     let start = c.args.start in
@@ -40,13 +40,13 @@ returns-then-stop_after-offset-clause-place g c =
 
 pub returns-then-stop_after-offset-clause-text_place : goal.returns-then-stop_after-offset-clause-text_place
 returns-then-stop_after-offset-clause-text_place g c =
-    let same = lent c.source-source.ensures.tables c.source-source.ensures.text c.self.view_is in
+    let same = lent c.text_ref-text_ref.ensures.tables c.text_ref-text_ref.ensures.text c.self.view_is in
     let i = c.self.inside in
-    let s = c.source-source.result in
+    let s = c.text_ref-text_ref.result in
     let range = subst (λ s. IsRange s.document.content.text c.args.start c.args.stop) (sym same) c.requires.range in
     let bounds = subst (λ s. IsCharBoundary s.document.content.text c.args.offset) (sym same) c.requires.bounds in
     let moved = last_moved (g.D.BidiData.data s.tables.now) i.view s.text.now.edited.text c.args.start c.args.stop c.args.new.now
-    c.in_ok-place.ensures.side c.source-source.result.utf8 range c.utf8.new c.args.offset c.stop_after.result c.in_ok-place.place
+    c.in_ok-place.ensures.side c.text_ref-text_ref.result.utf8 range c.utf8.new c.args.offset c.stop_after.result c.in_ok-place.place
     c.stop_after.ensures.stop c.stop_after.ensures.range.in_order (omega (arith, c.if-stop_after-offset.true)) bounds
     c.in_ok-place.ensures.place in
     subst (λ s. IsTextPlace (g.D.BidiData.data s.tables) (splice s.document.content.text c.args.start c.args.stop c.args.new.now)

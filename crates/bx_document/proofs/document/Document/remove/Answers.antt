@@ -9,4 +9,4 @@ invariant_of-self-2 g c =
     (c.self.view_is ∙ c.place_after_removal.ensures.same) refl c.self.invariant.1 c.requires.text_place
     c.in_ok-after.ensures.text_place in
     let i = c.self.inside in
-    edited g.D.BidiData.data i.view i.row_cache i.own c.remove.new.self _ c.in_ok-remove.ensures.ok c.self.invariant.0 keeps c.self.invariant.2
+    edited g.D.BidiData.data i.view i.row_cache i.indexed c.remove.new.self _ c.in_ok-remove.ensures.ok c.self.invariant.0 keeps c.self.invariant.2

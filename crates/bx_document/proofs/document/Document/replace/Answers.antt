@@ -46,7 +46,7 @@ invariant_of-self-2 g c =
     refl c.self-2.invariant.1
     c.requires.text_place c.in_ok-between.ensures.text_place is in
     let i = c.self-2.inside in
-    edited g.D.BidiData.data i.view i.row_cache i.own c.exchange.new.self _ c.in_ok-exchange.ensures.ok c.self-2.invariant.0 keeps c.self-2.invariant.2
+    edited g.D.BidiData.data i.view i.row_cache i.indexed c.exchange.new.self _ c.in_ok-exchange.ensures.ok c.self-2.invariant.0 keeps c.self-2.invariant.2
 
 pub exchange-requires-clause-fits : goal.exchange-requires-clause-fits
 exchange-requires-clause-fits g c =

@@ -9,14 +9,14 @@ pub invariant_of-self-2 : goal.invariant_of-self-2
 invariant_of-self-2 g c =
     let i = c.self.inside in
     let view = c.follow_in_layout.new.view in
-    let tables = c.source-2.ensures.tables ∙ ap (λ o. o.tables) c.in_ok-step.ensures.ok in
+    let tables = c.text_ref-2.ensures.tables ∙ ap (λ o. o.tables) c.in_ok-step.ensures.ok in
     let held = subst (λ t. IsViewBy (g.D.BidiData.data t) view) tables c.follow_in_layout.ensures.keeps.cache in
-    let keeps = keeps_times (g.D.BidiData.data i.own.tables) c.args.step c.args.n i.own.content _ refl c.self.invariant.1 in
-    edited g.D.BidiData.data view i.row_cache i.own c.step.new.self _ c.in_ok-step.ensures.ok held keeps c.self.invariant.2
+    let keeps = keeps_times (g.D.BidiData.data i.indexed.tables) c.args.step c.args.n i.indexed.content _ refl c.self.invariant.1 in
+    edited g.D.BidiData.data view i.row_cache i.indexed c.step.new.self _ c.in_ok-step.ensures.ok held keeps c.self.invariant.2
 
 pub returns-clause-text_place : goal.returns-clause-text_place
 returns-clause-text_place g c =
-    let own = c.self.inside.own in
+    let own = c.self.inside.indexed in
     let next = c.in-Some.next in
     subst (λ o. IsTextPlace (g.D.BidiData.data o.tables) o.content.text next.place) (sym c.in_ok-step.ensures.ok)
     (place_times (g.D.BidiData.data own.tables) c.args.step c.args.n own.content _ next refl c.self.invariant.1 c.in-Some.ensures)

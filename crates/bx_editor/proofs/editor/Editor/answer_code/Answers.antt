@@ -3,7 +3,7 @@ use Rattle.std.specs.Prelude.{if◌then◌else◌}
 use Rattle.std.proofs.lemmas.Bool.{eq-eqb}
 use Rattle.bx_editor.specs.questions.Answers.{lengthened}
 use Rattle.bx_editor.specs.questions.Names.{coded, is_code_letter}
-use Rattle.bx_editor.specs.Asking.{after_code, longest_code, with_answer, without_ask}
+use Rattle.bx_editor.specs.Asking.{after_code, longest_code, with_answer, without_prompt}
 use Rattle.bx_editor.specs.Editor.{Editor, cleared}
 use Rattle.bx_editor.specs.Functions.{EditorState}
 use Rattle.bx_editor.proofs.QuestionLeft.{code-left}
@@ -18,6 +18,6 @@ returns-then-letter-eq10-clause-ok g c =
     let other : Editor = if is_code_letter c.args.letter then with_answer e (lengthened longest_code e.answer c.args.letter) else e in
     let ended = eq-eqb c.args.letter 0xA c.if-letter-eq10.true in
     c.leave_question.ensures
-    ∙ ap (λ (s : EditorState g.row.D.Denot). (let left : EditorState g.row.D.Denot = record s { editor = without_ask s.editor } in left)) c.in_ok-put_coded.ensures.ok
+    ∙ ap (λ (s : EditorState g.row.D.Denot). (let left : EditorState g.row.D.Denot = record s { editor = without_prompt s.editor } in left)) c.in_ok-put_coded.ensures.ok
     ∙ ap state (sym (code-left d e (coded e.answer)))
-    ∙ ap (λ b. state (if b then after_code d (without_ask e) (coded e.answer) else other)) (sym ended)
+    ∙ ap (λ b. state (if b then after_code d (without_prompt e) (coded e.answer) else other)) (sym ended)

@@ -21,25 +21,25 @@ returns-in-None-clause-ok g c =
     let d = g.D.BidiData.data now.tables in
     let landing = c.in_ok-landing.landing in
     let typed : EditorState g.row.D.Denot → EditorState g.row.D.Denot = λ s. record s {
-      editor = record (landed (record (cleared s.editor) { aim = Replace }) landing) { seek = Typed };
+      editor = record (landed (record (cleared s.editor) { purpose = Replace }) landing) { search_state = Typed };
     } in
     let ucd = g.D.BidiData.data t.tables in
     let has : EditorState g.row.D.Denot → Bool = λ s.
     not (length (letters (g.D.BidiData.data s.tables) Close (chars s.editor.query)) == 0) in
-    let some : (length (sought d (record now.editor { aim = Replace })) == 0) ≡ false =
+    let some : (length (sought d (record now.editor { purpose = Replace })) == 0) ≡ false =
     is-false _ (sym (c.has_letters.ensures
     ∙ ap (λ ls. not (length (letters ucd Close (chars ls)) == 0)) c.as_str-query.ensures.value ∙ ap has c.self.view_is)
     ∙ c.if-not-has_letters.false) in
     let leads : EditorState g.row.D.Denot → Landing = λ s.
-    landing_from (g.D.BidiData.data s.tables) s.editor.place (record s.editor { aim = Replace }) in
-    let is : landing ≡ landing_from d now.editor.place (record now.editor { aim = Replace }) =
+    landing_from (g.D.BidiData.data s.tables) s.editor.place (record s.editor { purpose = Replace }) in
+    let is : landing ≡ landing_from d now.editor.place (record now.editor { purpose = Replace }) =
     c.in_ok-landing.ensures.landing
     ∙ ap (λ ls. forward ucd Close (document_rows ucd t.document) t.document.content.text i.cursor.place
     (letters ucd Close (chars ls)))
     c.as_str-query.ensures.value
     ∙ ap leads c.self.view_is in
     ap (λ (s : EditorState g.row.D.Denot). (let x : EditorState g.row.D.Denot = record s {
-      editor = record s.editor { seek = Typed };
+      editor = record s.editor { search_state = Typed };
     } in x)) (c.self-2.view_is ∙ c.settle_at.ensures)
     ∙ ap (λ (x : DocumentState g.row.D.Denot). typed (value_with g.D.BidiData i x)) c.in_ok-landing.ensures.same
     ∙ ap typed c.self.view_is

@@ -34,7 +34,7 @@ returns-clause-ok g c =
     ) at c.settle_at.ensures) in
     let left : EditorState g.row.D.Denot → EditorState g.row.D.Denot = λ s. record s {
       editor = unselected
-          (record s.editor { seek = Off; aim = Find });
+          (record s.editor { search_state = Off; purpose = Find });
     } in
     c.unselect.ensures ∙ ap left (c.self-2.view_is ∙ settled)
     ∙ ap (λ (x : Editor). (let s : EditorState g.row.D.Denot = record now { editor = x } in s))

@@ -16,7 +16,7 @@ invariant_of-self g c =
       kept.2,
       kept.3,
       kept.4,
-      answer-longer i.ask limit (string_bytes i.answer) (string_bytes new) c.args.c (IsUtf8-string_bytes i.answer)
+      answer-longer i.prompt limit (string_bytes i.answer) (string_bytes new) c.args.c (IsUtf8-string_bytes i.answer)
           (IsUtf8-encode c.args.c c.ranges.c.0) c.limit_of-limit.ensures kept.5 c.requires.narrow longer c.in_ok-answer.ensures.few,
       kept.6,
       kept.7,

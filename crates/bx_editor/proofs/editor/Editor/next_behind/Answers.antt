@@ -21,7 +21,7 @@ place_behind-requires-clause-behind g c =
     let now : EditorState g.row.D.Denot = c.args.self.now in
     let d = g.D.BidiData.data now.tables in
     let utf8 = c.next_match.ensures.utf8 in
-    (first-is d (reading now.editor.aim) (sought d now.editor) now.editor.content.text utf8 c.args.stop c.in-Some.offset
+    (first-is d (reading now.editor.purpose) (sought d now.editor) now.editor.content.text utf8 c.args.stop c.in-Some.offset
     (sym c.in-Some.is ∙ c.next_match.ensures.next)).not_before
 
 pub overflow_sub-result : goal.overflow_sub-result
@@ -29,7 +29,7 @@ overflow_sub-result g c =
     let now : EditorState g.row.D.Denot = c.args.self.now in
     let d = g.D.BidiData.data now.tables in
     let utf8 = c.next_match.ensures.utf8 in
-    (first-is d (reading now.editor.aim) (sought d now.editor) now.editor.content.text utf8 c.args.stop c.in-Some.offset
+    (first-is d (reading now.editor.purpose) (sought d now.editor) now.editor.content.text utf8 c.args.stop c.in-Some.offset
     (sym c.in-Some.is ∙ c.next_match.ensures.next)).not_before
 
 pub returns-clause-next : goal.returns-clause-next

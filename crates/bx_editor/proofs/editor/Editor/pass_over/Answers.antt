@@ -24,13 +24,13 @@ invariant_of-self-2 g c =
     let at = c.in-Some.at in
     let behind = c.behind_character-behind.result in
     let kept = c.self.invariant in
-    let seek : i.cursor.seek ≡ Replacing = ap (λ (s : EditorState g.row.D.Denot). s.editor.seek) c.self.view_is ∙ c.requires.shown in
-    let shown = at-match d i.aim query text i.cursor.seek i.at i.count seek kept.7 in
-    let found : Some at ≡ first_from d (reading i.aim) (query-letters d i.aim query text) text behind =
+    let search_state : i.cursor.search_state ≡ Replacing = ap (λ (s : EditorState g.row.D.Denot). s.editor.search_state) c.self.view_is ∙ c.requires.shown in
+    let shown = at-match d i.purpose query text i.cursor.search_state i.at i.count search_state kept.7 in
+    let found : Some at ≡ first_from d (reading i.purpose) (query-letters d i.purpose query text) text behind =
     sym c.in-Some.is ∙ c.next_match.ensures.next
     ∙ sym (ap (λ (s : EditorState g.row.D.Denot). next_match (g.D.BidiData.data s.tables) s.editor behind) c.self.view_is) in
     let on : i.at ≤ behind = omega (arith, c.behind_character-behind.ensures.behind) in
-    let next = passed-over d i.aim query text i.at i.count behind at c.behind_character-behind.ensures.utf8 shown on found in
+    let next = passed-over d i.purpose query text i.at i.count behind at c.behind_character-behind.ensures.utf8 shown on found in
     let place = c.in_ok-self-inside.field-0 in
     subst (holds_with g.D.BidiData (record i { cursor = record i.cursor { place = place }; at = at }))
     (sym c.in_ok-self-inside.ensures.same) (
@@ -41,5 +41,5 @@ invariant_of-self-2 g c =
       kept.4,
       kept.5,
       kept.6,
-      subst (λ s. StandsAt d i.aim query text s at i.count) (sym seek) next,
+      subst (λ s. StandsAt d i.purpose query text s at i.count) (sym search_state) next,
     )

@@ -22,7 +22,7 @@ returns-clause-status g c =
     let text : string_bytes c.write_message.new.line ≡ status_text d e =
     c.in_ok-write_message.ensures.message ∙ ap (λ l. l ++ message_part (told_at_place d e) e.message) line in
     let columns = c.in_ok-row.ensures.row
-    ∙ ap₂ (λ (s : EditorState g.row.D.Denot) (l : List ℕ). glyph_row s.editor.width (letter_glyphs l ++ prompt_glyphs (g.D.BidiData.data s.tables) s.editor s.editor.ask))
+    ∙ ap₂ (λ (s : EditorState g.row.D.Denot) (l : List ℕ). glyph_row s.editor.width (letter_glyphs l ++ prompt_glyphs (g.D.BidiData.data s.tables) s.editor s.editor.prompt))
     same text in
     let wide = c.in_ok-row.ensures.filled ∙ ap (λ s. s.editor.width) same ∙ sym c.requires.width in
     let height : c.height-height.result ≡ e.height = c.height-height.ensures.height ∙ c.requires.height in

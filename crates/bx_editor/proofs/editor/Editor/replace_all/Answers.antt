@@ -12,9 +12,9 @@ exchange-requires-clause-few g c =
     let d = g.D.BidiData.data i.document.tables in
     let text = i.document.document.content.text in
     let query = string_bytes i.query in
-    let all = spans_from d (reading i.aim) (query-letters d i.aim query text) text i.at in
-    let shown = at-match d i.aim query text i.cursor.seek i.at i.count
-    (ap (λ (s : EditorState g.row.D.Denot). s.editor.seek) c.self.view_is ∙ c.requires.shown) c.self.invariant.7 in
+    let all = spans_from d (reading i.purpose) (query-letters d i.purpose query text) text i.at in
+    let shown = at-match d i.purpose query text i.cursor.search_state i.at i.count
+    (ap (λ (s : EditorState g.row.D.Denot). s.editor.search_state) c.self.view_is ∙ c.requires.shown) c.self.invariant.7 in
     let same = ap₂ (λ r q. spans_from d r q text i.at) c.reading_of-reading.ensures
     (c.shown_query-query.ensures.query
     ∙ sym (ap (λ (s : EditorState g.row.D.Denot). sought (g.D.BidiData.data s.tables) s.editor) c.self.view_is)) in
@@ -23,6 +23,6 @@ exchange-requires-clause-few g c =
     let bounds = range.stop_bounds in
     let inside : last_stop i.at all ≤ length text = omega (arith, told.1, bounds.0) in
     let utf8 = subst (λ (s : EditorState g.row.D.Denot). IsUtf8 s.editor.content.text) (sym c.self.view_is) c.shown_query-query.ensures.utf8 in
-    let room = room-for-all d i.aim query text i.at i.count utf8 shown inside in
+    let room = room-for-all d i.purpose query text i.at i.count utf8 shown inside in
     let count = ap (λ (s : EditorState g.row.D.Denot). s.editor.count) c.self.view_is in
     omega (arith, room, told.2, count)

@@ -37,7 +37,7 @@ exchange-requires-clause-few g c =
     let match = shown-in g.D.BidiData.data _ now c.self.view_is c.requires.shown c.self.invariant.7 in
     let bounds = c.match_stop-stop.ensures.range.stop_bounds in
     let room : e.count + 1 ≤ largest_text =
-    room-for-one d e.aim e.query e.content.text e.at e.count utf8 match c.match_stop-stop.result c.match_stop-stop.ensures.stop
+    room-for-one d e.purpose e.query e.content.text e.at e.count utf8 match c.match_stop-stop.result c.match_stop-stop.ensures.stop
     bounds.0 in
     subst (λ (s : EditorState g.row.D.Denot). s.editor.count + 1 ≤ largest_text) (sym c.in_ok-next.ensures.same) room
 
@@ -90,16 +90,16 @@ invariant_of-self g c =
     (c.as_str-3.ensures.value ∙ other) room in
     let found = found-behind d e stop e.replacement at place
     (sym c.in-Some.is ∙ c.in_ok-next.ensures.next ∙ ap (next_behind d e stop) put) in
-    let here = replaced-one d e.aim e.query e.content.text e.at e.count stop at e.replacement utf8
+    let here = replaced-one d e.purpose e.query e.content.text e.at e.count stop at e.replacement utf8
     (splice_utf8 d e.content.text utf8 e.at stop e.replacement range (subst IsUtf8 put c.as_str-2.utf8)) match range
     c.match_stop-stop.ensures.stop found in
     let there = subst (λ (ls : List ℕ). IsTextPlace d (splice e.content.text e.at stop ls) place) put
     (rw c.in-Some.is at c.in_ok-next.ensures.text_place) in
     let all = subst (λ (s : EditorState g.row.D.Denot). IsTextPlace (g.D.BidiData.data s.tables) s.editor.content.text place
-    × IsAtMatch (g.D.BidiData.data s.tables) s.editor.aim s.editor.query s.editor.content.text at s.editor.count
+    × IsAtMatch (g.D.BidiData.data s.tables) s.editor.purpose s.editor.query s.editor.content.text at s.editor.count
     × IsTextPlace (g.D.BidiData.data s.tables) s.editor.content.text s.editor.origin) (sym (c.self-2.view_is ∙ done))
     (held-in d e stop e.replacement 1
-    (λ aim query new count origin. IsTextPlace d new place × IsAtMatch d aim query new at count × IsTextPlace d new origin)
+    (λ purpose query new count origin. IsTextPlace d new place × IsAtMatch d purpose query new at count × IsTextPlace d new origin)
     range.start_bounds.0 (there, here, begin-is-place d text)) in
     (all.0, kept.1, kept.2, kept.3, kept.4, kept.5, all.2, all.1)
 
@@ -124,7 +124,7 @@ returns-clause-ok g c =
     sym c.in-Some.is ∙ c.in_ok-next.ensures.next ∙ ap (next_behind d e stop) (c.as_str-2.ensures.value ∙ other) in
     c.reset_after_key.ensures
     ∙ ap (λ (s : EditorState g.row.D.Denot). (let t : EditorState g.row.D.Denot = record s {
-      editor = cleared (record s.editor { seek = Replacing; at = at; place = place });
+      editor = cleared (record s.editor { search_state = Replacing; at = at; place = place });
     } in t)) (c.self-2.view_is ∙ done)
     ∙ ap (λ (x : Editor). (let t : EditorState g.row.D.Denot = record now { editor = x } in t))
     (replaced-next d e stop c.match_stop-stop.ensures.stop room at place c.match_stop-stop.ensures.range.start_bounds.0 found)

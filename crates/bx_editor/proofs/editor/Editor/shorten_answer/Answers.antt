@@ -24,7 +24,7 @@ invariant_of-self-in-Line g c =
       kept.2,
       kept.3,
       kept.4,
-      answer-shorter i.ask (string_bytes i.answer) (string_bytes new) (IsUtf8-string_bytes new) kept.5 shorter fewer,
+      answer-shorter i.prompt (string_bytes i.answer) (string_bytes new) (IsUtf8-string_bytes new) kept.5 shorter fewer,
       kept.6,
       kept.7,
     )

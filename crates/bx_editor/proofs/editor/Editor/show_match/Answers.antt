@@ -27,9 +27,9 @@ invariant_of-self g c =
     let query = string_bytes i.query in
     let at = c.in-Some-first_from.at in
     let kept = c.self.invariant in
-    let asks : asks_replacement i.cursor.seek ≡ true =
-    ap (λ (s : EditorState g.row.D.Denot). asks_replacement s.editor.seek) (c.self.view_is ∙ c.reset_after_key.ensures) ∙ c.requires.asked in
-    let found : Some at ≡ first_from d (reading i.aim) (query-letters d i.aim query text) text i.cursor.place =
+    let prompts : asks_replacement i.cursor.search_state ≡ true =
+    ap (λ (s : EditorState g.row.D.Denot). asks_replacement s.editor.search_state) (c.self.view_is ∙ c.reset_after_key.ensures) ∙ c.requires.asked in
+    let found : Some at ≡ first_from d (reading i.purpose) (query-letters d i.purpose query text) text i.cursor.place =
     sym c.in-Some-first_from.is ∙ c.first_from.ensures.found
     ∙ ap₂ (λ r q. first_from d r q text i.cursor.place) c.reading_of-reading.ensures
     (c.in-Some.ensures.letters
@@ -40,9 +40,9 @@ invariant_of-self g c =
       kept.3,
       kept.4,
       kept.5,
-      asked-began d text i.cursor.seek i.origin asks kept.6,
-      shown d i.aim query text at i.count i.cursor.place c.first_from.ensures.utf8 c.first_from.ensures.short
-          (asked d i.aim query text i.cursor.seek i.at i.count asks kept.7) found,
+      asked-began d text i.cursor.search_state i.origin prompts kept.6,
+      shown d i.purpose query text at i.count i.cursor.place c.first_from.ensures.utf8 c.first_from.ensures.short
+          (asked d i.purpose query text i.cursor.search_state i.at i.count prompts kept.7) found,
     )
 
 pub returns-in-Some-first_from : goal.returns-in-Some-first_from
@@ -53,13 +53,13 @@ returns-in-Some-first_from g c =
     let text = i.document.document.content.text in
     let at = c.in-Some-first_from.at in
     let was = c.self.view_is ∙ c.reset_after_key.ensures in
-    let found : Some at ≡ first_from d (reading i.aim) (query-letters d i.aim (string_bytes i.query) text) text i.cursor.place =
+    let found : Some at ≡ first_from d (reading i.purpose) (query-letters d i.purpose (string_bytes i.query) text) text i.cursor.place =
     sym c.in-Some-first_from.is ∙ c.first_from.ensures.found
     ∙ ap₂ (λ r q. first_from d r q text i.cursor.place) c.reading_of-reading.ensures
     (c.in-Some.ensures.letters
     ∙ sym (ap (λ (s : EditorState g.row.D.Denot). sought (g.D.BidiData.data s.tables) s.editor) c.self.view_is)) in
     ap (λ (s : EditorState g.row.D.Denot). (let t : EditorState g.row.D.Denot = record s {
-      editor = record s.editor { seek = Replacing; at = at };
+      editor = record s.editor { search_state = Replacing; at = at };
     } in t)) was
     ∙ ap (λ o. record now { editor = shown_at (cleared now.editor) o })
     (found ∙ ap (λ (s : EditorState g.row.D.Denot). next_match (g.D.BidiData.data s.tables) s.editor s.editor.place) was)

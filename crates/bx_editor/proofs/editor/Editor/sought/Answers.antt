@@ -26,7 +26,7 @@ returns-clause-some g c = λ shown.
     let e = now.editor in
     let d = g.D.BidiData.data now.tables in
     let match = shown-in g.D.BidiData.data _ now c.self.view_is shown c.self.invariant.7 in
-    some-if c.query.result (λ none. some-letters d (reading e.aim) (sought d e) e.content.text e.at match.here ((returns-clause-none g c).0 none))
+    some-if c.query.result (λ none. some-letters d (reading e.purpose) (sought d e) e.content.text e.at match.here ((returns-clause-none g c).0 none))
 
 pub returns-clause-utf8 : goal.returns-clause-utf8
 returns-clause-utf8 g c = subst (λ (s : EditorState g.row.D.Denot). IsUtf8 s.editor.content.text) c.self.view_is c.query.ensures.utf8

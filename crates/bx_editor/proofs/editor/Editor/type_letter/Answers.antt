@@ -21,7 +21,7 @@ returns-clause-ok g c =
     subst (λ (s : EditorState g.row.D.Denot). c.land.new.self ≡ record {
       tables = s.tables;
       editor = search_from (g.D.BidiData.data s.tables) s.editor.place
-          (with_query (cleared s.editor) (lengthened longest_query (kept s.editor.seek s.editor.query) letter));
+          (with_query (cleared s.editor) (lengthened longest_query (kept s.editor.search_state s.editor.query) letter));
     }) c.self-2.view_is
     (simp (
       c.in_ok-landing.ensures.same,

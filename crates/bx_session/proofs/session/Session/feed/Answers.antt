@@ -12,56 +12,56 @@ use Rattle.bx_session.proofs.session.Session.feed.Goals as goal
 pub returns-clause-after_byte : goal.returns-clause-after_byte
 returns-clause-after_byte g c =
     let ucd : g.row.D.Denot → Data = g.D.BidiData.data in
-    let h = c.in_ok-asks.ensures.after_byte in (
+    let h = c.in_ok-prompts.ensures.after_byte in (
       h.0,
       h.1,
       (
-        after_byte_is ucd h.0 c.args.self.now c.enter.new.self c.paint_after.new.self c.args.byte c.in_ok-asks.key
-            (sym c.in_ok-asks.ensures.asks ∙ c.if-not-asks.false) c.in_ok-asks.ensures.key h.2 c.in_ok-paint_after.ensures.ok,
+        after_byte_is ucd h.0 c.args.self.now c.enter.new.self c.paint_after.new.self c.args.byte c.in_ok-prompts.key
+            (sym c.in_ok-prompts.ensures.prompts ∙ c.if-not-prompts.false) c.in_ok-prompts.ensures.key h.2 c.in_ok-paint_after.ensures.ok,
         c.status-2.ensures,
       ),
     )
 
-pub returns-then-not-asks-clause-after_byte : goal.returns-then-not-asks-clause-after_byte
-returns-then-not-asks-clause-after_byte g c =
+pub returns-then-not-prompts-clause-after_byte : goal.returns-then-not-prompts-clause-after_byte
+returns-then-not-prompts-clause-after_byte g c =
     let ucd : g.row.D.Denot → Data = g.D.BidiData.data in
-    let h = c.in_ok-asks.ensures.after_byte in (
+    let h = c.in_ok-prompts.ensures.after_byte in (
       h.0,
       h.1,
       (
-        quiet_is ucd h.0 c.args.self.now c.enter.new.self c.args.byte (sym c.in_ok-asks.ensures.asks ∙ c.if-not-asks.true) h.2,
+        quiet_is ucd h.0 c.args.self.now c.enter.new.self c.args.byte (sym c.in_ok-prompts.ensures.prompts ∙ c.if-not-prompts.true) h.2,
         c.status.ensures,
       ),
     )
 
 pub returns-clause-paints : goal.returns-clause-paints
-returns-clause-paints g c asks =
+returns-clause-paints g c prompts =
     let ucd : g.row.D.Denot → Data = g.D.BidiData.data in
-    let h = c.in_ok-asks.ensures.after_byte in
+    let h = c.in_ok-prompts.ensures.after_byte in
     byte_paints ucd h.0 c.args.self.now c.enter.new.self c.paint_after.new.self.session c.args.byte h.2 c.in_ok-paint_after.ensures.paints
 
 pub returns-clause-appends : goal.returns-clause-appends
-returns-clause-appends g c asks =
+returns-clause-appends g c prompts =
     let ucd : g.row.D.Denot → Data = g.D.BidiData.data in
-    let h = c.in_ok-asks.ensures.after_byte in
+    let h = c.in_ok-prompts.ensures.after_byte in
     byte_appends ucd h.0 c.args.self.now c.enter.new.self c.paint_after.new.self.session c.args.byte h.2 c.in_ok-paint_after.ensures.appends
 
-pub returns-then-not-asks-clause-quiet : goal.returns-then-not-asks-clause-quiet
-returns-then-not-asks-clause-quiet g c none =
+pub returns-then-not-prompts-clause-quiet : goal.returns-then-not-prompts-clause-quiet
+returns-then-not-prompts-clause-quiet g c none =
     let ucd : g.row.D.Denot → Data = g.D.BidiData.data in
-    let h = c.in_ok-asks.ensures.after_byte in
+    let h = c.in_ok-prompts.ensures.after_byte in
     ap (λ (x : SessionState g.row.D.Denot). x.session.pending) h.2
     ∙ unpainted_pending (ucd c.args.self.now.tables) h.0 c.args.self.now.session c.args.byte
 
 pub returns-in_err-paint_after-clause-after_byte : goal.returns-in_err-paint_after-clause-after_byte
 returns-in_err-paint_after-clause-after_byte g c =
     let ucd : g.row.D.Denot → Data = g.D.BidiData.data in
-    let h = c.in_ok-asks.ensures.after_byte in
+    let h = c.in_ok-prompts.ensures.after_byte in
     let s = c.args.self.now in
     let is : c.from_residual-in_err-paint_after.result ≡ Err Paint = search rules in (
       h.0,
       subst (λ (r : Result Status Refused). StoreAfter (is_applied r && is_save_byte s.session c.args.byte) h.0 (text_to_save (ucd s.tables) s.session.editor)
           (store_state g.S.Store.contents g.S.Store.faults c.args.store.now) (store_state g.S.Store.contents g.S.Store.faults c.enter.new.store)) (sym is) h.1,
       owing_is ucd h.0 s c.enter.new.self c.paint_after.new.self c.args.byte c.from_residual-in_err-paint_after.result
-          (sym c.in_ok-asks.ensures.asks ∙ c.if-not-asks.false) h.2 c.in_err-paint_after.ensures.err is,
+          (sym c.in_ok-prompts.ensures.prompts ∙ c.if-not-prompts.false) h.2 c.in_err-paint_after.ensures.err is,
     )

@@ -12,8 +12,8 @@ first_in-first-requires g c = record { row = (_, c.in_ok-there.ensures.row _ c.i
 
 pub returns-then-first-own-clause-place : goal.returns-then-first-own-clause-place
 returns-then-first-own-clause-place g c =
-    let ucd = g.D.BidiData.data c.args.source.now.tables.now in
-    let text = c.args.source.now.text.now.edited.text in
+    let ucd = g.D.BidiData.data c.args.text_ref.now.tables.now in
+    let text = c.args.text_ref.now.text.now.edited.text in
     let old = c.args.view.now in
     let v = c.row_at.new.self in
     let keeps = c.row_at.ensures.keeps in
@@ -21,21 +21,21 @@ returns-then-first-own-clause-place g c =
     let rows = rows_by ucd old text in
     let further = keeps-then ucd old v c.row_away.new.view keeps c.row_away.ensures.keeps in
     let k = row_away (length rows) c.args.way c.args.count (row_of rows c.args.place) in
-    let own = own-first ucd old v text c.args.place c.in_ok-at.at c.args.source.now.utf8 keeps on c.first_in-own.result (c.first_in-own.ensures _
+    let own = own-first ucd old v text c.args.place c.in_ok-at.at c.args.text_ref.now.utf8 keeps on c.first_in-own.result (c.first_in-own.ensures _
     on) in
     let far = c.first_in-first.ensures _ (c.in_ok-there.ensures.row _ on)
-    ∙ far-row ucd old v text c.args.place c.in_ok-at.at c.args.source.now.utf8 keeps on c.row_away.new.view further first (λ rs. row_away (length
+    ∙ far-row ucd old v text c.args.place c.in_ok-at.at c.args.text_ref.now.utf8 keeps on c.row_away.new.view further first (λ rs. row_away (length
     rs) c.args.way c.args.count (row_of rs c.args.place)) in
-    to-own rows (rise-kept ucd old v text c.args.place c.in_ok-at.at c.args.source.now.utf8 keeps on) old.w c.args.column c.args.place k
+    to-own rows (rise-kept ucd old v text c.args.place c.in_ok-at.at c.args.text_ref.now.utf8 keeps on) old.w c.args.column c.args.place k
     (away-within (length rows) c.args.way c.args.count (row_of rows c.args.place) (own-within ucd old v text c.args.place c.in_ok-at.at
-    c.args.source.now.utf8 keeps on)) (own-within ucd old v text c.args.place c.in_ok-at.at c.args.source.now.utf8 keeps on)
+    c.args.text_ref.now.utf8 keeps on)) (own-within ucd old v text c.args.place c.in_ok-at.at c.args.text_ref.now.utf8 keeps on)
     (sym far ∙ c.if-first-own.true ∙ own)
 
 pub returns-clause-place : goal.returns-clause-place
 returns-clause-place g c =
-    let ucd = g.D.BidiData.data c.args.source.now.tables.now in
-    let text = c.args.source.now.text.now.edited.text in
-    let utf8 = c.args.source.now.utf8 in
+    let ucd = g.D.BidiData.data c.args.text_ref.now.tables.now in
+    let text = c.args.text_ref.now.text.now.edited.text in
+    let utf8 = c.args.text_ref.now.utf8 in
     let old = c.args.view.now in
     let v = c.row_at.new.self in
     let keeps = c.row_at.ensures.keeps in

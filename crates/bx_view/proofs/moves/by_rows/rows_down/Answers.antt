@@ -10,19 +10,19 @@ use Rattle.bx_view.proofs.moves.by_rows.rows_down.Goals as goal
 
 pub loop-done-init : goal.loop-done-init
 loop-done-init g c =
-    let ucd = g.D.BidiData.data c.args.source.now.tables.now in
+    let ucd = g.D.BidiData.data c.args.text_ref.now.tables.now in
     record {
       keeps = record { base = refl; w = refl; cache = c.requires.row.1.by };
       within = omega arith;
       row = c.requires.row;
       along = c.walk_from-walk.ensures;
-      stands = λ n on. let e : n ≡ n + 0 = omega arith in subst (StandsOn ucd c.args.view.now c.args.source.now.text.now.edited.text c.args.at) e on;
+      stands = λ n on. let e : n ≡ n + 0 = omega arith in subst (StandsOn ucd c.args.view.now c.args.text_ref.now.text.now.edited.text c.args.at) e on;
     }
 
 pub returns-in_default-clause-row : goal.returns-in_default-clause-row
 returns-in_default-clause-row g c = λ n on.
-    let ucd = g.D.BidiData.data c.args.source.now.tables.now in
-    let text = c.args.source.now.text.now.edited.text in
+    let ucd = g.D.BidiData.data c.args.text_ref.now.tables.now in
+    let text = c.args.text_ref.now.text.now.edited.text in
     let i = c.loop-done.invariant in
     let last : n + c.loop-done.done + 1 ≡ length (rows_by ucd c.next_row_along.new.self text) =
     subst (IsNext ucd c.next_row_along.new.self text (n + c.loop-done.done)) c.in_default.is
@@ -39,8 +39,8 @@ returns-in_default-clause-row g c = λ n on.
 
 pub loop-done-preserved : goal.loop-done-preserved
 loop-done-preserved g c =
-    let ucd = g.D.BidiData.data c.args.source.now.tables.now in
-    let text = c.args.source.now.text.now.edited.text in
+    let ucd = g.D.BidiData.data c.args.text_ref.now.tables.now in
+    let text = c.args.text_ref.now.text.now.edited.text in
     let i = c.loop-done.invariant in
     let row = i.row in
     let own : StandsOn ucd c.next_row_along.new.self text c.in-Some.next (row.0 + 1) =
@@ -48,7 +48,7 @@ loop-done-preserved g c =
     record {
       keeps = keeps-then ucd c.args.view.now c.loop-done.view c.next_row_along.new.self i.keeps c.next_row_along.ensures.keeps;
       within = omega (arith, c.loop-done-test.true);
-      along = subst (λ o. IfSome o (IsAlong c.args.source.now c.next_row_along.new.walk)) c.in-Some.is c.in_ok-next.ensures.along;
+      along = subst (λ o. IfSome o (IsAlong c.args.text_ref.now c.next_row_along.new.walk)) c.in-Some.is c.in_ok-next.ensures.along;
       row = (row.0 + 1, own);
       stands = λ n on.
           let there : StandsOn ucd c.next_row_along.new.self text c.in-Some.next (n + c.loop-done.done + 1) =
@@ -60,13 +60,13 @@ loop-done-preserved g c =
 
 pub returns-clause-row : goal.returns-clause-row
 returns-clause-row g c = λ n on.
-    let ucd = g.D.BidiData.data c.args.source.now.tables.now in
-    let text = c.args.source.now.text.now.edited.text in
+    let ucd = g.D.BidiData.data c.args.text_ref.now.tables.now in
+    let text = c.args.text_ref.now.text.now.edited.text in
     let i = c.loop-done.invariant in
     let v = c.loop-done.view in
     let here = i.stands n on in
     let within : n + c.loop-done.done < length (rows_by ucd v text) =
-    row-within ucd v.base v.w (side-some v.w here.side) text c.args.source.now.utf8 c.loop-done.here.paragraph c.loop-done.here.row
+    row-within ucd v.base v.w (side-some v.w here.side) text c.args.text_ref.now.utf8 c.loop-done.here.paragraph c.loop-done.here.row
     (n + c.loop-done.done) here.is in
     let size : length (rows_by ucd v text) ≡ length (rows_by ucd c.args.view.now text) =
     ap length (rows-kept ucd c.args.view.now v text i.keeps) in

@@ -5,11 +5,11 @@ use Rattle.bx_view.proofs.moves.by_rows.rows_up.Given as goal
 
 abbrev pub invariant-loop-done : goal.invariant-loop-done
 invariant-loop-done g l = record {
-  keeps : Keeps l.source l.initial.view l.view;
+  keeps : Keeps l.text_ref l.initial.view l.view;
   within : l.done ≤ l.count;
-  row : Stands l.source l.view l.here;
-  along : IsAlong l.source l.walk l.here;
-  stands : (n : ℕ) → StandsOn l.source l.initial.view l.fn.at n → StandsOn l.source l.view l.here (n - l.done);
+  row : Stands l.text_ref l.view l.here;
+  along : IsAlong l.text_ref l.walk l.here;
+  stands : (n : ℕ) → StandsOn l.text_ref l.initial.view l.fn.at n → StandsOn l.text_ref l.view l.here (n - l.done);
 }
 
 abbrev pub decreases-loop-done : goal.decreases-loop-done

@@ -13,8 +13,8 @@ use Rattle.bx_view.proofs.moves.pointing.pointed_at.Goals as goal
 
 pub returns-clause-place : goal.returns-clause-place
 returns-clause-place g c =
-    let ucd = g.D.BidiData.data c.args.source.now.tables.now in
-    let text = c.args.source.now.text.now.edited.text in
+    let ucd = g.D.BidiData.data c.args.text_ref.now.tables.now in
+    let text = c.args.text_ref.now.text.now.edited.text in
     let old = c.args.view.now in
     let v = c.row_at.new.self in
     let keeps = c.row_at.ensures.keeps in
@@ -29,24 +29,24 @@ returns-clause-place g c =
     c.unwrap_or.ensures ∙ ap (λ o. unwrap_or o 0) (
     c.in_ok-entry.ensures ∙ ap₂ (λ w r. entry_in w r column) c.row.ensures.columns (c.row.ensures.row _ there)
     ∙ ap (λ w. entry_in w (row_at (rows_by ucd later text) (pointed_row rows c.args.top c.args.row)) column) further.w
-    ∙ far-row ucd old v text c.args.top c.in_ok-first.first c.args.source.now.utf8 keeps on later further (λ r. entry_in old.w r column)
+    ∙ far-row ucd old v text c.args.top c.in_ok-first.first c.args.text_ref.now.utf8 keeps on later further (λ r. entry_in old.w r column)
     (λ rs. pointed_row rs c.args.top c.args.row)
     )
 
 pub returns-clause-text_place : goal.returns-clause-text_place
 returns-clause-text_place g c =
-    let ucd = g.D.BidiData.data c.args.source.now.tables.now in
-    let text = c.args.source.now.text.now.edited.text in
+    let ucd = g.D.BidiData.data c.args.text_ref.now.tables.now in
+    let text = c.args.text_ref.now.text.now.edited.text in
     let v = c.args.view.now in
-    let kept = text-places-kept ucd v.base v.w (side-some v.w c.width-side.ensures.side) text c.args.source.now.utf8 in
+    let kept = text-places-kept ucd v.base v.w (side-some v.w c.width-side.ensures.side) text c.args.text_ref.now.utf8 in
     subst (IsTextPlace ucd text) (sym (returns-clause-place g c)) (kept.pointed c.args.top c.args.row c.args.column)
 
 pub returns-clause-boundary : goal.returns-clause-boundary
 returns-clause-boundary g c =
-    let ucd = g.D.BidiData.data c.args.source.now.tables.now in
-    let text = c.args.source.now.text.now.edited.text in
+    let ucd = g.D.BidiData.data c.args.text_ref.now.tables.now in
+    let text = c.args.text_ref.now.text.now.edited.text in
     let v = c.args.view.now in
-    let kept = bounds-kept ucd v.base v.w (side-some v.w c.width-side.ensures.side) text c.args.source.now.utf8 in
+    let kept = bounds-kept ucd v.base v.w (side-some v.w c.width-side.ensures.side) text c.args.text_ref.now.utf8 in
     subst (IsCharBoundary text) (sym (returns-clause-place g c)) (kept.pointed c.args.top c.args.row c.args.column)
 
 pub row-requires : goal.row-requires

@@ -7,15 +7,15 @@ use Rattle.bx_view.proofs.moves.visual.end_before.Goals as goal
 
 pub returns-in_default-clause-place : goal.returns-in_default-clause-place
 returns-in_default-clause-place g c = λ n on.
-    let ucd = g.D.BidiData.data c.args.source.now.tables.now in
-    let text = c.args.source.now.text.now.edited.text in
+    let ucd = g.D.BidiData.data c.args.text_ref.now.tables.now in
+    let text = c.args.text_ref.now.text.now.edited.text in
     no-end ucd c.args.view.now c.row_before.new.self text c.row_before.ensures.keeps n
     (subst (IsBefore ucd c.row_before.new.self text n) c.in_default.is (c.in_ok-there.ensures.before n on))
 
 pub row-requires : goal.row-requires
 row-requires g c =
-    let ucd = g.D.BidiData.data c.args.source.now.tables.now in
-    let text = c.args.source.now.text.now.edited.text in
+    let ucd = g.D.BidiData.data c.args.text_ref.now.tables.now in
+    let text = c.args.text_ref.now.text.now.edited.text in
     let row = c.requires.row in
     let there : (0 < row.0) × StandsOn ucd c.row_before.new.self text c.in-Some.there (row.0 - 1) =
     subst (IsBefore ucd c.row_before.new.self text row.0) c.in-Some.is (c.in_ok-there.ensures.before row.0 row.1) in
@@ -23,10 +23,10 @@ row-requires g c =
 
 pub returns-clause-place : goal.returns-clause-place
 returns-clause-place g c = λ n on.
-    let ucd = g.D.BidiData.data c.args.source.now.tables.now in
-    let text = c.args.source.now.text.now.edited.text in
+    let ucd = g.D.BidiData.data c.args.text_ref.now.tables.now in
+    let text = c.args.text_ref.now.text.now.edited.text in
     let there : (0 < n) × StandsOn ucd c.row_before.new.self text c.in-Some.there (n - 1) =
     subst (IsBefore ucd c.row_before.new.self text n) c.in-Some.is (c.in_ok-there.ensures.before n on) in
     some-end ucd c.args.view.now c.row_before.new.self text c.row_before.ensures.keeps n c.in-Some.there c.in_ok-place.place
-    c.args.source.now.utf8 there
+    c.args.text_ref.now.utf8 there
     (c.in_ok-place.ensures ∙ ap₂ (λ w r. place_in r (reading_end w r.row)) c.row.ensures.columns (c.row.ensures.row (n - 1) there.1))

@@ -6,7 +6,7 @@ use Rattle.bx_view.proofs.moves.word_moves.start_above.Goals as goal
 
 pub overflow_sub-place : goal.overflow_sub-place
 overflow_sub-place g c =
-    let s = c.args.source.now in
+    let s = c.args.text_ref.now in
     let ucd = g.D.BidiData.data s.tables.now in
     let text = s.text.now.edited.text in
     let on = c.requires.row.1 in
@@ -21,7 +21,7 @@ overflow_sub-place g c =
 
 pub overflow_add-result : goal.overflow_add-result
 overflow_add-result g c =
-    let s = c.args.source.now in
+    let s = c.args.text_ref.now in
     let ucd = g.D.BidiData.data s.tables.now in
     let text = s.text.now.edited.text in
     let on = c.requires.row.1 in

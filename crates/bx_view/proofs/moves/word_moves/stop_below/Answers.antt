@@ -6,7 +6,7 @@ use Rattle.bx_view.proofs.moves.word_moves.stop_below.Goals as goal
 
 pub overflow_add-result : goal.overflow_add-result
 overflow_add-result g c =
-    let s = c.args.source.now in
+    let s = c.args.text_ref.now in
     let ucd = g.D.BidiData.data s.tables.now in
     let text = s.text.now.edited.text in
     let n = c.current_span-span.result.number in

@@ -5,7 +5,7 @@ use Rattle.bx_view.proofs.moves.word_moves.word_back.Goals as goal
 
 pub overflow_add-result : goal.overflow_add-result
 overflow_add-result g c =
-    let s = c.args.source.now in
+    let s = c.args.text_ref.now in
     let on = c.in_ok-at.ensures.row in
     let at = c.in_ok-at.at in
     let fits : at.start + c.start_before-start.result ≤ length s.text.now.edited.text =
@@ -15,7 +15,7 @@ overflow_add-result g c =
 
 pub returns-then-at-place-clause-place : goal.returns-then-at-place-clause-place
 returns-then-at-place-clause-place g c =
-    let s = c.args.source.now in
+    let s = c.args.text_ref.now in
     let on = c.in_ok-at.ensures.row in
     let at = c.in_ok-at.at in
     back-stop (g.D.BidiData.data s.tables.now) s.text.now.edited.text s.utf8 at.paragraph at.start on.start_is c.paragraph-paragraph.result.now.body
@@ -24,7 +24,7 @@ returns-then-at-place-clause-place g c =
 
 pub returns-clause-place : goal.returns-clause-place
 returns-clause-place g c =
-    let s = c.args.source.now in
+    let s = c.args.text_ref.now in
     let on = c.in_ok-at.ensures.row in
     let at = c.in_ok-at.at in
     let ucd = g.D.BidiData.data s.tables.now in

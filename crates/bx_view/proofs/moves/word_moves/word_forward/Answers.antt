@@ -4,7 +4,7 @@ use Rattle.bx_view.proofs.moves.word_moves.word_forward.Goals as goal
 
 pub overflow_add-result : goal.overflow_add-result
 overflow_add-result g c =
-    let s = c.args.source.now in
+    let s = c.args.text_ref.now in
     let on = c.in_ok-at.ensures.row in
     let at = c.in_ok-at.at in
     let fits : at.start + c.stop_after-stop.result ≤ length s.text.now.edited.text =
@@ -14,7 +14,7 @@ overflow_add-result g c =
 
 pub returns-then-offset-body-clause-place : goal.returns-then-offset-body-clause-place
 returns-then-offset-body-clause-place g c =
-    let s = c.args.source.now in
+    let s = c.args.text_ref.now in
     let on = c.in_ok-at.ensures.row in
     let at = c.in_ok-at.at in
     let body = c.paragraph-paragraph.result.now.body in
@@ -24,7 +24,7 @@ returns-then-offset-body-clause-place g c =
 
 pub returns-clause-place : goal.returns-clause-place
 returns-clause-place g c =
-    let s = c.args.source.now in
+    let s = c.args.text_ref.now in
     let on = c.in_ok-at.ensures.row in
     let at = c.in_ok-at.at in
     let body = c.paragraph-paragraph.result.now.body in

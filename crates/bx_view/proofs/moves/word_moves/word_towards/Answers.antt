@@ -8,8 +8,8 @@ use Rattle.bx_view.proofs.moves.word_moves.word_towards.Goals as goal
 
 pub returns-clause-place : goal.returns-clause-place
 returns-clause-place g c =
-    let ucd = g.D.BidiData.data c.args.source.now.tables.now in
-    let text = c.args.source.now.text.now.edited.text in
+    let ucd = g.D.BidiData.data c.args.text_ref.now.tables.now in
+    let text = c.args.text_ref.now.text.now.edited.text in
     let place = c.args.place in
     c.in_ok-place.ensures.place
     ∙ ap (λ way. step_word ucd text way place) (c.word_way-way.ensures

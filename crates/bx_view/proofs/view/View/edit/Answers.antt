@@ -29,7 +29,7 @@ index-requires g c =
 
 pub place_in_body-requires : goal.place_in_body-requires
 place_in_body-requires g c =
-    let ucd = g.D.BidiData.data c.args.source.now.tables.now in
+    let ucd = g.D.BidiData.data c.args.text_ref.now.tables.now in
     let was = c.in_ok-lay_out_in.ensures.body _ (has_body c.deref.ensures.value c.paragraph_under-span.ensures.is.body c.in-Some.ensures) in
     let did : c.in_ok-is_edited.is_edited ≡ true = search rules in
     let done = c.in_ok-is_edited.ensures.body did _ c.self.inside.w was in
@@ -41,10 +41,10 @@ place_in_body-requires g c =
 
 module _ (g : _) (c : In_ok-place g) where
   abbrev ucd : Data
-  ucd = g.D.BidiData.data c.args.source.now.tables.now
+  ucd = g.D.BidiData.data c.args.text_ref.now.tables.now
 
   abbrev text : List ℕ
-  text = c.args.source.now.text.now.edited.text
+  text = c.args.text_ref.now.text.now.edited.text
 
   abbrev first : ℕ
   first = c.paragraph_under-span.result.start
@@ -74,7 +74,7 @@ module _ (g : _) (c : In_ok-place g) where
       let further : c.args.start ≤ c.args.stop = search rules in
       let none = none_found ucd (chars c.args.new.now) (sym c.has_separator.ensures ∙ c.if-has_separator.false) in
       let inside : c.is_after_begin.result ≡ true = search rules in
-      edited_place ucd c.args.self.now text c.args.source.now.utf8 c.paragraph_under-span.result.number c.paragraph_under-span.ensures.is.there
+      edited_place ucd c.args.self.now text c.args.text_ref.now.utf8 c.paragraph_under-span.result.number c.paragraph_under-span.ensures.is.there
       first c.args.start c.args.stop c.args.new.now c.utf8.new c.index.result.now c.in_ok-place.place (c.args.start - first + length c.args.new.now)
       c.paragraph_under-span.ensures.is.start c.paragraph_under-span.ensures.order further range none
       (inner_of first c.args.start (sym c.is_after_begin.ensures ∙ inside)) side
@@ -92,7 +92,7 @@ overflow_add-result g c =
       most,
       ap length (now g p).2,
       c.in_ok-place.ensures.within,
-      c.args.source.now.short,
+      c.args.text_ref.now.short,
       c.paragraph_under-span.ensures.is.order,
       c.paragraph_under-span.ensures.is.within,
     )

@@ -7,7 +7,7 @@ use Rattle.bx_view.proofs.view.View.next_row_along.Goals as goal
 
 pub returns-then-not-to_next-clause-next : goal.returns-then-not-to_next-clause-next
 returns-then-not-to_next-clause-next g c = λ n on.
-    let s = c.args.source.now in
+    let s = c.args.text_ref.now in
     let ucd = g.D.BidiData.data s.tables.now in
     let text = s.text.now.edited.text in
     let walk = c.args.walk.now in
@@ -21,7 +21,7 @@ returns-then-not-to_next-clause-next g c = λ n on.
 
 pub returns-clause-next : goal.returns-clause-next
 returns-clause-next g c = λ n on.
-    let s = c.args.source.now in
+    let s = c.args.text_ref.now in
     let ucd = g.D.BidiData.data s.tables.now in
     let text = s.text.now.edited.text in
     let walk = c.args.walk.now in

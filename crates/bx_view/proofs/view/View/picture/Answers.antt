@@ -10,4 +10,4 @@ returns-clause-picture g c = λ n on.
     let s = c.row.result in
     c.in_ok-picture.ensures.picture
     ∙ ap (λ t. row_glyphs (g.D.BidiData.data t) (columns s) (row s)) c.row.ensures.tables
-    ∙ ap₂ (text_row_glyphs (g.D.BidiData.data c.args.source.now.tables.now)) c.row.ensures.columns (c.row.ensures.row n on)
+    ∙ ap₂ (text_row_glyphs (g.D.BidiData.data c.args.text_ref.now.tables.now)) c.row.ensures.columns (c.row.ensures.row n on)

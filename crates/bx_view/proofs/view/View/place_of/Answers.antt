@@ -7,8 +7,8 @@ use Rattle.bx_view.proofs.view.View.place_of.Goals as goal
 
 pub returns-clause-place : goal.returns-clause-place
 returns-clause-place g c =
-    let ucd = g.D.BidiData.data c.args.source.now.tables.now in
-    let text = c.args.source.now.text.now.edited.text in
+    let ucd = g.D.BidiData.data c.args.text_ref.now.tables.now in
+    let text = c.args.text_ref.now.text.now.edited.text in
     let n = c.span_of-span.result.number in
     let body = body_at ucd text n in
     let found = c.unit_start.ensures.place
@@ -19,7 +19,7 @@ returns-clause-place g c =
 
 pub returns-clause-text_place : goal.returns-clause-text_place
 returns-clause-text_place g c =
-    let ucd = g.D.BidiData.data c.args.source.now.tables.now in
-    let text = c.args.source.now.text.now.edited.text in
+    let ucd = g.D.BidiData.data c.args.text_ref.now.tables.now in
+    let text = c.args.text_ref.now.text.now.edited.text in
     subst (IsTextPlace ucd text) (sym (returns-clause-place g c))
-    (lead-to-places ucd text c.args.source.now.utf8 c.args.paragraph c.args.unit)
+    (lead-to-places ucd text c.args.text_ref.now.utf8 c.args.paragraph c.args.unit)

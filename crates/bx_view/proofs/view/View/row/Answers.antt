@@ -6,7 +6,7 @@ use Rattle.bx_view.proofs.view.View.row.Goals as goal
 
 pub invariant_of-result : goal.invariant_of-result
 invariant_of-result g c =
-    let s = c.args.source.now in
+    let s = c.args.text_ref.now in
     let ucd = g.D.BidiData.data s.tables.now in
     let text = s.text.now.edited.text in
     let l = c.paragraph-paragraph.result.now in
@@ -25,6 +25,6 @@ invariant_of-result g c =
 
 pub returns-clause-row : goal.returns-clause-row
 returns-clause-row g c = λ n on.
-    let s = c.args.source.now in
+    let s = c.args.text_ref.now in
     of-row (g.D.BidiData.data s.tables.now) c.args.self.now s.text.now.edited.text c.args.at n c.paragraph-paragraph.result.now s.utf8 on
     c.paragraph-paragraph.ensures (λ r. r)

@@ -7,7 +7,7 @@ use Rattle.bx_view.proofs.view.View.row_before_along.Goals as goal
 
 pub returns-then-not-to_previous-clause-before : goal.returns-then-not-to_previous-clause-before
 returns-then-not-to_previous-clause-before g c = λ n on.
-    let s = c.args.source.now in
+    let s = c.args.text_ref.now in
     let v = c.args.self.now in
     let walk = c.args.walk.now in
     let none : c.args.at.row ≡ 0 = search rules in
@@ -20,7 +20,7 @@ returns-then-not-to_previous-clause-before g c = λ n on.
 
 pub returns-clause-before : goal.returns-clause-before
 returns-clause-before g c = λ n on.
-    let s = c.args.source.now in
+    let s = c.args.text_ref.now in
     let ucd = g.D.BidiData.data s.tables.now in
     let walk = c.args.walk.now in
     let none : c.args.at.row ≡ 0 = search rules in

@@ -5,13 +5,13 @@ use Rattle.bx_view.proofs.view.View.top_above.Given as goal
 
 abbrev pub invariant-loop-above : goal.invariant-loop-above
 invariant-loop-above g l = record {
-  keeps : Keeps l.source l.initial.self l.self;
+  keeps : Keeps l.text_ref l.initial.self l.self;
   few : l.above < l.t;
-  row : Stands l.source l.self l.here;
-  along : IsAlong l.source l.walk l.here;
-  within : (n : ℕ) → StandsOn l.source l.initial.self l.fn.at n → l.above ≤ n;
-  stands : (n : ℕ) → StandsOn l.source l.initial.self l.fn.at n → StandsOn l.source l.self l.here (n - l.above);
-  behind : (n k : ℕ) → StandsOn l.source l.initial.self l.fn.at n → BeginsAt l.source l.initial.self k l.fn.old → 0 < l.above → k ≤ n - l.above;
+  row : Stands l.text_ref l.self l.here;
+  along : IsAlong l.text_ref l.walk l.here;
+  within : (n : ℕ) → StandsOn l.text_ref l.initial.self l.fn.at n → l.above ≤ n;
+  stands : (n : ℕ) → StandsOn l.text_ref l.initial.self l.fn.at n → StandsOn l.text_ref l.self l.here (n - l.above);
+  behind : (n k : ℕ) → StandsOn l.text_ref l.initial.self l.fn.at n → BeginsAt l.text_ref l.initial.self k l.fn.old → 0 < l.above → k ≤ n - l.above;
 }
 
 abbrev pub decreases-loop-above : goal.decreases-loop-above

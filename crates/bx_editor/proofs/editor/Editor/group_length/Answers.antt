@@ -1,6 +1,6 @@
 use Rattle.std.proofs.Common.{arith}
 use Rattle.bx_editor.proofs.undo_groups_lemmas.Steps.{start-bound}
-use Rattle.bx_editor.proofs.editor.Editor.run_length.Goals as goal
+use Rattle.bx_editor.proofs.editor.Editor.group_length.Goals as goal
 
 pub overflow_sub-result : goal.overflow_sub-result
 overflow_sub-result g c =
