@@ -3,9 +3,8 @@
 use Rattle.std.specs.Prelude.{ℕ, ◌+◌, List, [], length}
 use Rattle.bx_common.specs.declared.base.Base.{Base}
 use Rattle.bx_document.specs.declared.edits.RegionEnd.{RegionEnd}
-use Rattle.bx_document.specs.History.{exchange, insertion, removal}
-use Rattle.bx_document.specs.Swapped.{wrapped_end, wrapped_text}
-use Rattle.bx_text.specs.Edits.{Edited, opened, splice, wrapped}
+use Rattle.bx_document.specs.History.{exchange, insertion, removal, wrap, wrap_place}
+use Rattle.bx_text.specs.Edits.{Edited, opened, splice}
 use Rattle.bx_view.specs.Moves.{place_from}
 use Rattle.bx_view.specs.TextRows.{TextRow, text_rows}
 use Rattle.bx_ucd.specs.Data.{Data}
@@ -74,12 +73,9 @@ after_exchange d t start stop new place = record t { content = exchange (rows_of
 -- the place after a wrap of the bytes from `start` to `stop`, for a cursor that was at their end `at`: the first one at or after
 -- that end in the wrapped text
 abbrev pub place_after_wrap : Data → Document → ℕ → ℕ → List ℕ → List ℕ → RegionEnd → ℕ
-place_after_wrap d t start stop front back at =
-    place_from (rows_of d t (wrapped_text t.content.text start stop front back)) (wrapped_end at start stop front)
+place_after_wrap d t start stop front back at = wrap_place (rows_of d t) t.content.text start stop front back at
 
 -- after two edits: `back` is inserted at `stop`, then `front` at `start`; the cursor was at `place`, the end `at` of the bytes
 -- between
 abbrev pub after_wrap : Data → Document → ℕ → ℕ → List ℕ → List ℕ → ℕ → RegionEnd → Document
-after_wrap d t start stop front back place at = record t {
-  content = wrapped t.content start stop front back place (place_after d t stop stop back) (place_after_wrap d t start stop front back at);
-}
+after_wrap d t start stop front back place at = record t { content = wrap (rows_of d t) t.content start stop front back place at }

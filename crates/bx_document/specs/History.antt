@@ -2,11 +2,13 @@
 -- `rows` gives the rows of any text; before an edit the cursor was at `place`.
 use Rattle.std.specs.Prelude.{ℕ, ◌+◌, List, [], ◌∷◌, length, Option}
 use Rattle.bx_text.specs.declared.change.Change.{Change}
-use Rattle.bx_text.specs.Edits.{Edited, inserted, next_redos, next_undos, redone_times, removed, splice, undone_times}
+use Rattle.bx_text.specs.Edits.{Edited, inserted, next_redos, next_undos, redone_times, removed, splice, undone_times, wrapped}
 use Rattle.bx_view.specs.Moves.{place_from}
 use Rattle.bx_view.specs.TextRows.{TextRow}
+use Rattle.bx_document.specs.declared.edits.RegionEnd.{RegionEnd}
 use Rattle.bx_document.specs.declared.history.HistoryStep.{HistoryStep}
 use Rattle.bx_document.specs.declared.history.HistoryStep.TheVariants.{Undo, Redo}
+use Rattle.bx_document.specs.Swapped.{wrapped_end, wrapped_text}
 
 -- bytes are inserted at an offset; the cursor goes to the first place at or after their end
 abbrev pub insertion : (List ℕ → List TextRow) → Edited → ℕ → List ℕ → ℕ → Edited
@@ -20,6 +22,16 @@ removal rows t start stop place = removed t start stop place (place_from (rows (
 abbrev pub exchange : (List ℕ → List TextRow) → Edited → ℕ → ℕ → List ℕ → ℕ → Edited
 exchange rows t start stop [] place = removal rows t start stop place
 exchange rows t start stop (b ∷ bs) place = insertion rows (removal rows t start stop place) start (b ∷ bs) (place_from (rows (splice t.text start stop [])) start)
+
+-- the first place at or after the end `at` of the bytes from `start` to `stop`, once they stand between `front` and `back`
+abbrev pub wrap_place : (List ℕ → List TextRow) → List ℕ → ℕ → ℕ → List ℕ → List ℕ → RegionEnd → ℕ
+wrap_place rows text start stop front back at = place_from (rows (wrapped_text text start stop front back)) (wrapped_end at start stop front)
+
+-- two edits: `back` is inserted at `stop`, and then `front` at `start`; the cursor goes to the end `at` of the bytes between
+abbrev pub wrap : (List ℕ → List TextRow) → Edited → ℕ → ℕ → List ℕ → List ℕ → ℕ → RegionEnd → Edited
+wrap rows t start stop front back place at =
+    let between = place_from (rows (splice t.text stop stop back)) (stop + length back) in
+    wrapped t start stop front back place between (wrap_place rows t.text start stop front back at)
 
 -- the text after `n` steps, or after all if there are fewer
 abbrev pub stepped_times : HistoryStep → ℕ → Edited → Edited

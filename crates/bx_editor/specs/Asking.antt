@@ -1,6 +1,6 @@
 -- Going to a line, and characters by name or code: what is asked, and how it is answered. `d` is Unicode's data, `e` the editor;
 -- `typing` is what the key before left.
-use Rattle.std.specs.Prelude.{ℕ, ◌+◌, ◌==◌, Bool, false, List, [], length, chars, encode_utf8, unwrap_or, Option, Some, None, if◌then◌else◌}
+use Rattle.std.specs.Prelude.{ℕ, ◌==◌, Bool, false, List, [], length, chars, encode_utf8, unwrap_or, Option, Some, None, if◌then◌else◌}
 use Rattle.std.specs.List.{list_any}
 use Rattle.bx_ucd.specs.Data.{Data}
 use Rattle.bx_editor.specs.declared.questions.line.Target.{Target}
@@ -10,16 +10,17 @@ use Rattle.bx_editor.specs.questions.Answers.{lengthened, shortened, asked, is_l
 use Rattle.bx_editor.specs.questions.Names.{coded, is_code_letter, asks_code, closing, named}
 use Rattle.bx_editor.specs.declared.undo_groups.typing.Typing.{Typing}
 use Rattle.bx_editor.specs.undo_groups.Groups.{after_insertion, kind_of}
-use Rattle.bx_text.specs.Edits.{fits, fits_both, wrapped}
+use Rattle.bx_text.specs.Edits.{fits, fits_both}
 use Rattle.bx_view.specs.Numbers.{place_of, paragraph_number}
 use Rattle.bx_editor.specs.declared.message.Message.TheVariants.{NoSuchCharacter, TextFull, MoreThanOneLine}
-use Rattle.bx_editor.specs.Editor.{Editor, with_insertion, with_place, with_typing, place_after, with_edit}
+use Rattle.bx_editor.specs.Editor.{Editor, rows_of, with_insertion, with_place, with_typing, with_edit}
 use Rattle.bx_editor.specs.Putting.{is_paste, only_paste}
 use Rattle.bx_editor.specs.Region.{is_empty, region, bytes_in}
 use Rattle.bx_text.specs.index.Paragraphs.{is_separator}
 use Rattle.bx_document.specs.declared.edits.RegionEnd.{RegionEnd}
 use Rattle.bx_document.specs.declared.edits.RegionEnd.TheVariants.{Start, Stop}
-use Rattle.bx_document.specs.Swapped.{wrapped_end, wrapped_text}
+use Rattle.bx_document.specs.History.{wrap}
+use Rattle.bx_document.specs.Swapped.{wrapped_end}
 
 -- the region has a separator of paragraphs
 abbrev pub spans_lines : Data → Editor → Bool
@@ -29,16 +30,14 @@ spans_lines d e = list_any (λ c. is_separator (d.class c)) (chars (bytes_in e (
 abbrev pub cursor_end : Editor → RegionEnd
 cursor_end e = if e.place == (region e).0 then Start else Stop
 
--- `closer` is put in behind the region and then `opener` before it, both in UTF-8: two edits of one undo group. The cursor stays at
--- its end of the region; between the edits its place is behind `closer`
+-- `opener` is put before the region and `closer` after it, both in UTF-8: two edits of one undo group. The cursor stays at its end of
+-- the region
 abbrev pub with_wrap : Data → Editor → List ℕ → List ℕ → Editor
 with_wrap d e opener closer =
     let start = (region e).0 in
     let stop = (region e).1 in
-    let between = place_after d e (wrapped_text e.content.text start stop [] closer) (stop + length closer) in
-    let offset = wrapped_end (cursor_end e) start stop opener in
-    let after = place_after d e (wrapped_text e.content.text start stop opener closer) offset in
-    with_edit d e (wrapped e.content start stop opener closer e.place between after) offset false
+    let at = cursor_end e in
+    with_edit d e (wrap (rows_of d e) e.content start stop opener closer e.place at) (wrapped_end at start stop opener) false
 
 -- the region is put between two characters; where it spans lines, or the text has no room, a message is set instead
 abbrev pub after_wrapping : Data → Editor → ℕ → ℕ → Editor

@@ -8,7 +8,6 @@ use Rattle.bx_keys.specs.declared.key.Key.TheVariants.{Insert, Repaint, Save}
 use Rattle.bx_store.specs.declared.store.StoreFault.{StoreFault}
 use Rattle.bx_text.specs.declared.change.Change.{Change}
 use Rattle.bx_text.specs.Edits.{Edit, Edited}
-use Rattle.bx_document.specs.Swapped.{wrapped_text}
 use Rattle.bx_document.specs.History.{next_changes, stepped_times}
 use Rattle.bx_document.specs.declared.history.HistoryStep.{HistoryStep}
 use Rattle.bx_document.specs.declared.history.HistoryStep.TheVariants as steps
@@ -284,7 +283,7 @@ wrapping s d e opener closer h =
     let n = length t.past in
     let start = (region e).0 in
     let stop = (region e).1 in
-    let between = place_after d e (wrapped_text t.text start stop [] closer) (stop + length closer) in
+    let between = place_after d e (splice t.text stop stop closer) (stop + length closer) in
     let one : Edited = inserted t stop closer e.place between in
     let two = (with_wrap d e opener closer).content in
     let first = replaced-chain s t e.stored stop stop closer e.place between h.chain in

@@ -3,14 +3,13 @@ use Rattle.std.proofs.Common.{◌≡◌, ℕ, true, false, List, [], ◌∷◌, 
 use Rattle.std.specs.Prelude.{◌==◌, chars, encode_utf8}
 use Rattle.bx_keys.specs.declared.key.Key.{Key}
 use Rattle.bx_store.specs.declared.store.StoreFault.{StoreFault}
-use Rattle.bx_text.specs.Edits.{fits, fits_both}
+use Rattle.bx_text.specs.Edits.{fits, fits_both, splice}
 use Rattle.bx_ucd.specs.Data.{Data}
 use Rattle.bx_editor.specs.declared.questions.line.Target.{Target}
 use Rattle.bx_editor.specs.declared.questions.answers.Prompt.{Prompt}
 use Rattle.bx_editor.specs.declared.questions.answers.Prompt.TheVariants as prompts
 use Rattle.bx_editor.specs.questions.Names.{coded, is_code_letter, asks_code, closing, named}
 use Rattle.bx_editor.specs.questions.Answers.{asked, is_line_letter}
-use Rattle.bx_document.specs.Swapped.{wrapped_text}
 use Rattle.bx_editor.specs.declared.undo_groups.typing.Typing.{Typing}
 use Rattle.bx_editor.specs.undo_groups.Groups.{after_insertion, kind_of}
 use Rattle.bx_editor.specs.declared.message.Message.TheVariants.{TextFull, MoreThanOneLine}
@@ -66,7 +65,7 @@ wrap_alike d e f opener closer =
     let n = length t.past in
     let start = (region e).0 in
     let stop = (region e).1 in
-    let between = place_after d e (wrapped_text t.text start stop [] closer) (stop + length closer) in
+    let between = place_after d e (splice t.text stop stop closer) (stop + length closer) in
     let after = (with_wrap d e opener closer).place in
     let runs = sym (runs-of-two e.undo_groups n) in
     record {
