@@ -1,6 +1,6 @@
 -- Going to a line, and characters by name or code: what is asked, and how it is answered. `d` is Unicode's data, `e` the editor;
 -- `typing` is what the key before left.
-use Rattle.std.specs.Prelude.{ℕ, ◌==◌, Bool, false, List, [], length, chars, encode_utf8, unwrap_or, Option, Some, None, if◌then◌else◌}
+use Rattle.std.specs.Prelude.{ℕ, ◌+◌, ◌==◌, Bool, false, List, [], length, chars, encode_utf8, unwrap_or, Option, Some, None, if◌then◌else◌}
 use Rattle.std.specs.List.{list_any}
 use Rattle.bx_ucd.specs.Data.{Data}
 use Rattle.bx_editor.specs.declared.questions.line.Target.{Target}
