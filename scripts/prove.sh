@@ -1,8 +1,9 @@
 #!/bin/sh
-# prove.sh [--anew]: proves and builds all crates by `rt ci`, and then compares: each program in dist/ must be byte for byte the one
-# that was just built, and dist/ must be of these sources and of this toolchain. With --anew it proves what was proved on this machine
-# before, too. After a run of `rt ci` without failure it notes the programs in out/proved, for make-dist.sh. The last line is
-# 'N passed, M failed' for all of it. Exit status 1: something failed.
+# prove.sh [--anew]: proves and builds all crates by `rt ci`, and then compares: dist/ must be of these sources, and each program in
+# dist/ must be byte for byte the one that was just built. If another version of the toolchain built dist/, a program that differs
+# counts as skipped. With --anew it proves what was proved on this machine before, too. After a run of `rt ci` without
+# failure it notes the programs in out/proved, for make-dist.sh. The last line is 'N passed, M failed' for all of it, and with
+# ', K skipped' what could not be compared. Exit status 1: something failed.
 set -u
 
 top=$(CDPATH='' cd -- "$(dirname -- "$0")/.." && pwd)
@@ -21,17 +22,29 @@ esac
 room=$(mktemp -d) || exit 1
 trap 'rm -rf -- "$room"' EXIT
 trap 'exit 1' HUP INT TERM
-passed=0 failed=0
+passed=0 failed=0 skipped=0
 
 sum_of() { # FILE
     sha256sum -- "$1" 2>/dev/null | cut -c 1-64
 }
 
-# Runs rt ci, whose last line has its numbers, and adds them. That line is shown after a name, so that one line alone has the totals.
-prove() { # [--anew]
+skip() { # NAME CAUSE
+    skipped=$((skipped + 1))
+    printf '%s\n' "skipped $1: $2"
+}
+
+# Runs rt ci, and sets `status` and `numbers`, which its last line has. That line is shown after a name, so that one line alone has
+# the totals.
+run_ci() { # [--anew]
     { rt ci "$@" 2>&1 && echo 0 >"$room/status" || echo "$?" >"$room/status"; } | tee "$room/said" | sed -u -e 's/^[0-9][0-9]* passed, /rt ci: &/'
     status=$(cat "$room/status")
     numbers=$(sed -n 's/^\([0-9][0-9]*\) passed, \([0-9][0-9]*\) failed.*/\1 \2/p' "$room/said" | tail -n 1)
+}
+
+# Proves all crates and adds the numbers. A toolchain that refuses the word --anew keeps no proofs, so that `rt ci` is the same there.
+prove() { # [--anew]
+    run_ci "$@"
+    if [ $# != 0 ] && [ "$status" = 2 ] && [ -z "$numbers" ]; then run_ci; fi
     [ -z "$numbers" ] || passed=$((passed + ${numbers% *})) failed=$((failed + ${numbers#* }))
     if [ -z "$numbers" ] || { [ "$status" != 0 ] && [ "${numbers#* }" = 0 ]; }; then report 'rt ci' 1 "it ended with status $status"; fi
 }
@@ -45,6 +58,11 @@ note_proved() {
     mkdir -p out && mv -f -- "$room/proved" out/proved
 }
 
+# Prints what a version of the toolchain, such as `kit-2 logic 1a2b`, says of its logic. Versions with one logic prove the same.
+logic_of() { # VERSION
+    printf '%s\n' "${1#*logic }"
+}
+
 # Compares a program of the archive with the one that rt ci left.
 compare() { # NAME
     [ -f "crates/$1/out/$1" ] || {
@@ -52,7 +70,12 @@ compare() { # NAME
         return
     }
     told=$(cmp -- "$room/files/$1" "crates/$1/out/$1" 2>&1)
-    report "$1 in dist/, the same as built here" $? "$told"
+    status=$?
+    if [ "$status" = 0 ] || [ "$(noted toolchain)" = "$(rt version)" ]; then
+        report "$1 in dist/, the same as built here" "$status" "$told"
+    else
+        skip "$1 in dist/, the same as built here" "it differs, but was built by $(noted toolchain), and this is $(rt version)"
+    fi
     same "$1, its sum in dist/SOURCES" "$(noted program "$1")" "$(sum_of "$room/files/$1")"
 }
 
@@ -68,7 +91,7 @@ compare_all() {
     done
     same 'dist/SOURCES, the digest of the sources' "$(noted sources)" "$(sources_digest)"
     same "dist/SOURCES, the digest of the host's sources" "$(noted host)" "$(host_digest)"
-    same 'dist/SOURCES, the toolchain' "$(noted toolchain)" "$(rt version)"
+    same "dist/SOURCES, the toolchain's logic" "$(logic_of "$(noted toolchain)")" "$(logic_of "$(rt version)")"
     mkdir "$room/files"
     told=$(tar -xzof "dist/$dist_archive" -C "$room/files" 2>&1)
     report 'the archive, unpacked' $? "$told"
@@ -84,5 +107,7 @@ same 'the sources, unchanged meanwhile' "$(sources_digest)" "$sources"
 [ "$failed" != 0 ] || note_proved
 compare_all
 [ "$failed" = 0 ] || echo 'where dist/ is older than the sources, tools/make-dist.sh makes it anew of what is proved'
-echo "$passed passed, $failed failed"
+told="$passed passed, $failed failed"
+[ "$skipped" = 0 ] || told="$told, $skipped skipped"
+echo "$told"
 [ "$failed" = 0 ]

@@ -54,5 +54,6 @@ run full check_full
 run found check_found
 run installing check_installing
 run prove check_prove
+run versions check_versions
 echo "$passed passed, $failed failed, $skipped skipped"
 [ "$failed" = 0 ]

@@ -91,3 +91,24 @@ check_prove() { # NAME
         '1 FAILS dist/: it is missing: tools/make-dist.sh makes it|7 passed, 2 failed'
     same "$1, a failed proof is not noted" "$([ -e "$tree/out/proved" ] && echo noted)" ''
 }
+
+# With another version of the toolchain, scripts/prove.sh takes another program as skipped if both have one logic; `a toolchain`, which
+# built dist/, has another one than kit-1.
+check_versions() { # NAME
+    echo 'kit-1 logic 1a2b' >"$TOLD/version"
+    prove
+    same "$1, another logic" "$status $(paste -s -d '|' "$folder/said")" \
+        "1 FAILS dist/SOURCES, the toolchain's logic: 'a toolchain', and not '1a2b'|21 passed, 1 failed"
+    make_dist
+    echo 'kit-2 logic 1a2b' >"$TOLD/version"
+    prove
+    same "$1, the same programs" "$status $(cat "$folder/said")" '0 22 passed, 0 failed'
+    cp "$TOLD/built/bidi_print" "$folder/kept"
+    echo x >>"$TOLD/built/bidi_print"
+    prove
+    same "$1, another program" "$status $(cat "$folder/said")" '0 21 passed, 0 failed, 1 skipped'
+    same "$1, the cause" "$(sed -n 's/^skipped //p' "$folder/all")" \
+        'bidi_print in dist/, the same as built here: it differs, but was built by kit-1 logic 1a2b, and this is kit-2 logic 1a2b'
+    mv "$folder/kept" "$TOLD/built/bidi_print"
+    rm "$TOLD/version"
+}

@@ -2,13 +2,16 @@
 # shellcheck disable=SC2154 # words that check-dist.sh sets
 # The small repository for check-dist.sh, its programs and its tools.
 
-# The stand-in for rt notes its calls. `rt ci` passes unless the file `bad` is there, and leaves the programs in `built`; no proof of a
+# The stand-in for rt notes its calls. Its version is in the file `version`, if there is one. `rt ci` passes unless the file `bad` is there, and leaves the programs in `built`; no proof of a
 # crate passes.
 make_tools() {
     mkdir -p "$folder/bin" "$folder/home" "$TOLD"
     cat >"$folder/bin/rt" <<'END'
 #!/bin/sh
-if [ "$1" = version ]; then echo a toolchain && exit; fi
+if [ "$1" = version ]; then
+    cat "$TOLD/version" 2>/dev/null || echo a toolchain
+    exit
+fi
 echo "$*" >>"$TOLD/calls"
 [ "$1" = ci ] || exit 1
 for program in "$TOLD"/built/*; do
