@@ -4,7 +4,7 @@ use Rattle.std.proofs.lemmas.Bool.{cases_lt}
 use Rattle.std.proofs.lemmas.List.{length-take-le, length-drop, take_all, take-append-drop, take-take, drop-drop, drop-take}
 use Rattle.bx_text.specs.declared.pieces.piece.Piece.{Piece}
 use Rattle.bx_text.specs.pieces.Pieces.{total}
-use Rattle.bx_text.specs.pieces.Bytes.{AreWithin, buffer_in, bytes_in, piece_in}
+use Rattle.bx_text.specs.pieces.Bytes.{AreWithin, buffer_bytes, buffers, bytes_of, piece_bytes}
 
 -- ---- two lists in turn
 
@@ -39,64 +39,64 @@ seam xs ys at n m e =
 -- ---- pieces
 
 module _ (o a : List ℕ) where
-  length-piece_in : (p : Piece) → p.start + p.len ≤ length (buffer_in o a p.buffer) → length (piece_in o a p) ≡ p.len
-  length-piece_in p h =
-      length-take-le p.len (drop p.start (buffer_in o a p.buffer)) (omega (arith, h, length-drop p.start (buffer_in o a p.buffer)))
+  length-piece_bytes : (p : Piece) → p.start + p.len ≤ length (buffer_bytes (buffers o a) p.buffer) → length (piece_bytes (buffers o a) p) ≡ p.len
+  length-piece_bytes p h =
+      length-take-le p.len (drop p.start (buffer_bytes (buffers o a) p.buffer)) (omega (arith, h, length-drop p.start (buffer_bytes (buffers o a) p.buffer)))
 
   -- bytes within a piece
   pub within_piece : (p : Piece) (skipped n : ℕ) → skipped + n ≤ p.len
-      → take n (drop (p.start + skipped) (buffer_in o a p.buffer)) ≡ take n (drop skipped (piece_in o a p))
+      → take n (drop (p.start + skipped) (buffer_bytes (buffers o a) p.buffer)) ≡ take n (drop skipped (piece_bytes (buffers o a) p))
   within_piece p skipped n h =
-      let buffer = buffer_in o a p.buffer in
+      let buffer = buffer_bytes (buffers o a) p.buffer in
       let e : p.len ≡ skipped + (p.len - skipped) = omega (arith, h) in
       sym (ap (λ k. take n (drop skipped (take k (drop p.start buffer)))) e
       ∙ ap (take n) (drop-take skipped (p.len - skipped) (drop p.start buffer))
       ∙ take-take n (p.len - skipped) (drop skipped (drop p.start buffer)) (omega (arith, h))
       ∙ ap (take n) (drop-drop skipped p.start buffer))
 
-  bytes-append : (xs ys : List Piece) → bytes_in o a (xs ++ ys) ≡ bytes_in o a xs ++ bytes_in o a ys
+  bytes-append : (xs ys : List Piece) → bytes_of (buffers o a) (xs ++ ys) ≡ bytes_of (buffers o a) xs ++ bytes_of (buffers o a) ys
   bytes-append [] ys = refl
   bytes-append (x ∷ xs) ys =
-      ap (λ l. piece_in o a x ++ l) (bytes-append xs ys) ∙ sym (append_assoc (piece_in o a x) (bytes_in o a xs) (bytes_in o a ys))
+      ap (λ l. piece_bytes (buffers o a) x ++ l) (bytes-append xs ys) ∙ sym (append_assoc (piece_bytes (buffers o a) x) (bytes_of (buffers o a) xs) (bytes_of (buffers o a) ys))
 
-  pub within_left : (xs ys : List Piece) → AreWithin o a (xs ++ ys) → AreWithin o a xs
+  pub within_left : (xs ys : List Piece) → AreWithin (buffers o a) (xs ++ ys) → AreWithin (buffers o a) xs
   within_left [] ys h = tt
   within_left (x ∷ xs) ys h = (h.0, within_left xs ys h.1)
 
-  pub within_right : (xs ys : List Piece) → AreWithin o a (xs ++ ys) → AreWithin o a ys
+  pub within_right : (xs ys : List Piece) → AreWithin (buffers o a) (xs ++ ys) → AreWithin (buffers o a) ys
   within_right [] ys h = h
   within_right (x ∷ xs) ys h = within_right xs ys h.1
 
-  length-bytes_in : (ps : List Piece) → AreWithin o a ps → length (bytes_in o a ps) ≡ total ps
-  length-bytes_in [] h = refl
-  length-bytes_in (p ∷ ps) h =
-      omega (arith, length-append (piece_in o a p) (bytes_in o a ps), length-piece_in p h.0, length-bytes_in ps h.1)
+  length-bytes_of : (ps : List Piece) → AreWithin (buffers o a) ps → length (bytes_of (buffers o a) ps) ≡ total ps
+  length-bytes_of [] h = refl
+  length-bytes_of (p ∷ ps) h =
+      omega (arith, length-append (piece_bytes (buffers o a) p) (bytes_of (buffers o a) ps), length-piece_bytes p h.0, length-bytes_of ps h.1)
 
-  pub within_own : (xs : List Piece) (p : Piece) (ys : List Piece) → AreWithin o a (xs ++ p ∷ ys) → p.start + p.len ≤ length (buffer_in o a p.buffer)
+  pub within_own : (xs : List Piece) (p : Piece) (ys : List Piece) → AreWithin (buffers o a) (xs ++ p ∷ ys) → p.start + p.len ≤ length (buffer_bytes (buffers o a) p.buffer)
   within_own xs p ys h = (within_right xs (p ∷ ys) h).0
 
-  pub within_rest : (xs : List Piece) (p : Piece) (ys : List Piece) → AreWithin o a (xs ++ p ∷ ys) → AreWithin o a ys
+  pub within_rest : (xs : List Piece) (p : Piece) (ys : List Piece) → AreWithin (buffers o a) (xs ++ p ∷ ys) → AreWithin (buffers o a) ys
   within_rest xs p ys h = (within_right xs (p ∷ ys) h).1
 
-  module _ (ls : List Piece) (p : Piece) (rs : List Piece) (within : AreWithin o a (ls ++ p ∷ rs)) (before : ℕ) (is : before ≡ total ls)
+  module _ (ls : List Piece) (p : Piece) (rs : List Piece) (within : AreWithin (buffers o a) (ls ++ p ∷ rs)) (before : ℕ) (is : before ≡ total ls)
       (bytes : List ℕ) (at : ℕ) where
     abbrev left : List ℕ
-    left = bytes_in o a ls
+    left = bytes_of (buffers o a) ls
 
     abbrev own : List ℕ
-    own = piece_in o a p
+    own = piece_bytes (buffers o a) p
 
     abbrev right : List ℕ
-    right = bytes_in o a rs
+    right = bytes_of (buffers o a) rs
 
     left-is : length left ≡ before
-    left-is = length-bytes_in ls (within_left ls (p ∷ rs) within) ∙ sym is
+    left-is = length-bytes_of ls (within_left ls (p ∷ rs) within) ∙ sym is
 
     own-is : length own ≡ p.len
-    own-is = length-piece_in p (within_own ls p rs within)
+    own-is = length-piece_bytes p (within_own ls p rs within)
 
     three : (n k : ℕ) → n ≡ min (length bytes) (before - at) → k ≡ min (length bytes - n) (p.len - (at - before))
-        → take (length bytes) (drop at (bytes_in o a (ls ++ p ∷ rs)))
+        → take (length bytes) (drop at (bytes_of (buffers o a) (ls ++ p ∷ rs)))
         ≡ take n (drop at left) ++ (take k (drop (at - before) own) ++ take (length bytes - n - k) (drop (at - before - p.len) right))
     three n k e f =
         ap (λ l. take (length bytes) (drop at l)) (bytes-append ls (p ∷ rs))
@@ -107,7 +107,7 @@ module _ (o a : List ℕ) where
 
     -- all on the right side
     pub on_right : before ≤ at → p.len ≤ at - before → take (length bytes) (drop (at - before - p.len) right) ≡ bytes
-        → take (length bytes) (drop at (bytes_in o a (ls ++ p ∷ rs))) ≡ bytes
+        → take (length bytes) (drop at (bytes_of (buffers o a) (ls ++ p ∷ rs))) ≡ bytes
     on_right past further same =
         let all : length bytes - 0 - 0 ≡ length bytes = omega arith in
         three 0 0 (omega (arith, past)) (omega (arith, further))
@@ -117,7 +117,7 @@ module _ (o a : List ℕ) where
     pub in_turn : (u v w : List ℕ) → u ++ (v ++ w) ≡ bytes → length u ≡ min (length bytes) (before - at)
         → length v ≡ min (length bytes - length u) (p.len - (at - before)) → at - before < p.len
         → take (length u) (drop at left) ≡ u → take (length v) (drop (at - before) own) ≡ v → take (length w) (drop 0 right) ≡ w
-        → take (length bytes) (drop at (bytes_in o a (ls ++ p ∷ rs))) ≡ bytes
+        → take (length bytes) (drop at (bytes_of (buffers o a) (ls ++ p ∷ rs))) ≡ bytes
     in_turn u v w whole e f inside first second third =
         let none : at - before - p.len ≡ 0 = omega (arith, inside) in
         let others : length bytes - length u - length v ≡ length w =

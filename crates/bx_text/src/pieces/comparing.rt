@@ -1,13 +1,13 @@
 //! The bytes of one piece.
 
 ghost use Rattle.std.specs.Prelude.{◌≡◌, ◌↔◌, ◌+◌, ◌≤◌, length, take, drop, IsTrue};
-ghost use Rattle.bx_text.specs.pieces.Bytes.{buffer_in, piece_in};
+ghost use Rattle.bx_text.specs.pieces.Bytes.{buffer_bytes, buffers, piece_bytes};
 
 use crate::pieces::piece::{Buffer, Piece};
 
 /// The buffer that a piece names.
 fn buffer_of<'a>(opened: &'a [u8], added: &'a [u8], buffer: Buffer) -> &'a [u8]
-    ensures { result.now ≡ buffer_in opened.now added.now buffer }
+    ensures { result.now ≡ buffer_bytes (buffers opened.now added.now) buffer }
 {
     match buffer {
         Buffer::Opened => opened,
@@ -24,9 +24,9 @@ fn are_equal(left: &[u8], right: &[u8]) -> bool
 
 /// Whether a piece has these bytes after its first `skipped`.
 pub fn piece_has(opened: &[u8], added: &[u8], piece: Piece, skipped: usize, bytes: &[u8]) -> bool
-    requires within { piece.start + piece.len ≤ length (buffer_in opened.now added.now piece.buffer) }
+    requires within { piece.start + piece.len ≤ length (buffer_bytes (buffers opened.now added.now) piece.buffer) }
     requires fits { skipped + length bytes.now ≤ piece.len }
-    ensures { IsTrue result → take (length bytes.now) (drop skipped (piece_in opened.now added.now piece)) ≡ bytes.now }
+    ensures { IsTrue result → take (length bytes.now) (drop skipped (piece_bytes (buffers opened.now added.now) piece)) ≡ bytes.now }
 {
     let start = piece.start + skipped;
     let part = &buffer_of(opened, added, piece.buffer)[start..start + bytes.len()];

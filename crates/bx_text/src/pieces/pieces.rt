@@ -1,7 +1,7 @@
 //! A sequence of pieces, which is a text: searched, split and joined at offsets in bytes of the text.
 
 ghost use Rattle.std.specs.Prelude.{◌≡◌, [], ◌++◌, ◌+◌, ◌/◌, ◌<◌, ◌≤◌, ◌^◌, IfOk, IsTrue, drop, length, take};
-ghost use Rattle.bx_text.specs.pieces.Bytes.{AreWithin, bytes_in};
+ghost use Rattle.bx_text.specs.pieces.Bytes.{AreWithin, buffers, bytes_of};
 ghost use Rattle.bx_text.specs.pieces.Pieces.{total, front, back, holding, pushed, IsAddressable};
 
 use crate::pieces::copying::copy;
@@ -118,8 +118,8 @@ impl Pieces {
 
     /// Whether the text, whose pieces lie in these two buffers, has these bytes at an offset. Allocates nothing.
     pub fn has(&self, opened: &[u8], added: &[u8], at: usize, bytes: &[u8]) -> bool
-        requires { AreWithin opened.now added.now self.now }
-        ensures { IsTrue result → take (length bytes.now) (drop at (bytes_in opened.now added.now self.now)) ≡ bytes.now }
+        requires { AreWithin (buffers opened.now added.now) self.now }
+        ensures { IsTrue result → take (length bytes.now) (drop at (bytes_of (buffers opened.now added.now) self.now)) ≡ bytes.now }
     {
         tree::has(&self.tree, opened, added, at, bytes)
     }

@@ -1,7 +1,7 @@
 //! An AVL tree of pieces in order: the depths of the two sides of each node differ by at most one.
 
 ghost use Rattle.std.specs.Prelude.{◌≡◌, ◌∷◌, ◌++◌, ◌+◌, ◌<◌, ◌≤◌, ◌^◌, IsTrue, drop, length, take};
-ghost use Rattle.bx_text.specs.pieces.Bytes.{AreWithin, bytes_in};
+ghost use Rattle.bx_text.specs.pieces.Bytes.{AreWithin, buffers, bytes_of};
 ghost use Rattle.bx_text.specs.pieces.Pieces.{total, holding, last_of, longer};
 ghost use Rattle.bx_text.specs.pieces.Tree.{sequence, depth_of, fork, DifferByAtMost, IsShallow};
 
@@ -206,8 +206,8 @@ fn holding_in(tree: &Tree, at: usize) -> Option<(Piece, usize)>
 /// once, and searches for none. Allocates nothing.
 #[cycle(comparing)]
 pub fn has(tree: &Link, opened: &[u8], added: &[u8], at: usize, bytes: &[u8]) -> bool
-    requires within { AreWithin opened.now added.now (sequence tree.now) }
-    ensures { IsTrue result → take (length bytes.now) (drop at (bytes_in opened.now added.now (sequence tree.now))) ≡ bytes.now }
+    requires within { AreWithin (buffers opened.now added.now) (sequence tree.now) }
+    ensures { IsTrue result → take (length bytes.now) (drop at (bytes_of (buffers opened.now added.now) (sequence tree.now))) ≡ bytes.now }
 {
     if bytes.is_empty() {
         return true;
@@ -221,8 +221,8 @@ pub fn has(tree: &Link, opened: &[u8], added: &[u8], at: usize, bytes: &[u8]) ->
 /// `has` of a tree with a piece.
 #[cycle(comparing)]
 fn has_in(tree: &Tree, opened: &[u8], added: &[u8], at: usize, bytes: &[u8]) -> bool
-    requires within { AreWithin opened.now added.now tree.now.pieces }
-    ensures { IsTrue result → take (length bytes.now) (drop at (bytes_in opened.now added.now tree.now.pieces)) ≡ bytes.now }
+    requires within { AreWithin (buffers opened.now added.now) tree.now.pieces }
+    ensures { IsTrue result → take (length bytes.now) (drop at (bytes_of (buffers opened.now added.now) tree.now.pieces)) ≡ bytes.now }
 {
     let before = len(&tree.left);
     if before <= at && tree.piece.len <= at - before {
