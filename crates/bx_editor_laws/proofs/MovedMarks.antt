@@ -238,7 +238,8 @@ replace-mark d was prompts.Code e = refl
 next-mark-by : (d : Data) (e : Editor) → (after_find_next d (unselected e)).mark ≡ mark_left e.soft e.mark
 next-mark-by d e =
     let free = unselected e in
-    either-mark (length (sought d free) == 0) free.mark (after_beginning purposes.Find free) (search_from d (next_or_start d free) (record free { search_state = searches.Off; purpose = purposes.Find })) refl refl
+    either-mark (length (sought d free) == 0) free.mark (after_beginning purposes.Find free)
+    (search_from d (next_or_start d free) (record free { search_state = searches.Off; purpose = purposes.Find })) refl refl
 
 next-mark : (d : Data) (was : Before) (prompt : Prompt) (e : Editor) → (after_any d None was prompt searches.Off e FindNext).mark ≡ mark_left e.soft e.mark
 next-mark d was prompts.Off e = next-mark-by d e

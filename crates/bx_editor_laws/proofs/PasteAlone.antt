@@ -197,7 +197,8 @@ user-alone : (d : Data) (fault : Option StoreFault) (e : Editor) (key : Key) →
 user-alone d fault e key h = any-alone d fault (before e) e.prompt e.search_state (cleared e) key refl h
 
 -- Repaint leaves a paste under way
-painted-alone : (d : Data) (fault : Option StoreFault) (e : Editor) (prompt : Prompt) (search_state : SearchState) → e.prompt ≡ prompt → e.search_state ≡ search_state → prompt ≡ prompts.Off → search_state ≡ Off
+painted-alone : (d : Data) (fault : Option StoreFault) (e : Editor) (prompt : Prompt) (search_state : SearchState)
+    → e.prompt ≡ prompt → e.search_state ≡ search_state → prompt ≡ prompts.Off → search_state ≡ Off
     → IsAlone (after_any d fault (before e) prompt search_state (cleared e) Repaint)
 painted-alone d fault e prompts.Off Off asked sought_is unasked unsought = inr (asked, sought_is)
 painted-alone d fault e prompts.Off Begun asked sought_is unasked unsought = absurd (cc unsought)
@@ -229,7 +230,8 @@ press-alone : (d : Data) (fault : Option StoreFault) (e : Editor) (key : Key) (p
 press-alone d fault e key None is h = user-alone d fault e key is
 press-alone d fault e key (Some list) is h = in-paste d fault e key h (free-in-paste e list is h)
 
-begun-alone : (e : Editor) (prompt : Prompt) (search_state : SearchState) (pasted : Option (List ℕ)) → e.prompt ≡ prompt → e.search_state ≡ search_state → IsAlone e → IsAlone (paste_begun prompt search_state pasted e)
+begun-alone : (e : Editor) (prompt : Prompt) (search_state : SearchState) (pasted : Option (List ℕ))
+    → e.prompt ≡ prompt → e.search_state ≡ search_state → IsAlone e → IsAlone (paste_begun prompt search_state pasted e)
 begun-alone e prompts.Off Off None asked sought_is h = inr (asked, sought_is)
 begun-alone e prompts.Off Off (Some list) asked sought_is h = h
 begun-alone e prompts.Off Begun pasted asked sought_is h = h

@@ -276,9 +276,12 @@ any-sound d fault was prompts.Off WithBegun e key unasked is u v h = replacement
 any-sound d fault was prompts.Off WithTyped e key unasked is u v h = replacement-sound d e u unasked fault was key (answer_of key) (subst (Stands d e) is h.1) h
 any-sound d fault was prompts.Off Replacing e key unasked is u v h =
     let there : IsThere d e = subst (Stands d e) is h.1 in match-sound d e u unasked fault was key (answer_of key) there.0 v h
-any-sound d fault was prompts.Line search_state e key asked is u v h = quiet-sound d (after_asking d fault was e key) (question-quiet d fault was e key (h.0 (λ off. let both = sym asked ∙ off in cc both)))
-any-sound d fault was prompts.Name search_state e key asked is u v h = quiet-sound d (after_asking d fault was e key) (question-quiet d fault was e key (h.0 (λ off. let both = sym asked ∙ off in cc both)))
-any-sound d fault was prompts.Code search_state e key asked is u v h = quiet-sound d (after_asking d fault was e key) (question-quiet d fault was e key (h.0 (λ off. let both = sym asked ∙ off in cc both)))
+any-sound d fault was prompts.Line search_state e key asked is u v h =
+    quiet-sound d (after_asking d fault was e key) (question-quiet d fault was e key (h.0 (λ off. let both = sym asked ∙ off in cc both)))
+any-sound d fault was prompts.Name search_state e key asked is u v h =
+    quiet-sound d (after_asking d fault was e key) (question-quiet d fault was e key (h.0 (λ off. let both = sym asked ∙ off in cc both)))
+any-sound d fault was prompts.Code search_state e key asked is u v h =
+    quiet-sound d (after_asking d fault was e key) (question-quiet d fault was e key (h.0 (λ off. let both = sym asked ∙ off in cc both)))
 
 -- ---- another width
 

@@ -48,7 +48,8 @@ other_replayed d prompt search_state e =
     each-replayed d prompt search_state e (λ key new. is_other key ≡ true → after_key d None e key ≡ new) (λ other. absurd (cc other)) (λ other. absurd (cc other))
     (λ key other same. refl)
 
-quit_editor : (d : Data) (prompt : Prompt) (search_state : SearchState) (s : Session) → (session_after_replayed d prompt search_state s Quit).editor ≡ after_replayed d prompt search_state s.editor Quit
+quit_editor : (d : Data) (prompt : Prompt) (search_state : SearchState) (s : Session)
+    → (session_after_replayed d prompt search_state s Quit).editor ≡ after_replayed d prompt search_state s.editor Quit
 quit_editor d prompts.Off Off s = refl
 quit_editor d prompts.Off search_state s = refl
 quit_editor d prompt search_state s = refl
@@ -58,7 +59,8 @@ quit_rest d prompts.Off Off s = refl
 quit_rest d prompts.Off search_state s = refl
 quit_rest d prompt search_state s = refl
 
-editor_is : (d : Data) (prompt : Prompt) (search_state : SearchState) (s : Session) (key : Key) → (session_after_replayed d prompt search_state s key).editor ≡ after_replayed d prompt search_state s.editor key
+editor_is : (d : Data) (prompt : Prompt) (search_state : SearchState) (s : Session) (key : Key)
+    → (session_after_replayed d prompt search_state s key).editor ≡ after_replayed d prompt search_state s.editor key
 editor_is d prompt search_state s =
     each-session d prompt search_state s (λ key new. new.editor ≡ after_replayed d prompt search_state s.editor key) refl (quit_editor d prompt search_state s)
     (λ key other. other_replayed d prompt search_state s.editor key other)

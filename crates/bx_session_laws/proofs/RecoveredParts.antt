@@ -70,7 +70,9 @@ same_lasts e f content runs place mark soft held query search_state purpose orig
 follows : (s r : Session) → HasBackMidway s r → Follows s r
 follows s r h =
     let p = h.parts in record {
-      lasts = same_lasts s.editor r.editor p.content p.undo_groups p.place p.mark p.soft p.held p.query h.search_state p.purpose h.origin p.replacement h.at h.count h.prompt h.answer p.pasted h.typing p.base p.goal p.height p.width;
+      lasts =
+          same_lasts s.editor r.editor p.content p.undo_groups p.place p.mark p.soft p.held p.query h.search_state p.purpose h.origin p.replacement
+          h.at h.count h.prompt h.answer p.pasted h.typing p.base p.goal p.height p.width;
       rest_is = sym p.rest;
       goes_on = p.goes_on;
       one = h.one;
