@@ -30,8 +30,7 @@ wrap_place rows text start stop front back at = place_from (rows (wrapped_text t
 -- two edits: `back` is inserted at `stop`, and then `front` at `start`; the cursor goes to the end `at` of the bytes between
 abbrev pub wrap : (List ℕ → List TextRow) → Edited → ℕ → ℕ → List ℕ → List ℕ → ℕ → RegionEnd → Edited
 wrap rows t start stop front back place at =
-    let between = place_from (rows (splice t.text stop stop back)) (stop + length back) in
-    wrapped t start stop front back place between (wrap_place rows t.text start stop front back at)
+    wrapped t start stop front back place (place_from (rows (splice t.text stop stop back)) (stop + length back)) (wrap_place rows t.text start stop front back at)
 
 -- the text after `n` steps, or after all if there are fewer
 abbrev pub stepped_times : HistoryStep → ℕ → Edited → Edited

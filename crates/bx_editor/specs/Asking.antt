@@ -30,14 +30,12 @@ spans_lines d e = list_any (λ c. is_separator (d.class c)) (chars (bytes_in e (
 abbrev pub cursor_end : Editor → RegionEnd
 cursor_end e = if e.place == (region e).0 then Start else Stop
 
--- `opener` is put before the region and `closer` after it, both in UTF-8: two edits of one undo group. The cursor stays at its end of
--- the region
+-- `opener` is put before the region and `closer` after it, both in UTF-8, as one undo group; the cursor stays at its end of the region
 abbrev pub with_wrap : Data → Editor → List ℕ → List ℕ → Editor
 with_wrap d e opener closer =
     let start = (region e).0 in
     let stop = (region e).1 in
-    let at = cursor_end e in
-    with_edit d e (wrap (rows_of d e) e.content start stop opener closer e.place at) (wrapped_end at start stop opener) false
+    with_edit d e (wrap (rows_of d e) e.content start stop opener closer e.place (cursor_end e)) (wrapped_end (cursor_end e) start stop opener) false
 
 -- the region is put between two characters; where it spans lines, or the text has no room, a message is set instead
 abbrev pub after_wrapping : Data → Editor → ℕ → ℕ → Editor
@@ -49,7 +47,6 @@ after_wrapping d e opener closer =
     else record e { message = Some TextFull }
 
 -- the most characters of the answer that names a line: its numbers then stay below 10^18, so they fit in 64 bits
--- (`bx_editor/src/questions/line.rt`)
 abbrev pub longest_line : ℕ
 longest_line = 16
 

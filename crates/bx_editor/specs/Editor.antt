@@ -280,8 +280,7 @@ by_group step e None = record e { message = Some (nothing_left step) }
 by_group step e (Some change) =
     with_step e (stepped_times step (group_length step e) e.content) change.place (is_changed_at (group_goal step e) e.stored)
 
--- all edits since an undo group began are undone, or all up to the next undo group are redone; the text is changed unless it is the
--- stored one
+-- all edits of an undo group are undone, or redone; the text is changed unless it is the stored one
 abbrev pub after_group_step : HistoryStep → Editor → Editor
 after_group_step step e = by_group step e (next_changes step (group_length step e) e.content)
 
