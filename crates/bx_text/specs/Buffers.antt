@@ -1,5 +1,5 @@
 -- Pieces of whole characters in the two buffers of a text.
-use Rattle.std.specs.Prelude.{ℕ, ◌+◌, ◌≤◌, List, [], ◌∷◌, length}
+use Rattle.std.specs.Prelude.{◌≡◌, ℕ, ◌+◌, ◌<◌, ◌≤◌, List, [], ◌∷◌, length, take, drop, IsCharBoundary}
 use Rattle.std.specs.Str.{IsUtf8}
 use Rattle.bx_text.specs.declared.pieces.piece.Buffer.TheVariants.{Added}
 use Rattle.bx_text.specs.declared.pieces.piece.Piece.{Piece}
@@ -19,3 +19,9 @@ AreInBuffers b (p ∷ ps) = IsInBuffer b p × AreInBuffers b ps
 -- the pieces, and then len bytes of the added text from offset start
 abbrev pub with_added : List Piece → ℕ → ℕ → List Piece
 with_added ps start len = pushed ps (record { buffer = Added; start = start; len = len })
+
+-- `rest` are the bytes of the text from the offset `at` to a later character boundary
+pub record IsRest (text : List ℕ) (at : ℕ) (rest : List ℕ) : Type 0 where
+  pub bytes : take (length rest) (drop at text) ≡ rest
+  pub not_empty : 0 < length rest
+  pub next : IsCharBoundary text (at + length rest)
