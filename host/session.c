@@ -169,7 +169,8 @@ static int make_session(struct session *session, const struct sessions *sessions
     return error;
 }
 
-/* Opens the parts of a locked session, and remembers its notes. */
+/* Opens the text and the journal of a locked session. Remembers each guarded part (is_guarded), so that session_mind writes it again if
+ * something removes it. */
 static void open_parts(struct session *session) {
     session->text = session_open(session, PART_TEXT);
     session->has_text = session->text >= 0;

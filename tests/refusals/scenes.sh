@@ -1,7 +1,8 @@
 # shellcheck shell=sh
 # shellcheck disable=SC2154 # variables that check-refusals.sh sets
 # The scenes and the tables of check-refusals.sh. crates/player/src/main.rt tells what the fields of a scene and of its
-# answer are, and what the steps do. FILE is in hexadecimal; a WAY is `step`, `play` or `alone`.
+# answer are, and what the steps do. FILE is in hexadecimal; a WAY is `step`, `play` or `alone`. A growth is one allocation of memory.
+# `sweep` in loaded.sh refuses one growth after another, and tells what the fields of a line of `runs` are.
 
 # Plays scenes without refusals.
 play() {
@@ -26,6 +27,7 @@ scene_of() { # ROWS COLS FILE STEPS WAY
 variants() {
     awk -F '\t' -v OFS='\t' '
         { head = $1 OFS $2 OFS $3 OFS $4 OFS $5; file = $7; way = $9; count = split($8, step, " ") }
+        # prints the scene up to step `to`, with `instead` in place of step `from` (0: none), and with `call` of the store failing (-: none)
         function with(call, from, to, instead,  words, k) {
             words = ""
             for (k = 1; k <= to; k++) words = words (k > 1 ? " " : "") (k == from ? instead : step[k])
