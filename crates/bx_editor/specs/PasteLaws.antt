@@ -56,7 +56,8 @@ pub record HasAll (d : Data) (e : Editor) (cs list : List ℕ) : Type 0 where
   pub whole : has_room e list ≡ true → list ≡ written d e.content.text cs
   pub same_room : has_room e list ≡ has_room e (written d e.content.text cs)
 
--- of the characters that a paste brings, as `list`, nothing is lost, and none is put in alone
+-- `list` is what the characters `cs` of a paste become. It is put in as one edit if there is room; otherwise text and place stay, and a
+-- message says so. Afterwards no paste is under way.
 pub record IsPaste (d : Data) (e : Editor) (cs list : List ℕ) (new : Editor) : Type 0 where
   pub all : HasAll d e cs list
   pub put : list ≢ [] → has_room e list ≡ true → IsOneEdit d e list new

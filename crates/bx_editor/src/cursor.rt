@@ -24,7 +24,7 @@ pub(crate) struct Cursor {
 }
 
 impl Cursor {
-    /// Goes to the place behind an edit, which removes the mark and ends the search.
+    /// Goes to the place after an edit, which removes the mark and ends the search.
     pub(crate) fn move_after_edit(&mut self, place: usize)
         ensures { self.new ≡ record { place = place; mark = None; soft = Soft.Off; search_state = SearchState.Off } }
     {

@@ -19,7 +19,7 @@ pub enum Mode {
     Alone,
 }
 
-/// A word that looks, as `main.rt` lists them.
+/// A word that asks for a part of the state, as `main.rt` lists them.
 #[derive(Clone, Copy)]
 pub enum Look<'a> {
     /// The cursor's place.

@@ -40,7 +40,8 @@ fn add_levels(
     Ok(())
 }
 
-/// Appends the same for the row of this number, from 0, of a body in `w` columns.
+/// Appends the levels of the units of one row of a body, and the units' numbers in visual order. `number` is the row's number, from
+/// 0; `w` is the window's width in columns.
 fn add_units(
     line: &mut String,
     alloc: Global,
