@@ -12,14 +12,7 @@ top=$(CDPATH='' cd -- "$(dirname "$0")/.." && pwd)
 . "$top/tests/host_checks.sh"
 
 check_frames() {
-    try judge_frames frames.c util.c || return
-    if told=$(python3 -B "$top/tests/host/frame_names.py"); then
-        echo '1 passed, 0 failed'
-    else
-        printf '%s\n' "$told" | sed 's/^/FAILS names of frames: /'
-        echo '0 passed, 1 failed'
-        return 1
-    fi
+    try judge_frames frames.c util.c && python3 -B "$top/tests/host/frame_names.py"
 }
 
 check_all() { # WORD..

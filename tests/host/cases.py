@@ -1,4 +1,4 @@
-"""Single cases of the host. Each function takes the installation and gives pairs of a name and what is wrong, empty if nothing.
+"""Single cases of the host, in an installation; checks.py says how a case is written.
 
 The words behind `start` are for program.py. Statuses are as waitpid gives them: a signal's number, or an exit status in the second
 byte. Seconds after `pump` are limits for a busy machine, those after `rest` go by in any case."""
@@ -9,16 +9,6 @@ from terminals import Run
 QUIT, SAVE = b'\x11', b'\x13'
 
 
-def same(name, found, wanted):
-    """The pair of a case: whether two values are equal."""
-    return name, '' if found == wanted else f'{found!r}, and not {wanted!r}'
-
-
-def holds(name, is_so, detail=''):
-    """The pair of a case: whether this is so; `detail` is told where it is not."""
-    return name, '' if is_so else f'does not hold {detail}'
-
-
 def start(tree, ways='', file=None, words=(), home=None, rows=24, columns=80, erase=b'\x08', **variables):
     """A run of the host: `ways` are for program.py, `words` stand before FILE."""
     file = file or tree.new_file('file')
@@ -27,14 +17,14 @@ def start(tree, ways='', file=None, words=(), home=None, rows=24, columns=80, er
     return run
 
 
-def finish(run, name, status, seconds=6):
-    """Waits some seconds for the end, and gives what holds after each."""
+def finish(check, run, name, status, seconds=6):
+    """Waits some seconds for the end, and looks at what holds after each."""
     run.pump(seconds)
     run.drain()
-    yield same(f'{name}: status', run.status, status)
-    yield holds(f'{name}: settings', run.is_restored())
-    yield same(f'{name}: screen', restored(run.output), [])
-    yield same(f'{name}: processes', run.left(3), {})
+    check.same(f'{name}: status', run.status, status)
+    check.holds(f'{name}: settings', run.is_restored())
+    check.same(f'{name}: screen', restored(run.output), [])
+    check.same(f'{name}: processes', run.left(3), {})
     run.close()
 
 
@@ -44,35 +34,35 @@ def frames(run):
         return [(line[0], bytes.fromhex(line[1:])) for line in notes]
 
 
-def edits(tree):
+def edits(check, tree):
     """A session with keys and a size, and what the program gets of it."""
     run = start(tree, 'notes')
-    yield holds('edits: painted', run.pump(5, b'hello <>'))
-    yield holds('edits: raw', not termios.tcgetattr(run.slave)[3] & (termios.ICANON | termios.ECHO | termios.ISIG))
+    check.holds('edits: painted', run.pump(5, b'hello <>'))
+    check.holds('edits: raw', not termios.tcgetattr(run.slave)[3] & (termios.ICANON | termios.ECHO | termios.ISIG))
     run.type(b'abc')
-    yield holds('edits: keys', run.pump(5, b'<abc>'))
+    check.holds('edits: keys', run.pump(5, b'<abc>'))
     run.rest(0.2)
     run.resize(30, 90)
-    yield holds('edits: size', run.pump(5, b'- 30 x 90'))
-    yield holds('edits: title', f'\x1b]2;{os.path.basename(run.file)} - ^S save ^Q quit F1 keys\x07'.encode() in run.output, run.output)
+    check.holds('edits: size', run.pump(5, b'- 30 x 90'))
+    check.holds('edits: title', f'\x1b]2;{os.path.basename(run.file)} - ^S save ^Q quit F1 keys\x07'.encode() in run.output, run.output)
     run.rest(2.2)  # nothing is told while time passes
     run.type(SAVE + QUIT)
-    yield from finish(run, 'edits', 0)
-    yield same('edits: frames', frames(run), [('b', b'abc'), ('i', b''), ('z', b'\0\x1e\0\x5a'), ('b', SAVE + QUIT)])
+    finish(check, run, 'edits', 0)
+    check.same('edits: frames', frames(run), [('b', b'abc'), ('i', b''), ('z', b'\0\x1e\0\x5a'), ('b', SAVE + QUIT)])
     with open(run.file, 'rb') as file:
-        yield same('edits: saved', file.read(), b'abc')
+        check.same('edits: saved', file.read(), b'abc')
 
 
-def sizes(tree):
+def sizes(check, tree):
     """The size at the start: the terminal's, 24 by 80 where it has none, at most 500 each."""
     for rows, columns, shown in ((0, 0, b'24 x 80'), (600, 700, b'500 x 500'), (1, 1, b'1 x 1')):
         run = start(tree, rows=rows, columns=columns)
-        yield holds(f'sizes: {rows} {columns}', run.pump(5, b'- ' + shown), run.output)
+        check.holds(f'sizes: {rows} {columns}', run.pump(5, b'- ' + shown), run.output)
         run.type(QUIT)
-        yield from finish(run, f'sizes: {rows} {columns}', 0)
+        finish(check, run, f'sizes: {rows} {columns}', 0)
 
 
-def resizes(tree):
+def resizes(check, tree):
     """300 sizes among Hebrew letters, in halves too: no byte is lost or moved, no size is told twice, and the last one is shown."""
     run = start(tree, 'notes')
     run.pump(5, b'hello')
@@ -82,17 +72,17 @@ def resizes(tree):
         run.type(text[number * 2 + number % 2:number * 2 + 2 + (number + 1) % 2])
         run.rest(0.002)
     run.resize(33, 77)
-    yield holds('resizes: the last size', run.pump(10, b'- 33 x 77'))
+    check.holds('resizes: the last size', run.pump(10, b'- 33 x 77'))
     run.type(QUIT)
-    yield from finish(run, 'resizes', 0)
+    finish(check, run, 'resizes', 0)
     got = frames(run)
-    yield same('resizes: bytes', b''.join(body for letter, body in got if letter == 'b'), text[:600] + QUIT)
+    check.same('resizes: bytes', b''.join(body for letter, body in got if letter == 'b'), text[:600] + QUIT)
     # a size that is told may be the one of a change that comes a moment later
     told = sum(letter == 'z' for letter, _ in got)
-    yield holds('resizes: not told more often than changed', 1 <= told <= 301, told)
+    check.holds('resizes: not told more often than changed', 1 <= told <= 301, told)
 
 
-def waiting_sizes(tree):
+def waiting_sizes(check, tree):
     """Sizes that come while the program reads nothing are told once, behind what was typed before, also in the midst of a letter."""
     run = start(tree, 'notes')
     run.pump(5, b'hello')
@@ -107,15 +97,15 @@ def waiting_sizes(tree):
     run.type(b'\x90c')
     run.rest(2.2)
     os.kill(program, signal.SIGCONT)
-    yield holds('waiting sizes: shown', run.pump(5, b'- 39 x 90'), run.output)
+    check.holds('waiting sizes: shown', run.pump(5, b'- 39 x 90'), run.output)
     run.type(QUIT)
-    yield from finish(run, 'waiting sizes', 0)
+    finish(check, run, 'waiting sizes', 0)
     got = frames(run)
-    yield same('waiting sizes: typed', [body for letter, body in got if letter == 'b'], [b'ab\xd7', b'\x90c', QUIT])
-    yield same('waiting sizes: the last one stands between', [body[1] for letter, body in got[:got.index(('b', b'\x90c'))] if letter == 'z'][-1], 39)
+    check.same('waiting sizes: typed', [body for letter, body in got if letter == 'b'], [b'ab\xd7', b'\x90c', QUIT])
+    check.same('waiting sizes: the last one stands between', [body[1] for letter, body in got[:got.index(('b', b'\x90c'))] if letter == 'z'][-1], 39)
 
 
-def idles(tree):
+def idles(check, tree):
     """Typed bytes that nothing follows for a while are told to be all, once, and not between bytes that follow one another."""
     run = start(tree, 'notes')
     run.pump(5, b'hello')
@@ -126,12 +116,12 @@ def idles(tree):
         run.rest(0.01)
     run.rest(0.3)
     run.type(QUIT)
-    yield from finish(run, 'idles', 0)
+    finish(check, run, 'idles', 0)
     got = ''.join('i' if letter == 'i' else body.decode() for letter, body in frames(run) if letter in 'bi')
-    yield same('idles: order', got, '\x1bi[Axyi\x11')
+    check.same('idles: order', got, '\x1bi[Axyi\x11')
 
 
-def large_pastes(tree):
+def large_pastes(check, tree):
     """A paste that is far larger than what waits in the host and the pipe loses nothing, and the host takes Ctrl-Q behind it."""
     run = start(tree)
     run.pump(5, b'hello')
@@ -145,55 +135,55 @@ def large_pastes(tree):
             pass
         run.rest(0.001)
     os.set_blocking(run.master, True)
-    yield holds('large pastes: all', run.pump(10, b'> 300010 '), run.output[-100:])  # with [200~ and [201~, which this program keeps
+    check.holds('large pastes: all', run.pump(10, b'> 300010 '), run.output[-100:])  # with [200~ and [201~, which this program keeps
     run.type(QUIT)
-    yield from finish(run, 'large pastes', 0)
+    finish(check, run, 'large pastes', 0)
 
 
-def standard_files(tree):
+def standard_files(check, tree):
     """Closed and redirected standard files: the host takes its controlling terminal."""
     for how in ('<&- >&- 2>&-', '</dev/null >/dev/null', '2>&-', '<&-', '| cat', '>/dev/full 2>/dev/full'):
         run = Run(['sh', '-c', f"'{tree.host}' '{tree.new_file('files')}' {how}"], **tree.variables())
-        yield holds(f'files {how}: screen', run.pump(5, b'hello'))
+        check.holds(f'files {how}: screen', run.pump(5, b'hello'))
         run.type(QUIT)
-        yield from finish(run, f'files {how}', 0)
+        finish(check, run, f'files {how}', 0)
 
 
-def erases(tree):
+def erases(check, tree):
     """The program is told the terminal's own erase character."""
     for erase in (b'\x7f', b'\x08', b'\0'):
         run = start(tree, erase=erase)
         run.pump(5, b'hello')
         with open(f"/proc/{run.child('bidi_edit')}/cmdline", 'rb') as file:
             words = file.read().split(b'\0')
-        yield same(f'erases, {erase!r}', words[words.index(b'--erase') + 1], b'%02x' % erase[0])
+        check.same(f'erases, {erase!r}', words[words.index(b'--erase') + 1], b'%02x' % erase[0])
         run.type(QUIT)
-        yield from finish(run, f'erases, {erase!r}', 0)
+        finish(check, run, f'erases, {erase!r}', 0)
 
 
-def refusals(tree):
+def refusals(check, tree):
     """Refused by the program before the screen; text that is no word of it is told at the end, between words too."""
     run = start(tree, 'refused')
     run.pump(5)
-    yield holds('refusals: no screen', b'1049h' not in run.output and b'hello' not in run.output, run.output)
-    yield from finish(run, 'refusals', 1 << 8)
+    check.holds('refusals: no screen', b'1049h' not in run.output and b'hello' not in run.output, run.output)
+    finish(check, run, 'refusals', 1 << 8)
     run = start(tree, 'foreign')
     run.pump(5)
     run.drain()
-    yield holds('refusals: what is no word is told', b'an odd ? line\r\n' in run.output.rpartition(TAIL)[2], run.output)
-    yield from finish(run, 'refusals: what is no word', 1 << 8)
+    check.holds('refusals: what is no word is told', b'an odd ? line\r\n' in run.output.rpartition(TAIL)[2], run.output)
+    finish(check, run, 'refusals: what is no word', 1 << 8)
     run = start(tree, 'mixed')
-    yield holds('refusals: painted all the same', run.pump(5, b'hello'), run.output)
+    check.holds('refusals: painted all the same', run.pump(5, b'hello'), run.output)
     run.type(QUIT)
     run.pump(5)
     run.drain()
-    yield holds('refusals: between words', b'thread main panicked\r\ne?r?' in run.output.rpartition(TAIL)[2], run.output)
-    yield from finish(run, 'refusals: between words', 0)
+    check.holds('refusals: between words', b'thread main panicked\r\ne?r?' in run.output.rpartition(TAIL)[2], run.output)
+    finish(check, run, 'refusals: between words', 0)
     run = start(tree, 'broken')
-    yield from finish(run, 'refusals: a fault of the program', (128 + signal.SIGSEGV) << 8)
+    finish(check, run, 'refusals: a fault of the program', (128 + signal.SIGSEGV) << 8)
 
 
-def starts_that_stall(tree):
+def starts_that_stall(check, tree):
     """A start that does not come to its first painting is ended by Ctrl-C, by TERM, and by a closed terminal."""
     for name, act, status in (('Ctrl-C', lambda run: run.type(b'a\x03'), signal.SIGINT),
                               ('TERM', lambda run: os.kill(run.job, signal.SIGTERM), signal.SIGTERM)):
@@ -202,53 +192,53 @@ def starts_that_stall(tree):
         before = time.perf_counter()
         act(run)
         run.pump(5)
-        yield holds(f'stalled starts, {name}: soon', time.perf_counter() - before < 1.5)
-        yield from finish(run, f'stalled starts, {name}', status)
+        check.holds(f'stalled starts, {name}: soon', time.perf_counter() - before < 1.5)
+        finish(check, run, f'stalled starts, {name}', status)
     run = start(tree, 'stalled')
     run.rest(0.5)
     run.hang_up()
-    yield holds('stalled starts, closed: ended', run.pump(5))
-    yield same('stalled starts, closed: processes', run.left(3), {})
+    check.holds('stalled starts, closed: ended', run.pump(5))
+    check.same('stalled starts, closed: processes', run.left(3), {})
     run.close()
     run = start(tree)
     run.pump(5, b'hello')
     run.type(b'a\x03b')
-    yield holds('stalled starts: later Ctrl-C is a key', run.pump(5, b'<ab>'), run.output)
+    check.holds('stalled starts: later Ctrl-C is a key', run.pump(5, b'<ab>'), run.output)
     run.type(QUIT)
-    yield from finish(run, 'stalled starts: later', 0)
+    finish(check, run, 'stalled starts: later', 0)
 
 
-def without_terminal(tree):
+def without_terminal(check, tree):
     """No terminal, a dumb one, and ways to find the host's own folder."""
     told = subprocess.run([tree.host, tree.new_file('none')], stdin=subprocess.DEVNULL, stderr=subprocess.PIPE, start_new_session=True,
                           env={**os.environ, **tree.variables()})
-    yield holds('without a terminal', told.returncode == 2 and b'there is no terminal' in told.stderr, told)
+    check.holds('without a terminal', told.returncode == 2 and b'there is no terminal' in told.stderr, told)
     run = start(tree, TERM='dumb')
     run.pump(5)
-    yield holds('dumb: told', b'is dumb' in run.output, run.output)
-    yield from finish(run, 'dumb', 2 << 8)
+    check.holds('dumb: told', b'is dumb' in run.output, run.output)
+    finish(check, run, 'dumb', 2 << 8)
     os.symlink(tree.host, tree.file('link'))
     for name, words in (('by PATH', ['sh', '-c', f"cd '{tree.top}/bin' && PATH=.:$PATH exec bidi-edit '{tree.new_file('found')}'"]),
                         ('through a link', [tree.file('link'), tree.new_file('found')])):
         run = Run(words, **tree.variables())
-        yield holds(f'found {name}', run.pump(5, b'hello'), run.output)
+        check.holds(f'found {name}', run.pump(5, b'hello'), run.output)
         run.type(QUIT)
-        yield from finish(run, f'found {name}', 0)
+        finish(check, run, f'found {name}', 0)
 
 
-def printing(tree):
+def printing(check, tree):
     """The printing program, and texts into pipes that nobody reads, or that are full."""
     environment = {**os.environ, **tree.variables()}
     told = subprocess.run([tree.host, '--print', '/dev/null', '--cols', '40'], stdout=subprocess.PIPE, stdin=subprocess.DEVNULL, env=environment)
-    yield holds('printing: words', told.returncode == 0 and told.stdout.startswith(b'printed <--cols> <40>') and b'</dev/null>' in told.stdout, told)
+    check.holds('printing: words', told.returncode == 0 and told.stdout.startswith(b'printed <--cols> <40>') and b'</dev/null>' in told.stdout, told)
     with subprocess.Popen([tree.host, '--help'], stdout=subprocess.PIPE, start_new_session=True, env=environment) as told:
         told.stdout.close()
-        yield holds('printing: a pipe that nobody reads', told.wait(5) in (0, 1), told.returncode)
+        check.holds('printing: a pipe that nobody reads', told.wait(5) in (0, 1), told.returncode)
     with open('/dev/full', 'wb') as full:
-        yield same('printing: a full disk', subprocess.run([tree.host, '--help'], stdout=full, stderr=subprocess.DEVNULL, env=environment).returncode, 1)
+        check.same('printing: a full disk', subprocess.run([tree.host, '--help'], stdout=full, stderr=subprocess.DEVNULL, env=environment).returncode, 1)
 
 
-def deaf_programs(tree):
+def deaf_programs(check, tree):
     """A program that does not end is killed; a signal that the caller ignores ends nothing."""
     for ways in ('deaf', 'flood', 'keeps'):
         run = start(tree, ways)
@@ -256,44 +246,44 @@ def deaf_programs(tree):
         before = time.perf_counter()
         os.kill(run.job, signal.SIGTERM)
         run.pump(6)
-        yield holds(f'{ways}: killed after 3 s', 2.9 < time.perf_counter() - before < 4.5)
-        yield from finish(run, ways, signal.SIGTERM)
+        check.holds(f'{ways}: killed after 3 s', 2.9 < time.perf_counter() - before < 4.5)
+        finish(check, run, ways, signal.SIGTERM)
     run = Run(['sh', '-c', f"trap '' HUP; exec '{tree.host}' '{tree.new_file('ignored')}'"], **tree.variables())
     run.pump(5, b'hello')
     os.kill(run.job, signal.SIGHUP)
     run.type(b'abc')
-    yield holds('a signal that the caller ignores', run.pump(5, b'<abc>'))
+    check.holds('a signal that the caller ignores', run.pump(5, b'<abc>'))
     run.type(QUIT)
-    yield from finish(run, 'a signal that the caller ignores', 0)
+    finish(check, run, 'a signal that the caller ignores', 0)
 
 
-def limits(tree):
+def limits(check, tree):
     """A limit of a file's size ends nothing."""
     run = Run(['sh', '-c', f"ulimit -f 0; exec '{tree.host}' '{tree.new_file('limited')}'"], **tree.variables())
     run.pump(5, b'hello')
     run.type(b'abc')
-    yield holds('limits: keys go on', run.pump(5, b'<abc>'))
+    check.holds('limits: keys go on', run.pump(5, b'<abc>'))
     run.type(SAVE)
-    yield holds('limits: a save fails', run.pump(5, b'failed 5'), run.output[-200:])  # SAVE_TOO_LARGE
+    check.holds('limits: a save fails', run.pump(5, b'failed 5'), run.output[-200:])  # SAVE_TOO_LARGE
     run.type(QUIT)
-    yield from finish(run, 'limits', 0)
+    finish(check, run, 'limits', 0)
 
 
-def missing_programs(tree):
+def missing_programs(check, tree):
     """Without the program, or where it cannot be started, nothing is edited."""
     program = f'{tree.top}/lib/bidi_edit/bidi_edit'
     os.chmod(program, 0o644)
     run = start(tree)
     run.pump(6)
     run.drain()
-    yield holds('no program: told', b'bidi_edit cannot be started: Permission denied' in run.output, run.output)
-    yield from finish(run, 'no program: cannot be started', 127 << 8)
+    check.holds('no program: told', b'bidi_edit cannot be started: Permission denied' in run.output, run.output)
+    finish(check, run, 'no program: cannot be started', 127 << 8)
     os.rename(program, f'{program}.away')
     run = start(tree)
-    yield from finish(run, 'no program: not there', 1 << 8)
+    finish(check, run, 'no program: not there', 1 << 8)
     os.rename(f'{program}.away', program)
     os.chmod(program, 0o755)
 
 
-ALL = [edits, sizes, resizes, waiting_sizes, idles, large_pastes, standard_files, erases, refusals, starts_that_stall, without_terminal, printing,
+CASES = [edits, sizes, resizes, waiting_sizes, idles, large_pastes, standard_files, erases, refusals, starts_that_stall, without_terminal, printing,
        deaf_programs, limits, missing_programs]

@@ -241,3 +241,18 @@ def try_once(tree, kind):
         wrong.append(run.output[-2000:].decode(errors='replace'))
     run.close()
     return wrong, took
+
+
+def case_of(kind, runs):
+    """The case of all runs of a kind."""
+    def case(check, tree):
+        wrong, times = [], []
+        for number in range(runs):
+            found, took = try_once(tree, kind)
+            times.append(took)
+            if found:
+                wrong.append(f'run {number}: {found}')
+        check.holds(f'ends, {kind}: {runs} runs, at most {max(times):.2f} s', not wrong, (len(wrong), wrong[:3]))
+
+    case.__name__ = kind
+    return case

@@ -1,7 +1,8 @@
 """Each system call of the host failed in turn, by strace: the terminal is restored, no process is left, and a session that does not
 go on says why."""
-import os, re, shutil, signal
+import os, re, signal
 from cases import QUIT, SAVE
+from checks import needs
 from ends import restored
 from terminals import Run
 
@@ -70,14 +71,12 @@ def fail_once(tree, call, number):
     return wrong
 
 
-def faults(tree):
-    """Only where it is asked for: it takes some minutes."""
-    if not shutil.which('strace'):
-        yield 'faults: skipped, since there is no strace', ''
-        return
+@needs('strace')
+def faults(check, tree):
+    """Each call of the host fails in turn. Only where it is asked for: it takes some minutes."""
     for call, count in sorted(calls(tree).items()):
         found = {number: wrong for number in range(1, count + 1) if (wrong := fail_once(tree, call, number))}
-        yield f'faults: {call}, {count} times', '; '.join(f'{number}: {wrong}' for number, wrong in found.items())
+        check.same(f'faults: {call}, {count} times', found, {})
 
 
-ALL = [faults]
+CASES = [faults]

@@ -2,6 +2,7 @@
 does: `const TYPED: u8 = b'b'` is FRAME_TYPED, the variants of `enum SaveCause` are in the order of enum save_cause, and the digits
 that give `Key::Notice` are the numbers of enum notice. Exit status 1: something differs or is not there."""
 import glob, os, re, sys
+from checks import Report, try_case
 
 HERE = os.path.dirname(os.path.abspath(__file__))
 NOTICE = re.compile(r"b'(\d)' => Some\(Key::Notice\(Notice::(\w+)\)\)")
@@ -24,26 +25,23 @@ def plain(name):
     return name.replace('_', '').lower()
 
 
-header = read(f'{HERE}/../../host/frames.h')
-sources = {path: read(path) for path in glob.glob(f'{CRATES}/*/src/**/*.rt', recursive=True)}
-wrong = []
+def names_of_frames(check, sources):
+    """The crates name letters, causes and notices as the host does. The scene is their sources, by paths."""
+    header = read(f'{HERE}/../../host/frames.h')
+    letters = dict(re.findall(r"FRAME_([A-Z]+) = '(.)'", header))
+    found = [(path, *pair) for path, text in sources.items() for pair in re.findall(r"const ([A-Z]+): u8 = b'(.)';", text) if pair[0] in letters]
+    for path, name, letter in found:
+        check.same(f'{name} in {path}', letter, letters[name])
+    check.same('letters that no crate has', [name for name in letters if name not in {name for _, name, _ in found}], [])
+    causes = [plain(name.removeprefix('SAVE_')) for name in enum(header, 'save_cause')]
+    for path, text in sources.items():
+        if body := re.search(r'pub enum SaveCause {(.*?)\n}', text, re.S):
+            check.same(f'causes in {path}', [plain(name) for name in re.findall(r'^\s*([A-Z]\w+),', body.group(1), re.M)], causes)
+    notices = [plain(name.removeprefix('NOTICE_')) for name in enum(header, 'notice')]
+    told = {plain(name): int(number) for text in sources.values() for number, name in NOTICE.findall(text)}
+    check.same('notices', told, {name: number for number, name in enumerate(notices) if number})
 
-letters = dict(re.findall(r"FRAME_([A-Z]+) = '(.)'", header))
-found = [(path, *pair) for path, text in sources.items() for pair in re.findall(r"const ([A-Z]+): u8 = b'(.)';", text) if pair[0] in letters]
-wrong += [f'{path}: {name} is {letter}' for path, name, letter in found if letters[name] != letter]
-wrong += [f'no crate has {name}' for name in letters if name not in {name for _, name, _ in found}]
 
-causes = [plain(name.removeprefix('SAVE_')) for name in enum(header, 'save_cause')]
-for path, text in sources.items():
-    if body := re.search(r'pub enum SaveCause {(.*?)\n}', text, re.S):
-        variants = [plain(name) for name in re.findall(r'^\s*([A-Z]\w+),', body.group(1), re.M)]
-        if variants != causes:
-            wrong.append(f'{path}: {variants}, and not {causes}')
-
-notices = [plain(name.removeprefix('NOTICE_')) for name in enum(header, 'notice')]
-told = {plain(name): int(number) for text in sources.values() for number, name in NOTICE.findall(text)}
-if told != {name: number for number, name in enumerate(notices) if number}:
-    wrong.append(f'{told}, and not {notices}')
-
-print('\n'.join(wrong) or f'ok: {len(letters)} letters, {len(causes)} causes, {len(told)} notices')
-sys.exit(1 if wrong else 0)
+report = Report()
+try_case(report, names_of_frames, {path: read(path) for path in glob.glob(f'{CRATES}/*/src/**/*.rt', recursive=True)})
+sys.exit(report.end())

@@ -1,14 +1,13 @@
-"""keeping.py HOST [NAME..]: checks what the host keeps, asks and tells, with typist.py in place of the program. Each case has a folder and
-a home of its own, and fails by an exception. Prints a line for each, and the totals. Exit status 1: a case failed."""
-import os, re, shutil, signal, subprocess, sys, tempfile
+"""keeping.py HOST [NAME..]: checks what the host keeps, asks and tells, with typist.py in place of the program. Names select the cases that
+begin so. Exit status 1: a case failed."""
+import os, shutil, signal, sys, tempfile
 HERE = os.path.dirname(os.path.abspath(__file__))
 sys.path.insert(0, HERE)
 import keeping_cases, keeping_ends, keeping_files
+from checks import Report, share, try_case
 from keeping_scene import Place
 from terminals import become_reaper
 
-# Processes that check side by side: more than there may be processors, since a case mostly waits.
-JOBS = 6
 CASES = {case.__name__: case for case in keeping_cases.CASES + keeping_ends.CASES + keeping_files.CASES}
 
 
@@ -27,57 +26,29 @@ def install(folder, host):
     return f'{folder}/bin/bidi-edit'
 
 
-def try_case(case, installed, top):
-    """What is wrong in a case; empty if nothing."""
-    for name in ('', '/home', '/tmp', '/files'):
-        os.mkdir(top + name, 0o700)
-    try:
-        case(Place(installed, top))
-    except Exception as fault:  # the next case goes on
-        # the last line of a case, and not of what it calls
-        where = fault.__traceback__
-        while where.tb_next and re.search('keeping_(cases|ends|files)', where.tb_next.tb_frame.f_code.co_filename):
-            where = where.tb_next
-        return f'line {where.tb_lineno}: {fault!r}'
-    return ''
-
-
 def worker(host, names):
-    """Tries these cases in a folder of its own, and prints a line for each: `ok NAME` or `FAILS NAME..`."""
+    """Tries these cases, each in a folder of its own."""
     become_reaper()
     for number in (signal.SIGPIPE, signal.SIGXFSZ, signal.SIGINT):  # python ignores or handles them until exec
         signal.signal(number, signal.SIG_DFL)
     # not in a folder for temporary files, whose sessions would be there
     folder = tempfile.mkdtemp(prefix='keeping.', dir='/var/lib' if os.geteuid() == 0 else os.path.expanduser('~'))
+    report = Report()
     try:
         installed = install(f'{folder}/tree', host)
         for name in names:
-            fault = try_case(CASES[name], installed, f'{folder}/{name}')
-            print(f'FAILS {name}, {fault}' if fault else f'ok {name}', flush=True)
+            try_case(report, CASES[name], Place(installed, f'{folder}/{name}'))
     finally:
         shutil.rmtree(folder, ignore_errors=True)
 
 
 def main():
     host, words = os.path.abspath(sys.argv[1]), sys.argv[2:]
-    if words[:1] == ['--worker']:  # as this program starts itself, below
+    if words[:1] == ['--worker']:  # as `share` starts it
         worker(host, words[1:])
-        return
+        return 0
     names = [name for name in CASES if not words or any(name.startswith(word) for word in words)]
-    jobs = min(JOBS, len(names))
-    started = [subprocess.Popen([sys.executable, '-B', os.path.abspath(__file__), host, '--worker', *names[job::jobs]], stdout=subprocess.PIPE, text=True)
-               for job in range(jobs)]
-    passed = failed = 0
-    for job in started:
-        for line in job.stdout:
-            print(line, end='', flush=True)
-            passed += line.startswith('ok ')
-            failed += line.startswith('FAILS ')
-        if job.wait() != 0:
-            print(f'FAILS a worker ended with status {job.returncode}')
-            failed += 1
-    print(f'{passed} passed, {failed} failed')
-    sys.exit(1 if failed or passed == 0 else 0)
+    return share(os.path.abspath(__file__), [host], names)
 
 
-main()
+sys.exit(main())

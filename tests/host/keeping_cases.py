@@ -1,91 +1,103 @@
 """Cases of keeping.py: words, refusals, questions, recovery, and what is listed and removed."""
 import os, re, shutil, signal, stat, subprocess, time
-from keeping_scene import CHOICE, QUIT, REST, SAVE
+from checks import Skipped, needs
+from keeping_scene import CHOICE, QUIT, REST, SAVE, recovers
 
 
-def told_words(place):
+def told_words(check, place):
     """Help, version, refusals of words."""
-    status, out, err = place.tells('--help')
-    assert status == 0 and out.startswith('usage: bidi-edit ') and not err
-    assert place.tells('--version') == (0, 'bidi-edit 0.4.0\ntoolchain some kit\nUnicode 15.0.0\n', ''), place.tells('--version')
-    status, out, err = place.tells()
-    assert status == 2 and err.startswith('bidi-edit: FILE is missing\nusage: ') and not out
+    found = status, out, err = place.tells('--help')
+    check.holds('--help', status == 0 and out.startswith('usage: bidi-edit ') and not err, found)
+    check.same('--version', place.tells('--version'), (0, 'bidi-edit 0.4.0\ntoolchain some kit\nUnicode 15.0.0\n', ''))
+    found = status, out, err = place.tells()
+    check.holds('no word', status == 2 and err.startswith('bidi-edit: FILE is missing\nusage: ') and not out, found)
     for words in (['--help'], ['--version'], ['--forget']):
         found = place.tells(*words, redirection='>/dev/full')
-        assert found == (1, '', 'bidi-edit: standard output cannot be written: no space\n'), found
+        check.same(f'{words} into a full disk', found, (1, '', 'bidi-edit: standard output cannot be written: no space\n'))
 
 
-def refusals(place):
+def refusals(check, place):
     """What is refused before a session: no terminal, paths that lead to no file, tables that are missing, a text that is not UTF-8."""
     no_terminal = 'bidi-edit: there is no terminal: start the editor in one (over ssh, use ssh -t)\n'
-    assert place.tells('a.txt') == (2, '', no_terminal), place.tells('a.txt')
-    assert 'the terminal is dumb' in place.tells('a.txt', TERM='dumb')[2]
+    check.same('no terminal', place.tells('a.txt'), (2, '', no_terminal))
+    found = place.tells('a.txt', TERM='dumb')
+    check.holds('a dumb terminal', 'the terminal is dumb' in found[2], found)
     place.put('plain', b'text\n')
-    assert place.tells('plain/in/a.txt')[2] == 'bidi-edit: the folder plain/in cannot exist, since its path leads through a file: name a file in a folder\n'
-    assert place.tells('none/a.txt') == (1, '', 'bidi-edit: the folder none does not exist: mkdir -p none creates it\n')
+    check.same('a path through a file', place.tells('plain/in/a.txt')[2],
+               'bidi-edit: the folder plain/in cannot exist, since its path leads through a file: name a file in a folder\n')
+    check.same('no folder', place.tells('none/a.txt'), (1, '', 'bidi-edit: the folder none does not exist: mkdir -p none creates it\n'))
     os.symlink('loop', place.path('loop'))
-    assert 'in a circle of links' in place.tells('loop')[2]
-    assert place.tells('a.txt', XDG_STATE_HOME='x')[2] == 'bidi-edit: XDG_STATE_HOME is ignored, since x is not an absolute path: ~/.local/state is used instead\n' + no_terminal
+    found = place.tells('loop')
+    check.holds('a circle', 'in a circle of links' in found[2], found)
+    check.same('an odd XDG_STATE_HOME', place.tells('a.txt', XDG_STATE_HOME='x')[2],
+               'bidi-edit: XDG_STATE_HOME is ignored, since x is not an absolute path: ~/.local/state is used instead\n' + no_terminal)
     told = 'bidi-edit: BIDI_EDIT_DATA names ., which lacks DerivedBidiClass.txt, BidiBrackets.txt or BidiMirroring.txt: correct or unset it\n'
-    assert place.tells('a.txt', BIDI_EDIT_DATA='.') == (1, '', told)
+    check.same('no tables', place.tells('a.txt', BIDI_EDIT_DATA='.'), (1, '', told))
     place.put('latin', b'ok\n\xe9\n')
-    started = place.start('latin').ends(1)
-    assert started.err().startswith('bidi-edit: latin is not UTF-8 (line 2): if it is') and 'kept' not in started.err(), started.err()
-    assert place.sessions() == []
+    err = place.start('latin').ends(1).err()
+    check.holds('not UTF-8', err.startswith('bidi-edit: latin is not UTF-8 (line 2): if it is') and 'kept' not in err, err)
+    check.same('sessions', place.sessions(), [])
 
 
-def a_session(place):
+def a_session(check, place):
     """What the program is told, what the session's folder has, and that nothing stays where nothing was typed."""
     place.put('a.txt', b'text\n')
     started = place.edit('a.txt')
     time.sleep(0.3)
     words = started.words()
-    assert words[-1] == 'a.txt' and '--journal' in words and '--text' in words and '--replay' not in words, words
-    assert len(place.sessions()) == 1 and place.part('text') == b'text\n' and place.part('path').decode() == place.path('a.txt')
-    assert place.part('begin') == b'24 80 auto -\n', place.part('begin')
-    assert stat.S_IMODE(os.stat(place.sessions()[0]).st_mode) == 0o700
+    check.holds('the program\'s words', words[-1] == 'a.txt' and '--journal' in words and '--text' in words and '--replay' not in words, words)
+    check.same('the number of sessions', len(place.sessions()), 1)
+    check.same('the text', place.part('text'), b'text\n')
+    check.same('the path', place.part('path').decode(), place.path('a.txt'))
+    check.same('the begin', place.part('begin'), b'24 80 auto -\n')
+    check.same('the folder\'s mode', oct(stat.S_IMODE(os.stat(place.sessions()[0]).st_mode)), oct(0o700))
     started.type(QUIT).ends(0)
-    assert place.sessions() == [] and started.err() == '' and started.out() == '', (started.out(), started.err())
+    check.same('sessions after the end', place.sessions(), [])
+    check.same('what is told', (started.out(), started.err()), ('', ''))
 
 
-def keys_are_kept(place):
+def keys_are_kept(check, place):
     """Keys that were not saved are told, listed, and stored elsewhere."""
     place.put('a.txt', b'text\n', 0o600)
     started = place.leave()
-    assert started.err() == 'bidi_edit: input ended before saving\nbidi-edit: unsaved text is kept: bidi-edit --recover a.txt restores it\n', started.err()
-    assert place.part('snapshot') == b'abctext\n' and place.part('journal') == b'abc'
-    status, out, err = place.tells('--recover')
-    assert status == 0 and not err and re.fullmatch(rf'\d{{4}}-\d\d-\d\d \d\d:\d\d  keys: 3  KB: \d+  {place.path("a.txt")}\n', out), (out, err)
-    found = place.tells('--recover', '--to', 'b.txt', 'a.txt')
-    assert found == (0, 'bidi-edit: the text of a.txt, with what was typed in the session (keys: 3), is now in b.txt\n', ''), found
-    assert place.text('b.txt') == b'abctext\n' and stat.S_IMODE(os.stat(place.path('b.txt')).st_mode) == 0o600
-    found = place.tells('--recover', '--to', 'b.txt', 'a.txt')
-    assert found == (1, '', 'bidi-edit: b.txt already exists: name a new file\n'), found
-    found = place.tells('--recover', '--to', 'none/b', 'a.txt')
-    assert found == (1, '', 'bidi-edit: none/b cannot be written: its folder is gone\n'), found
-    assert len(place.sessions()) == 1
+    check.same('what is told', started.err(),
+               'bidi_edit: input ended before saving\nbidi-edit: unsaved text is kept: bidi-edit --recover a.txt restores it\n')
+    check.same('the snapshot', place.part('snapshot'), b'abctext\n')
+    check.same('the journal', place.part('journal'), b'abc')
+    found = status, out, err = place.tells('--recover')
+    is_listed = re.fullmatch(rf'\d{{4}}-\d\d-\d\d \d\d:\d\d  keys: 3  KB: \d+  {place.path("a.txt")}\n', out)
+    check.holds('the list', status == 0 and not err and is_listed, found)
+    check.same('stored', place.tells('--recover', '--to', 'b.txt', 'a.txt'),
+               (0, 'bidi-edit: the text of a.txt, with what was typed in the session (keys: 3), is now in b.txt\n', ''))
+    check.same('the stored text', place.text('b.txt'), b'abctext\n')
+    check.same('its mode', oct(stat.S_IMODE(os.stat(place.path('b.txt')).st_mode)), oct(0o600))
+    check.same('stored again', place.tells('--recover', '--to', 'b.txt', 'a.txt'), (1, '', 'bidi-edit: b.txt already exists: name a new file\n'))
+    check.same('stored where no folder is', place.tells('--recover', '--to', 'none/b', 'a.txt'),
+               (1, '', 'bidi-edit: none/b cannot be written: its folder is gone\n'))
+    check.same('the number of sessions', len(place.sessions()), 1)
 
 
-def questions(place):
+def questions(check, place):
     """Answers by a letter or a word, in any case; any other is asked again, and the input's end refuses."""
     place.put('a.txt', b'text\n')
     place.leave()
     started = place.start('a.txt')
     for answer in ('y', '', 'x'):
         started.answers(CHOICE, answer)
-    started.answers(CHOICE, b'\x04').ends(2)
-    assert 'bidi-edit: a.txt has an unfinished session from ' in started.out() and '(keys typed: 3)' in started.out(), started.out()
-    started = place.start('a.txt').answers(CHOICE, 'L').sees(b'text <text|>').type(QUIT).ends(0)
-    assert len(place.sessions()) == 1
+    out = started.answers(CHOICE, b'\x04').ends(2).out()
+    check.holds('what is told', 'bidi-edit: a.txt has an unfinished session from ' in out and '(keys typed: 3)' in out, out)
+    place.start('a.txt').answers(CHOICE, 'L').sees(b'text <text|>').type(QUIT).ends(0)
+    check.same('the number of sessions after Later', len(place.sessions()), 1)
     started = place.start('a.txt').answers(CHOICE, ' R ').sees(b'text <abctext|> *').sees(b'notice 7')
-    assert '--replay' in started.words() and place.part('journal') == b'abc\x13\x1b[8;24;80t\x1b[>7~', place.part('journal')
+    check.holds('the words of a replay', '--replay' in started.words(), started.words())
+    check.same('the journal', place.part('journal'), b'abc\x13\x1b[8;24;80t\x1b[>7~')
     os.kill(started.run.job, signal.SIGHUP)
     started.ends(-signal.SIGHUP)
     place.start('a.txt').answers(CHOICE, 'delete').sees(b'text <text|>').type(QUIT).ends(0)
-    assert place.sessions() == []
+    check.same('sessions after Delete', place.sessions(), [])
 
 
-def deletion(place):
+def deletion(check, place):
     """Only a whole word deletes, or a second question; not what was typed ahead, and not the input's end."""
     place.put('a.txt', b'text\n')
     place.leave()
@@ -95,48 +107,51 @@ def deletion(place):
     place.start('a.txt').answers(CHOICE, b'delete\x04\x04').ends(2)
     place.start('a.txt').answers(CHOICE, 'd').answers(sure, b'\x04').ends(2)
     place.start('a.txt').answers(CHOICE, 'd').answers(sure, 'no').answers(CHOICE, b'\x04').ends(2)
-    assert len(place.sessions()) == 1
+    check.same('the number of sessions', len(place.sessions()), 1)
     # typed ahead, as the start still works
     started = place.start('a.txt', is_plain=True, is_slow=True)
     for answer in (b'd\n', b'delete\n', b'd\nyes\n'):
         started.type(answer)
     started.run.pump(5, CHOICE)
     started.run.rest(0.5)
-    assert started.run.output.count(CHOICE) == 1 and b'Delete it' not in started.run.output, started.run.output
+    output = started.run.output
+    check.holds('what was typed ahead', output.count(CHOICE) == 1 and b'Delete it' not in output, output)
     started.type(b'\x04')
-    assert started.run.pump(5)
+    check.holds('the end', started.run.pump(5), started.run.output)
     started.run.close()
-    assert len(place.sessions()) == 1
+    check.same('the number of sessions after what was typed ahead', len(place.sessions()), 1)
     place.start('a.txt').answers(CHOICE, 'd').answers(sure, 'yes').sees(b'text <text|>').type(QUIT).ends(0)
-    assert place.sessions() == []
+    check.same('sessions at last', place.sessions(), [])
 
 
-def dropped(place):
+def dropped(check, place):
     """Keys that the user dropped are not asked about, but can be recovered or removed."""
     started = place.edit('a.txt').type(b'abc').sees(b'*').type(QUIT).ends(0)
-    assert started.err() == 'bidi-edit: the dropped changes can be recovered: bidi-edit --recover a.txt\n', started.err()
+    check.same('what is told', started.err(), 'bidi-edit: the dropped changes can be recovered: bidi-edit --recover a.txt\n')
     place.edit('a.txt').type(QUIT).ends(0)
-    assert '(dropped)' in place.tells('--recover')[1]
+    found = place.tells('--recover')
+    check.holds('the list', '(dropped)' in found[1], found)
     place.start('--recover', 'a.txt').sees(b'text <abc>').type(QUIT).ends(0)
-    status, out, err = place.tells('--forget', 'a.txt')
-    assert status == 0 and re.fullmatch(r'bidi-edit: the session of \S+/a.txt from .* is deleted \(dropped\)\n', out), (out, err)
-    assert place.sessions() == []
-    assert place.tells('--forget') == (0, 'bidi-edit: there are no sessions to delete\n', '')
-    assert place.tells('--recover') == (0, 'bidi-edit: there are no sessions to recover\n', '')
-    assert place.tells('--forget', 'a b') == (0, "bidi-edit: there is no session of 'a b' to delete\n", '')
-    assert place.tells('--recover', '--to', 'o', 'a.txt') == (1, '', 'bidi-edit: there is no session of a.txt to recover\n')
+    found = status, out, _ = place.tells('--forget', 'a.txt')
+    check.holds('forgotten', status == 0 and re.fullmatch(r'bidi-edit: the session of \S+/a.txt from .* is deleted \(dropped\)\n', out), found)
+    check.same('sessions', place.sessions(), [])
+    check.same('nothing to forget', place.tells('--forget'), (0, 'bidi-edit: there are no sessions to delete\n', ''))
+    check.same('nothing to recover', place.tells('--recover'), (0, 'bidi-edit: there are no sessions to recover\n', ''))
+    check.same('nothing of FILE to forget', place.tells('--forget', 'a b'), (0, "bidi-edit: there is no session of 'a b' to delete\n", ''))
+    check.same('nothing of FILE to recover', place.tells('--recover', '--to', 'o', 'a.txt'),
+               (1, '', 'bidi-edit: there is no session of a.txt to recover\n'))
 
 
-def secrets(place):
+@needs('root')
+def secrets(check, place):
     """What was dropped of a FILE that root alone can read is not kept."""
-    if os.geteuid() != 0:
-        return
     place.put('a.txt', b'text\n', 0o600)
     started = place.edit('a.txt').type(b'abc').sees(b'*').type(QUIT).ends(0)
-    assert started.err() == 'bidi-edit: the dropped changes are not kept, since only root can read a.txt\n' and place.sessions() == [], started.err()
+    check.same('what is told', started.err(), 'bidi-edit: the dropped changes are not kept, since only root can read a.txt\n')
+    check.same('sessions', place.sessions(), [])
 
 
-def live(place):
+def live(check, place):
     """A second start is told of a session that goes on, and does not recover it."""
     place.put('a.txt', b'text\n')
     os.link(place.path('a.txt'), place.path('b.txt'))
@@ -145,45 +160,46 @@ def live(place):
     for name in ('a.txt', 'b.txt'):
         second = place.start(name).answers(question, 'maybe').answers(question, 'no').ends(2)
         told = f'bidi-edit: {name} is already open in another window of yours (process {first.run.job}). Each window may overwrite what the other saves.\n'
-        assert second.out() == told, (second.out(), told)
-    assert place.tells('--recover', '--to', 'x', 'a.txt') == (1, '', 'bidi-edit: the session of a.txt is open in another window\n')
+        check.same(f'what is told of {name}', second.out(), told)
+    check.same('a recovery', place.tells('--recover', '--to', 'x', 'a.txt'), (1, '', 'bidi-edit: the session of a.txt is open in another window\n'))
     place.start('a.txt').answers(question, 'y').sees(b'text <').type(QUIT).ends(0)
     first.type(QUIT).ends(0)
 
 
-def without_a_session(place):
+def without_a_session(check, place):
     """A start that keeps no session is seen by others all the same, and no file is made."""
     place.put('a.txt', b'text\n')
     first = place.edit('-n', 'a.txt')
-    second = place.start('a.txt').answers(b'Edit it anyway (yes, no)? ', 'no').ends(2)
-    assert f'a.txt is already open in another window of yours (process {first.run.job}). ' in second.out(), second.out()
-    assert not os.path.exists(f'{place.top}/home/.local') and first.err() == 'bidi-edit: unsaved text is not kept, since -n was given\n'
+    out = place.start('a.txt').answers(b'Edit it anyway (yes, no)? ', 'no').ends(2).out()
+    check.holds('what others are told', f'a.txt is already open in another window of yours (process {first.run.job}). ' in out, out)
+    check.holds('no folder is made', not os.path.exists(f'{place.top}/home/.local'))
+    check.same('what is told', first.err(), 'bidi-edit: unsaved text is not kept, since -n was given\n')
     first.type(b'abc').sees(b'*').type(SAVE).sees(b'saved')
-    second = place.start('-n', 'a.txt').answers(b'Edit it anyway (yes, no)? ', 'no').ends(2)
+    place.start('-n', 'a.txt').answers(b'Edit it anyway (yes, no)? ', 'no').ends(2)
     first.type(QUIT).ends(0)
     place.edit('a.txt').type(QUIT).ends(0)
 
 
-def two_at_once(place):
+def two_at_once(check, place):
     """Of two starts at the same time one at least is told of the other."""
     place.put('a.txt', b'text\n')
     for _ in range(5):
         both = [place.start('a.txt', is_plain=True) for _ in range(2)]
         for started in both:
-            assert started.run.pump_any(20, (b'Edit it anyway', b'text <')), started.run.output
+            check.holds('a start', started.run.pump_any(20, (b'Edit it anyway', b'text <')), started.run.output)
         told = [b'Edit it anyway' in started.run.output for started in both]
-        assert any(told), [started.run.output for started in both]
+        check.holds('one is told', any(told), [started.run.output for started in both])
         time.sleep(0.05)  # as in Started.answers
         for started, is_told in zip(both, told):
             started.type(b'no\n' if is_told else QUIT)
-            assert started.run.pump(15), started.run.output
+            check.holds('an end', started.run.pump(15), started.run.output)
             started.run.drain()
         # the last one has the pipes of the first
         for started in reversed(both):
             started.run.close()
 
 
-def cannot_be_replayed(place):
+def cannot_be_replayed(check, place):
     """A session that cannot be replayed is left, or its parts are kept: it is never offered to be dropped."""
     place.put('a.txt', b'text\n')
     place.leave()
@@ -191,47 +207,54 @@ def cannot_be_replayed(place):
     started = place.start('a.txt').answers(CHOICE, 'r')
     for answer in ('d', 'l', ''):
         started.answers(REST, answer)
-    started.answers(REST, 'open').sees(b'text <text|>').type(QUIT).ends(0)
-    assert 'could not be replayed' in started.out() and len(place.sessions()) == 1, started.out()
-    started = place.start('--recover', 'a.txt').answers(REST, 'keep').sees(b'text <text|>').type(QUIT).ends(0)
-    assert place.sessions() == [] and place.text('a.txt.session-journal') == b'abc' and 'a.txt.session-journal: the keys\n' in started.out()
-    assert place.text('a.txt.session-text') == b'text\n' and place.text('a.txt.session-snapshot') == b'abctext\n'
+    out = started.answers(REST, 'open').sees(b'text <text|>').type(QUIT).ends(0).out()
+    check.holds('what is told', 'could not be replayed' in out, out)
+    check.same('the number of sessions', len(place.sessions()), 1)
+    out = place.start('--recover', 'a.txt').answers(REST, 'keep').sees(b'text <text|>').type(QUIT).ends(0).out()
+    check.same('sessions after Keep', place.sessions(), [])
+    check.holds('what is told of the keys', 'a.txt.session-journal: the keys\n' in out, out)
+    for part, wanted in (('journal', b'abc'), ('text', b'text\n'), ('snapshot', b'abctext\n')):
+        check.same(f'the kept {part}', place.text(f'a.txt.session-{part}'), wanted)
     place.leave()
     place.start('a.txt', TYPIST='replay-refused').answers(CHOICE, 'r').answers(REST, 'open').sees(b'text <text|>').type(QUIT).ends(0)
-    assert len(place.sessions()) == 1
+    check.same('the number of sessions after a refused replay', len(place.sessions()), 1)
 
 
-def replay_that_fails(place):
+def replay_that_fails(check, place):
     """A replay that is killed deletes nothing, and offers nothing."""
     place.put('a.txt', b'text\n')
     place.leave()
     started = place.start('a.txt', TYPIST='replay-dies').answers(CHOICE, 'r').ends(1)
     told = f'bidi-edit: the session of a.txt in {place.sessions()[0]} could not be replayed, and is left as it is\n'
-    assert started.err() == told, started.err()
-    assert place.tells('--recover', '--to', 'o', 'a.txt', TYPIST='replay-dies') == (1, '', told) and not os.path.exists(place.path('o'))
-    assert place.part('journal') == b'abc'
+    check.same('what is told', started.err(), told)
+    check.same('a recovery elsewhere', place.tells('--recover', '--to', 'o', 'a.txt', TYPIST='replay-dies'), (1, '', told))
+    check.holds('nothing is stored', not os.path.exists(place.path('o')))
+    check.same('the journal', place.part('journal'), b'abc')
     # at the end the session stays, without a replay that dies or takes long
     for way in ('replay-dies', 'replay-hangs'):
         started = place.start('a.txt', TYPIST=way).answers(CHOICE, 'later').sees(b'text <').type(b'x').sees(b'*')
         os.kill(started.run.job, signal.SIGTERM)
         started.ends(-signal.SIGTERM, 5)
-        assert 'unsaved text is kept: ' in started.err(), started.err()
+        check.holds(f'{way}: what is told at the end', 'unsaved text is kept: ' in started.err(), started.err())
 
 
-def changed_beside(place):
+def changed_beside(check, place):
     """Where FILE has another's text, the session goes on beside it, and is found under FILE's name until that is saved."""
     place.put('a.txt', b'text\n')
     place.leave()
     place.put('a.txt', b'other\n')
     started = place.start('a.txt').answers(CHOICE, 'r').sees(b'text <abctext|> *').sees(b'notice 8')
-    assert 'has changed a.txt since; the session\'s text is recovered as a.txt.recovered\n' in started.out(), started.out()
+    told = 'has changed a.txt since; the session\'s text is recovered as a.txt.recovered\n'
+    check.holds('what is told', told in started.out(), started.out())
     started.type(b'd').sees(b'<abcdtext|>').kill()
     started = place.start('a.txt').answers(CHOICE, 'r').sees(b'<abcdtext|>').type(SAVE).sees(b'saved').type(QUIT).ends(0)
-    assert started.err() == 'bidi-edit: a.txt was changed on disk, so the recovered text is in a.txt.recovered\n', started.err()
-    assert place.text('a.txt') == b'other\n' and place.text('a.txt.recovered') == b'abcdtext\n' and place.sessions() == []
+    check.same('what is told at the end', started.err(), 'bidi-edit: a.txt was changed on disk, so the recovered text is in a.txt.recovered\n')
+    check.same('FILE', place.text('a.txt'), b'other\n')
+    check.same('the file beside', place.text('a.txt.recovered'), b'abcdtext\n')
+    check.same('sessions', place.sessions(), [])
 
 
-def changed_meanwhile(place):
+def changed_meanwhile(check, place):
     """FILE changes between the question and its answer."""
     place.put('a.txt', b'text\n')
     place.leave()
@@ -239,46 +262,51 @@ def changed_meanwhile(place):
     place.put('a.txt', b'other\n')
     time.sleep(0.1)
     started.type(b'recover\n').sees(b'text <abctext|>').type(SAVE).sees(b'saved').type(QUIT).ends(0)
-    assert place.text('a.txt') == b'other\n' and place.text('a.txt.recovered') == b'abctext\n'
+    check.same('FILE', place.text('a.txt'), b'other\n')
+    check.same('the file beside', place.text('a.txt.recovered'), b'abctext\n')
 
 
-def no_place_beside(place):
+def no_place_beside(check, place):
     """Where no file can be made beside FILE, the other way is told."""
     if os.geteuid() == 0:
         subprocess.run(['chattr', '-i', place.files])
         if subprocess.run(['chattr', '+i', place.files], stderr=subprocess.DEVNULL).returncode != 0:
-            return
+            raise Skipped('no folder can be made immutable')
         subprocess.run(['chattr', '-i', place.files])
     long = 'n' * 248
     place.put(long, b'text\n')
     place.leave(long)
     place.put(long, b'other\n')
     started = place.start(long).answers(CHOICE, 'r').ends(1)
-    assert started.err().endswith(f'bidi-edit: to store the text elsewhere: bidi-edit --recover --to OTHER {long}\n'), started.err()
-    assert place.part('journal') == b'abc' and not os.path.exists(f'{place.sessions()[0]}/beside')
+    told = f'bidi-edit: to store the text elsewhere: bidi-edit --recover --to OTHER {long}\n'
+    check.holds('what is told', started.err().endswith(told), started.err())
+    check.same('the journal', place.part('journal'), b'abc')
+    check.holds('the session names no file beside', not os.path.exists(f'{place.sessions()[0]}/beside'))
 
 
-def all_is_there(place):
+def all_is_there(check, place):
     """A FILE that has all of its session is just opened."""
     place.put('a.txt', b'text\n')
     place.leave()
     place.put('a.txt', b'abctext\n')
-    started = place.start('a.txt').answers(CHOICE, 'r').sees(b'text <abctext|> -').type(QUIT).ends(0)
-    assert started.out().endswith('bidi-edit: a.txt already contains everything that was typed in its last session\n') and place.sessions() == []
+    out = place.start('a.txt').answers(CHOICE, 'r').sees(b'text <abctext|> -').type(QUIT).ends(0).out()
+    check.holds('what is told', out.endswith('bidi-edit: a.txt already contains everything that was typed in its last session\n'), out)
+    check.same('sessions', place.sessions(), [])
 
 
-def another_version(place):
+def another_version(check, place):
     """What another version kept is not replayed unasked: its text is restored, or the user is asked."""
     place.put('a.txt', b'text\n')
     place.leave()
     place.put_part('versions', b'bidi-edit 0.0.0\n')
     before = place.sessions()
     started = place.start('a.txt').answers(CHOICE, 'r').sees(b'text <abctext|> *')
-    assert 'its text is recovered, but not its undo history' in started.out() and '--unsaved' in started.words(), started.out()
-    assert place.sessions() != before and len(place.sessions()) == 1
+    check.holds('what is told', 'its text is recovered, but not its undo history' in started.out(), started.out())
+    check.holds('the program\'s words', '--unsaved' in started.words(), started.words())
+    check.holds('another session', place.sessions() != before and len(place.sessions()) == 1, place.sessions())
     os.kill(started.run.job, signal.SIGHUP)
     started.ends(-signal.SIGHUP)
-    assert 'unsaved text is kept' in started.err()
+    check.holds('what is told at the end', 'unsaved text is kept' in started.err(), started.err())
     place.put_part('versions', b'bidi-edit 0.0.0\n')
     place.put_part('journal', b'x')
     os.unlink(f'{place.sessions()[0]}/snapshot')
@@ -287,53 +315,62 @@ def another_version(place):
     place.start('a.txt').answers(CHOICE, 'r').answers(sure, 'yes').sees(b'text <xabctext|>').kill()
 
 
-def elsewhere(place):
+def elsewhere(check, place):
     """A session on another machine is asked about."""
     place.put('a.txt', b'text\n')
     place.leave()
     place.put_part('process', b'1 elsewhere 11111111-1111\n')
-    started = place.start('a.txt').answers(b'Edit it anyway (yes, no)? ', 'no').ends(2)
-    assert started.out().startswith('bidi-edit: a.txt may be open in another window of yours (process 1 on elsewhere, which cannot be checked from here). '), started.out()
-    assert '(on elsewhere)' in place.tells('--recover')[1]
-    found = place.tells('--recover', '--to', 'o', 'a.txt')
-    assert found == (1, '', 'bidi-edit: the session of a.txt began on another machine: bidi-edit --recover a.txt asks whether it has ended\n'), found
-    started = place.start('--recover', 'a.txt').answers(b'Has it ended (yes, no)? ', 'yes').sees(b'text <abctext|>').type(SAVE).sees(b'saved').type(QUIT).ends(0)
-    assert place.text('a.txt') == b'abctext\n' and place.sessions() == []
+    out = place.start('a.txt').answers(b'Edit it anyway (yes, no)? ', 'no').ends(2).out()
+    told = 'bidi-edit: a.txt may be open in another window of yours (process 1 on elsewhere, which cannot be checked from here). '
+    check.holds('what is told', out.startswith(told), out)
+    found = place.tells('--recover')
+    check.holds('the list', '(on elsewhere)' in found[1], found)
+    check.same('stored', place.tells('--recover', '--to', 'o', 'a.txt'),
+               (1, '', 'bidi-edit: the session of a.txt began on another machine: bidi-edit --recover a.txt asks whether it has ended\n'))
+    started = place.start('--recover', 'a.txt').answers(b'Has it ended (yes, no)? ', 'yes').sees(b'text <abctext|>')
+    started.type(SAVE).sees(b'saved').type(QUIT).ends(0)
+    check.same('FILE', place.text('a.txt'), b'abctext\n')
+    check.same('sessions', place.sessions(), [])
 
 
-def lost_file(place):
+def lost_file(check, place):
     """FILE comes back with its permissions, and is never open to more people than it was."""
     for mode in (0o600, 0o755, 0o640):
         place.put('a.txt', b'text\n', mode)
         place.leave()
         os.unlink(place.path('a.txt'))
         place.start('a.txt').answers(CHOICE, 'r').sees(b'text <abctext|>').type(SAVE).sees(b'saved').type(QUIT).ends(0)
-        found = stat.S_IMODE(os.stat(place.path('a.txt')).st_mode)
-        assert found == mode and place.text('a.txt') == b'abctext\n' and place.sessions() == [], oct(found)
+        check.same('the mode', oct(stat.S_IMODE(os.stat(place.path('a.txt')).st_mode)), oct(mode))
+        check.same('FILE', place.text('a.txt'), b'abctext\n')
+        check.same('sessions', place.sessions(), [])
 
 
-def lost_folder(place):
+def lost_folder(check, place):
     """A session whose FILE's folder is gone is stored elsewhere, listed and removed."""
     os.mkdir(place.path('d'))
     place.put('d/a.txt', b'text\n')
     place.leave('d/a.txt')
     shutil.rmtree(place.path('d'))
-    found = place.tells('--recover', '--to', 'o', 'd/a.txt')
-    assert found[0] == 0 and place.text('o') == b'abctext\n', found
+    recovers(check, place, 'd/a.txt', b'abctext\n')
     started = place.start('--recover', 'd/a.txt').ends(1)
-    assert started.err() == 'bidi-edit: the folder d does not exist: mkdir -p d creates it\n' and len(place.sessions()) == 1, started.err()
-    assert place.tells('--forget', 'd/a.txt')[1].endswith(' is deleted\n') and place.sessions() == []
+    check.same('what is told', started.err(), 'bidi-edit: the folder d does not exist: mkdir -p d creates it\n')
+    check.same('the number of sessions', len(place.sessions()), 1)
+    found = place.tells('--forget', 'd/a.txt')
+    check.holds('forgotten', found[1].endswith(' is deleted\n'), found)
+    check.same('sessions', place.sessions(), [])
 
 
-def printing(place):
+def printing(check, place):
     """What --print hands to the printing program, and what it refuses."""
     place.put('a.txt', b'text\n')
     place.put('latin', b'a\n\xe9')
     status, out, _ = place.tells('--print', 'a.txt')
-    assert status == 0 and out.startswith(' <--cols> <80> <--direction> <auto> <--classes> ') and out.endswith(' <a.txt>\n'), out
-    assert place.tells('--print', 'none') == (1, '', 'bidi-edit: none does not exist\n')
-    assert place.tells('--print', '.') == (1, '', 'bidi-edit: . is a folder: name a file in it\n')
-    assert place.tells('--print', 'latin')[2].startswith('bidi-edit: latin is not UTF-8 (line 2): '), place.tells('--print', 'latin')
+    words = ' <--cols> <80> <--direction> <auto> <--classes> '
+    check.holds('the program\'s words', status == 0 and out.startswith(words) and out.endswith(' <a.txt>\n'), (status, out))
+    check.same('no file', place.tells('--print', 'none'), (1, '', 'bidi-edit: none does not exist\n'))
+    check.same('a folder', place.tells('--print', '.'), (1, '', 'bidi-edit: . is a folder: name a file in it\n'))
+    found = place.tells('--print', 'latin')
+    check.holds('not UTF-8', found[2].startswith('bidi-edit: latin is not UTF-8 (line 2): '), found)
 
 
 CASES = [told_words, refusals, a_session, keys_are_kept, questions, deletion, dropped, secrets, live, without_a_session, two_at_once,

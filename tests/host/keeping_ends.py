@@ -1,38 +1,41 @@
 """Cases of keeping.py: what is kept while the program runs, and what is told at the end."""
-import os, re, shutil, signal, stat, subprocess, time
-from keeping_scene import CHOICE, QUIT, SAVE
+import os, shutil, signal, time
+from keeping_scene import CHOICE, QUIT, SAVE, recovers
 
 
-def saved(place):
+def saved(check, place):
     """A save that succeeded leaves nothing, and its end is 0, also where something goes wrong later."""
     place.put('a.txt', b'text\n')
     started = place.edit('a.txt').type(b'abc').sees(b'*').type(SAVE).sees(b'saved').type(QUIT).ends(0)
-    assert place.text('a.txt') == b'abctext\n' and place.sessions() == [] and started.err() == '', started.err()
+    check.same('FILE', place.text('a.txt'), b'abctext\n')
+    check.same('sessions', place.sessions(), [])
+    check.same('what is told', started.err(), '')
     started = place.edit('a.txt', TYPIST='late').type(b'abc').sees(b'*').type(SAVE).sees(b'saved').type(QUIT).ends(0)
-    assert place.sessions() == [], started.err()
+    check.holds('no session after a late end', not place.sessions(), started.err())
     started = place.edit('a.txt', TYPIST='replay-hangs').type(b'abc').sees(b'*').type(QUIT).ends(0)
-    assert 'the dropped changes can be recovered' in started.err(), started.err()
+    check.holds('what is told of dropped changes', 'the dropped changes can be recovered' in started.err(), started.err())
 
 
-def killed(place):
+def killed(check, place):
     """A program that is killed leaves its session, and its signal is told."""
     place.put('a.txt', b'text\n')
     started = place.edit('a.txt').type(b'abc').sees(b'*')
     os.kill(started.run.child('bidi_edit'), signal.SIGKILL)
     started.ends(137)
     told = 'bidi-edit: unsaved text is kept: bidi-edit --recover a.txt restores it\nbidi-edit: the editor was ended by SIGKILL\n'
-    assert started.err() == told, started.err()
+    check.same('what is told', started.err(), told)
 
 
-def killed_host(place):
+def killed_host(check, place):
     """A host that is killed leaves its session too."""
     place.put('a.txt', b'text\n')
     place.edit('a.txt').type(b'abc').sees(b'*').kill()
     place.start('a.txt').answers(CHOICE, 'r').sees(b'text <abctext|>').type(SAVE).sees(b'saved').type(QUIT).ends(0)
-    assert place.text('a.txt') == b'abctext\n' and place.sessions() == []
+    check.same('FILE', place.text('a.txt'), b'abctext\n')
+    check.same('sessions', place.sessions(), [])
 
 
-def no_keys(place):
+def no_keys(check, place):
     """A journal without a key is not asked about."""
     place.put('a.txt', b'text\n')
     started = place.edit('a.txt')
@@ -40,24 +43,26 @@ def no_keys(place):
     place.put_part('journal', b'\x1b[>9~\x1b[8;30;90t')
     started.kill()
     place.edit('a.txt').type(QUIT).ends(0)
-    assert place.sessions() == []
+    check.same('sessions', place.sessions(), [])
 
 
-def other_names(place):
+def other_names(check, place):
     """Saves of a FILE with two names go into it, with a backup in the session, or without a session by --force."""
     place.put('a.txt', b'text\n')
     os.link(place.path('a.txt'), place.path('b.txt'))
     started = place.edit('a.txt').sees(b'notice 9').type(b'x').sees(b'*').type(SAVE).sees(b'saved').type(QUIT).ends(0)
-    assert started.err() == 'bidi-edit: a.txt has other names (hard links): saves overwrite it in place\n', started.err()
-    assert place.text('b.txt') == b'xtext\n' and place.sessions() == []
+    check.same('what is told', started.err(), 'bidi-edit: a.txt has other names (hard links): saves overwrite it in place\n')
+    check.same('the other name', place.text('b.txt'), b'xtext\n')
+    check.same('sessions', place.sessions(), [])
     started = place.start('-n', 'a.txt').ends(1)
     told = 'bidi-edit: a.txt has other names (hard links); since unsaved text is not kept (-n was given), a save would separate it from them'
-    assert started.err() == f'{told}; --force opens it anyway\n', started.err()
+    check.same('what is told without a session', started.err(), f'{told}; --force opens it anyway\n')
     started = place.edit('-n', '--force', 'a.txt').type(b'y').sees(b'*').type(SAVE).sees(b'saved').type(QUIT).ends(0)
-    assert place.text('b.txt') == b'yxtext\n' and 'saves overwrite it in place' in started.err(), started.err()
+    check.same('the other name after --force', place.text('b.txt'), b'yxtext\n')
+    check.holds('what is told after --force', 'saves overwrite it in place' in started.err(), started.err())
 
 
-def line_ends(place):
+def line_ends(check, place):
     """Other line ends than those that FILE had are told."""
     place.put('a.txt', b'text\r\n')
     place.edit('a.txt').type(b'x').sees(b'*').type(SAVE).sees(b'saved').type(QUIT).ends(0)
@@ -66,14 +71,14 @@ def line_ends(place):
         file.write(b'more\n')
     started.type(QUIT).ends(0)
     told = "bidi-edit: a.txt now has mixed line ends, CR LF and LF: perl -pi -e 's/\\r?\\n/\\r\\n/' a.txt makes all of them CR LF\n"
-    assert started.err() == told, started.err()
+    check.same('what is told', started.err(), told)
     place.put('a.txt', b'text\r\n')
     os.link(place.path('a.txt'), place.path('b.txt'))
     started = place.edit('-n', '--force', 'a.txt').type(b'x').sees(b'*').type(SAVE).sees(b'saved')
     with open(place.path('a.txt'), 'ab') as file:
         file.write(b'more\n')
     started.type(QUIT).ends(0)
-    assert started.err().endswith(told), started.err()
+    check.holds('what is told without a session', started.err().endswith(told), started.err())
 
 
 def remove_at_once(folder, place):
@@ -82,7 +87,7 @@ def remove_at_once(folder, place):
     os.rename(folder, f'{place.top}/gone{place.count}')
 
 
-def folder_gone(place):
+def folder_gone(check, place):
     """The session's folder is removed meanwhile: told by title, bell and notice, and at the end."""
     place.put('a.txt', b'text\n')
     for keys, status, line in ((b'', -signal.SIGTERM, 'any unsaved text is lost, since the session\'s folder {} is gone'),
@@ -93,17 +98,17 @@ def folder_gone(place):
         remove_at_once(folder, place)
         # host and program write to the terminal in any order
         for told in b'(unsaved text is not kept now: save it)', b'notice 2':
-            assert started.run.pump(15, told), (told, started.run.output)
+            check.holds(f'{told} is shown', started.run.pump(15, told), started.run.output)
         started.type(keys) if keys else os.kill(started.run.job, signal.SIGTERM)
         started.ends(status)
-        assert line.format(folder) in started.err(), started.err()
+        check.holds('what is told', line.format(folder) in started.err(), started.err())
     started = place.edit('a.txt').type(b'abc').sees(b'*').type(SAVE).sees(b'saved')
     remove_at_once(place.sessions()[0], place)
     started.type(QUIT).ends(0)
-    assert started.err() == '', started.err()
+    check.same('what is told of a saved text', started.err(), '')
 
 
-def parts_gone(place):
+def parts_gone(check, place):
     """Parts of the session that are removed meanwhile are made again, so that what is told of them is true."""
     place.put('a.txt', b'text\n')
     for names in (['journal'], ['text', 'path'], ['text', 'path', 'journal', 'lock']):
@@ -113,32 +118,31 @@ def parts_gone(place):
             os.unlink(f'{place.sessions()[0]}/{name}')
         time.sleep(2.5)
         started.type(b'd').sees(b'<abcdtext')
-        second = place.start('a.txt').answers(b'Edit it anyway (yes, no)? ', 'no').ends(2)
+        place.start('a.txt').answers(b'Edit it anyway (yes, no)? ', 'no').ends(2)
         os.kill(started.run.job, signal.SIGTERM)
         started.ends(-signal.SIGTERM)
         if 'unsaved text is kept' in started.err():
-            found = place.tells('--recover', '--to', 'o', 'a.txt')
-            assert found[0] == 0 and place.text('o') == b'abcdtext\n', (names, found, started.err())
-            os.unlink(place.path('o'))
+            recovers(check, place, 'a.txt', b'abcdtext\n')
             place.tells('--forget')
         else:
-            assert 'is not kept' in started.err(), (names, started.err())
-        assert place.sessions() == []
+            check.holds(f'{names}: what is told', 'is not kept' in started.err(), started.err())
+        check.same(f'{names}: sessions', place.sessions(), [])
 
 
-def journal_lost(place):
+def journal_lost(check, place):
     """A journal that could not be written is told at the end, and by a recovery."""
     place.put('a.txt', b'text\n')
     started = place.edit('a.txt', TYPIST='lost').type(b'abc').sees(b'*')
     started.sees(b'notice 5')
     os.kill(started.run.job, signal.SIGTERM)
     started.ends(-signal.SIGTERM)
-    assert 'unsaved text is kept up to where its journal could not be written: ' in started.err(), started.err()
+    check.holds('what is told', 'unsaved text is kept up to where its journal could not be written: ' in started.err(), started.err())
     found = place.tells('--recover', '--to', 'o', 'a.txt')
-    assert found[0] == 0 and found[1].startswith('bidi-edit: the session ends after key 3: what was typed later could not be recorded\n'), found
+    told = 'bidi-edit: the session ends after key 3: what was typed later could not be recorded\n'
+    check.holds('what a recovery tells', found[0] == 0 and found[1].startswith(told), found)
 
 
-def folder_renamed(place):
+def folder_renamed(check, place):
     """FILE's folder is renamed meanwhile: the end tells where the session is, and the command that restores it."""
     for is_there in (True, False):
         os.mkdir(place.path('d'))
@@ -150,15 +154,14 @@ def folder_renamed(place):
         os.kill(started.run.job, signal.SIGTERM)
         started.ends(-signal.SIGTERM)
         told = f'unsaved text is kept in {place.sessions()[0]}: bidi-edit --recover {place.path("e/a.txt")} restores it\n'
-        assert told in started.err(), started.err()
-        found = place.tells('--recover', '--to', 'o', 'e/a.txt')
-        assert found[0] == 0 and place.text('o') == b'abc' + (b'text\n' if is_there else b''), found
-        os.unlink(place.path('o'))
-        assert place.tells('--forget', 'e/a.txt')[1].endswith('is deleted\n')
+        check.holds('what is told', told in started.err(), started.err())
+        recovers(check, place, 'e/a.txt', b'abc' + (b'text\n' if is_there else b''))
+        found = place.tells('--forget', 'e/a.txt')
+        check.holds('forgotten', found[1].endswith('is deleted\n'), found)
         shutil.rmtree(place.path('e'))
 
 
-def working_folder_gone(place):
+def working_folder_gone(check, place):
     """The working folder is removed meanwhile."""
     os.mkdir(place.path('d'))
     usual, place.files = place.files, place.path('d')
@@ -169,33 +172,34 @@ def working_folder_gone(place):
     started.ends(-signal.SIGTERM)
     place.files = usual
     told = f'unsaved text is kept in {place.sessions()[0]}: bidi-edit --recover {usual}/d/a.txt restores it\n'
-    assert told in started.err(), started.err()
-    found = place.tells('--recover', '--to', 'o', f'{usual}/d/a.txt')
-    assert found[0] == 0 and place.text('o') == b'abc', found
+    check.holds('what is told', told in started.err(), started.err())
+    recovers(check, place, f'{usual}/d/a.txt', b'abc')
 
 
-def no_folder(place):
+def no_folder(check, place):
     """No session can be made: told before the screen changes, with a bell, and at the end."""
     place.put('a.txt', b'text\n')
     open(f'{place.top}/state', 'w').close()
     started = place.edit('a.txt', XDG_STATE_HOME=f'{place.top}/state')
-    assert started.err() == f'bidi-edit: unsaved text is not kept, since nothing can be written in {place.top}/state/bidi_edit\n\a', started.err()
+    told = f'bidi-edit: unsaved text is not kept, since nothing can be written in {place.top}/state/bidi_edit\n\a'
+    check.same('what is told', started.err(), told)
     started.sees(b'notice 2').type(b'abc').sees(b'*')
     os.kill(started.run.job, signal.SIGTERM)
     started.ends(-signal.SIGTERM)
-    assert 'bidi-edit: any unsaved text is lost, since nothing can be written in ' in started.err(), started.err()
+    check.holds('what is told at the end', 'bidi-edit: any unsaved text is lost, since nothing can be written in ' in started.err(), started.err())
 
 
-def long_folder(place):
+def long_folder(check, place):
     """A folder for temporary files or sessions with a name that no system takes is told."""
     place.put('a.txt', b'text\n')
     started = place.edit('a.txt', TMPDIR='/' + 'x' * 70000).type(QUIT).ends(0)
-    assert started.err() == 'bidi-edit: TMPDIR is ignored, since its 70001 bytes are too many for a path\n', started.err()
+    check.same('what is told of TMPDIR', started.err(), 'bidi-edit: TMPDIR is ignored, since its 70001 bytes are too many for a path\n')
     started = place.edit('a.txt', XDG_STATE_HOME='/' + 'x' * 70000).type(QUIT).ends(0)
-    assert started.err().startswith('bidi-edit: unsaved text is not kept, since ') and len(started.err()) < 300, started.err()[:400]
+    err = started.err()
+    check.holds('what is told of XDG_STATE_HOME', err.startswith('bidi-edit: unsaved text is not kept, since ') and len(err) < 300, err)
 
 
-def pipe_in_its_place(place):
+def pipe_in_its_place(check, place):
     """A pipe that takes FILE's place is not opened at the end."""
     place.put('a.txt', b'text\n')
     started = place.edit('a.txt').type(b'abc').sees(b'*')
@@ -203,7 +207,7 @@ def pipe_in_its_place(place):
     os.mkfifo(place.path('a.txt'))
     os.kill(started.run.job, signal.SIGTERM)
     started.ends(-signal.SIGTERM, 4)
-    assert 'unsaved text is kept' in started.err(), started.err()
+    check.holds('what is told', 'unsaved text is kept' in started.err(), started.err())
 
 
 CASES = [saved, killed, killed_host, no_keys, other_names, line_ends, folder_gone, parts_gone, journal_lost, folder_renamed,

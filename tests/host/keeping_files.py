@@ -1,11 +1,12 @@
 """Cases of keeping.py: kinds of files, other names of FILE, full disks, and what is removed."""
 import glob, os, re, signal, subprocess, time
-from keeping_scene import CHOICE, QUIT, SAVE
+from checks import Skipped, needs
+from keeping_scene import CHOICE, QUIT, SAVE, recovers
 
 NOBODY = ['setpriv', '--reuid', '65534', '--regid', '65534', '--clear-groups']
 
 
-def forgets(place):
+def forgets(check, place):
     """All sessions that ended are removed, of one FILE or of all, and told; a live one stays."""
     for name in ('a.txt', 'b.txt', 'c.txt'):
         place.put(name, b'text\n')
@@ -13,60 +14,61 @@ def forgets(place):
     place.edit('b.txt').type(b'abc').sees(b'*').type(QUIT).ends(0)
     live = place.edit('c.txt').type(b'abc').sees(b'*')
     time.sleep(0.3)
-    assert place.tells('--forget', 'c.txt') == (0, 'bidi-edit: there is no session of c.txt to delete\n', '')
-    status, out, err = place.tells('--forget')
+    check.same('a live one', place.tells('--forget', 'c.txt'), (0, 'bidi-edit: there is no session of c.txt to delete\n', ''))
+    found = status, out, err = place.tells('--forget')
     told = ''.join(sorted(out.splitlines(True)))
     wanted = (rf'bidi-edit: the session of {place.path("a.txt")} from \S+ \S+ is deleted\n'
               rf'bidi-edit: the session of {place.path("b.txt")} from \S+ \S+ is deleted \(dropped\)\n')
-    assert status == 0 and not err and re.fullmatch(wanted, told), (out, err)
-    assert len(place.sessions()) == 1
+    check.holds('all', status == 0 and not err and re.fullmatch(wanted, told), found)
+    check.same('the number of sessions', len(place.sessions()), 1)
     live.type(QUIT).ends(0)
 
 
-def foreign_names(place):
+def foreign_names(check, place):
     """Names that are not UTF-8 are refused with what helps."""
     folder = os.path.join(os.fsencode(place.files), b'f\xe9')
     os.mkdir(folder)
     usual, place.files = place.files, os.fsdecode(folder)
-    assert place.tells('a.txt')[::2] == (1, 'bidi-edit: a.txt is in a folder whose name is not UTF-8: rename the folder with mv\n'), place.tells('a.txt')
+    check.same('a folder', place.tells('a.txt')[::2], (1, 'bidi-edit: a.txt is in a folder whose name is not UTF-8: rename the folder with mv\n'))
     place.files = usual
-    assert place.tells(os.fsdecode(b'a\xe9'))[::2] == (1, "bidi-edit: $'a\\351' has a name that is not UTF-8: rename it with mv\n")
+    told = "bidi-edit: $'a\\351' has a name that is not UTF-8: rename it with mv\n"
+    check.same('a file', place.tells(os.fsdecode(b'a\xe9'))[::2], (1, told))
     os.symlink(b'a\xe9', place.path('link'))
-    assert 'is a link to a name that is not UTF-8' in place.tells('link')[2]
+    found = place.tells('link')
+    check.holds('a link', 'is a link to a name that is not UTF-8' in found[2], found)
     place.put('b', b'text\n')
     place.leave('b')
     status, out, _ = place.tells('--recover', '--to', 'b\x1b[2J', 'b')
-    assert status == 0 and '\x1b' not in out, out
+    check.holds('an escape in a name', status == 0 and '\x1b' not in out, (status, out))
 
 
-def closed_files(place):
+@needs('root')
+def closed_files(check, place):
     """A FILE that cannot be read is refused, and --force opens an empty text as the refusal says."""
-    if os.geteuid() != 0:
-        return
     place.put('a.txt', b'text\n', 0o200)
     for path in (place.top, f'{place.top}/home', place.files, place.path('a.txt'), f'{place.top}/tmp'):
         os.chown(path, 65534, 65534)
     os.chmod(os.path.dirname(place.top), 0o755)
     place.before = NOBODY
     told = 'bidi-edit: a.txt cannot be read: if it is yours, chmod u+r makes it readable; --force opens an empty text in its place\n'
-    assert place.tells('a.txt')[::2] == (1, told), place.tells('a.txt')
-    found = place.tells('--force', 'a.txt')
-    assert found[0] == 2 and found[2].startswith('bidi-edit: there is no terminal') and found[2].count('\n') == 1, found
-    assert place.tells('--print', 'a.txt')[::2] == (1, 'bidi-edit: a.txt cannot be read: if it is yours, chmod u+r makes it readable\n')
+    check.same('a refusal', place.tells('a.txt')[::2], (1, told))
+    found = status, _, err = place.tells('--force', 'a.txt')
+    check.holds('--force', status == 2 and err.startswith('bidi-edit: there is no terminal') and err.count('\n') == 1, found)
+    told = 'bidi-edit: a.txt cannot be read: if it is yours, chmod u+r makes it readable\n'
+    check.same('--print', place.tells('--print', 'a.txt')[::2], (1, told))
     started = place.edit('--force', 'a.txt')
-    assert started.err() == 'bidi-edit: a.txt cannot be read: the text starts empty, and a save overwrites the file\n', started.err()
+    check.same('what is told after --force', started.err(), 'bidi-edit: a.txt cannot be read: the text starts empty, and a save overwrites the file\n')
     words = started.words()
-    assert words[words.index('--text') + 1] == '/dev/null', words
+    check.same('the program\'s text', words[words.index('--text') + 1], '/dev/null')
     started.type(b'abc').sees(b'text <abc> *')
     os.kill(started.run.job, signal.SIGHUP)
-    assert started.run.pump(8), started.run.output
+    check.holds('the end', started.run.pump(8), started.run.output)
     started.run.drain()
     started.run.close()
-    found = place.tells('--recover', '--to', 'b.txt', 'a.txt')
-    assert found[0] == 0 and place.text('b.txt') == b'abc', found
+    recovers(check, place, 'a.txt', b'abc')
 
 
-def renamed(place):
+def renamed(check, place):
     """A second start of a FILE that was renamed is told of the first."""
     place.put('a.txt', b'text\n')
     os.symlink('a.txt', place.path('c.txt'))
@@ -76,11 +78,11 @@ def renamed(place):
         if name == 'd.txt':
             os.rename(place.path('a.txt'), place.path('d.txt'))
         second = place.start(name).answers(b'Edit it anyway (yes, no)? ', 'no').ends(2)
-        assert f'{name} is already open in another window of yours' in second.out(), second.out()
+        check.holds('what is told', f'{name} is already open in another window of yours' in second.out(), second.out())
     first.type(QUIT).ends(0)
 
 
-def torn(place):
+def torn(check, place):
     """A FILE that a killed save left torn is repaired, by its other name too, where the first is gone."""
     for is_gone in (False, True):
         place.put('a.txt', b'text\n')
@@ -94,14 +96,15 @@ def torn(place):
         if is_gone:
             os.unlink(place.path('a.txt'))
         started = place.start('b.txt').answers(CHOICE, 'r').sees(b'text <abcdtext|>').type(QUIT).ends(0)
-        assert started.err().startswith('bidi-edit: a save of b.txt was interrupted; its whole text has been restored\n'), started.err()
-        assert place.text('b.txt') == b'abcdtext\n'
+        told = 'bidi-edit: a save of b.txt was interrupted; its whole text has been restored\n'
+        check.holds('what is told', started.err().startswith(told), started.err())
+        check.same('FILE', place.text('b.txt'), b'abcdtext\n')
         place.tells('--forget')
         for name in glob.glob(place.path('*')):
             os.unlink(name)
 
 
-def start_on_full_disk(place, disk, filler):
+def start_on_full_disk(check, place, disk, filler):
     """Fills the disk with the file `filler`, and starts the host with its sessions there: it tells that it keeps none."""
     try:
         while True:
@@ -109,85 +112,85 @@ def start_on_full_disk(place, disk, filler):
     except OSError:
         pass
     started = place.edit('a.txt', XDG_STATE_HOME=disk)
-    assert started.err() == f'bidi-edit: unsaved text is not kept, since there is no space in {disk}/bidi_edit\n\a', started.err()
+    told = f'bidi-edit: unsaved text is not kept, since there is no space in {disk}/bidi_edit\n\a'
+    check.same('what is told on a full disk', started.err(), told)
     return started.sees(b'notice 1')
 
 
-def make_room(started, filler):
+def make_room(check, started, filler):
     """Empties the file that fills the disk: a session is kept again."""
     time.sleep(1.5)
     filler.truncate(0)
     filler.seek(0)
     # the cause stays the disk's
-    assert started.run.pump(15, b'notice 6') and b'notice 5' not in started.run.output, started.run.output
+    check.holds('the notices', started.run.pump(15, b'notice 6') and b'notice 5' not in started.run.output, started.run.output)
 
 
-def full_disk(place):
+@needs('root', 'mount')
+def full_disk(check, place):
     """No room for a session, then room, and then none for its journal."""
     disk = f'{place.top}/disk'
     os.mkdir(disk)
-    if os.geteuid() != 0 or subprocess.run(['mount', '-t', 'tmpfs', '-o', 'size=256k', 'none', disk], stderr=subprocess.DEVNULL).returncode != 0:
-        return
+    if subprocess.run(['mount', '-t', 'tmpfs', '-o', 'size=256k', 'none', disk], stderr=subprocess.DEVNULL).returncode != 0:
+        raise Skipped('no small disk can be mounted')
     try:
         place.put('a.txt', b'text\n')
         filler = open(f'{disk}/filler', 'wb', buffering=0)
         # no key has the program try its journal again
-        started = start_on_full_disk(place, disk, filler)
-        make_room(started, filler)
+        started = start_on_full_disk(check, place, disk, filler)
+        make_room(check, started, filler)
         started.type(QUIT).ends(0)
-        started = start_on_full_disk(place, disk, filler).type(b'abc').sees(b'*')
-        make_room(started, filler)
+        started = start_on_full_disk(check, place, disk, filler).type(b'abc').sees(b'*')
+        make_room(check, started, filler)
         os.kill(started.run.job, signal.SIGTERM)
         started.ends(-signal.SIGTERM)
-        assert 'unsaved text is kept: ' in started.err(), started.err()
-        found = place.tells('--recover', '--to', 'o', 'a.txt', XDG_STATE_HOME=disk)
-        assert found[0] == 0 and place.text('o') == b'abctext\n', found
+        check.holds('what is told', 'unsaved text is kept: ' in started.err(), started.err())
+        recovers(check, place, 'a.txt', b'abctext\n', XDG_STATE_HOME=disk)
         filler.close()
     finally:
         subprocess.run(['umount', disk])
 
 
-def large(place):
+def large(check, place):
     """A text that is copied behind the first picture is recovered; one that changes meanwhile is told."""
     text = b'0123456789abcde\n' * 200000
     place.put('a.txt', text)
     started = place.edit('a.txt').type(b'x').sees(b'*')
     time.sleep(1)
     started.kill()
-    found = place.tells('--recover', '--to', 'o', 'a.txt')
-    assert found[0] == 0 and place.text('o') == b'x' + text, found
+    recovers(check, place, 'a.txt', b'x' + text)
 
 
-def read_only_disk(place):
+@needs('root', 'mount')
+def read_only_disk(check, place):
     """A session on a disk that is read-only is neither deleted nor recovered, which is told, and its text is stored elsewhere."""
     place.put('a.txt', b'text\n')
     place.leave()
     disk = os.path.dirname(place.sessions()[0])
-    if os.geteuid() != 0 or subprocess.run(['mount', '--bind', disk, disk], stderr=subprocess.DEVNULL).returncode != 0:
-        return
+    if subprocess.run(['mount', '--bind', disk, disk], stderr=subprocess.DEVNULL).returncode != 0:
+        raise Skipped('nothing can be mounted')
     try:
         subprocess.run(['mount', '-o', 'remount,ro,bind', disk], check=True)
         started = place.start('a.txt').answers(CHOICE, 'delete').answers(CHOICE, 'recover').ends(1)
         cannot = f'bidi-edit: the session of a.txt in {place.sessions()[0]} cannot be deleted: read-only disk\n'
         other = f'bidi-edit: nothing can be written in {disk}: read-only disk. To store the text elsewhere: bidi-edit --recover --to OTHER a.txt\n'
-        assert started.err() == cannot + other, started.err()
-        status, out, err = place.tells('--forget')
-        assert status == 1 and err.endswith(' cannot be deleted: read-only disk\n') and not out, (out, err)
-        found = place.tells('--recover', '--to', 'o', 'a.txt')
-        assert found[0] == 0 and place.text('o') == b'abctext\n', found
+        check.same('what is told', started.err(), cannot + other)
+        found = status, out, err = place.tells('--forget')
+        check.holds('forgotten', status == 1 and err.endswith(' cannot be deleted: read-only disk\n') and not out, found)
+        recovers(check, place, 'a.txt', b'abctext\n')
     finally:
         subprocess.run(['umount', disk])
 
 
-def watched_files(place):
+def watched_files(check, place):
     """The watcher holds the session alone, so that nobody waits for it to close FILE or a pipe."""
     place.put('a.txt', b'text\n')
     started = place.edit('a.txt')
     folder = f'/proc/{started.run.child("bidi-watcher")}/fd'
     files = {os.readlink(f'{folder}/{number}') for number in os.listdir(folder)}
     session = place.sessions()[0]
-    assert {session, f'{session}/lock'} <= files, files
-    assert all(name.startswith(('/dev/', 'pipe:')) for name in files - {session, f'{session}/lock'}), files
+    check.holds('the session', {session, f'{session}/lock'} <= files, files)
+    check.holds('nothing else', all(name.startswith(('/dev/', 'pipe:')) for name in files - {session, f'{session}/lock'}), files)
     started.type(QUIT).ends(0)
 
 

@@ -1,5 +1,6 @@
 """The scene of the cases of keeping.py: a folder and a home for each, starts of the host in terminals, and what is typed and asked."""
 import glob, os, signal, subprocess, time
+from checks import Fault
 from terminals import Run
 
 QUIT, SAVE = b'\x11', b'\x13'
@@ -26,8 +27,8 @@ class Started:
 
     def sees(self, text, seconds=15):
         """Waits for a text in the terminal, and forgets all before it."""
-        is_there = self.run.pump(seconds, text)
-        assert is_there, (text, self.run.output[-500:], self.out(), self.err())
+        if not self.run.pump(seconds, text):
+            raise Fault('not seen', text, self.run.output[-500:], self.out(), self.err())
         self.run.output = self.run.output.partition(text)[2]
         return self
 
@@ -45,12 +46,14 @@ class Started:
 
     def ends(self, status, seconds=15):
         """Waits for the end, and compares the status: an exit status, or less than 0 a signal's number."""
-        assert self.run.pump(seconds), ('goes on', self.run.output[-300:])
+        if not self.run.pump(seconds):
+            raise Fault('goes on', self.run.output[-300:])
         self.run.drain()
         found = -os.WTERMSIG(self.run.status) if os.WIFSIGNALED(self.run.status) else os.WEXITSTATUS(self.run.status)
-        assert found == status, (found, self.out(), self.err(), self.run.output[-300:])
-        left = self.run.left(3)
-        assert left == {}, left
+        if found != status:
+            raise Fault(f'status {found}, and not {status}', self.out(), self.err(), self.run.output[-300:])
+        if left := self.run.left(3):
+            raise Fault('processes are left', left)
         self.run.close()
         return self
 
@@ -69,6 +72,8 @@ class Place:
 
     def __init__(self, host, top):
         self.host, self.top, self.files, self.count, self.before = host, top, f'{top}/files', 0, []
+        for name in ('', '/home', '/tmp', '/files'):
+            os.mkdir(top + name, 0o700)
 
     def variables(self, more=None):
         """The environment of a start, with these variables."""
@@ -122,3 +127,12 @@ class Place:
         started = self.edit(name).type(keys).sees(b'*')
         os.kill(started.run.job, signal.SIGHUP)
         return started.ends(-signal.SIGHUP)
+
+
+def recovers(check, place, name, text, **variables):
+    """Looks whether the session of FILE has this text, by storing it elsewhere."""
+    found = place.tells('--recover', '--to', 'o', name, **variables)
+    check.holds(f'the text of {name} is stored', found[0] == 0, found)
+    if found[0] == 0:
+        check.same(f'the stored text of {name}', place.text('o'), text)
+        os.unlink(place.path('o'))

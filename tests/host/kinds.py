@@ -1,6 +1,6 @@
 """Kinds of terminals: titles, reordering, notes, and the terminal around tmux."""
 import os, pty, select, termios
-from cases import QUIT, holds, same
+from cases import QUIT
 from terminals import Run
 from tree import write
 
@@ -23,7 +23,7 @@ def see(tree, home=None, **variables):
     return run.output if ok else b'(it did not end well)' + run.output
 
 
-def titles(tree):
+def titles(check, tree):
     """The title is shown where the terminal gives its own back: it is asked to keep that (22) and to give it back (23)."""
     for variables, is_shown in (
             ({'TERM': 'xterm'}, False), ({'TERM': 'xterm', 'XTERM_VERSION': 'XTerm(379)'}, True), ({'TERM': 'xterm-256color', 'VTE_VERSION': '7000'}, True),
@@ -32,54 +32,54 @@ def titles(tree):
             ({'TERM': 'alacritty', 'STY': '1.pts'}, False), ({'TERM': 'xterm-256color', 'TERM_PROGRAM': 'terminology'}, True),
             ({'TERM': 'linux'}, False), ({'TERM': 'rxvt-unicode'}, False), ({'TERM': 'st-256color'}, False), ({'TERM': 'konsole'}, False)):
         output = see(tree, **variables)
-        yield same(f'titles: {variables}', (TITLE in output, b'\x1b[22;0t' in output, b'\x1b[23;0t' in output), (is_shown,) * 3)
+        check.same(f'titles: {variables}', (TITLE in output, b'\x1b[22;0t' in output, b'\x1b[23;0t' in output), (is_shown,) * 3)
 
 
-def reordering(tree):
+def reordering(check, tree):
     """Terminals with a sequence of their own."""
     home = tree.file('konsole')
     os.makedirs(f'{home}/.local/share/konsole')
     konsole = {'TERM': 'xterm-256color', 'KONSOLE_VERSION': '221203'}
     output = see(tree, home, **konsole)
-    yield same('konsole: off and on', (output.count(KONSOLE + b'false\x07'), output.count(KONSOLE + b'true\x07')), (1, 1))
+    check.same('konsole: off and on', (output.count(KONSOLE + b'false\x07'), output.count(KONSOLE + b'true\x07')), (1, 1))
     output = see(tree, home, **konsole, VTE_VERSION='7000')
-    yield holds('konsole: not known beside another', KONSOLE not in output, output)
+    check.holds('konsole: not known beside another', KONSOLE not in output, output)
     output = see(tree, home, **konsole, SSH_CONNECTION='a b')
-    yield holds('konsole: not turned on over ssh', KONSOLE + b'true' not in output and KONSOLE + b'false' in output, output)
+    check.holds('konsole: not turned on over ssh', KONSOLE + b'true' not in output and KONSOLE + b'false' in output, output)
     write(f'{home}/.local/share/konsole/own.profile', '[Terminal Features]\nBidiRenderingEnabled=false\n', 0o644)
     output = see(tree, home, **konsole)
-    yield holds('konsole: left off by a profile', KONSOLE + b'true' not in output and KONSOLE + b'false' in output, output)
+    check.holds('konsole: left off by a profile', KONSOLE + b'true' not in output and KONSOLE + b'false' in output, output)
     home = tree.file('mlterm')
     os.makedirs(f'{home}/.mlterm')
     mlterm = {'TERM': 'mlterm', 'MLTERM': '3.9.2'}
     output = see(tree, home, **mlterm)
-    yield same('mlterm: off and on', (output.count(MLTERM + b'false\x07'), output.count(MLTERM + b'true\x07')), (1, 1))
+    check.same('mlterm: off and on', (output.count(MLTERM + b'false\x07'), output.count(MLTERM + b'true\x07')), (1, 1))
     write(f'{home}/.mlterm/main', '# own\n use_ctl = false\n', 0o644)
-    yield holds('mlterm: not told where its file does', MLTERM not in see(tree, home, **mlterm))
+    check.holds('mlterm: not told where its file does', MLTERM not in see(tree, home, **mlterm))
     output = see(tree, TERM='xterm', XTERM_VERSION='XTerm(379)')
-    yield holds('xterm: no such sequence', KONSOLE not in output and MLTERM not in output)
+    check.holds('xterm: no such sequence', KONSOLE not in output and MLTERM not in output)
 
 
-def notes(tree):
+def notes(check, tree):
     """The setting of a terminal that reverses words is told, unless it is set."""
     kitty = b"bidi-edit: kitty shows right-to-left words reversed: the line 'force_ltr yes' in its kitty.conf prevents that\r\n"
     qterminal = b"bidi-edit: qterminal shows right-to-left words reversed: the line 'enabledBidiSupport=false' in its qterminal.ini prevents that\r\n"
     home = tree.file('noted')
     os.makedirs(f'{home}/.config/kitty')
-    yield holds('kitty: told', see(tree, home, TERM='xterm-kitty').startswith(kitty))
-    yield holds('kitty: not over ssh', kitty not in see(tree, home, TERM='xterm-kitty', SSH_CONNECTION='a b'))
-    yield holds('kitty: known by its window', kitty in see(tree, home, TERM='xterm-256color', KITTY_WINDOW_ID='1'))
+    check.holds('kitty: told', see(tree, home, TERM='xterm-kitty').startswith(kitty))
+    check.holds('kitty: not over ssh', kitty not in see(tree, home, TERM='xterm-kitty', SSH_CONNECTION='a b'))
+    check.holds('kitty: known by its window', kitty in see(tree, home, TERM='xterm-256color', KITTY_WINDOW_ID='1'))
     write(f'{home}/.config/kitty/other.conf', '# own\n  force_ltr yes  \n', 0o644)
     os.mkfifo(f'{home}/.config/kitty/pipe.conf')
-    yield holds('kitty: not told where it is set', kitty not in see(tree, home, TERM='xterm-kitty'))
-    yield holds('kitty: another folder', kitty in see(tree, home, TERM='xterm-kitty', KITTY_CONFIG_DIRECTORY='/none'))
-    yield holds('qterminal: told', qterminal in see(tree, home, TERM='xterm-256color', TERM_PROGRAM='qterminal'))
+    check.holds('kitty: not told where it is set', kitty not in see(tree, home, TERM='xterm-kitty'))
+    check.holds('kitty: another folder', kitty in see(tree, home, TERM='xterm-kitty', KITTY_CONFIG_DIRECTORY='/none'))
+    check.holds('qterminal: told', qterminal in see(tree, home, TERM='xterm-256color', TERM_PROGRAM='qterminal'))
     os.makedirs(f'{home}/.config/qterminal.org')
     write(f'{home}/.config/qterminal.org/qterminal.ini', '[General]\nenabledBidiSupport=false\n', 0o644)
-    yield holds('qterminal: not told where it is set', qterminal not in see(tree, home, TERM='xterm-256color', TERM_PROGRAM='qterminal'))
+    check.holds('qterminal: not told where it is set', qterminal not in see(tree, home, TERM='xterm-256color', TERM_PROGRAM='qterminal'))
 
 
-def in_tmux(tree):
+def in_tmux(check, tree):
     """The terminal around tmux, by a command in place of tmux, which answers with the name of a terminal (`slave`) and its kind."""
     master, slave = pty.openpty()
     termios.tcsetwinsize(slave, (3, 80))
@@ -100,22 +100,22 @@ def in_tmux(tree):
     name = os.ttyname(slave)
     output, told = outside(f"echo '{name} VTE(0.70.2)'")
     # VTE keeps this mode by row, so the host goes to each, and the cursor back to where it was
-    yield same('tmux in VTE: each row', told, b''.join(
+    check.same('tmux in VTE: each row', told, b''.join(
         b'\x1b[8%c\x1b7' % letter + b''.join(b'\x1b[%d;1H\x1b[8%c' % (row, letter) for row in (1, 2, 3)) + b'\x1b8' for letter in b'lh'))
-    yield holds('tmux in VTE: the title', TITLE in output, output)
+    check.holds('tmux in VTE: the title', TITLE in output, output)
     output, told = outside(f"echo '{name} Konsole 22.12.3'")
-    yield same('tmux in konsole', told, b'\x1b[8l' + KONSOLE + b'false\x07\x1b[8h' + KONSOLE + b'true\x07')
-    yield holds('tmux in konsole: tmux gets no such sequence', KONSOLE not in output, output)
+    check.same('tmux in konsole', told, b'\x1b[8l' + KONSOLE + b'false\x07\x1b[8h' + KONSOLE + b'true\x07')
+    check.holds('tmux in konsole: tmux gets no such sequence', KONSOLE not in output, output)
     output, told = outside(f"echo '{name} XTerm(379)'")
-    yield same('tmux in xterm', told, b'\x1b[8l\x1b[8h')
+    check.same('tmux in xterm', told, b'\x1b[8l\x1b[8h')
     output, told = outside('echo')
-    yield holds('tmux in control mode', told == b'' and b'hello' in output, (output, told))
+    check.holds('tmux in control mode', told == b'' and b'hello' in output, (output, told))
     output, told = outside('sleep 60')
-    yield holds('a tmux that does not answer', told == b'' and b'hello' in output, (output, told))
+    check.holds('a tmux that does not answer', told == b'' and b'hello' in output, (output, told))
     output, told = outside(f"echo '{tree.file('none')} VTE(0.70.2)'")
-    yield holds('a terminal around that is not there', told == b'' and b'hello' in output, (output, told))
+    check.holds('a terminal around that is not there', told == b'' and b'hello' in output, (output, told))
     os.close(master)
     os.close(slave)
 
 
-ALL = [titles, reordering, notes, in_tmux]
+CASES = [titles, reordering, notes, in_tmux]

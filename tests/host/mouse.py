@@ -1,7 +1,7 @@
 """Reports of the mouse: asked for at the start and after a stop, taken back however the editor ends, and left alone where they are not
 wanted or would be keys; and the stop itself (SIGTSTP), in which the terminal is as before."""
 import os, signal, time
-from cases import QUIT, finish, frames, holds, same, start
+from cases import QUIT, finish, frames, start
 from ends import LIMIT, TAIL, restored, state
 from kinds import see
 from terminals import Run
@@ -29,7 +29,7 @@ def wait_until(run, is_so):
     return is_so()
 
 
-def mouse_ends(tree):
+def mouse_ends(check, tree):
     """Reports begin behind the marks of pastes and before the first painting, and end however the editor does."""
     def kill_program(run):
         os.kill(run.child('bidi_edit'), signal.SIGKILL)
@@ -42,29 +42,29 @@ def mouse_ends(tree):
             ('the host killed', lambda run: os.kill(run.job, signal.SIGKILL), signal.SIGKILL),
             ('the job killed', lambda run: os.killpg(run.job, signal.SIGKILL), signal.SIGKILL)):
         run = start(tree)
-        yield holds(f'mouse, {name}: painted', run.pump(5, b'hello'), run.output)
-        yield holds(f'mouse, {name}: asked for', PASTES + ON in run.output.partition(b'hello')[0], run.output)
+        check.holds(f'mouse, {name}: painted', run.pump(5, b'hello'), run.output)
+        check.holds(f'mouse, {name}: asked for', PASTES + ON in run.output.partition(b'hello')[0], run.output)
         act(run)
         run.pump(5, TAIL)
         run.rest(0.1)
-        yield same(f'mouse, {name}: taken back', reports(run.output), ['on', 'off'])
-        yield from finish(run, f'mouse, {name}', status)
+        check.same(f'mouse, {name}: taken back', reports(run.output), ['on', 'off'])
+        finish(check, run, f'mouse, {name}', status)
 
 
-def unwanted_mouse(tree):
+def unwanted_mouse(check, tree):
     """Nothing is asked for, and nothing taken back, where the command line says so."""
     for name, act, status in (('Quit', lambda run: run.type(QUIT), 0), ('KILL', lambda run: os.kill(run.job, signal.SIGKILL), signal.SIGKILL)):
         run = start(tree, words=['--no-mouse'])
-        yield holds(f'no mouse, {name}: painted', run.pump(5, b'hello'), run.output)
+        check.holds(f'no mouse, {name}: painted', run.pump(5, b'hello'), run.output)
         act(run)
         run.pump(5, TAIL)
         run.rest(0.1)
-        yield same(f'no mouse, {name}: no reports', reports(run.output), [])
-        yield holds(f'no mouse, {name}: pastes are marked all the same', PASTES in run.output, run.output)
-        yield from finish(run, f'no mouse, {name}', status)
+        check.same(f'no mouse, {name}: no reports', reports(run.output), [])
+        check.holds(f'no mouse, {name}: pastes are marked all the same', PASTES in run.output, run.output)
+        finish(check, run, f'no mouse, {name}', status)
 
 
-def mouse_kinds(tree):
+def mouse_kinds(check, tree):
     """Both modes or neither, by what is known of the terminal."""
     for variables, told in (
             ({'TERM': 'xterm-256color', 'XTERM_VERSION': 'XTerm(379)'}, ['on', 'off']), ({'TERM': 'xterm', 'XTERM_VERSION': 'XTerm(277)'}, ['on', 'off']),
@@ -74,7 +74,7 @@ def mouse_kinds(tree):
             ({'TERM': 'tmux-256color'}, ['on', 'off']), ({'TERM': 'rxvt-unicode-256color'}, ['on', 'off']),
             ({'TERM': 'linux'}, []), ({'TERM': 'linux-16color'}, []), ({'TERM': 'rxvt'}, []), ({'TERM': 'rxvt-16color'}, []),
             ({'TERM': 'screen-256color', 'TMUX': '/no/such/socket,1,0'}, ['on', 'off']), ({'TERM': 'screen'}, []), ({'TERM': 'screen.xterm-256color'}, []), ({'TERM': 'xterm-256color', 'STY': '1.pts'}, [])):
-        yield same(f'mouse: {variables}', reports(see(tree, **variables)), told)
+        check.same(f'mouse: {variables}', reports(see(tree, **variables)), told)
 
 
 def words_of(run):
@@ -84,7 +84,7 @@ def words_of(run):
         return file.read().split(b'\0')
 
 
-def clipboard(tree):
+def clipboard(check, tree):
     """The program is told to copy to the system's clipboard, unless the command line says otherwise or a long copy harms the
     terminal."""
     for words, variables, is_told in (
@@ -96,15 +96,15 @@ def clipboard(tree):
             ([], {'TERM': 'xterm-256color', 'XTERM_VERSION': '', 'TERM_PROGRAM': 'terminology'}, False)):
         run = start(tree, words=words, **variables)
         found = words_of(run)
-        yield same(f'clipboard: {words} {variables}', found.count(b'--clipboard'), int(is_told))
-        yield holds(f'clipboard: {words} {variables}: the last word is FILE', found[-2] == run.file.encode() and b'--erase' in found, found)
+        check.same(f'clipboard: {words} {variables}', found.count(b'--clipboard'), int(is_told))
+        check.holds(f'clipboard: {words} {variables}: the last word is FILE', found[-2] == run.file.encode() and b'--erase' in found, found)
         run.type(QUIT)
         run.pump(5)
-        yield same(f'clipboard: {words} {variables}: status', run.status, 0)
+        check.same(f'clipboard: {words} {variables}: status', run.status, 0)
         run.close()
 
 
-def mouse_after_stops(tree):
+def mouse_after_stops(check, tree):
     """After a SIGSTOP, which leaves the terminal as it was, reports are asked for again."""
     run = start(tree)
     run.pump(5, b'hello')
@@ -113,11 +113,11 @@ def mouse_after_stops(tree):
     at = len(run.output)
     os.killpg(run.job, signal.SIGCONT)
     wait_until(run, lambda: b'hello' in run.output[at:])
-    yield same('a stop: asked for again', reports(run.output), ['on', 'on'])
-    yield holds('a stop: before it is painted', PASTES + ON in run.output[at:].partition(b'hello')[0], run.output[at:])
+    check.same('a stop: asked for again', reports(run.output), ['on', 'on'])
+    check.holds('a stop: before it is painted', PASTES + ON in run.output[at:].partition(b'hello')[0], run.output[at:])
     run.type(QUIT)
-    yield from finish(run, 'a stop', 0)
-    yield same('a stop: taken back', reports(run.output), ['on', 'on', 'off'])
+    finish(check, run, 'a stop', 0)
+    check.same('a stop: taken back', reports(run.output), ['on', 'on', 'off'])
 
 
 def suspend(run, group=False):
@@ -138,41 +138,41 @@ def take_up(run):
     return run.output[at:]
 
 
-def suspended(tree):
+def suspended(check, tree):
     """SIGTSTP gives the terminal back before the stop, also in the midst of output, and takes it again after it."""
     for name, ways, group in (('the host', 'notes', False), ('the job', 'notes', True), ('in output', 'notes,chatty', True)):
         run = start(tree, ways)
         run.pump(5, b'hello')
         for turn in range(3):
             run.type(b'abc' * 20)
-            yield holds(f'suspended, {name}, {turn}: stopped, and the terminal as before', suspend(run, group), run.output[-300:])
+            check.holds(f'suspended, {name}, {turn}: stopped, and the terminal as before', suspend(run, group), run.output[-300:])
             taken = take_up(run)
-            yield holds(f'suspended, {name}, {turn}: all is set again', taken.startswith(b'\x1b7') and b'\x1b[?1049h' in taken and PASTES + ON in taken and b'\x1b]2;' in taken, taken)
-            yield holds(f'suspended, {name}, {turn}: raw, and not restored', not run.is_restored() and TAIL not in taken, taken)
-        yield same(f'suspended, {name}: reports', reports(run.output), ['on', 'off'] * 3 + ['on'])
-        yield holds(f'suspended, {name}: no key is lost', run.pump(5, b'> 180 '), run.output[-100:])
+            check.holds(f'suspended, {name}, {turn}: all is set again', taken.startswith(b'\x1b7') and b'\x1b[?1049h' in taken and PASTES + ON in taken and b'\x1b]2;' in taken, taken)
+            check.holds(f'suspended, {name}, {turn}: raw, and not restored', not run.is_restored() and TAIL not in taken, taken)
+        check.same(f'suspended, {name}: reports', reports(run.output), ['on', 'off'] * 3 + ['on'])
+        check.holds(f'suspended, {name}: no key is lost', run.pump(5, b'> 180 '), run.output[-100:])
         run.type(QUIT)
-        yield from finish(run, f'suspended, {name}', 0)
-        yield same(f'suspended, {name}: the size is told after each', [body for letter, body in frames(run) if letter == 'z'], [b'\0\x18\0\x50'] * 3)
+        finish(check, run, f'suspended, {name}', 0)
+        check.same(f'suspended, {name}: the size is told after each', [body for letter, body in frames(run) if letter == 'z'], [b'\0\x18\0\x50'] * 3)
 
 
-def suspended_ends(tree):
+def suspended_ends(check, tree):
     """A host that is told to end, or is killed, in a stop leaves the terminal to others."""
     for name, number, status in (('TERM', signal.SIGTERM, signal.SIGTERM), ('KILL', signal.SIGKILL, signal.SIGKILL)):
         run = start(tree)
         run.pump(5, b'hello')
         run.type(b'abc')
         run.pump(5, b'<abc>')
-        yield holds(f'suspended, then {name}: stopped', suspend(run), run.output[-300:])
+        check.holds(f'suspended, then {name}: stopped', suspend(run), run.output[-300:])
         at = len(run.output)
         os.kill(run.job, number)
         os.killpg(run.job, signal.SIGCONT)
         run.pump(LIMIT)
-        yield holds(f'suspended, then {name}: no mode is set or taken back', b'\x1b' not in run.output[at:].replace(b'\x1b[H\x1b[2J', b''), run.output[at:])
-        yield from finish(run, f'suspended, then {name}', status)
+        check.holds(f'suspended, then {name}: no mode is set or taken back', b'\x1b' not in run.output[at:].replace(b'\x1b[H\x1b[2J', b''), run.output[at:])
+        finish(check, run, f'suspended, then {name}', status)
 
 
-def suspended_pastes(tree):
+def suspended_pastes(check, tree):
     """A stop waits for the end of a marked paste, for two seconds at most."""
     run = start(tree, 'notes')
     run.pump(5, b'hello')
@@ -180,30 +180,30 @@ def suspended_pastes(tree):
     run.rest(0.1)
     os.kill(run.job, signal.SIGTSTP)
     run.rest(0.5)
-    yield holds('a stop in a paste: not yet', state(run.job) != 'T')
+    check.holds('a stop in a paste: not yet', state(run.job) != 'T')
     run.type(b'two\x1b[201~')
-    yield holds('a stop in a paste: behind its end', wait_until(run, lambda: state(run.job) == 'T') and run.is_restored())
+    check.holds('a stop in a paste: behind its end', wait_until(run, lambda: state(run.job) == 'T') and run.is_restored())
     take_up(run)
     run.type(b'\x1b[200~three')
     run.rest(0.1)
     os.kill(run.job, signal.SIGTSTP)
-    yield holds('a stop in a paste without an end', wait_until(run, lambda: state(run.job) == 'T') and run.is_restored())
+    check.holds('a stop in a paste without an end', wait_until(run, lambda: state(run.job) == 'T') and run.is_restored())
     take_up(run)
     run.type(QUIT)
-    yield from finish(run, 'a stop in a paste', 0)
-    yield same('a stop in a paste: all of it came', b''.join(body for letter, body in frames(run) if letter == 'b'),
+    finish(check, run, 'a stop in a paste', 0)
+    check.same('a stop in a paste: all of it came', b''.join(body for letter, body in frames(run) if letter == 'b'),
                b'\x1b[200~onetwo\x1b[201~\x1b[200~three' + QUIT)
 
 
-def ignored_stops(tree):
+def ignored_stops(check, tree):
     """A stop that the caller ignores is ignored."""
     run = Run(['sh', '-c', f"trap '' TSTP; exec '{tree.host}' '{tree.new_file('ignored')}'"], **tree.variables())
     run.pump(5, b'hello')
     os.kill(run.job, signal.SIGTSTP)
     run.type(b'abc')
-    yield holds('a stop that the caller ignores', run.pump(5, b'<abc>') and state(run.job) != 'T', run.output)
+    check.holds('a stop that the caller ignores', run.pump(5, b'<abc>') and state(run.job) != 'T', run.output)
     run.type(QUIT)
-    yield from finish(run, 'a stop that the caller ignores', 0)
+    finish(check, run, 'a stop that the caller ignores', 0)
 
 
-ALL = [mouse_ends, unwanted_mouse, mouse_kinds, clipboard, mouse_after_stops, suspended, suspended_ends, suspended_pastes, ignored_stops]
+CASES = [mouse_ends, unwanted_mouse, mouse_kinds, clipboard, mouse_after_stops, suspended, suspended_ends, suspended_pastes, ignored_stops]

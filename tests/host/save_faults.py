@@ -3,8 +3,7 @@
 
 DRIVER is save_driver, built from save_driver.c, which plays the program's side of a save. With --old it is the program bidi_edit, which
 saves by itself, and DATA is the folder of Unicode's tables: most checks fail there. Some checks need root, strace, setfacl or mount,
-and are left out without. CHECKS in the environment names the ones to be run. Prints a line for each failed check, and their number. Exit
-status 1: one failed.
+and are left out without. CHECKS in the environment names the ones to be run. Exit status 1: one failed.
 """
 import os
 import shutil
@@ -12,150 +11,157 @@ import subprocess
 import sys
 
 import save_paths
-from save_scene import OTHER, Check, failed, has, is_old, mode_of, open_file, passed, read, set_list, skipped, slow, top, wait_until_late, write
+from checks import Report, needs, try_case
+from save_scene import OTHER, Place, is_old, mode_of, open_file, read, set_list, slow, top, wait_until_late, write
 
 
 # ---- FILE is exchanged
 
-def link_in_place(check):
+def link_in_place(check, place):
     """FILE becomes a link to another's file: no save follows it."""
-    write(check.note, "old\n")
-    secret = write(f"{check.folder}/secret", "secret\n", 0o600)
-    editor = open_file(check.note)
-    os.remove(check.note)
-    os.symlink("secret", check.note)
+    write(place.note, "old\n")
+    secret = write(f"{place.folder}/secret", "secret\n", 0o600)
+    editor = open_file(place.note)
+    os.remove(place.note)
+    os.symlink("secret", place.note)
     check.same("the first save", editor.save("new\n"), "file changed on disk")
     check.same("the second save", editor.save("new\n"), "saved")
     check.same("the other file", read(secret), "secret\n")
-    check.same("whether FILE is a link", os.path.islink(check.note), False)
-    check.same("FILE", read(check.note), "new\n")
+    check.same("whether FILE is a link", os.path.islink(place.note), False)
+    check.same("FILE", read(place.note), "new\n")
     editor.end()
 
 
-def link_behind_a_link(check):
+def link_behind_a_link(check, place):
     """FILE was opened by a link, and what that led to becomes a link."""
-    os.mkdir(f"{check.folder}/in")
-    real = write(f"{check.folder}/in/real", "old\n")
-    secret = write(f"{check.folder}/secret", "secret\n", 0o600)
-    os.symlink("in/real", check.note)
-    editor = open_file(check.note)
+    os.mkdir(f"{place.folder}/in")
+    real = write(f"{place.folder}/in/real", "old\n")
+    secret = write(f"{place.folder}/secret", "secret\n", 0o600)
+    os.symlink("in/real", place.note)
+    editor = open_file(place.note)
     os.remove(real)
     os.symlink("../secret", real)
     editor.save("new\n")
     editor.save("new\n")
     check.same("the other file", read(secret), "secret\n")
-    check.same("FILE's link", os.readlink(check.note), "in/real")
+    check.same("FILE's link", os.readlink(place.note), "in/real")
     check.same("FILE", read(real), "new\n")
     editor.end()
 
 
-def link_led_elsewhere(check):
+def link_led_elsewhere(check, place):
     """FILE was opened by a link, which leads to another's file by now."""
-    write(f"{check.folder}/real", "old\n")
-    secret = write(f"{check.folder}/secret", "secret\n", 0o600)
-    os.symlink("real", check.note)
-    editor = open_file(check.note)
-    os.remove(check.note)
-    os.symlink("secret", check.note)
+    write(f"{place.folder}/real", "old\n")
+    secret = write(f"{place.folder}/secret", "secret\n", 0o600)
+    os.symlink("real", place.note)
+    editor = open_file(place.note)
+    os.remove(place.note)
+    os.symlink("secret", place.note)
     check.same("the first save", editor.save("new\n"), "file changed on disk")
     check.same("the second save", editor.save("new\n"), "saved")
     check.same("the other file", read(secret), "secret\n")
-    check.same("the first file", read(f"{check.folder}/real"), "new\n")
+    check.same("the first file", read(f"{place.folder}/real"), "new\n")
     editor.end()
 
 
-def both_save(check):
+@needs("strace")
+def both_save(check, place):
     """Two editors save at the same time, the exchange of one is late: exactly one has saved."""
-    write(check.note, "old\n")
+    write(place.note, "old\n")
     late = "rename" if is_old else "renameat2"
-    first, second = open_file(check.note, under=slow(late, 3)), open_file(check.note)
+    first, second = open_file(place.note, under=slow(late, 3)), open_file(place.note)
     first.start_save("first\n")
     wait_until_late(first.process)
     said = {"second\n": second.save("second\n"), "first\n": first.end_save()}
     check.same("what is said", sorted(said.values()), ["file changed on disk", "saved"])
-    check.same("what is said of FILE's text", said.get(read(check.note)), "saved")
-    check.same("what is there", os.listdir(check.folder), ["note"])
+    check.same("what is said of FILE's text", said.get(read(place.note)), "saved")
+    check.same("what is there", os.listdir(place.folder), ["note"])
     first.end()
     second.end()
 
 
-def replaced_meanwhile(check):
+@needs("strace")
+def replaced_meanwhile(check, place):
     """Another program renames a file to FILE right before the exchange."""
-    write(check.note, "old\n")
-    editor = open_file(check.note, under=slow("rename" if is_old else "renameat2", 3))
+    write(place.note, "old\n")
+    editor = open_file(place.note, under=slow("rename" if is_old else "renameat2", 3))
     editor.start_save("new\n")
     wait_until_late(editor.process)
-    os.rename(write(f"{check.folder}/theirs", "theirs\n"), check.note)
+    os.rename(write(f"{place.folder}/theirs", "theirs\n"), place.note)
     check.same("the save", editor.end_save(), "file changed on disk")
-    check.same("FILE", read(check.note), "theirs\n")
-    check.same("what is there", os.listdir(check.folder), ["note"])
+    check.same("FILE", read(place.note), "theirs\n")
+    check.same("what is there", os.listdir(place.folder), ["note"])
     check.same("the second save", editor.save("new\n"), "saved")
-    check.same("FILE after the second save", read(check.note), "new\n")
+    check.same("FILE after the second save", read(place.note), "new\n")
     editor.end()
 
 
-def made_meanwhile(check):
+@needs("strace")
+def made_meanwhile(check, place):
     """Another program makes FILE, which was not there, right before it is put there."""
-    editor = open_file(check.note, under=slow("rename" if is_old else "linkat", 3))
+    editor = open_file(place.note, under=slow("rename" if is_old else "linkat", 3))
     editor.start_save("new\n")
     wait_until_late(editor.process)
-    write(check.note, "theirs\n")
+    write(place.note, "theirs\n")
     check.same("the save", editor.end_save(), "file changed on disk")
-    check.same("FILE", read(check.note), "theirs\n")
+    check.same("FILE", read(place.note), "theirs\n")
     check.same("the second save", editor.save("new\n"), "saved")
     editor.end()
 
 
-def written_after_the_exchange(check):
+@needs("strace")
+def written_after_the_exchange(check, place):
     """Another program writes the new FILE right after the exchange: the next save tells of it."""
-    write(check.note, "old\n")
-    editor = open_file(check.note, under=slow("unlinkat", 3))
+    write(place.note, "old\n")
+    editor = open_file(place.note, under=slow("unlinkat", 3))
     editor.start_save("new\n")
     wait_until_late(editor.process)
-    write(check.note, "theirs\n")
+    write(place.note, "theirs\n")
     check.same("the save", editor.end_save(), "saved")
     check.same("the second save", editor.save("newer\n"), "file changed on disk")
-    check.same("FILE", read(check.note), "theirs\n")
+    check.same("FILE", read(place.note), "theirs\n")
     check.same("the third save", editor.save("newer\n"), "saved")
     editor.end()
 
 
 # ---- FILE is written in place
 
-def in_place(check, **others):
+def in_place(place, **others):
     """An editor whose saves overwrite FILE, with the backup in a folder of its own."""
-    own = f"{check.folder}/own"
+    own = f"{place.folder}/own"
     os.mkdir(own)
-    write(check.note, "old\n")
-    return open_file(check.note, "--backup", own, **others)
+    write(place.note, "old\n")
+    return open_file(place.note, "--backup", own, **others)
 
 
-def written_before_it_is_opened(check):
+@needs("strace")
+def written_before_it_is_opened(check, place):
     """Another program writes FILE after the last look at it, before the save opens it for writing."""
     # the backup gets its name between the two
-    editor = in_place(check, under=slow("/^renameat2?$", 3))
+    editor = in_place(place, under=slow("/^renameat2?$", 3))
     editor.start_save("new\n")
     wait_until_late(editor.process)
-    write(check.note, "theirs\n")
+    write(place.note, "theirs\n")
     check.same("the save", editor.end_save(), "file changed on disk")
-    check.same("FILE", read(check.note), "theirs\n")
+    check.same("FILE", read(place.note), "theirs\n")
     check.same("the second save", editor.save("new\n"), "saved")
-    check.same("FILE after the second save", read(check.note), "new\n")
+    check.same("FILE after the second save", read(place.note), "new\n")
     editor.end()
 
 
-def written_while_it_is_synced(check):
+@needs("strace")
+def written_while_it_is_synced(check, place):
     """Another program writes FILE once the save has filled it, while the disk takes it: the next save tells of it."""
     # the first two are of the backup and its folder
-    editor = in_place(check, under=slow("fsync", 3, which=":when=3"))
+    editor = in_place(place, under=slow("fsync", 3, which=":when=3"))
     editor.start_save("new\n")
     wait_until_late(editor.process)
-    write(check.note, "theirs\n")
+    write(place.note, "theirs\n")
     check.same("the save", editor.end_save(), "saved")
     check.same("the second save", editor.save("newer\n"), "file changed on disk")
-    check.same("FILE", read(check.note), "theirs\n")
+    check.same("FILE", read(place.note), "theirs\n")
     check.same("the third save", editor.save("newer\n"), "saved")
-    check.same("FILE after the third save", read(check.note), "newer\n")
+    check.same("FILE after the third save", read(place.note), "newer\n")
     editor.end()
 
 
@@ -166,141 +172,132 @@ def rights_of_other(path):
     return subprocess.run(["setpriv", "--reuid", str(OTHER), "--regid", str(OTHER), "--clear-groups", "cat", path], capture_output=True).returncode == 0
 
 
-def list_on_file(check):
+@needs("setfacl")
+def list_on_file(check, place):
     """FILE gets an access list while the editor opens it, at each of its calls: no save turns it into rights of the group."""
     for at in range(12):
-        write(check.note, "old\n", 0o640)
-        editor = open_file(check.note)
-        set_list(check.note, "-m", f"u:{OTHER}:rw")
+        write(place.note, "old\n", 0o640)
+        editor = open_file(place.note)
+        set_list(place.note, "-m", f"u:{OTHER}:rw")
         editor.save("new\n")
         editor.save("new\n")
-        check.same("FILE", read(check.note), "new\n")
-        said = subprocess.run(["getfacl", "-c", "-p", check.note], capture_output=True, text=True).stdout
+        check.same("FILE", read(place.note), "new\n")
+        said = subprocess.run(["getfacl", "-c", "-p", place.note], capture_output=True, text=True).stdout
         check.same("the list", f"user:{OTHER}:rw-" in said and "group::r--" in said, True)
         editor.end()
-        os.remove(check.note)
+        os.remove(place.note)
 
 
-def list_and_gone(check):
+@needs("setfacl")
+def list_and_gone(check, place):
     """A FILE with an access list is gone: what its mode says of the group was the list's mask."""
-    write(check.note, "old\n", 0o600)
-    editor = open_file(check.note)
-    set_list(check.note, "-m", f"u:{OTHER}:rw")
+    write(place.note, "old\n", 0o600)
+    editor = open_file(place.note)
+    set_list(place.note, "-m", f"u:{OTHER}:rw")
     editor.save("new\n")
-    os.remove(check.note)
+    os.remove(place.note)
     check.same("the save", editor.save("new\n"), "saved")
-    check.same("the mode", oct(mode_of(check.note)), oct(0o600))
+    check.same("the mode", oct(mode_of(place.note)), oct(0o600))
     editor.end()
 
 
-def list_amid_save(check):
+@needs("setfacl", "strace")
+def list_amid_save(check, place):
     """FILE gets an access list right before the exchange."""
-    write(check.note, "old\n", 0o660)
-    editor = open_file(check.note, under=slow("rename" if is_old else "renameat2", 3))
+    write(place.note, "old\n", 0o660)
+    editor = open_file(place.note, under=slow("rename" if is_old else "renameat2", 3))
     editor.start_save("new\n")
     wait_until_late(editor.process)
-    set_list(check.note, "-m", f"u:{OTHER}:rw")
+    set_list(place.note, "-m", f"u:{OTHER}:rw")
     check.same("the save", editor.end_save(), "file changed on disk")
-    check.same("FILE", read(check.note), "old\n")
+    check.same("FILE", read(place.note), "old\n")
     check.same("the second save", editor.save("new\n"), "saved")
-    said = subprocess.run(["getfacl", "-c", "-p", check.note], capture_output=True, text=True).stdout
+    said = subprocess.run(["getfacl", "-c", "-p", place.note], capture_output=True, text=True).stdout
     check.same("the list", f"user:{OTHER}:rw-" in said, True)
     editor.end()
 
 
-def default_list(check):
+@needs("setfacl", "root")
+def default_list(check, place):
     """FILE's folder is given a list for new files while the editor runs: nobody gets rights by a save."""
-    write(check.note, "old\n", 0o640)
-    editor = open_file(check.note)
-    set_list(check.folder, "-d", "-m", f"u:{OTHER}:rwx")
+    write(place.note, "old\n", 0o640)
+    editor = open_file(place.note)
+    set_list(place.folder, "-d", "-m", f"u:{OTHER}:rwx")
     check.same("the save", editor.save("new\n"), "saved")
-    check.same("whether the other reads FILE", rights_of_other(check.note), False)
-    os.remove(check.note)
+    check.same("whether the other reads FILE", rights_of_other(place.note), False)
+    os.remove(place.note)
     check.same("the save of a FILE that is gone", editor.save("new\n"), "saved")
-    check.same("whether the other reads the new FILE", rights_of_other(check.note), False)
-    check.same("the mode", oct(mode_of(check.note)), oct(0o640))
+    check.same("whether the other reads the new FILE", rights_of_other(place.note), False)
+    check.same("the mode", oct(mode_of(place.note)), oct(0o640))
     editor.end()
 
 
-def default_list_amid_save(check):
+@needs("setfacl", "root", "strace")
+def default_list_amid_save(check, place):
     """The folder is given the list after the save has begun."""
-    write(check.note, "old\n", 0o640)
-    editor = open_file(check.note, under=slow("fsync", 3))
-    set_list(check.folder, "-d", "-m", f"u:{OTHER}:rwx")
+    write(place.note, "old\n", 0o640)
+    editor = open_file(place.note, under=slow("fsync", 3))
+    set_list(place.folder, "-d", "-m", f"u:{OTHER}:rwx")
     editor.start_save("new\n")
     wait_until_late(editor.process)
-    readable = [name for name in os.listdir(check.folder) if rights_of_other(f"{check.folder}/{name}")]
+    readable = [name for name in os.listdir(place.folder) if rights_of_other(f"{place.folder}/{name}")]
     check.same("what the other reads meanwhile", readable, [])
     editor.end_save()
-    check.same("whether the other reads FILE", rights_of_other(check.note), False)
+    check.same("whether the other reads FILE", rights_of_other(place.note), False)
     editor.end()
 
 
-def draft_is_closed(check):
+@needs("root", "strace")
+def draft_is_closed(check, place):
     """Nobody but the owner reads the draft, also where all may read FILE."""
-    write(check.note, "old\n", 0o644)
-    editor = open_file(check.note, under=slow("fsync", 3))
+    write(place.note, "old\n", 0o644)
+    editor = open_file(place.note, under=slow("fsync", 3))
     editor.start_save("new\n")
     wait_until_late(editor.process)
-    others = [name for name in os.listdir(check.folder) if name != "note"]
-    check.same("what is there meanwhile, and is readable", [name for name in others if rights_of_other(f"{check.folder}/{name}")], [])
+    others = [name for name in os.listdir(place.folder) if name != "note"]
+    check.same("what is there meanwhile, and is readable", [name for name in others if rights_of_other(f"{place.folder}/{name}")], [])
     editor.end_save()
     editor.end()
 
 
 # ---- names of others
 
-def ten_names(check):
+def ten_names(check, place):
     """Files of others with the names of drafts stop no save, and stay."""
-    write(check.note, "old\n")
+    write(place.note, "old\n")
     for end in "", *range(1, 10):
-        write(f"{check.note}.bx{end}", "theirs\n")
-    before = sorted(os.listdir(check.folder))
-    editor = open_file(check.note)
+        write(f"{place.note}.bx{end}", "theirs\n")
+    before = sorted(os.listdir(place.folder))
+    editor = open_file(place.note)
     check.same("the save", editor.save("new\n"), "saved")
-    check.same("FILE", read(check.note), "new\n")
-    os.link(check.note, f"{check.folder}/other")
+    check.same("FILE", read(place.note), "new\n")
+    os.link(place.note, f"{place.folder}/other")
     editor.save("newer\n")
     check.same("the save into the file itself", editor.save("newer\n"), "saved")
-    check.same("FILE after it", read(check.note), "newer\n")
-    os.remove(f"{check.folder}/other")
-    check.same("what is there", sorted(os.listdir(check.folder)), before)
-    check.same("what the others have", {read(f"{check.note}.bx{end}") for end in ("", *range(1, 10))}, {"theirs\n"})
+    check.same("FILE after it", read(place.note), "newer\n")
+    os.remove(f"{place.folder}/other")
+    check.same("what is there", sorted(os.listdir(place.folder)), before)
+    check.same("what the others have", {read(f"{place.note}.bx{end}") for end in ("", *range(1, 10))}, {"theirs\n"})
     editor.end()
 
 
-CHECKS = [
-    (link_in_place, ()), (link_behind_a_link, ()), (link_led_elsewhere, ()),
-    (both_save, ("strace",)), (replaced_meanwhile, ("strace",)), (made_meanwhile, ("strace",)),
-    (list_on_file, ("setfacl",)), (list_and_gone, ("setfacl",)), (list_amid_save, ("setfacl", "strace")),
-    (default_list, ("setfacl", "root")), (default_list_amid_save, ("setfacl", "root", "strace")), (draft_is_closed, ("root", "strace")),
-    (ten_names, ()), *save_paths.CHECKS,
+CASES = [
+    link_in_place, link_behind_a_link, link_led_elsewhere, both_save, replaced_meanwhile, made_meanwhile, list_on_file, list_and_gone,
+    list_amid_save, default_list, default_list_amid_save, draft_is_closed, ten_names, *save_paths.CASES,
 ]
 # of saves into FILE itself, and of the opening, which the old program leaves to others
-NEW_CHECKS = [
-    (written_after_the_exchange, ("strace",)), (written_before_it_is_opened, ("strace",)), (written_while_it_is_synced, ("strace",)),
-    *save_paths.NEW_CHECKS,
-]
+NEW_CASES = [written_after_the_exchange, written_before_it_is_opened, written_while_it_is_synced, *save_paths.NEW_CASES]
 
 
 def main():
     # strace and the search for leaks exclude one another
     os.environ.setdefault("ASAN_OPTIONS", "detect_leaks=0")
-    wanted = os.environ.get("CHECKS", "").split()
-    for run, needs in CHECKS + ([] if is_old else NEW_CHECKS):
-        if wanted and run.__name__ not in wanted:
-            continue
-        lacks = [need for need in needs if (os.geteuid() != 0 if need == "root" else not has(need))]
-        if lacks:
-            skipped.append(run.__name__)
-            print(f"skipped {run.__name__}: there is no {lacks[0]}")
-            continue
-        check = Check(run.__name__)
-        run(check)
-        check.end()
+    wanted, report = os.environ.get("CHECKS", "").split(), Report()
+    for case in CASES + ([] if is_old else NEW_CASES):
+        if not wanted or case.__name__ in wanted:
+            try_case(report, case, Place())
     shutil.rmtree(top, ignore_errors=True)
-    print(f"{len(passed)} passed, {len(failed)} failed, {len(skipped)} skipped")
-    return 1 if failed else 0
+    return report.end()
 
 
 if __name__ == "__main__":

@@ -1,4 +1,4 @@
-"""Checks of where FILE's path leads, for save_faults.py: its folder and disk, what may hang, and what is refused at the opening."""
+"""Cases of where FILE's path leads, for save_faults.py: its folder and disk, what may hang, and what is refused at the opening."""
 import os
 import re
 import shutil
@@ -9,6 +9,7 @@ import sys
 import tempfile
 import time
 
+from checks import Skipped, needs
 from save_scene import OTHER, driver, is_old, mode_of, open_file, own_name, read, set_list, slow, wait_until_late, words_of_old, write
 
 here = os.path.dirname(os.path.abspath(__file__))
@@ -27,9 +28,10 @@ def exchange_for_ever(inner, theirs, away):
         time.sleep(0.0005)
 
 
-def folder_exchanged_and_back(check):
+@needs("root")
+def folder_exchanged_and_back(check, place):
     """FILE's folder is exchanged for another's and back, again and again: nothing of the other's gets into it."""
-    inner, theirs, away = f"{check.folder}/inner", f"{check.folder}/theirs", f"{check.folder}/away"
+    inner, theirs, away = f"{place.folder}/inner", f"{place.folder}/theirs", f"{place.folder}/away"
     for at in range(12):
         for folder, owner in (inner, 0), (theirs, OTHER):
             shutil.rmtree(folder, ignore_errors=True)
@@ -40,7 +42,10 @@ def folder_exchanged_and_back(check):
         editor = open_file(f"{inner}/note")
         switch = os.fork()
         if switch == 0:
-            exchange_for_ever(inner, theirs, away)
+            try:
+                exchange_for_ever(inner, theirs, away)
+            finally:
+                os._exit(1)  # an exception of the child is not the case's
         for text in "a\n", "b\n", "c\n":
             editor.save(text)
         os.kill(switch, signal.SIGKILL)
@@ -56,29 +61,29 @@ def folder_exchanged_and_back(check):
             shutil.rmtree(folder)
 
 
-def folder_is_a_link(check):
+def folder_is_a_link(check, place):
     """FILE's folder becomes a link to another folder."""
-    os.mkdir(f"{check.folder}/inner")
-    os.mkdir(f"{check.folder}/theirs")
-    write(f"{check.folder}/inner/note", "old\n")
-    editor = open_file(f"{check.folder}/inner/note")
-    os.rename(f"{check.folder}/inner", f"{check.folder}/away")
-    os.symlink("theirs", f"{check.folder}/inner")
+    os.mkdir(f"{place.folder}/inner")
+    os.mkdir(f"{place.folder}/theirs")
+    write(f"{place.folder}/inner/note", "old\n")
+    editor = open_file(f"{place.folder}/inner/note")
+    os.rename(f"{place.folder}/inner", f"{place.folder}/away")
+    os.symlink("theirs", f"{place.folder}/inner")
     for _ in range(3):
         check.same("the save", editor.save("new\n"), "folder gone")
-    check.same("what is in the other folder", os.listdir(f"{check.folder}/theirs"), [])
-    check.same("what is in FILE's folder", os.listdir(f"{check.folder}/away"), ["note"])
-    check.same("FILE", read(f"{check.folder}/away/note"), "old\n")
-    os.remove(f"{check.folder}/inner")
-    os.rename(f"{check.folder}/away", f"{check.folder}/inner")
+    check.same("what is in the other folder", os.listdir(f"{place.folder}/theirs"), [])
+    check.same("what is in FILE's folder", os.listdir(f"{place.folder}/away"), ["note"])
+    check.same("FILE", read(f"{place.folder}/away/note"), "old\n")
+    os.remove(f"{place.folder}/inner")
+    os.rename(f"{place.folder}/away", f"{place.folder}/inner")
     check.same("the save once the folder is back", editor.save("new\n"), "saved")
-    check.same("FILE at last", read(f"{check.folder}/inner/note"), "new\n")
+    check.same("FILE at last", read(f"{place.folder}/inner/note"), "new\n")
     editor.end()
 
 
-def folder_made_again(check):
+def folder_made_again(check, place):
     """FILE's folder is removed, and made again: the save goes there."""
-    inner = f"{check.folder}/inner"
+    inner = f"{place.folder}/inner"
     os.mkdir(inner)
     write(f"{inner}/note", "old\n", 0o600)
     editor = open_file(f"{inner}/note")
@@ -93,9 +98,9 @@ def folder_made_again(check):
     editor.end()
 
 
-def folder_renamed(check):
+def folder_renamed(check, place):
     """FILE's folder has another name: it is told, and the save goes on once the name is back."""
-    inner, other = f"{check.folder}/inner", f"{check.folder}/other"
+    inner, other = f"{place.folder}/inner", f"{place.folder}/other"
     os.mkdir(inner)
     write(f"{inner}/note", "old\n")
     editor = open_file("note", cwd=inner)
@@ -108,9 +113,10 @@ def folder_renamed(check):
     editor.end()
 
 
-def disk_unmounted(check):
+@needs("root", "mount")
+def disk_unmounted(check, place):
     """FILE's disk is unmounted: nothing gets into the folder under it."""
-    disk = f"{check.folder}/disk"
+    disk = f"{place.folder}/disk"
     os.mkdir(disk)
     subprocess.run(["mount", "-t", "tmpfs", "tmpfs", disk], check=True)
     write(f"{disk}/note", "old\n")
@@ -128,44 +134,45 @@ def disk_unmounted(check):
 
 # ---- FILE that holds up
 
-def pipe_at_opening(check):
+@needs("strace")
+def pipe_at_opening(check, place):
     """FILE becomes a pipe between the look at it and the opening: it is refused, and nothing waits."""
-    write(check.note, "old\n")
+    write(place.note, "old\n")
     words = words_of_old("note") if is_old else [driver, "note"]
     # the first opening is a look
-    process = subprocess.Popen([*slow("openat", 2, "-P", "note"), *words], cwd=check.folder, stdin=subprocess.PIPE, stdout=subprocess.PIPE,
+    process = subprocess.Popen([*slow("openat", 2, "-P", "note"), *words], cwd=place.folder, stdin=subprocess.PIPE, stdout=subprocess.PIPE,
                                stderr=subprocess.DEVNULL, text=True)
     wait_until_late(process, own_name)
     if not is_old:
         time.sleep(2)
         wait_until_late(process, own_name)
-    os.remove(check.note)
-    os.mkfifo(check.note)
+    os.remove(place.note)
+    os.mkfifo(place.note)
     try:
         said, _ = process.communicate(timeout=10)
     except subprocess.TimeoutExpired:
         said = "it hangs"
         # lets it go on
-        os.close(os.open(check.note, os.O_WRONLY | os.O_NONBLOCK))
+        os.close(os.open(place.note, os.O_WRONLY | os.O_NONBLOCK))
         process.communicate()
     check.same("what is said", said.strip(), "note is a device, pipe or socket, not a plain file: write its content to a file, and edit that")
 
 
-def pipe_at_save(check):
+def pipe_at_save(check, place):
     """FILE becomes a pipe, for a save into the file itself too."""
     for is_linked in False, True:
-        write(check.note, "old\n")
+        write(place.note, "old\n")
         if is_linked:
-            os.link(check.note, f"{check.folder}/other")
-        editor = open_file(check.note)
-        os.remove(check.note)
-        os.mkfifo(check.note)
+            os.link(place.note, f"{place.folder}/other")
+        editor = open_file(place.note)
+        os.remove(place.note)
+        os.mkfifo(place.note)
         check.same("the save", editor.save("new\n"), "not a plain file")
-        check.same("whether it is a pipe", stat.S_ISFIFO(os.lstat(check.note).st_mode), True)
-        os.remove(check.note)
+        check.same("whether it is a pipe", stat.S_ISFIFO(os.lstat(place.note).st_mode), True)
+        os.remove(place.note)
         check.same("the save once it is gone", editor.save("new\n"), "saved")
         editor.end()
-        os.remove(check.note)
+        os.remove(place.note)
 
 
 def end_by(process, number):
@@ -179,14 +186,15 @@ def end_by(process, number):
         return False
 
 
-def stalled_disk(check):
+@needs("root", "mount")
+def stalled_disk(check, place):
     """A disk does not answer at the start, from one of its calls on: the usual signals end it."""
     if is_old:
         check.same("whether the start can be tried", False, True)
         return
     for call in "lookup", "getattr", "open", "getxattr", "listxattr", "statfs":
         for number in signal.SIGINT, signal.SIGTERM:
-            folder = tempfile.mkdtemp(dir=check.folder)
+            folder = tempfile.mkdtemp(dir=place.folder)
             disk = subprocess.Popen([sys.executable, f"{here}/stalled_disk.py", folder, call], stdin=subprocess.PIPE, stdout=subprocess.PIPE)
             check.same("the disk", disk.stdout.readline(), b"ready\n")
             process = subprocess.Popen([driver, f"{folder}/note"], stdin=subprocess.PIPE, stdout=subprocess.PIPE,
@@ -198,14 +206,15 @@ def stalled_disk(check):
                 at.communicate()
 
 
-def stalled_at_save(check):
+@needs("root", "mount")
+def stalled_at_save(check, place):
     """A disk does not answer during a save: the host is not held up, and the save's child holds nobody else."""
     if is_old:
-        return
-    disk = subprocess.Popen([sys.executable, f"{here}/stalled_disk.py", check.folder, "create"], stdin=subprocess.PIPE, stdout=subprocess.PIPE)
+        raise Skipped("the old program saves by itself")
+    disk = subprocess.Popen([sys.executable, f"{here}/stalled_disk.py", place.folder, "create"], stdin=subprocess.PIPE, stdout=subprocess.PIPE)
     check.same("the disk", disk.stdout.readline(), b"ready\n")
-    process = subprocess.Popen([driver, check.note], stdin=subprocess.PIPE, stdout=subprocess.PIPE, text=True)
-    check.same("the opening", process.stdout.readline(), f"opened {check.note}\n")
+    process = subprocess.Popen([driver, place.note], stdin=subprocess.PIPE, stdout=subprocess.PIPE, text=True)
+    check.same("the opening", process.stdout.readline(), f"opened {place.note}\n")
     process.stdin.write("begin\n")
     process.stdin.flush()
     time.sleep(0.5)
@@ -218,9 +227,9 @@ def stalled_at_save(check):
 
 # ---- the opening
 
-def opened_as(check, path, *words, cwd=None):
+def opened_as(place, path, *words, cwd=None):
     """The first line about a FILE."""
-    editor = open_file(path, *words, cwd=cwd or check.folder)
+    editor = open_file(path, *words, cwd=cwd or place.folder)
     editor.end()
     return editor.opened
 
@@ -269,70 +278,69 @@ REFUSED = {
 }
 
 
-def refusals(check):
+def refusals(check, place):
     """What is no plain file, or has no folder, is refused with cause and remedy."""
-    make_odd_files(check.folder)
+    make_odd_files(place.folder)
     opened = {"plain": "plain", "inner/../plain": "plain", "none": "none", "a" * 252: "a" * 252}
-    for path, wanted in {**REFUSED, **{path: f"opened {check.folder}/{name}" for path, name in opened.items()}}.items():
-        check.same(f"what is said of {path[:20]}", opened_as(check, path), wanted)
+    for path, wanted in {**REFUSED, **{path: f"opened {place.folder}/{name}" for path, name in opened.items()}}.items():
+        check.same(f"what is said of {path[:20]}", opened_as(place, path), wanted)
 
 
-def many_links(check):
+def many_links(check, place):
     """Forty links are followed, and not more."""
-    write(f"{check.folder}/note", "text\n")
-    os.symlink("note", f"{check.folder}/link1")
+    write(f"{place.folder}/note", "text\n")
+    os.symlink("note", f"{place.folder}/link1")
     for number in range(2, 42):
-        os.symlink(f"link{number - 1}", f"{check.folder}/link{number}")
-    check.same("forty links", opened_as(check, "link40"), f"opened {check.note}")
-    check.same("more", opened_as(check, "link41"), "link41 is a link in a circle of links: ls -l shows where it points")
+        os.symlink(f"link{number - 1}", f"{place.folder}/link{number}")
+    check.same("forty links", opened_as(place, "link40"), f"opened {place.note}")
+    check.same("more", opened_as(place, "link41"), "link41 is a link in a circle of links: ls -l shows where it points")
 
 
-def lost_folder(check):
+def lost_folder(check, place):
     """A FILE whose folder is gone is named as it was, also from a working folder that is gone."""
-    check.same("a folder that is gone", opened_as(check, "gone/deep/note", "--lost", "--force"), f"opened {check.folder}/gone/deep/note")
-    os.mkdir(f"{check.folder}/gone")
-    script = f"cd {check.folder}/gone && rmdir {check.folder}/gone && {driver} --force note </dev/null"
+    check.same("a folder that is gone", opened_as(place, "gone/deep/note", "--lost", "--force"), f"opened {place.folder}/gone/deep/note")
+    os.mkdir(f"{place.folder}/gone")
+    script = f"cd {place.folder}/gone && rmdir {place.folder}/gone && {driver} --force note </dev/null"
     said = subprocess.run(["sh", "-c", script], capture_output=True, text=True).stdout.strip()
-    check.same("a working folder that is gone", said, f"opened {check.folder}/gone/note")
+    check.same("a working folder that is gone", said, f"opened {place.folder}/gone/note")
 
 
-def leftovers(check):
+def leftovers(check, place):
     """A start names what killed saves left, and nothing else."""
-    write(check.note, "text\n")
+    write(place.note, "text\n")
     for name in "note.bx", "note.bx3", "note.a1b2c3d4.bx", "note.A1b2c3d4.bx", "note.a1b2c3d.bx", "other.a1b2c3d4.bx", "note.a1b2c3d4.bx1", "note.txt.bx":
-        write(f"{check.folder}/{name}", "left")
-    check.same("what is said", opened_as(check, "note"),
-               f"opened {check.note}: possibly left by an interrupted save; check, and remove what you do not need: note.bx note.bx3 note.a1b2c3d4.bx")
+        write(f"{place.folder}/{name}", "left")
+    check.same("what is said", opened_as(place, "note"),
+               f"opened {place.note}: possibly left by an interrupted save; check, and remove what you do not need: note.bx note.bx3 note.a1b2c3d4.bx")
 
 
-def lists_of_folder(check):
+@needs("setfacl")
+def lists_of_folder(check, place):
     """A folder with a list of its own gives none to new files; one with a list for new files does."""
-    write(check.note, "text\n")
-    set_list(check.folder, "-m", f"u:{OTHER}:rx")
-    check.same("with a list of its own", open_file(check.note).ask("facts"), "")
-    set_list(check.folder, "-d", "-m", f"u:{OTHER}:rx")
-    check.same("with a list for new files", open_file(check.note).ask("facts"), "is in a folder that gives new files an access list")
+    write(place.note, "text\n")
+    set_list(place.folder, "-m", f"u:{OTHER}:rx")
+    check.same("with a list of its own", open_file(place.note).ask("facts"), "")
+    set_list(place.folder, "-d", "-m", f"u:{OTHER}:rx")
+    check.same("with a list for new files", open_file(place.note).ask("facts"), "is in a folder that gives new files an access list")
 
 
-def paths_once(check):
+@needs("strace")
+def paths_once(check, place):
     """A save resolves no path twice, and none but its folder's."""
-    log = f"{check.folder}/log"
-    os.mkdir(f"{check.folder}/in")
-    path = write(f"{check.folder}/in/note", "old\n")
+    log = f"{place.folder}/log"
+    os.mkdir(f"{place.folder}/in")
+    path = write(f"{place.folder}/in/note", "old\n")
     editor = open_file(path, under=["strace", "-f", "-qq", "-o", log, "-e", "trace=%file,prctl"])
     check.same("the save", editor.save("new\n"), "saved")
     editor.end()
     lines = read(log).split('PR_SET_NAME, "bidi-saver"')[1].split("\n")
     paths = [word for line in lines for word in re.findall(r'"([^"]*/[^"]*)"', line) if not re.match(r"/(proc/self|dev/null|tmp/.*/text)", word)]
-    check.same("the paths", paths, [f"{check.folder}/in"])
+    check.same("the paths", paths, [f"{place.folder}/in"])
 
 
-CHECKS = [
-    (folder_exchanged_and_back, ("root",)), (folder_is_a_link, ()), (folder_made_again, ()), (folder_renamed, ()),
-    (disk_unmounted, ("root", "mount")),
-    (pipe_at_opening, ("strace",)), (pipe_at_save, ()), (stalled_disk, ("root", "mount")), (stalled_at_save, ("root", "mount")),
+CASES = [
+    folder_exchanged_and_back, folder_is_a_link, folder_made_again, folder_renamed, disk_unmounted, pipe_at_opening, pipe_at_save, stalled_disk,
+    stalled_at_save,
 ]
 # of the opening, which the old program leaves to others
-NEW_CHECKS = [
-    (refusals, ()), (many_links, ()), (lost_folder, ()), (leftovers, ()), (lists_of_folder, ("setfacl",)), (paths_once, ("strace",)),
-]
+NEW_CASES = [refusals, many_links, lost_folder, leftovers, lists_of_folder, paths_once]

@@ -1,10 +1,9 @@
-"""The scene of save_faults.py and save_paths.py: editors that have opened FILE, files, calls that are late, and checks.
+"""The scene of save_faults.py and save_paths.py: editors that have opened FILE, files, and calls that are late.
 
 It reads the words of the command line, which save_faults.py describes.
 """
 import os
 import re
-import shutil
 import stat
 import subprocess
 import sys
@@ -19,7 +18,6 @@ tables = sys.argv[2] if is_old else ""
 driver = os.path.abspath(sys.argv[-1])
 top = tempfile.mkdtemp()
 os.chmod(top, 0o755)
-passed, failed, skipped = [], [], []
 
 
 class Editor:
@@ -139,10 +137,6 @@ def mode_of(path):
     return stat.S_IMODE(os.lstat(path).st_mode)
 
 
-def has(command):
-    return shutil.which(command) is not None
-
-
 def below(process):
     """The processes that a process started, and those that they did."""
     with open(f"/proc/{process}/task/{process}/children") as told:
@@ -175,26 +169,13 @@ def wait_until_late(tracer, name=own_name if is_old else "bidi-saver"):
         time.sleep(0.01)
 
 
-class Check:
-    """A check in a folder of its own."""
+class Place:
+    """A case's own folder, and FILE in it."""
 
-    def __init__(self, name):
-        self.name = name
-        self.faults = []
+    def __init__(self):
         self.folder = tempfile.mkdtemp(dir=top)
         os.chmod(self.folder, 0o755)
         self.note = f"{self.folder}/note"
-
-    def same(self, what, found, wanted):
-        if found != wanted:
-            self.faults.append(f"{what} is {found!r}, and not {wanted!r}")
-
-    def end(self):
-        if self.faults:
-            failed.append(self.name)
-            print(f"FAULT {self.name}: {'; '.join(self.faults)}")
-        else:
-            passed.append(self.name)
 
 
 def slow(call, seconds, *more, which=""):

@@ -1,8 +1,8 @@
-"""Saves through the host: each is served by a child of it, which may hang or be killed. cases.py says what a case is."""
+"""Saves through the host: each is served by a child of it, which may hang or be killed."""
 import os, signal, subprocess, time
-from cases import QUIT, SAVE, finish, holds, same, start
+from cases import QUIT, SAVE, finish, start
+from checks import Skipped, needs
 from ends import LIMIT
-from terminals import Run
 
 LARGE = (b'abc' * 5592406)[:16777216]  # what program.py saves in its way `large`
 
@@ -12,7 +12,7 @@ def read(path):
         return file.read()
 
 
-def saves(tree):
+def saves(check, tree):
     """Saves one after another, small and large."""
     for ways, count in (('', 3), ('large', 1), ('large,rests', 1)):
         run = start(tree, ways)
@@ -20,11 +20,11 @@ def saves(tree):
         for number in range(count):
             run.output = b''
             run.type(b'abc' + SAVE)
-            yield holds(f'saves {ways} {number}: told', run.pump(10, b'%d saved' % (3 * number + 3)), run.output)
+            check.holds(f'saves {ways} {number}: told', run.pump(10, b'%d saved' % (3 * number + 3)), run.output)
             text = LARGE if ways else b'abc' * (number + 1)
-            yield holds(f'saves {ways} {number}: saved', read(run.file) == text)
+            check.holds(f'saves {ways} {number}: saved', read(run.file) == text)
         run.type(QUIT)
-        yield from finish(run, f'saves {ways}', 0)
+        finish(check, run, f'saves {ways}', 0)
 
 
 def find_saver(run):
@@ -45,63 +45,63 @@ def find_saver(run):
     return 0
 
 
-def hanging(tree):
+def hanging(check, tree):
     """A save that hangs, as on a disk that does not answer, holds up neither sizes, nor the end by a signal, nor that by a kill."""
     for number in (signal.SIGTERM, signal.SIGKILL):
         run = start(tree, 'large,rests')
         run.pump(5, b'hello')
         saver = find_saver(run)
-        yield holds(f'hanging saves, {number.name}: caught', saver)
+        check.holds(f'hanging saves, {number.name}: caught', saver)
         before = time.perf_counter()
         os.kill(run.job, number)
-        yield holds(f'hanging saves, {number.name}: ended', run.pump(LIMIT))
-        yield same(f'hanging saves, {number.name}: processes', run.left(max(0, before + LIMIT - time.perf_counter())), {})
-        yield from finish(run, f'hanging saves, {number.name}', number)
+        check.holds(f'hanging saves, {number.name}: ended', run.pump(LIMIT))
+        check.same(f'hanging saves, {number.name}: processes', run.left(max(0, before + LIMIT - time.perf_counter())), {})
+        finish(check, run, f'hanging saves, {number.name}', number)
         # a kill of the host has the system continue a child that was stopped, and the save may end
-        yield holds(f'hanging saves, {number.name}: FILE is whole, or not there', not os.path.exists(run.file) or read(run.file) == LARGE)
+        check.holds(f'hanging saves, {number.name}: FILE is whole, or not there', not os.path.exists(run.file) or read(run.file) == LARGE)
 
 
-def killed(tree):
+def killed(check, tree):
     """A child that is killed in a save: the save fails, and the next one succeeds."""
     run = start(tree, 'large,rests')
     run.pump(5, b'hello')
     saver = find_saver(run)
-    yield holds('killed saves: caught', saver)
+    check.holds('killed saves: caught', saver)
     if saver:
         os.kill(saver, signal.SIGKILL)
-    yield holds('killed saves: told', run.pump(5, b'failed 10'), run.output[-200:])  # SAVE_OTHER
-    yield holds('killed saves: FILE is not written', not os.path.exists(run.file))
+    check.holds('killed saves: told', run.pump(5, b'failed 10'), run.output[-200:])  # SAVE_OTHER
+    check.holds('killed saves: FILE is not written', not os.path.exists(run.file))
     run.type(SAVE)
-    yield holds('killed saves: the next', run.pump(10, b'3 saved'), run.output[-200:])
+    check.holds('killed saves: the next', run.pump(10, b'3 saved'), run.output[-200:])
     run.type(QUIT)
-    yield from finish(run, 'killed saves', 0)
+    finish(check, run, 'killed saves', 0)
 
 
-def program_killed(tree):
+def program_killed(check, tree):
     """The program is killed in a save: FILE is as it was, and no draft stays."""
     run = start(tree, 'large,rests')
     run.pump(5, b'hello')
     saver = find_saver(run)
-    yield holds('killed programs: caught', saver)
+    check.holds('killed programs: caught', saver)
     program = run.child('bidi_edit')
     os.kill(program, signal.SIGKILL)
     run.rest(0.1)
     if saver:
         os.kill(saver, signal.SIGCONT)
-    yield from finish(run, 'killed programs', 137 << 8)
+    finish(check, run, 'killed programs', 137 << 8)
     folder = os.path.dirname(run.file)
-    yield same('killed programs: the folder', [name for name in os.listdir(folder) if name.startswith(os.path.basename(run.file))], [])
+    check.same('killed programs: the folder', [name for name in os.listdir(folder) if name.startswith(os.path.basename(run.file))], [])
 
 
-def without_proc(tree):
+@needs('root')
+def without_proc(check, tree):
     """Without /proc the start is refused."""
-    if os.geteuid() != 0 or b'__asan_init' in read(tree.host):
-        yield 'without /proc: skipped, since nothing can be mounted, or the sanitizer wants /proc', ''
-        return
+    if b'__asan_init' in read(tree.host):
+        raise Skipped('the sanitizer wants /proc')
     told = subprocess.run(['unshare', '-m', 'sh', '-c', 'mount -t tmpfs none /proc && exec "$@"', 'sh', tree.host, tree.new_file('file')],
                           stderr=subprocess.PIPE, env={**os.environ, **tree.variables()}, text=True)
-    yield same('without /proc', (told.returncode, told.stderr),
+    check.same('without /proc', (told.returncode, told.stderr),
                (1, 'bidi-edit: the editor needs /proc, which is not mounted: mount -t proc proc /proc mounts it\n'))
 
 
-ALL = [saves, hanging, killed, program_killed, without_proc]
+CASES = [saves, hanging, killed, program_killed, without_proc]

@@ -1,9 +1,10 @@
 """sessions_faults.py HOST [NAME..]: checks from outside that a running session is kept whatever is done to its files, and that it is
-found again. HOST is an installed bidi-edit, or the host alone, which gets typist.py in place of the program. Each case has a folder of its own,
-in which it fails by an exception. Prints a line for each, and the totals. Exit status 1: a case failed."""
+found again. HOST is an installed bidi-edit, or the host alone, which gets typist.py in place of the program. Exit status 1: a case
+failed."""
 import glob, os, re, shutil, signal, subprocess, sys, tempfile, termios, threading, time
 HERE = os.path.dirname(os.path.abspath(__file__))
 sys.path.insert(0, HERE)
+from checks import Fault, Report, Skipped, needs, try_case
 from terminals import Run, become_reaper
 
 QUIT = b'\x11'
@@ -66,7 +67,8 @@ class Editor:
 
     def is_told_of_other(self):
         """Waits for the question about another window, and refuses."""
-        assert self.run.pump(200, b'open in another window'), self.run.output
+        if not self.run.pump(200, b'open in another window'):
+            raise Fault('not told of another window', self.run.output)
         self.run.rest(1)
         self.run.type(b'\x04')
         return self.ends()
@@ -76,7 +78,8 @@ class Editor:
         return self.ends()
 
     def ends(self):
-        assert self.run.pump(100), ('goes on', self.run.output[-300:])
+        if not self.run.pump(100):
+            raise Fault('goes on', self.run.output[-300:])
         self.run.left(10)
         self.close()
         return self
@@ -108,8 +111,10 @@ class Place:
     def edit(self, *words, **more):
         """A start whose session is complete."""
         started = self.start(*words, **more)
-        assert wait_for(started.is_editing), (started.err(), started.run.output[-300:])
-        assert wait_for(lambda: self.parts('path')), started.run.output[-300:]
+        if not wait_for(started.is_editing):
+            raise Fault('no text is shown', started.err(), started.run.output[-300:])
+        if not wait_for(lambda: self.parts('path')):
+            raise Fault('no session is complete', started.run.output[-300:])
         return started
 
     def parts(self, name):
@@ -117,27 +122,39 @@ class Place:
         return [path for folder in folders for path in glob.glob(f'{folder}/2*/{name}')]
 
     def part(self, name):
-        assert len(self.parts(name)) == 1, (name, self.parts(name))
-        return self.parts(name)[0]
+        found = self.parts(name)
+        if len(found) != 1:
+            raise Fault(f'not one {name}', found)
+        return found[0]
 
-    def tells(self, *words, folder=None):
-        done = subprocess.run([self.host, *words], cwd=folder or self.files, env={**os.environ, **self.variables}, stdin=subprocess.DEVNULL,
+    def tells(self, *words):
+        done = subprocess.run([self.host, *words], cwd=self.files, env={**os.environ, **self.variables}, stdin=subprocess.DEVNULL,
                               capture_output=True, timeout=300, text=True)
         return done.returncode, done.stdout + done.stderr
 
-    def recovers(self, file, text, folder=None):
-        """Requires that the session of FILE has this text."""
+    def stores(self, file):
+        """Stores the text of a session elsewhere. Returns the text."""
         other = f'{self.top}/other'
         if os.path.exists(other):
             os.remove(other)
-        status, said = self.tells('--recover', '--to', other, file, folder=folder)
-        assert status == 0, said
+        status, said = self.tells('--recover', '--to', other, file)
+        if status != 0:
+            raise Fault('the text is not stored', status, said)
         with open(other) as stored:
-            found = stored.read()
-        assert found == text, (found, said)
+            return stored.read()
+
+    def close(self):
+        """Ends what a case left."""
+        for editor in reversed(self.editors):
+            editor.close()
 
 
-def cleaned(place, *parts, keys=b'd', text='abcdtext\n'):
+def recovers(check, place, file, text):
+    """Looks whether the session of FILE has this text."""
+    check.same(f'the text of {os.path.basename(file)}', place.stores(file), text)
+
+
+def cleaned(check, place, *parts, keys=b'd', text='abcdtext\n'):
     """These parts of a running session are removed; what is typed before and after is restored."""
     place.put('a')
     editor = place.edit('a').types(b'abc')
@@ -145,15 +162,15 @@ def cleaned(place, *parts, keys=b'd', text='abcdtext\n'):
         os.remove(place.part(part))
     editor.run.rest(SECONDS)
     editor.types(keys).hangs_up()
-    assert 'unsaved text is kept' in editor.err(), editor.err()
-    place.recovers('a', text)
+    check.holds('what is told', 'unsaved text is kept' in editor.err(), editor.err())
+    recovers(check, place, 'a', text)
 
 
-def removed_journal(place):
-    cleaned(place, 'journal')
+def removed_journal(check, place):
+    cleaned(check, place, 'journal')
 
 
-def removed_journal_and_kill(place):
+def removed_journal_and_kill(check, place):
     """The host is killed a second later; what was typed since counts too."""
     place.put('a')
     editor = place.edit('a').types(b'abc')
@@ -162,29 +179,30 @@ def removed_journal_and_kill(place):
     editor.types(b'd').run.rest(SECONDS)
     os.kill(editor.run.job, signal.SIGKILL)
     editor.ends()
-    place.recovers('a', 'abcdtext\n')
+    recovers(check, place, 'a', 'abcdtext\n')
 
 
-def removed_text_and_path(place):
-    cleaned(place, 'text', 'path')
+def removed_text_and_path(check, place):
+    cleaned(check, place, 'text', 'path')
 
 
-def removed_notes(place):
-    cleaned(place, 'begin', 'versions', 'process', 'file', 'mode')
+def removed_notes(check, place):
+    cleaned(check, place, 'begin', 'versions', 'process', 'file', 'mode')
 
 
-def removed_lock(place):
+def removed_lock(check, place):
     """A second start finds that the session lives."""
     place.put('a')
     first = place.edit('a').types(b'abc')
     os.remove(place.part('lock'))
     place.start('a').is_told_of_other()
-    assert '(open now)' in place.tells('--recover')[1], place.tells('--recover')
+    found = place.tells('--recover')
+    check.holds('the list', '(open now)' in found[1], found)
     first.hangs_up()
-    place.recovers('a', 'abctext\n')
+    recovers(check, place, 'a', 'abctext\n')
 
 
-def foreign_folders(place):
+def foreign_folders(check, place):
     """An old folder of the user's, whose name begins with a digit, is nobody's session."""
     folder = f'{place.top}/state/bidi_edit/2026-taxes'
     os.makedirs(folder, 0o700)
@@ -194,10 +212,10 @@ def foreign_folders(place):
     os.utime(folder, (1e9, 1e9))
     place.put('a')
     place.edit('a').types(QUIT).ends()
-    assert os.path.exists(f'{folder}/papers')
+    check.holds('the papers are there', os.path.exists(f'{folder}/papers'))
 
 
-def hard_links(place):
+def hard_links(check, place):
     """One name of FILE is in a folder for temporary files: its session is found by both."""
     place.put('a')
     names = f'{place.files}/a', os.path.join(place.top, 'tmp', 'b')
@@ -206,12 +224,12 @@ def hard_links(place):
         first = place.edit(one).types(b'abc')
         place.start(other).is_told_of_other()
         first.hangs_up()
-        place.recovers(other, 'abctext\n')
+        recovers(check, place, other, 'abctext\n')
         place.tells('--forget', one)
-        assert not place.parts('path'), place.parts('path')
+        check.same('sessions', place.parts('path'), [])
 
 
-def growing_file(place):
+def growing_file(check, place):
     """A program appends to FILE all the time while the editor starts."""
     place.put('a', '')
     is_over = threading.Event()
@@ -226,29 +244,26 @@ def growing_file(place):
     try:
         time.sleep(0.2)
         editor = place.start('a')
-        assert wait_for(editor.is_editing), editor.run.output
+        check.holds('the text is shown', wait_for(editor.is_editing), editor.run.output)
         editor.run.rest(1)
     finally:
         is_over.set()
         writer.join()
     editor.types(b'abc').run.rest(SECONDS)
-    assert b'not kept' not in editor.run.output
+    check.holds('the session is kept', b'not kept' not in editor.run.output, editor.run.output)
     editor.hangs_up()
-    assert 'unsaved text is kept' in editor.err(), editor.err()
-    other = f'{place.top}/other'
-    status, said = place.tells('--recover', '--to', other, 'a')
-    assert status == 0, said
-    with open(other) as stored:
-        assert re.fullmatch('abc(line\n)+', stored.read())
+    check.holds('what is told', 'unsaved text is kept' in editor.err(), editor.err())
+    text = place.stores('a')
+    check.holds('the text', re.fullmatch('abc(line\n)+', text), text)
 
 
-def full_disk(place):
+@needs('root', 'mount')
+def full_disk(check, place):
     """The notice that nothing is kept comes again after keys that hid it."""
     disk = f'{place.top}/disk'
     os.mkdir(disk)
-    if os.geteuid() != 0 or subprocess.run(['mount', '-t', 'tmpfs', '-o', 'size=256k', 'none', disk], check=False).returncode != 0:
-        print('skipped: no small disk can be mounted')
-        return
+    if subprocess.run(['mount', '-t', 'tmpfs', '-o', 'size=256k', 'none', disk], check=False).returncode != 0:
+        raise Skipped('no small disk can be mounted')
     try:
         place.variables['XDG_STATE_HOME'] = disk
         place.put('a')
@@ -266,12 +281,12 @@ def full_disk(place):
             if not place.is_stand_in:
                 editor.types(b'\x1b[C\x1b[D' * 100)
             editor.run.rest(0.5)
-        assert NOTICE.search(editor.run.output), editor.run.output[-500:]
+        check.holds('the notice', NOTICE.search(editor.run.output), editor.run.output[-500:])
         editor.types(b'x')
         editor.run.output = b''
         for _ in range(8):
             editor.types(b'y').run.rest(0.7)
-        assert NOTICE.search(editor.run.output), 'the notice does not come again'
+        check.holds('the notice comes again', NOTICE.search(editor.run.output), editor.run.output[-500:])
         os.remove(f'{disk}/other')
         editor.run.rest(2 * SECONDS)
         editor.hangs_up()
@@ -279,17 +294,17 @@ def full_disk(place):
         subprocess.run(['umount', '-l', disk], check=True)
 
 
-def renamed_folder(place):
+def renamed_folder(check, place):
     """FILE's folder is renamed while it is edited."""
     os.mkdir(f'{place.files}/one')
     place.put('one/a')
     editor = place.edit('one/a').types(b'abc')
     os.rename(f'{place.files}/one', f'{place.files}/two')
     editor.hangs_up()
-    place.recovers('two/a', 'abctext\n')
+    recovers(check, place, 'two/a', 'abctext\n')
 
 
-def renamed_folder_and_kill(place):
+def renamed_folder_and_kill(check, place):
     """The same, and the host is killed."""
     os.mkdir(f'{place.files}/one')
     place.put('one/a')
@@ -297,10 +312,10 @@ def renamed_folder_and_kill(place):
     os.rename(f'{place.files}/one', f'{place.files}/two')
     os.kill(editor.run.job, signal.SIGKILL)
     editor.ends()
-    place.recovers('two/a', 'abctext\n')
+    recovers(check, place, 'two/a', 'abctext\n')
 
 
-def saved_and_renamed(place):
+def saved_and_renamed(check, place):
     """A save gives FILE another inode; then its folder is renamed, and the host killed."""
     os.mkdir(f'{place.files}/one')
     place.put('one/a')
@@ -309,10 +324,10 @@ def saved_and_renamed(place):
     os.rename(f'{place.files}/one', f'{place.files}/two')
     os.kill(editor.run.job, signal.SIGKILL)
     editor.ends()
-    place.recovers('two/a', 'abcdtext\n')
+    recovers(check, place, 'two/a', 'abcdtext\n')
 
 
-def gone_folder(place):
+def gone_folder(check, place):
     """The working folder, with FILE in it, is removed. What is told at the end finds the session from elsewhere."""
     os.mkdir(f'{place.files}/one')
     place.put('one/a')
@@ -320,24 +335,25 @@ def gone_folder(place):
     shutil.rmtree(f'{place.files}/one')
     editor.hangs_up()
     told = re.search(r'bidi-edit --recover (\S+) restores it', editor.err())
-    assert told, editor.err()
-    place.recovers(told.group(1), 'abctext\n')
+    if not told:
+        raise Fault('no command is told', editor.err())
+    recovers(check, place, told.group(1), 'abctext\n')
 
 
-def refused_removal(place):
+@needs('root', 'chattr')
+def refused_removal(check, place):
     """A session that cannot be removed stays whole, and that is told."""
     place.put('a')
     place.edit('a').types(b'abc').hangs_up()
     folder = f'{place.top}/state/bidi_edit'
-    if os.geteuid() != 0 or subprocess.run(['chattr', '+i', folder], check=False, capture_output=True).returncode != 0:
-        print('skipped: no folder can be made immutable')
-        return
+    if subprocess.run(['chattr', '+i', folder], check=False, capture_output=True).returncode != 0:
+        raise Skipped('no folder can be made immutable')
     try:
         said = place.tells('--forget', 'a')[1]
     finally:
         subprocess.run(['chattr', '-i', folder], check=True)
-    assert 'is deleted' not in said, said
-    place.recovers('a', 'abctext\n')
+    check.holds('what is told', 'is deleted' not in said, said)
+    recovers(check, place, 'a', 'abctext\n')
 
 
 CASES = (removed_journal, removed_journal_and_kill, removed_text_and_path, removed_notes, removed_lock, foreign_folders, hard_links, growing_file,
@@ -351,26 +367,17 @@ def main():
         signal.signal(number, signal.SIG_DFL)
     # not in a folder for temporary files, whose sessions would be there
     folder = tempfile.mkdtemp(prefix='sessions.', dir='/var/lib' if os.geteuid() == 0 else os.path.expanduser('~'))
-    passed = failed = 0
+    report = Report()
     try:
         host = installed(os.path.abspath(sys.argv[1]), f'{folder}/tree')
         for case in CASES:
-            if names and case.__name__ not in names:
-                continue
-            place = Place(host, f'{folder}/{case.__name__}')
-            try:
-                case(place)
-                passed += 1
-                print(f'ok {case.__name__}', flush=True)
-            except Exception as fault:  # the next case goes on
-                failed += 1
-                print(f'FAILS {case.__name__}: {fault!r}', flush=True)
-            for editor in reversed(place.editors):
-                editor.close()
+            if not names or case.__name__ in names:
+                place = Place(host, f'{folder}/{case.__name__}')
+                try_case(report, case, place)
+                place.close()
     finally:
         shutil.rmtree(folder, ignore_errors=True)
-    print(f'{passed} passed, {failed} failed')
-    sys.exit(1 if failed else 0)
+    return report.end()
 
 
-main()
+sys.exit(main())

@@ -1,6 +1,6 @@
 """The host as a job of interactive shells: in the background and back, stopped and back, killed, also in a paste."""
 import os, shutil, signal, termios
-from cases import QUIT, holds, same
+from cases import QUIT
 from ends import TAIL
 from terminals import Run
 
@@ -9,7 +9,7 @@ ALL_WRITTEN = 0.6
 SHELLS = (['bash', '--norc', '--noprofile', '--noediting', '-i'], ['bash', '--norc', '--noprofile', '-i'], ['dash', '-i'])
 
 
-def in_shell(tree, words):
+def in_shell(check, tree, words):
     """The checks in the shell that these words start. Its prompt is `P> `."""
     name = ' '.join(words)
     plain = f"'{tree.host}' '{tree.new_file('job')}'".encode()
@@ -23,29 +23,29 @@ def in_shell(tree, words):
         return run.output[at:]
 
     run.pump(5, b'P> ')
-    yield holds(f'{name}: in the background nothing is shown', b'1049h' not in show(plain + b' &\n'), run.output)
+    check.holds(f'{name}: in the background nothing is shown', b'1049h' not in show(plain + b' &\n'), run.output)
     run.type(b'fg\n')
-    yield holds(f'{name}: fg shows it', run.pump(5, b'hello'), run.output)
+    check.holds(f'{name}: fg shows it', run.pump(5, b'hello'), run.output)
     run.rest(0.2)
     at = len(run.output)
     os.killpg(run.child('bidi-edit'), signal.SIGSTOP)
     run.rest(ALL_WRITTEN)
-    yield holds(f'{name}: stopped', b'P> ' in run.output[at:] or b'topped' in run.output[at:], run.output[at:])
-    yield holds(f'{name}: painted after fg', b'hello' in show(b'fg\n').rpartition(b'1047h')[2], run.output)
-    yield holds(f'{name}: raw after fg', not termios.tcgetattr(run.slave)[3] & termios.ICANON)
+    check.holds(f'{name}: stopped', b'P> ' in run.output[at:] or b'topped' in run.output[at:], run.output[at:])
+    check.holds(f'{name}: painted after fg', b'hello' in show(b'fg\n').rpartition(b'1047h')[2], run.output)
+    check.holds(f'{name}: raw after fg', not termios.tcgetattr(run.slave)[3] & termios.ICANON)
     at = len(run.output)
     os.killpg(run.child('bidi-edit'), signal.SIGTSTP)
     run.rest(ALL_WRITTEN)
-    yield holds(f'{name}: suspended, the screen is as before', (TAIL in run.output[at:] and b'opped' in run.output[at:].rpartition(TAIL)[2]), run.output[at:])
-    yield holds(f'{name}: suspended, the shell goes on', b'a2b' in show(b'echo a$((1+1))b\n'), run.output)
+    check.holds(f'{name}: suspended, the screen is as before', (TAIL in run.output[at:] and b'opped' in run.output[at:].rpartition(TAIL)[2]), run.output[at:])
+    check.holds(f'{name}: suspended, the shell goes on', b'a2b' in show(b'echo a$((1+1))b\n'), run.output)
     shown = show(b'fg\n')
-    yield holds(f'{name}: suspended, painted after fg', b'hello' in shown.rpartition(b'1049h')[2] and b'hello' not in shown.partition(b'1049h')[0], shown)
+    check.holds(f'{name}: suspended, painted after fg', b'hello' in shown.rpartition(b'1049h')[2] and b'hello' not in shown.partition(b'1049h')[0], shown)
     shown = show(QUIT)
-    yield holds(f'{name}: Quit', TAIL in shown and b'P> ' in shown, shown)
+    check.holds(f'{name}: Quit', TAIL in shown and b'P> ' in shown, shown)
     run.close()
 
 
-def killed_in_shell(tree, words):
+def killed_in_shell(check, tree, words):
     """The checks of a host that is killed in the shell that these words start."""
     name = ' '.join(words)
     run = Run(words, PS1='P> ', **tree.variables())
@@ -56,44 +56,38 @@ def killed_in_shell(tree, words):
     run.pump(5, b'hello')
     run.output = b''
     os.kill(run.child('bidi-edit'), signal.SIGKILL)
-    yield holds(f'{name}: killed', run.pump(5, TAIL), run.output)
+    check.holds(f'{name}: killed', run.pump(5, TAIL), run.output)
     run.rest(0.5)
-    yield same(f'{name}: settings as at the prompt before', termios.tcgetattr(run.slave), before)
+    check.same(f'{name}: settings as at the prompt before', termios.tcgetattr(run.slave), before)
     run.type(b'echo a$((1+1))b\n')
-    yield holds(f'{name}: the shell goes on', run.pump(5, b'a2b'), run.output)
+    check.holds(f'{name}: the shell goes on', run.pump(5, b'a2b'), run.output)
     run.close()
 
 
-def shells(tree):
+def shells(check, tree):
+    """In each shell that is there, a job goes on after stops, and a kill of it leaves the shell as it was."""
     for words in SHELLS:
         if shutil.which(words[0]):
-            yield from in_shell(tree, words)
-            yield from killed_in_shell(tree, words)
-
-
-def paste(run, file):
-    """Types a marked paste whose lines make the file, in pieces, as a terminal sends them: the host ends in the midst of it."""
-    run.type(b'\x1b[200~text\n')
-    run.rest(0.1)
-    yield
-    for _ in range(20):
-        run.type(f'touch {file}\n'.encode())
-        run.rest(0.01)
-    run.type(b'\x1b[201~')
+            in_shell(check, tree, words)
+            killed_in_shell(check, tree, words)
 
 
 def ends_in_paste(tree, words, number):
-    """Ends the host in the midst of a paste by a signal. Gives whether the terminal is restored, the shell ran nothing of the rest,
-    and goes on."""
+    """Ends the host by a signal in the midst of a marked paste whose lines make a file. Gives whether the terminal is restored, the shell
+    ran nothing of the rest, and goes on."""
     made = tree.new_file('made')
     run = Run(words, PS1='P> ', **tree.variables())
     run.pump(5, b'P> ')
     run.type(f"'{tree.host}' '{tree.new_file('job')}'\n".encode())
     run.pump(5, b'hello')
-    steps = paste(run, made)
-    next(steps)
+    # in pieces, as a terminal sends them
+    run.type(b'\x1b[200~text\n')
+    run.rest(0.1)
     os.kill(run.child('bidi-edit'), number)
-    next(steps, None)
+    for _ in range(20):
+        run.type(f'touch {made}\n'.encode())
+        run.rest(0.01)
+    run.type(b'\x1b[201~')
     is_restored = run.pump(5, TAIL)
     run.rest(1.5)
     run.output = b''
@@ -103,18 +97,18 @@ def ends_in_paste(tree, words, number):
     return found
 
 
-def pastes(tree):
+def pastes(check, tree):
     """The rest of a paste that is under way as the host ends goes to no shell. After a kill the shell may be faster than the watcher on
     a busy machine, but not mostly; one without line editing, as dash, then runs the next line alone."""
     for words in SHELLS:
         if not shutil.which(words[0]):
             continue
         name = ' '.join(words)
-        yield same(f'{name}: TERM in a paste', ends_in_paste(tree, words, signal.SIGTERM), (True, True, True))
+        check.same(f'{name}: TERM in a paste', ends_in_paste(tree, words, signal.SIGTERM), (True, True, True))
         found = [ends_in_paste(tree, words, signal.SIGKILL) for _ in range(5)]
-        yield holds(f'{name}: killed in a paste, restored', all(one[0] and one[2] for one in found), found)
+        check.holds(f'{name}: killed in a paste, restored', all(one[0] and one[2] for one in found), found)
         if words[0] != 'dash':
-            yield holds(f'{name}: killed in a paste, nothing is run', sum(one[1] for one in found) >= 3, found)
+            check.holds(f'{name}: killed in a paste, nothing is run', sum(one[1] for one in found) >= 3, found)
 
 
-ALL = [shells, pastes]
+CASES = [shells, pastes]
