@@ -59,17 +59,17 @@ border-between before rest k e =
 
 span : (glyphs : List Glyph) (s : Slot) → HasGlyphs glyphs s → IsSpan (side_by_side glyphs) s
 span glyphs s h =
-    let split : glyphs ≡ (h.before ++ h.indexed) ++ h.rest = h.are ∙ sym (append_assoc h.before h.indexed h.rest) in
-    let all = sum_by-append (λ (x : Glyph). x.columns) (h.before ++ h.indexed) h.rest in
-    let both = sum_by-append (λ (x : Glyph). x.columns) h.before h.indexed in
-    let size : length (side_by_side glyphs) ≡ columns_of_glyphs ((h.before ++ h.indexed) ++ h.rest) = length-side glyphs ∙ ap columns_of_glyphs split in
+    let split : glyphs ≡ (h.before ++ h.own) ++ h.rest = h.are ∙ sym (append_assoc h.before h.own h.rest) in
+    let all = sum_by-append (λ (x : Glyph). x.columns) (h.before ++ h.own) h.rest in
+    let both = sum_by-append (λ (x : Glyph). x.columns) h.before h.own in
+    let size : length (side_by_side glyphs) ≡ columns_of_glyphs ((h.before ++ h.own) ++ h.rest) = length-side glyphs ∙ ap columns_of_glyphs split in
     record {
       low = omega (arith, h.column_is);
       fits = omega (arith, h.column_is, h.columns_are, size, all, both);
       begins = subst (λ gs. IsBorder (side_by_side gs) (s.column - 1)) (sym h.are)
-          (border-between h.before (h.indexed ++ h.rest) (s.column - 1) (omega (arith, h.column_is)));
+          (border-between h.before (h.own ++ h.rest) (s.column - 1) (omega (arith, h.column_is)));
       ends = subst (λ gs. IsBorder (side_by_side gs) (s.column - 1 + s.columns)) (sym split)
-          (border-between (h.before ++ h.indexed) h.rest (s.column - 1 + s.columns) (omega (arith, h.column_is, h.columns_are, both)));
+          (border-between (h.before ++ h.own) h.rest (s.column - 1 + s.columns) (omega (arith, h.column_is, h.columns_are, both)));
     }
 
 -- a span of a row is one of the row with others turned

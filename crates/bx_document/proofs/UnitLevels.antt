@@ -78,7 +78,7 @@ module _ (body : List ℕ) (utf8 : IsUtf8 body) (each : List (Option ℕ)) where
     pub next-is : graphemes true (drop (at + length p) body) ≡ ps
     next-is =
         let f = first-cluster (drop at body) p ps (IsUtf8-drop body at utf8 bound) is in
-        sym (f.indexed ∙ ap (graphemes true) (drop-drop (length p) at body))
+        sym (f.own ∙ ap (graphemes true) (drop-drop (length p) at body))
 
     pub next-bounds : IsCharBoundary body (at + length p)
     next-bounds =

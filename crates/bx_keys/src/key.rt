@@ -88,9 +88,9 @@ pub enum Key {
     PageOn,
     /// Begins a selection at the place, or goes on with one, so that the next move keeps the mark.
     Select,
-    /// Takes back all edits since the latest run began.
+    /// Takes back all edits of the latest undo group.
     UndoRun,
-    /// Makes again the edits that were taken back, up to where the next run begins.
+    /// Makes the edits of the next undo group again.
     RedoRun,
     /// Asks for a line.
     GoTo,
