@@ -351,7 +351,7 @@ module _ (n : ℕ) (d : Data) where
   ended : (e : Editor) → InPast e → InPast (paste_ended d e)
   ended e h =
       let left = without_paste e in
-      ended-by d e InPast h h (λ list. replacing left list h) (λ list. insertion left left.place list false h) h
+      ended-by d e InPast h h (λ list. replacing left list h) (λ list. insertion left list false h) h
 
   in-paste : (fault : Option StoreFault) (e : Editor) (key : Key) → InPast e → (is_save key ≡ true → is_none fault ≡ false)
       → InReach (after_in_paste d fault e key)

@@ -84,10 +84,10 @@ find-goes-to-next d e seeks =
     let ls = sought d e in
     let text = e.content.text in
     let x = next_or_start d e in
-    subst (GoesNext d e) (sym (any-key d None e Find search_states.settled refl))
-    (on-find d e (before e) e.prompt e.search_state (GoesNext d e) search_states.unasked search_states.on
-    (next-of d e (forward d r (rows d e) text x ls) (first_from d r ls text x) (first_from d r ls text 0) (first_is d r ls text x search_states.text)
-    (first_is d r ls text 0 search_states.text) (forward-some d r (rows d e) text x ls search_states.letters)))
+    subst (GoesNext d e) (sym (any-key d None e Find seeks.settled refl))
+    (on-find d e (before e) e.prompt e.search_state (GoesNext d e) seeks.unasked seeks.on
+    (next-of d e (forward d r (rows d e) text x ls) (first_from d r ls text x) (first_from d r ls text 0) (first_is d r ls text x seeks.text)
+    (first_is d r ls text 0 seeks.text) (forward-some d r (rows d e) text x ls seeks.letters)))
 
 pub find-back-goes-to-previous : FindBackGoesToPrevious
 find-back-goes-to-previous d e seeks =
@@ -95,7 +95,7 @@ find-back-goes-to-previous d e seeks =
     let ls = sought d e in
     let text = e.content.text in
     let n = length text in
-    subst (GoesBack d e) (sym (any-key d None e FindBack search_states.settled refl))
-    (on-find-back d e (before e) e.prompt e.search_state (GoesBack d e) search_states.unasked search_states.on
+    subst (GoesBack d e) (sym (any-key d None e FindBack seeks.settled refl))
+    (on-find-back d e (before e) e.prompt e.search_state (GoesBack d e) seeks.unasked seeks.on
     (previous-of d e (backward d r (rows d e) text e.place ls) (last_before d r ls text e.place) (last_before d r ls text n)
-    (last_is d r ls text e.place search_states.text) (last_is d r ls text n search_states.text) (backward-some d r (rows d e) text e.place ls search_states.letters)))
+    (last_is d r ls text e.place seeks.text) (last_is d r ls text n seeks.text) (backward-some d r (rows d e) text e.place ls seeks.letters)))

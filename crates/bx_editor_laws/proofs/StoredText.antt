@@ -332,7 +332,7 @@ any s d fault was prompts.Code search_state e key h = asking s d fault was e key
 ended : (s : List ℕ) (d : Data) (e : Editor) → Has s e → Has s (paste_ended d e)
 ended s d e h =
     let left = without_paste e in
-    ended-by d e (Has s) h h (λ list. replacing s d left list h) (λ list. insertion s d left left.place list false h) h
+    ended-by d e (Has s) h h (λ list. replacing s d left list h) (λ list. insertion s d left list false h) h
 
 in-paste : (s : List ℕ) (d : Data) (fault : Option StoreFault) (e : Editor) (key : Key) → Has s e
     → Has (stored_by s (paste_ended d e) (is_save key) fault) (after_in_paste d fault e key)
