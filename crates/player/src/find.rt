@@ -53,37 +53,69 @@ fn found(
     }
 }
 
-/// Answers a `find` line.
-pub fn find_line(alloc: Global, tables: &Tables, fields: &[&str]) -> Result<String, WordFault> {
-    let reading = match field(fields, 0)? {
-        "close" => Reading::Close,
-        "wide" => Reading::Wide,
-        _ => return Err(WordFault::Bad("close or wide is wanted")),
-    };
-    let text = text_of(alloc, field(fields, 1)?)?;
-    let sought = text_of(alloc, field(fields, 2)?)?;
-    let x = count_of(field(fields, 3)?)?;
+/// Appends, for each of the words, the offset at which the query is found, or `-`. The words are separated by blanks.
+fn add_found(
+    line: &mut String,
+    document: &mut Document<Lent<'_, Tables>>,
+    reading: Reading,
+    sought: &str,
+    words: &str,
+    x: usize,
+) -> Result<(), WordFault> {
     // the most characters of a query
-    if char_count(sought.as_str()) > 64 {
+    if char_count(sought) > 64 {
         return Err(WordFault::Bad("the query is too long"));
     }
-    // the number of columns does not affect what is found
-    let mut document = Document::open(alloc, text, Lent { tables }, 80, Base::Auto).map_err(
-        fault_of,
-    )?;
-    let mut line = String::new(alloc);
-    let Some(query) = document.query(reading, sought.as_str()) else {
+    let Some(query) = document.query(reading, sought) else {
         line.push_str("no letters")?;
-        return Ok(line);
+        return Ok(());
     };
-    for word in field(fields, 4)?.split(' ') {
-        add_blank(&mut line)?;
-        match found(&mut document, reading, &query, word, x)? {
-            Some(offset) => add_number(&mut line, offset)?,
+    for word in words.split(' ') {
+        add_blank(line)?;
+        match found(document, reading, &query, word, x)? {
+            Some(offset) => add_number(line, offset)?,
             None => {
                 line.push('-')?;
             }
         }
     }
+    Ok(())
+}
+
+/// Parses the reading of a query.
+fn reading_of(field: &str) -> Result<Reading, WordFault> {
+    match field {
+        "close" => Ok(Reading::Close),
+        "wide" => Ok(Reading::Wide),
+        _ => Err(WordFault::Bad("close or wide is wanted")),
+    }
+}
+
+/// Appends what a query finds in a text. It holds the document, so that `find_line` drops few values: a function proves the drop of
+/// all that it holds on each way out.
+fn add_found_in(
+    line: &mut String,
+    alloc: Global,
+    tables: &Tables,
+    text: String,
+    fields: &[&str],
+    sought: &str,
+) -> Result<(), WordFault> {
+    let reading = reading_of(field(fields, 0)?)?;
+    let x = count_of(field(fields, 3)?)?;
+    let words = field(fields, 4)?;
+    // the number of columns does not affect what is found
+    let mut document = Document::open(alloc, text, Lent { tables }, 80, Base::Auto).map_err(
+        fault_of,
+    )?;
+    add_found(line, &mut document, reading, sought, words, x)
+}
+
+/// Answers a `find` line.
+pub fn find_line(alloc: Global, tables: &Tables, fields: &[&str]) -> Result<String, WordFault> {
+    let text = text_of(alloc, field(fields, 1)?)?;
+    let sought = text_of(alloc, field(fields, 2)?)?;
+    let mut line = String::new(alloc);
+    add_found_in(&mut line, alloc, tables, text, fields, sought.as_str())?;
     Ok(line)
 }
