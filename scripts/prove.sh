@@ -58,7 +58,7 @@ note_proved() {
     mkdir -p out && mv -f -- "$room/proved" out/proved
 }
 
-# Prints what a version of the toolchain, such as `kit-2 logic 1a2b`, says of its logic. Versions with one logic prove the same.
+# Prints what a version of the toolchain, such as `kit-2 logic 1a2b`, says of its logic. Versions with one logic may still build other bytes.
 logic_of() { # VERSION
     printf '%s\n' "${1#*logic }"
 }
