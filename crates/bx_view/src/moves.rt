@@ -28,6 +28,17 @@ pub enum Vertical {
     Down,
 }
 
+/// Where moves from row to row enter a row.
+#[derive(Clone, Copy)]
+pub enum Goal {
+    /// At the unit that covers this column, from 1, else at the row's reading end.
+    Column(u16),
+    /// At the row's first place.
+    Start,
+    /// At the row's end.
+    End,
+}
+
 /// A move of the cursor. The cursor stays if there is no place to go to.
 #[derive(Clone, Copy)]
 pub enum Move {
