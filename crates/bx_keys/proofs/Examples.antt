@@ -12,10 +12,11 @@ use Rattle.bx_keys.specs.Laws.{RestsWait, ComesInPieces, HasParts, keys_of_items
 use Rattle.bx_keys.specs.Waiting.{fate}
 use Rattle.bx_keys.specs.declared.key.Key.{Key}
 use Rattle.bx_keys.specs.declared.key.Key.TheVariants.{Insert, Erase, Delete, Up, Down, Right, Left, RowHome, RowEnd, PageUp, PageDown, Quit, Undo, Redo}
-use Rattle.bx_keys.specs.declared.key.Key.TheVariants.{Direction, Size, Point, Notice}
+use Rattle.bx_keys.specs.declared.key.Key.TheVariants.{Direction, Size, Point, Drag, Notice}
 use Rattle.bx_keys.specs.declared.key.Key.TheVariants.{Mark, Copy, Cut, Put, Find, FindBack, WordLeft, WordRight, TextStart, TextEnd, Help}
 use Rattle.bx_keys.specs.declared.key.Key.TheVariants.{EraseWord, DeleteWord, FindNext, Cancel, ErasePoint, NewLine, LineUp, LineDown, PageBack, PageOn}
 use Rattle.bx_keys.specs.declared.key.Key.TheVariants.{Select, UndoRun, RedoRun, GoTo, Replace, Name, Tell, PasteStart, PasteEnd}
+use Rattle.bx_keys.specs.declared.key.Key.TheVariants.{SelectAll, FindPrevious, Fill, SaveAs, ScrollBack, ScrollOn, AskOverwrite}
 use Rattle.bx_keys.specs.declared.notice.Notice.TheVariants.{NoSpace, InPlace}
 
 abbrev keys : List ℕ → List Key
@@ -44,6 +45,18 @@ erased_and_ended = refl
 pub lines_and_pages : keys (codes "\u{1b}[96~\u{1b}[97~\u{1b}[98~\u{1b}[99~") ≡ LineUp ∷ LineDown ∷ PageBack ∷ PageOn ∷ []
 lines_and_pages = refl
 
+pub hundreds : keys (codes "\u{1b}[100~\u{1b}[101~\u{1b}[102~\u{1b}[103~\u{1b}[104~\u{1b}[105~\u{1b}[106~")
+    ≡ SelectAll ∷ FindPrevious ∷ Fill ∷ SaveAs ∷ ScrollBack ∷ ScrollOn ∷ AskOverwrite ∷ []
+hundreds = refl
+
+-- other numbers, other finals, bytes between, and the bytes that terminals send for some of these keys
+pub no_hundreds : keys (codes "\u{1b}[107~\u{1b}[0100~\u{1b}[100;1~\u{1b}[100 ~\u{1b}[100^\u{1b}[1000~\u{1b}[10~\u{1b}[102t\u{1b}[?102~" ++ 0x01 ∷ 0x0F ∷ 0x1F ∷ [])
+    ≡ []
+no_hundreds = refl
+
+pub no_other_hundreds : keys (codes "\u{1b}[0103~\u{1b}[103;1~\u{1b}[103 ~\u{1b}[103^\u{1b}[0104~\u{1b}[105;1~\u{1b}[104t") ≡ []
+no_other_hundreds = refl
+
 pub notices : keys (codes "\u{1b}[>1~\u{1b}[>9~\u{1b}[>0~\u{1b}[>10~\u{1b}[>1") ≡ Notice NoSpace ∷ Notice InPlace ∷ []
 notices = refl
 
@@ -55,7 +68,7 @@ pub questions : keys (codes "\u{1b}[84~\u{1b}[85~\u{1b}[86~\u{1b}[87~") ≡ GoTo
 questions = refl
 
 -- other numbers, other finals, and bytes between
-pub none_of_these : keys (codes "\u{1b}[69~\u{1b}[100~\u{1b}[070~\u{1b}[72;1~\u{1b}[72 ~\u{1b}[72^\u{1b}[7~") ≡ []
+pub none_of_these : keys (codes "\u{1b}[69~\u{1b}[070~\u{1b}[72;1~\u{1b}[72 ~\u{1b}[72^\u{1b}[7~") ≡ []
 none_of_these = refl
 
 -- terminals send these for the keys: the input filter gives the sequences
@@ -106,6 +119,14 @@ no_cell_of_other_fields = refl
 -- other first numbers and finals
 pub no_cell_of_other_kinds : keys (codes "\u{1b}[07;1;1t\u{1b}[?7;1;1t\u{1b}[7;1;1~\u{1b}[7;1;1T\u{1b}[6;1;1t") ≡ []
 no_cell_of_other_kinds = refl
+
+-- a cell to which the pointer is dragged
+pub dragged_to : keys (codes "\u{1b}[9;1;1t\u{1b}[9;500;500t\u{1b}[9;01;001t\u{1b}[9~") ≡ Drag 1 1 ∷ Drag 500 500 ∷ Drag 1 1 ∷ Direction ∷ []
+dragged_to = refl
+
+pub no_drag_of_these : keys (codes "\u{1b}[9;0;1t\u{1b}[9;1;501t\u{1b}[9;1t\u{1b}[9t\u{1b}[9;1;1;1t\u{1b}[9;0001;1t\u{1b}[09;1;1t\u{1b}[9;1;1~\u{1b}[9;1;1T")
+    ≡ []
+no_drag_of_these = refl
 
 pub padded_size : keys (codes "\u{1b}[8;002;010t") ≡ Size 2 10 ∷ []
 padded_size = refl

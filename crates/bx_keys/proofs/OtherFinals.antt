@@ -27,11 +27,11 @@ not_found fits (key ∷ keys) bs all other =
     cond-false (bytes_eq key.0 bs) (Some key) (find (λ k. bytes_eq k.0 bs) keys) (different fits key.0 bs parts.0 other)
     ∙ not_found fits keys bs parts.1 other
 
--- ---- more than three bytes
+-- ---- more than four bytes
 
-pub longer_no_key : (bs : List ℕ) → 4 ≤ length bs → find (λ key. bytes_eq key.0 bs) sequence_keys ≡ None
+pub longer_no_key : (bs : List ℕ) → 5 ≤ length bs → find (λ key. bytes_eq key.0 bs) sequence_keys ≡ None
 longer_no_key bs long =
-    let other : nat_le (length bs) 3 ≡ false = grind (arith, nat_tests, long) in not_found (λ xs. nat_le (length xs) 3) sequence_keys bs refl other
+    let other : nat_le (length bs) 4 ≡ false = grind (arith, nat_tests, long) in not_found (λ xs. nat_le (length xs) 4) sequence_keys bs refl other
 
 -- ---- the final byte
 
@@ -44,7 +44,7 @@ not_sides between last n none =
     cond-false (nat_eq (final_byte (between ++ last ∷ [])) 0x74) _ _ (ap (λ b. nat_eq b 0x74) (final_of between last) ∙ ne_eqb last 0x74 n)
     ∙ ap (option_map (λ key. key.1)) none
 
-pub long_no_key : (between : List ℕ) (last : ℕ) → 3 ≤ length between → last ≢ 0x74 → sequence_key (between ++ last ∷ []) ≡ None
+pub long_no_key : (between : List ℕ) (last : ℕ) → 4 ≤ length between → last ≢ 0x74 → sequence_key (between ++ last ∷ []) ≡ None
 long_no_key between last long n =
     not_sides between last n (longer_no_key (between ++ last ∷ []) (omega (arith, length_push between last, long)))
 

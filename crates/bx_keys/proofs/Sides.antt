@@ -114,7 +114,9 @@ long_kind : (kind : List ℕ) (h w : ℕ) → 2 ≤ length kind → key_by_kind 
 long_kind [] h w l = refl
 long_kind (a ∷ []) h w l = absurd (omega arith)
 long_kind (a ∷ b ∷ kind) h w l =
-    cond-false (nat_eq a 0x38 && false) _ _ (and_right (nat_eq a 0x38) false refl) ∙ cond-false (nat_eq a 0x37 && false) _ _ (and_right (nat_eq a 0x37) false refl)
+    cond-false (nat_eq a 0x38 && false) _ _ (and_right (nat_eq a 0x38) false refl)
+    ∙ cond-false (nat_eq a 0x37 && false) _ _ (and_right (nat_eq a 0x37) false refl)
+    ∙ cond-false (nat_eq a 0x39 && false) _ _ (and_right (nat_eq a 0x39) false refl)
 
 either_none : (t : Bool) (key : Option Key) → key ≡ None → cond t key None ≡ None
 either_none true key e = e

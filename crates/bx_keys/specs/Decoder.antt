@@ -5,7 +5,7 @@ use Rattle.std.proofs.lemmas.List.{length-take-le, take-append-drop}
 use Rattle.bx_keys.specs.Waiting.{IsWaiting}
 use Rattle.bx_keys.specs.declared.decoder.Decoder.TheInside.{Inside}
 use Rattle.bx_keys.specs.declared.key.Key.{Key}
-use Rattle.bx_keys.specs.declared.key.Key.TheVariants.{Size, Point}
+use Rattle.bx_keys.specs.declared.key.Key.TheVariants.{Size, Point, Drag}
 use Rattle.bx_common.specs.Characters.{largest_side}
 
 -- the bytes that wait, or the first 12 of them: what a decoder `d` holds
@@ -43,4 +43,5 @@ IsSide n = (1 ≤ n) × (n ≤ largest_side)
 abbrev pub HasSides : Key → Type 0
 HasSides (Size h w) = IsSide h × IsSide w
 HasSides (Point h w) = IsSide h × IsSide w
+HasSides (Drag h w) = IsSide h × IsSide w
 HasSides _ = Unit {0}

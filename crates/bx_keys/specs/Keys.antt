@@ -10,10 +10,11 @@ use Rattle.bx_bytes.specs.Utf8.{is_ascii_printable}
 use Rattle.bx_keys.specs.Items.{is_item, begins_item}
 use Rattle.bx_keys.specs.declared.key.Key.{Key}
 use Rattle.bx_keys.specs.declared.key.Key.TheVariants.{Insert, Erase, Delete, Back, Forward, Up, Down, Right, Left, RowHome, RowEnd, PageUp, PageDown, Save}
-use Rattle.bx_keys.specs.declared.key.Key.TheVariants.{Quit, Undo, Redo, Repaint, Direction, Size, Point, Notice}
+use Rattle.bx_keys.specs.declared.key.Key.TheVariants.{Quit, Undo, Redo, Repaint, Direction, Size, Point, Drag, Notice}
 use Rattle.bx_keys.specs.declared.key.Key.TheVariants.{Mark, Copy, Cut, Put, Find, FindBack, WordLeft, WordRight, TextStart, TextEnd, Help}
 use Rattle.bx_keys.specs.declared.key.Key.TheVariants.{EraseWord, DeleteWord, FindNext, Cancel, ErasePoint, NewLine, LineUp, LineDown, PageBack, PageOn}
 use Rattle.bx_keys.specs.declared.key.Key.TheVariants.{Select, UndoRun, RedoRun, GoTo, Replace, Name, Tell, PasteStart, PasteEnd}
+use Rattle.bx_keys.specs.declared.key.Key.TheVariants.{SelectAll, FindPrevious, Fill, SaveAs, ScrollBack, ScrollOn, AskOverwrite}
 use Rattle.bx_keys.specs.declared.notice.Notice.TheVariants as notices
 
 -- ---- the key of an item
@@ -28,9 +29,9 @@ control_keys =
 abbrev pub single_key : ℕ → Option Key
 single_key b = if is_ascii_printable b then Some (Insert b) else option_map (λ k. k.1) (find (λ k. k.0 == b) control_keys)
 
--- the bytes after CSI, with their keys. Those up to 6~ are as terminals send them; 9~ and 70~ to 99~ are the numbers that
--- the filter (`bx_input`), and for 93~ the host, write in place of what terminals send; those with > are the notices of the
--- host.
+-- the bytes after CSI, with their keys. Those up to 6~ are as terminals send them; 9~ and 70~ to 105~ are the numbers that
+-- the filter (`bx_input`), and for 93~ the host, write in place of what terminals send; a journal has 106~ where a save
+-- asked; those with > are the notices of the host.
 abbrev pub sequence_keys : List (List ℕ × Key)
 sequence_keys =
     (codes "A", Up) ∷ (codes "B", Down) ∷ (codes "C", Right) ∷ (codes "D", Left) ∷ (codes "H", RowHome) ∷ (codes "F", RowEnd)
@@ -43,6 +44,8 @@ sequence_keys =
     ∷ (codes "88~", EraseWord) ∷ (codes "89~", DeleteWord) ∷ (codes "90~", PasteStart) ∷ (codes "91~", PasteEnd)
     ∷ (codes "92~", FindNext) ∷ (codes "93~", Cancel) ∷ (codes "94~", ErasePoint) ∷ (codes "95~", NewLine)
     ∷ (codes "96~", LineUp) ∷ (codes "97~", LineDown) ∷ (codes "98~", PageBack) ∷ (codes "99~", PageOn)
+    ∷ (codes "100~", SelectAll) ∷ (codes "101~", FindPrevious) ∷ (codes "102~", Fill) ∷ (codes "103~", SaveAs)
+    ∷ (codes "104~", ScrollBack) ∷ (codes "105~", ScrollOn) ∷ (codes "106~", AskOverwrite)
     ∷ (codes ">1~", Notice notices.NoSpace) ∷ (codes ">2~", Notice notices.FolderGone)
     ∷ (codes ">3~", Notice notices.NotPermitted) ∷ (codes ">4~", Notice notices.ReadOnly)
     ∷ (codes ">5~", Notice notices.Unkept) ∷ (codes ">6~", Notice notices.KeptAgain)
@@ -57,12 +60,17 @@ is_number ds = (nat_le 1 (length ds) && nat_le (length ds) 3) && all_ascii_digit
 abbrev pub is_side_in_digits : List ℕ → Bool
 is_side_in_digits ds = is_number ds && is_side (digits_value 10 ds)
 
--- what the first number says that the two after it are: 8 a window's size, 7 a cell that is pointed at
+-- what the first number says that the two after it are: 8 a window's size, 7 a cell that is pointed at, 9 one to which the
+-- pointer is dragged
 abbrev pub key_by_kind : List ℕ → ℕ → ℕ → Option Key
 key_by_kind kind h w =
-    if bytes_eq kind (codes "8") then Some (Size h w) else if bytes_eq kind (codes "7") then Some (Point h w) else None
+    if bytes_eq kind (codes "8") then Some (Size h w)
+    else if bytes_eq kind (codes "7") then Some (Point h w)
+    else if bytes_eq kind (codes "9") then Some (Drag h w)
+    else None
 
--- what the host tells of a window, and what is told of a mouse: CSI 8 ; rows ; columns t, and CSI 7 ; row ; column t
+-- what the host tells of a window, and what is told of a mouse: CSI 8 ; rows ; columns t, CSI 7 ; row ; column t and
+-- CSI 9 ; row ; column t
 abbrev pub sides_key : List (List ℕ) → Option Key
 sides_key (kind ∷ h ∷ w ∷ []) =
     if is_side_in_digits h && is_side_in_digits w then key_by_kind kind (digits_value 10 h) (digits_value 10 w) else None

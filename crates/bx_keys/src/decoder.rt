@@ -13,7 +13,7 @@ use bx_bytes::Fate;
 use std::alloc::{AllocError, Global};
 use std::marker::Model;
 
-/// Capacity for waiting bytes. The longest sequences with a key have 12 bytes (CSI 8;500;500t and CSI 7;500;500t): 11 of them
+/// Capacity for waiting bytes. The longest sequences with a key have 12 bytes (as CSI 8;500;500t): 11 of them
 /// wait, and a twelfth that waits shows that there is no key.
 const HEAD_LEN: usize = 12;
 

@@ -100,6 +100,20 @@ pub enum Key {
     Name,
     /// Tells what stands at the place.
     Tell,
+    /// Selects the whole text.
+    SelectAll,
+    /// Goes to the previous match, and no search stays on.
+    FindPrevious,
+    /// Moves the top so that no row of the window is left blank that could show text.
+    Fill,
+    /// Asks for a name to save under.
+    SaveAs,
+    /// The view three rows back; the place stays while its row is shown.
+    ScrollBack,
+    /// The view three rows on; the place stays while its row is shown.
+    ScrollOn,
+    /// Asks whether to overwrite a file that another program changed.
+    AskOverwrite,
     /// A paste begins: the characters up to its end are put into the text at once, when it ends.
     PasteStart,
     /// A paste ends.
@@ -108,6 +122,8 @@ pub enum Key {
     Size(u16, u16),
     /// Goes to the cell of the window in this row and column, each from 1 to 500.
     Point(u16, u16),
+    /// Selects from what was pointed at to the cell in this row and column, each from 1 to 500.
+    Drag(u16, u16),
     /// Shows a notice of the host in the status row.
     Notice(Notice),
 }

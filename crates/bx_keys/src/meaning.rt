@@ -69,6 +69,7 @@ fn control_sequence_key(between: &[u8], last: u8) -> Option<Key>
         [] => plain_key(last),
         [number] if last == b'~' => numbered_key(*number),
         [first, second] if last == b'~' => two_byte_key(*first, *second),
+        [first, second, third] if last == b'~' => three_byte_key(*first, *second, *third),
         _ => None,
     }
 }
@@ -198,7 +199,35 @@ fn nineties_key(ones: u8) -> Option<Key>
     }
 }
 
-/// The key of two sides, by what is between CSI and `t`: 8;ROWS;COLUMNS or 7;ROW;COLUMN.
+/// The key of CSI, three bytes and `~`.
+fn three_byte_key(first: u8, second: u8, third: u8) -> Option<Key>
+    ensures value { result ≡ spec.sequence_key (first ∷ second ∷ third ∷ 0x7E ∷ []) }
+    ensures sides { IfSome result HasSides }
+{
+    match first {
+        b'1' if second == b'0' => hundreds_key(third),
+        _ => None,
+    }
+}
+
+/// The key of a number from 100 to 109.
+fn hundreds_key(ones: u8) -> Option<Key>
+    ensures value { result ≡ spec.sequence_key (0x31 ∷ 0x30 ∷ ones ∷ 0x7E ∷ []) }
+    ensures sides { IfSome result HasSides }
+{
+    match ones {
+        b'0' => Some(Key::SelectAll),
+        b'1' => Some(Key::FindPrevious),
+        b'2' => Some(Key::Fill),
+        b'3' => Some(Key::SaveAs),
+        b'4' => Some(Key::ScrollBack),
+        b'5' => Some(Key::ScrollOn),
+        b'6' => Some(Key::AskOverwrite),
+        _ => None,
+    }
+}
+
+/// The key of two sides, by what is between CSI and `t`: 8;ROWS;COLUMNS, 7;ROW;COLUMN or 9;ROW;COLUMN.
 fn sides_key(between: &[u8]) -> Option<Key>
     ensures value { result ≡ spec.sides_key (slice_split (λ b. b == 0x3B) between.now) }
     ensures sides { IfSome result HasSides }
@@ -228,6 +257,7 @@ fn key_by_kind(kind: u8, first: u16, second: u16) -> Option<Key>
     match kind {
         b'7' => Some(Key::Point(first, second)),
         b'8' => Some(Key::Size(first, second)),
+        b'9' => Some(Key::Drag(first, second)),
         _ => None,
     }
 }
