@@ -6,11 +6,14 @@ use Rattle.bx_common.specs.declared.base.Base.TheVariants.{Auto, Ltr, Rtl}
 use Rattle.bx_common.specs.Characters.{largest_text}
 use Rattle.bx_editor.specs.declared.questions.answers.Prompt.{Prompt}
 use Rattle.bx_editor.specs.declared.questions.answers.Prompt.TheVariants as prompts
+use Rattle.bx_editor.specs.declared.clicks.Clicks.{Clicks}
+use Rattle.bx_editor.specs.declared.clicks.Pressed.{Pressed}
 use Rattle.bx_keys.specs.declared.notice.Notice.{Notice}
 use Rattle.bx_store.specs.declared.store.StoreFault.{StoreFault}
 use Rattle.bx_text.specs.Edits.{Edited, Edit, opened, undone, redone}
 use Rattle.bx_text.specs.declared.change.Change.{Change}
 use Rattle.bx_view.specs.TextRows.{TextRow, text_rows}
+use Rattle.bx_view.specs.declared.moves.Goal.{Goal}
 use Rattle.bx_view.specs.Moves.{place_from}
 use Rattle.bx_document.specs.declared.history.HistoryStep.{HistoryStep}
 use Rattle.bx_document.specs.History.{exchange, insertion, next_changes, removal, stepped_times}
@@ -41,8 +44,14 @@ pub record Editor : Type 0 where
   pub mark : Option ℕ
   -- how fresh a selection is
   pub soft : Soft
+  -- presses at one cell, one after the other
+  pub clicks : Option Clicks
+  -- what was pressed last, from which a drag begins
+  pub pressed : Option Pressed
   -- the text copied or cut last, in UTF-8
   pub held : List ℕ
+  -- it is a whole line, which is put over another
+  pub whole_line : Bool
   -- the query of the search, or of the latest one: at most 64 characters, in UTF-8
   pub query : List ℕ
   -- how far the search is
@@ -60,6 +69,8 @@ pub record Editor : Type 0 where
   -- what the user is asked, and the answer as far as it is typed, in UTF-8
   pub prompt : Prompt
   pub answer : List ℕ
+  -- the cursor's place in the input line that a prompt shows: the query, the replacement or the answer
+  pub input_cursor : ℕ
   -- what a paste has brought so far, in UTF-8; none while none is under way that goes into the text
   pub pasted : Option (List ℕ)
   -- the lengths of the past at which undo groups begin
@@ -75,8 +86,8 @@ pub record Editor : Type 0 where
   pub quit_before : Bool
   pub ended : Bool
   pub base : Base
-  -- the column, from 1, that moves from row to row keep, if one is kept
-  pub goal : Option ℕ
+  -- the column, or the edge of a row, that moves from row to row keep, if one is kept
+  pub goal : Option Goal
   -- the window's rows and columns
   pub height : ℕ
   pub width : ℕ
@@ -84,6 +95,16 @@ pub record Editor : Type 0 where
   pub top : ℕ
   -- text that is copied or cut goes out to a clipboard
   pub clipboard : Bool
+  -- nothing changes the text
+  pub read_only : Bool
+  -- a new line is indented as the one before
+  pub auto_indent : Bool
+  -- a tab that is typed becomes spaces up to the next multiple of this number of units; 0: it is a tab
+  pub tab_width : ℕ
+  -- the file's name, in UTF-8, if the session has one; empty: the text has no name yet
+  pub name : Option (List ℕ)
+  -- saves go to the file that the session was opened with, or to the name under which a save succeeded last
+  pub home : Bool
 
 -- at opening
 abbrev pub at_start : List ℕ → ℕ → ℕ → Base → Editor
@@ -92,7 +113,10 @@ at_start text height width base = record {
   place = 0;
   mark = None;
   soft = softness.Off;
+  clicks = None;
+  pressed = None;
   held = [];
+  whole_line = false;
   query = [];
   search_state = search_states.Off;
   purpose = purposes.Find;
@@ -102,6 +126,7 @@ at_start text height width base = record {
   count = 0;
   prompt = prompts.Off;
   answer = [];
+  input_cursor = 0;
   pasted = None;
   undo_groups = [];
   typing = typings.Off;
@@ -116,6 +141,11 @@ at_start text height width base = record {
   width = width;
   top = 0;
   clipboard = false;
+  read_only = false;
+  auto_indent = false;
+  tab_width = 0;
+  name = None;
+  home = true;
 }
 
 -- the rows of any text in the editor's layout
@@ -130,7 +160,7 @@ rows d e = rows_of d e e.content.text
 abbrev pub text_height : ℕ → ℕ
 text_height height = if nat_le 2 height then height - 1 else 1
 
--- ---- edits: each that changes the text removes the mark and ends the search
+-- ---- edits: each that changes the text removes the mark, ends the search and forgets what was pressed
 
 -- `stored` once an edit was made where the past has `n` edits: a stored text with a longer past is reached no more, since an edit
 -- drops what could be redone
@@ -153,6 +183,8 @@ with_edit d e content offset goes_on =
       mark = None;
       soft = softness.Off;
       search_state = search_states.Off;
+      clicks = None;
+      pressed = None;
       undo_groups = edited e.undo_groups n goes_on;
       stored = stored_behind n e.stored;
       changed = true;
@@ -174,7 +206,16 @@ with_exchange d e start stop new = with_edit d e (exchange (rows_of d e) e.conte
 
 -- the text after undoing or redoing, with the cursor at this place. `changed`: it counts as changed
 abbrev pub with_step : Editor → Edited → ℕ → Bool → Editor
-with_step e content place changed = record e { content = content; place = place; mark = None; soft = softness.Off; search_state = search_states.Off; changed = changed }
+with_step e content place changed = record e {
+  content = content;
+  place = place;
+  mark = None;
+  soft = softness.Off;
+  search_state = search_states.Off;
+  clicks = None;
+  pressed = None;
+  changed = changed;
+}
 
 -- the latest edit is undone, and the cursor returns to its place before it. One edit undone or redone counts as a change, even
 -- where it gives the stored text again
@@ -230,9 +271,9 @@ help_behind _ = messages.Help
 abbrev pub after_help : Editor → Option Message → Editor
 after_help e told = record e { message = Some (help_behind told) }
 
--- the window gets this size, in rows and columns
+-- the window gets this size, in rows and columns, so that no press is at the same cell as one before
 abbrev pub with_size : Editor → ℕ → ℕ → Editor
-with_size e height width = record e { height = height; width = width }
+with_size e height width = record e { height = height; width = width; clicks = None }
 
 -- the row of this offset is shown first
 abbrev pub with_top : Editor → ℕ → Editor
@@ -241,6 +282,26 @@ with_top e top = record e { top = top }
 -- text that is copied or cut goes out to a clipboard
 abbrev pub with_clipboard : Editor → Editor
 with_clipboard e = record e { clipboard = true }
+
+-- nothing changes the text
+abbrev pub with_read_only : Editor → Editor
+with_read_only e = record e { read_only = true }
+
+-- a new line is indented as the one before
+abbrev pub with_auto_indent : Editor → Editor
+with_auto_indent e = record e { auto_indent = true }
+
+-- a tab that is typed becomes spaces
+abbrev pub with_tab_width : Editor → ℕ → Editor
+with_tab_width e width = record e { tab_width = width }
+
+-- the file has this name, or the text has none yet
+abbrev pub with_name : Editor → List ℕ → Editor
+with_name e name = record e { name = Some name; home = nat_lt 0 (length name) }
+
+-- no press is behind, and nothing was pressed
+abbrev pub unpressed : Editor → Editor
+unpressed e = record e { clicks = None; pressed = None }
 
 abbrev pub with_place : Editor → ℕ → Editor
 with_place e place = record e { place = place }

@@ -1,52 +1,23 @@
 -- What keys do outside a search and a question, in kinds: each key has one. `e` is the editor.
-use Rattle.std.specs.Prelude.{ℕ, Bool, Option, Some, None, unwrap_or, nat_le, if◌then◌else◌}
+use Rattle.std.specs.Prelude.{ℕ, Option, Some, length}
 use Rattle.bx_store.specs.declared.store.StoreFault.{StoreFault}
 use Rattle.bx_ucd.specs.Data.{Data}
 use Rattle.bx_document.specs.declared.history.HistoryStep.{HistoryStep}
 use Rattle.bx_editor.specs.declared.undo_groups.typing.Removal.{Removal}
-use Rattle.bx_editor.specs.declared.undo_groups.typing.Typing.{Typing}
 use Rattle.bx_view.specs.declared.moves.Vertical.{Vertical}
-use Rattle.bx_view.specs.Moves.{rows_away}
-use Rattle.bx_view.specs.TextRows.{cell_of}
-use Rattle.bx_view.specs.Top.{pointed_at}
 use Rattle.bx_editor.specs.declared.questions.answers.Prompt.TheVariants.{Line, Name}
 use Rattle.bx_editor.specs.declared.search_state.SearchPurpose.{SearchPurpose}
-use Rattle.bx_editor.specs.declared.message.Message.{Message}
-use Rattle.bx_editor.specs.declared.message.Message.TheVariants.{Told}
+use Rattle.bx_editor.specs.declared.message.Message.TheVariants.{Told, ViewOnly}
 use Rattle.bx_editor.specs.Asking.{asking}
+use Rattle.bx_editor.specs.Before.{Before}
 use Rattle.bx_editor.specs.Editor.{Editor, after_help, after_quit, after_save, after_step, next_base, with_base, with_place, with_typing}
-use Rattle.bx_editor.specs.Editor.{after_group_step, rows, text_height}
+use Rattle.bx_editor.specs.Editor.{after_group_step}
 use Rattle.bx_editor.specs.Erasing.{after_erasing, after_erasing_word}
 use Rattle.bx_editor.specs.Putting.{after_character, after_new_line, after_put}
+use Rattle.bx_editor.specs.Pointing.{after_drag, after_point, selecting_part}
 use Rattle.bx_editor.specs.Region.{after_copy, after_cut, after_mark, without_mark, after_select, unselected}
+use Rattle.bx_editor.specs.RowMoves.{after_row_end, after_row_move, after_wheel}
 use Rattle.bx_editor.specs.Search.{after_beginning, after_find_next}
-use Rattle.bx_keys.specs.declared.key.Key.{Key}
-use Rattle.bx_keys.specs.declared.key.Key.TheVariants.{LineUp, LineDown, PageBack, PageOn, Repaint, Select}
-
--- the column, from 1, that LineUp, LineDown, PageBack and PageOn keep, else the cursor's
-abbrev pub goal_column : Data → Editor → ℕ
-goal_column d e = unwrap_or e.goal (cell_of e.width (rows d e) e.place)
-
--- up or down by `n` rows, in the kept column
-abbrev pub after_row_move : Data → Editor → Vertical → ℕ → Editor
-after_row_move d e way n =
-    let column = goal_column d e in
-    record e { place = rows_away e.width (rows d e) way n column e.place; goal = Some column }
-
--- the kept column after a key that the user presses: any other key than these forgets it
-abbrev pub goal_behind : Key → Option ℕ → Option ℕ
-goal_behind LineUp goal = goal
-goal_behind LineDown goal = goal
-goal_behind PageBack goal = goal
-goal_behind PageOn goal = goal
-goal_behind Repaint goal = goal
-goal_behind Select goal = goal
-goal_behind _ goal = None
-
--- the place in a row and a column of the picture, whose first row is the one that was last shown first; the status row points
--- nowhere, and the cursor stays
-abbrev pub pointed_place : Data → Editor → ℕ → ℕ → ℕ
-pointed_place d e row column = if nat_le row (text_height e.height) then pointed_at e.width (rows d e) e.top row column else e.place
 
 -- what a key does
 pub data Effect : Type 0 where
@@ -61,12 +32,18 @@ pub data Effect : Type 0 where
   -- one edit, or an undo group, is undone or redone
   Steps : HistoryStep → Effect
   StepsGroup : HistoryStep → Effect
-  -- the cursor goes to a place, or by a number of rows in the kept column
+  -- the cursor goes to a place, to the row's end, or by a number of rows in the kept column
   Goes : ℕ → Effect
+  GoesToRowEnd : ℕ → Effect
   GoesByRows : Vertical → ℕ → Effect
+  -- a click at, or a drag to, a row and a column of the picture; the wheel
+  Clicks : ℕ → ℕ → Effect
+  Drags : ℕ → ℕ → Effect
+  Wheels : Vertical → Effect
   -- the mark is set, or removed where it is; a selection begins or goes on; the mark is removed
   Marks : Effect
   Selects : Effect
+  SelectsAll : Effect
   Unmarks : Effect
   -- the region, or the line if it is empty, is held; Cuts removes it too
   Copies : Effect
@@ -83,17 +60,10 @@ pub data Effect : Type 0 where
   AsksLine : Effect
   AsksName : Effect
   Tells : Effect
+  -- nothing, since the text is only looked at
+  Refuses : Effect
   -- nothing; what is typed goes on
   Rests : Effect
-
--- what the key before left: whether it was Quit, its message, and what the next edit may go on with
-pub record Before : Type 0 where
-  pub again : Bool
-  pub message : Option Message
-  pub typing : Typing
-
-abbrev pub before : Editor → Before
-before e = record { again = e.quit_before; message = e.message; typing = e.typing }
 
 -- the effect on an editor whose message is cleared. `d`: Unicode's data; `fault`: why a Save failed, None if it succeeded; `was`:
 -- what the key before left
@@ -106,9 +76,14 @@ by d fault was e (RemovesWord start stop) = after_erasing_word d e start stop
 by d fault was e (Steps step) = after_step step e
 by d fault was e (StepsGroup step) = after_group_step step e
 by d fault was e (Goes place) = with_place (unselected e) place
+by d fault was e (GoesToRowEnd place) = after_row_end (unselected e) place
 by d fault was e (GoesByRows way n) = after_row_move d (unselected e) way n
+by d fault was e (Clicks row column) = after_point d e row column
+by d fault was e (Drags row column) = after_drag d e row column e.pressed
+by d fault was e (Wheels way) = after_wheel d was e way
 by d fault was e Marks = after_mark e
 by d fault was e Selects = after_select e
+by d fault was e SelectsAll = selecting_part e 0 (length e.content.text)
 by d fault was e Unmarks = without_mark e
 by d fault was e Copies = after_copy d e
 by d fault was e Cuts = after_cut d e
@@ -121,4 +96,5 @@ by d fault was e Helps = after_help e was.message
 by d fault was e AsksLine = asking (unselected e) Line
 by d fault was e AsksName = asking e Name
 by d fault was e Tells = record e { message = Some Told }
+by d fault was e Refuses = record e { message = Some ViewOnly }
 by d fault was e Rests = with_typing e was.typing

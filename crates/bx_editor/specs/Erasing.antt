@@ -1,5 +1,6 @@
 -- What the keys that erase and delete remove. `d` is Unicode's data, `e` the editor; offsets and places count bytes of the text.
-use Rattle.std.specs.Prelude.{ℕ, ◌+◌, ◌==◌, Bool, false, slice_range, if◌then◌else◌}
+use Rattle.std.specs.Prelude.{ℕ, ◌+◌, ◌-◌, ◌%◌, ◌==◌, ◌&&◌, not, nat_lt, Bool, false, slice_range, if◌then◌else◌}
+use Rattle.std.specs.List.{list_all}
 use Rattle.bx_ucd.specs.Data.{Data}
 use Rattle.bx_document.specs.Points.{point_start}
 use Rattle.bx_editor.specs.declared.undo_groups.typing.Removal.{Removal}
@@ -8,7 +9,7 @@ use Rattle.bx_editor.specs.undo_groups.Groups.{after_removal, goes_on_removing}
 use Rattle.bx_view.specs.Moves.{step_logical}
 use Rattle.bx_view.specs.declared.moves.Logical.TheVariants.{Back}
 use Rattle.bx_editor.specs.Editor.{Editor, rows, with_removal}
-use Rattle.bx_editor.specs.Region.{region, is_selection}
+use Rattle.bx_editor.specs.Region.{region, is_selection, line}
 
 -- the bytes from `start` to `stop` are removed, in the undo group before if `goes_on`; if there are none, nothing changes
 abbrev pub after_removing : Data → Editor → ℕ → ℕ → Bool → Editor
@@ -40,3 +41,17 @@ abbrev pub point_before : Data → Editor → ℕ
 point_before d e =
     let unit = step_logical (rows d e) Back e.place in
     unit + point_start d (slice_range e.content.text unit e.place)
+
+-- there is a tab's width, and only spaces stand before the place in its line, one at least
+abbrev pub is_behind_spaces : Data → Editor → Bool
+is_behind_spaces d e =
+    let start = (line d e).0 in
+    not (e.tab_width == 0) && nat_lt start e.place && list_all (λ b. b == 0x20) (slice_range e.content.text start e.place)
+
+-- where the spaces begin that lead from the multiple of the tab's width before the place to it
+abbrev pub stop_before : Data → Editor → ℕ
+stop_before d e = e.place - ((e.place - (line d e).0 - 1) % e.tab_width + 1)
+
+-- what ErasePoint removes begins here
+abbrev pub erased_from : Data → Editor → ℕ
+erased_from d e = if is_behind_spaces d e then stop_before d e else point_before d e

@@ -1,17 +1,19 @@
 -- The effect of each key on the editor's state. `d`: Unicode's data; `fault`: why a Save failed, None if it succeeded; `was`: what
 -- the key before left; `e`: the editor, from which `after_user` clears that.
-use Rattle.std.specs.Prelude.{ℕ, Bool, true, false, ◌&&◌, ◌||◌, is_some, List, length, Option, Some, None}
+use Rattle.std.specs.Prelude.{ℕ, Bool, true, false, ◌&&◌, ◌||◌, not, if◌then◌else◌, is_some, List, length, Option, Some, None}
 use Rattle.bx_keys.specs.declared.key.Key.{Key}
 use Rattle.bx_keys.specs.declared.key.Key.TheVariants.{Insert, Erase, Delete, Back, Forward, Up, Down, Right, Left, RowHome, RowEnd, PageUp, PageDown}
 use Rattle.bx_keys.specs.declared.key.Key.TheVariants.{Save, Quit, Undo, Redo, Repaint, Direction, Size, Mark, Copy, Cut, Put}
 use Rattle.bx_keys.specs.declared.key.Key.TheVariants.{Find, FindBack, WordLeft, WordRight, TextStart, TextEnd, Help, Notice}
 use Rattle.bx_keys.specs.declared.key.Key.TheVariants.{EraseWord, DeleteWord, ErasePoint, NewLine, FindNext, Cancel, LineUp, LineDown, PageBack, PageOn}
+use Rattle.bx_keys.specs.declared.key.Key.TheVariants.{AskOverwrite, Drag, Fill, FindPrevious, SaveAs, ScrollBack, ScrollOn, SelectAll}
 use Rattle.bx_keys.specs.declared.key.Key.TheVariants.{Select, UndoRun, RedoRun, GoTo, Replace, Name, Tell, PasteStart, PasteEnd, Point}
 use Rattle.bx_store.specs.declared.store.StoreFault.{StoreFault}
 use Rattle.bx_document.specs.declared.history.HistoryStep.TheVariants as steps
 use Rattle.bx_paragraph.specs.declared.moves.Visual.TheVariants as visual
 use Rattle.bx_editor.specs.declared.undo_groups.typing.Removal.TheVariants as removals
 use Rattle.bx_view.specs.declared.moves.Logical.TheVariants as logical
+use Rattle.bx_view.specs.declared.moves.Vertical.{Vertical}
 use Rattle.bx_view.specs.declared.moves.Vertical.TheVariants as ways
 use Rattle.bx_view.specs.Moves.{step_logical, step_visual, vertical, page, row_home, row_end, word_towards}
 use Rattle.bx_view.specs.Words.{step_word}
@@ -23,10 +25,14 @@ use Rattle.bx_editor.specs.declared.questions.answers.Prompt.{Prompt}
 use Rattle.bx_editor.specs.declared.questions.answers.Prompt.TheVariants as prompts
 use Rattle.bx_editor.specs.Asking.{after_answer_letter, after_shorter_answer, without_prompt}
 use Rattle.bx_editor.specs.Editor.{Editor, cleared, rows, text_height, with_notice, with_size, with_typing}
-use Rattle.bx_editor.specs.Effects.{Effect, Types, BeginsLine, Puts, Removes, RemovesWord, Steps, StepsGroup, Goes, GoesByRows, Marks}
-use Rattle.bx_editor.specs.Effects.{Selects, Unmarks, Copies, Cuts, Seeks, SeeksNext, Saves, Quits, Turns, Helps, AsksLine, AsksName}
-use Rattle.bx_editor.specs.Effects.{Tells, Rests, Before, before, by, goal_behind, pointed_place}
-use Rattle.bx_editor.specs.Erasing.{point_before}
+use Rattle.bx_editor.specs.Effects.{Effect, Types, BeginsLine, Puts, Removes, RemovesWord, Steps, StepsGroup, Goes, GoesByRows, GoesToRowEnd, Clicks}
+use Rattle.bx_editor.specs.Effects.{Drags, Wheels, Marks, Selects, SelectsAll, Unmarks, Copies, Cuts, Seeks, SeeksNext, Saves, Quits, Turns, Helps}
+use Rattle.bx_editor.specs.Effects.{AsksLine, AsksName, Tells, Refuses, Rests, by}
+use Rattle.bx_editor.specs.Before.{Before, before}
+use Rattle.bx_editor.specs.Clicks.{clicks_behind, pressed_behind}
+use Rattle.bx_editor.specs.Erasing.{erased_from}
+use Rattle.bx_editor.specs.RowMoves.{after_wheel, goal_behind}
+use Rattle.bx_editor.specs.Scrolling.{page_rows}
 use Rattle.bx_editor.specs.Putting.{after_paste_end, after_paste_start, after_pasted_letter, paste_ended, only_paste}
 use Rattle.bx_editor.specs.Replacing.{after_asking_replacement, after_ending, after_match_letter, after_replacement_letter, after_passing_over}
 use Rattle.bx_editor.specs.Replacing.{after_replacing_all, after_shorter_replacement, after_showing, after_sought_letter}
@@ -40,7 +46,7 @@ abbrev pub effect_of : Data → Editor → Key → Effect
 effect_of d e (Insert c) = Types c
 effect_of d e NewLine = BeginsLine
 effect_of d e Erase = Removes removals.Erase (step_logical (rows d e) logical.Back e.place) e.place
-effect_of d e ErasePoint = Removes removals.Erase (point_before d e) e.place
+effect_of d e ErasePoint = Removes removals.Erase (erased_from d e) e.place
 effect_of d e Delete = Removes removals.Delete e.place (step_logical (rows d e) logical.Forward e.place)
 effect_of d e EraseWord = RemovesWord (step_word d e.content.text logical.Back e.place) e.place
 effect_of d e DeleteWord = RemovesWord e.place (step_word d e.content.text logical.Forward e.place)
@@ -51,7 +57,7 @@ effect_of d e Down = Goes (vertical e.width (rows d e) ways.Down e.place)
 effect_of d e Right = Goes (step_visual e.width (rows d e) visual.Right e.place)
 effect_of d e Left = Goes (step_visual e.width (rows d e) visual.Left e.place)
 effect_of d e RowHome = Goes (row_home (rows d e) e.place)
-effect_of d e RowEnd = Goes (row_end (rows d e) e.place)
+effect_of d e RowEnd = GoesToRowEnd (row_end (rows d e) e.place)
 effect_of d e PageUp = Goes (page e.width (rows d e) ways.Up (text_height e.height) e.place)
 effect_of d e PageDown = Goes (page e.width (rows d e) ways.Down (text_height e.height) e.place)
 effect_of d e WordLeft = Goes (word_towards d e.content.text (rows d e) visual.Left e.place)
@@ -60,15 +66,19 @@ effect_of d e TextStart = Goes 0
 effect_of d e TextEnd = Goes (length e.content.text)
 effect_of d e LineUp = GoesByRows ways.Up 1
 effect_of d e LineDown = GoesByRows ways.Down 1
-effect_of d e PageBack = GoesByRows ways.Up (text_height e.height)
-effect_of d e PageOn = GoesByRows ways.Down (text_height e.height)
-effect_of d e (Point row column) = Goes (pointed_place d e row column)
+effect_of d e PageBack = GoesByRows ways.Up (page_rows (text_height e.height))
+effect_of d e PageOn = GoesByRows ways.Down (page_rows (text_height e.height))
+effect_of d e (Point row column) = Clicks row column
+effect_of d e (Drag row column) = Drags row column
+effect_of d e ScrollBack = Wheels ways.Up
+effect_of d e ScrollOn = Wheels ways.Down
 effect_of d e Undo = Steps steps.Undo
 effect_of d e Redo = Steps steps.Redo
 effect_of d e UndoRun = StepsGroup steps.Undo
 effect_of d e RedoRun = StepsGroup steps.Redo
 effect_of d e Mark = Marks
 effect_of d e Select = Selects
+effect_of d e SelectAll = SelectsAll
 effect_of d e Cancel = Unmarks
 effect_of d e Copy = Copies
 effect_of d e Cut = Cuts
@@ -86,14 +96,38 @@ effect_of d e Name = AsksName
 effect_of d e Tell = Tells
 effect_of d e _ = Rests
 
+-- keys that change the text, or begin to, outside a search and a question
+abbrev pub changes_text : Key → Bool
+changes_text (Insert c) = true
+changes_text NewLine = true
+changes_text Erase = true
+changes_text ErasePoint = true
+changes_text Delete = true
+changes_text EraseWord = true
+changes_text DeleteWord = true
+changes_text Cut = true
+changes_text Put = true
+changes_text Undo = true
+changes_text Redo = true
+changes_text UndoRun = true
+changes_text RedoRun = true
+changes_text Replace = true
+changes_text Name = true
+changes_text Save = true
+changes_text _ = false
+
+-- such a key is refused where the text is only looked at
+abbrev pub allowed_effect : Data → Editor → Key → Effect
+allowed_effect d e key = if e.read_only && changes_text key then Refuses else effect_of d e key
+
 -- the editor after a key, outside a search and a question
 abbrev pub after_pressing : Data → Option StoreFault → Before → Editor → Key → Editor
-after_pressing d fault was e key = by d fault was e (effect_of d e key)
+after_pressing d fault was e key = by d fault was e (allowed_effect d e key)
 
 -- ---- while the query is asked for: a key answers, or does what it always does and ends the search
 
 -- what a key means where something is asked: a character is typed, the last one removed, all given up, the next or the previous
--- match sought, matches replaced, nothing done, or its usual effect taken
+-- match sought, matches replaced, the view moved, nothing done, or its usual effect taken
 pub data Answer : Type 0 where
   Letter : ℕ → Answer
   Shortens : Answer
@@ -101,6 +135,7 @@ pub data Answer : Type 0 where
   Next : Answer
   Previous : Answer
   Replaces : Answer
+  Scrolls : Vertical → Answer
   Stays : Answer
   Ends : Answer
 
@@ -118,6 +153,8 @@ answer_of Find = Next
 answer_of FindNext = Next
 answer_of FindBack = Previous
 answer_of Replace = Replaces
+answer_of ScrollBack = Scrolls ways.Up
+answer_of ScrollOn = Scrolls ways.Down
 answer_of Repaint = Stays
 answer_of _ = Ends
 
@@ -129,6 +166,7 @@ answered d fault was e key GoesBack = after_giving_up e
 answered d fault was e key Next = after_find d e
 answered d fault was e key Previous = after_find_back d e
 answered d fault was e key Replaces = after_asking_replacement d e
+answered d fault was e key (Scrolls way) = after_wheel d was e way
 answered d fault was e key Stays = with_typing e was.typing
 answered d fault was e key Ends = without_search (after_pressing d fault was e key)
 
@@ -145,6 +183,7 @@ answered_replacement d fault was e key GoesBack = after_giving_up e
 answered_replacement d fault was e key Next = by d fault was (without_search e) (Seeks purposes.Find)
 answered_replacement d fault was e key Previous = by d fault was (without_search e) (Seeks purposes.Find)
 answered_replacement d fault was e key Replaces = after_showing d e
+answered_replacement d fault was e key (Scrolls way) = after_wheel d was e way
 answered_replacement d fault was e key Stays = with_typing e was.typing
 answered_replacement d fault was e key Ends = after_pressing d fault was (without_search e) key
 
@@ -158,6 +197,7 @@ answered_match d fault was e key GoesBack = after_ending e
 answered_match d fault was e key Next = after_passing_over d e
 answered_match d fault was e key Previous = by d fault was (without_search e) (Seeks purposes.Find)
 answered_match d fault was e key Replaces = after_replacing_all d e
+answered_match d fault was e key (Scrolls way) = after_wheel d was e way
 answered_match d fault was e key Stays = with_typing e was.typing
 answered_match d fault was e key Ends = after_pressing d fault was (without_search e) key
 
@@ -178,6 +218,7 @@ abbrev pub answered_question : Data → Option StoreFault → Before → Editor 
 answered_question d fault was e key (Letter c) = after_answer_letter d was.typing e.prompt e c
 answered_question d fault was e key Shortens = after_shorter_answer e.prompt e
 answered_question d fault was e key GoesBack = without_prompt e
+answered_question d fault was e key (Scrolls way) = after_wheel d was e way
 answered_question d fault was e key Stays = with_typing e was.typing
 answered_question d fault was e key _ = after_pressing d fault was (without_prompt e) key
 
@@ -186,18 +227,39 @@ after_asking d fault was e key = answered_question d fault was e key (answer_of 
 
 -- ---- any key
 
+abbrev pub is_replace : Key → Bool
+is_replace Replace = true
+is_replace _ = false
+
+abbrev pub is_overwrite : Prompt → Bool
+is_overwrite prompts.Overwrite = true
+is_overwrite _ = false
+
+-- where the text is only looked at, Replace neither begins nor ends anything, but where the question is whether to overwrite
+abbrev pub refuses_replacing : Editor → Key → Bool
+refuses_replacing e key = e.read_only && is_replace key && not (is_overwrite e.prompt)
+
 -- a question has the key before a search has
 abbrev pub after_any : Data → Option StoreFault → Before → Prompt → SearchState → Editor → Key → Editor
 after_any d fault was prompts.Off search_state e key = after_searching d fault was search_state e key
 after_any d fault was _ _ e key = after_asking d fault was e key
 
--- with the kept column and the selection that a key leaves
+-- with the kept column, the selection and the presses that a key leaves
 abbrev pub as_left : Key → Editor → Editor
-as_left key e = record e { goal = goal_behind key e.goal; soft = soft_behind key e.soft }
+as_left key e = record e {
+  goal = goal_behind key e.goal;
+  soft = soft_behind key e.soft;
+  clicks = clicks_behind key e.clicks;
+  pressed = pressed_behind key e.pressed;
+}
 
 -- a key that the user presses where no paste is under way
 abbrev pub after_user : Data → Option StoreFault → Editor → Key → Editor
-after_user d fault e key = as_left key (after_any d fault (before e) e.prompt e.search_state (cleared e) key)
+after_user d fault e key = as_left key (
+    if refuses_replacing e key
+    then by d fault (before e) (cleared e) Refuses
+    else after_any d fault (before e) e.prompt e.search_state (cleared e) key
+)
 
 -- ---- while a paste is under way: a character goes into it, and Repaint leaves it; any other key first ends it
 
@@ -215,6 +277,7 @@ after_press d fault (Some list) e key = after_in_paste d fault e key
 abbrev pub after_key : Data → Option StoreFault → Editor → Key → Editor
 after_key d fault e (Size height width) = with_size e height width
 after_key d fault e (Notice notice) = with_notice e notice
+after_key d fault e Fill = e
 after_key d fault e PasteStart = after_paste_start e
 after_key d fault e PasteEnd = after_paste_end d e
 after_key d fault e key = after_press d fault e.pasted e key
@@ -234,6 +297,9 @@ is_edit_or_move Name = false
 is_edit_or_move Tell = false
 is_edit_or_move Cancel = false
 is_edit_or_move Select = false
+is_edit_or_move Fill = false
+is_edit_or_move SaveAs = false
+is_edit_or_move AskOverwrite = false
 is_edit_or_move PasteStart = false
 is_edit_or_move PasteEnd = false
 is_edit_or_move (Size height width) = false
@@ -244,6 +310,7 @@ is_edit_or_move _ = true
 abbrev pub ends_paste : Key → Bool
 ends_paste (Insert c) = false
 ends_paste Repaint = false
+ends_paste Fill = false
 ends_paste PasteStart = false
 ends_paste (Size height width) = false
 ends_paste (Notice notice) = false

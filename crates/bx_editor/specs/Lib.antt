@@ -1,3 +1,4 @@
+pub mod Clicks
 pub mod Editor
 pub mod Region
 pub mod Search
@@ -8,6 +9,10 @@ pub mod Asking
 pub mod Answers
 pub mod Prompts
 pub mod Origin
+pub mod Scrolling
+pub mod Before
+pub mod RowMoves
+pub mod Pointing
 pub mod Effects
 pub mod Keys
 pub mod Replay

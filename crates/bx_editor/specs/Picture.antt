@@ -10,7 +10,9 @@ use Rattle.bx_grid.specs.Columns.{blank}
 use Rattle.bx_grid.specs.Picture.{PictureState}
 use Rattle.bx_ucd.specs.Data.{Data}
 use Rattle.bx_editor.specs.Editor.{Editor, rows, text_height, with_top}
+use Rattle.bx_editor.specs.declared.scrolling.Scroll.{Scroll}
 use Rattle.bx_editor.specs.Replacing.{seen}
+use Rattle.bx_editor.specs.Scrolling.{moved_top}
 use Rattle.bx_editor.specs.Status.{status_columns}
 
 -- a picture of spaces, with the cursor in its first column
@@ -39,6 +41,14 @@ next_top d e top = if e.ended then top else follow (rows d e) top e.place (text_
 -- the editor scrolled to its cursor: by the fewest rows that make the cursor's row visible
 abbrev pub scrolled : Data → Editor → Editor
 scrolled d e = with_top e (next_top d e e.top)
+
+-- the new top behind a key, by its scroll and then by the fewest rows
+abbrev pub top_behind : Data → Editor → ℕ → Scroll → ℕ
+top_behind d e top scroll = if e.ended then top else next_top d e (moved_top d e top scroll)
+
+-- the editor scrolled behind a key
+abbrev pub scrolled_by : Data → Scroll → Editor → Editor
+scrolled_by d scroll e = with_top e (top_behind d e e.top scroll)
 
 -- The cursor of a picture, shown from the row of the offset `top` on, is on the cell of its place. The place is one of the
 -- rows' places, with one slot and one cell, in the row that it falls in. That row is visible, and the cursor is in it, in

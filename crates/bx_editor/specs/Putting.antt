@@ -1,17 +1,19 @@
 -- What is put into the text: what is typed, what is held, and what is pasted. `d` is Unicode's data, `e` the editor.
-use Rattle.std.specs.Prelude.{ℕ, ◌∷◌, [], ◌==◌, Bool, true, false, List, length, encode_utf8, Some, if◌then◌else◌, ◌&&◌, nat_lt, ◌++◌}
-use Rattle.std.specs.Prelude.{Option, None}
+use Rattle.std.specs.Prelude.{ℕ, ◌+◌, ◌-◌, ◌%◌, ◌==◌, ◌&&◌, ◌||◌, not, nat_lt, Bool, true, false, if◌then◌else◌, List, [], ◌∷◌, ◌++◌, length, replicate}
+use Rattle.std.specs.Prelude.{encode_utf8, Option, Some, None}
 use Rattle.bx_text.specs.Edits.{fits, splice}
 use Rattle.bx_ucd.specs.Data.{Data}
-use Rattle.bx_document.specs.Line.{has_crlf_first}
+use Rattle.bx_document.specs.History.{insertion_before}
+use Rattle.bx_document.specs.Line.{ends_with_separator, has_crlf_first, indent, is_line_empty}
+use Rattle.bx_view.specs.Numbers.{unit_number}
 use Rattle.bx_editor.specs.declared.undo_groups.typing.Kind.{Kind}
-use Rattle.bx_editor.specs.declared.undo_groups.typing.Kind.TheVariants.{Separator}
+use Rattle.bx_editor.specs.declared.undo_groups.typing.Kind.TheVariants.{Blank, Separator}
 use Rattle.bx_editor.specs.declared.undo_groups.typing.Typing.{Typing}
 use Rattle.bx_editor.specs.declared.undo_groups.typing.Typing.TheVariants.{Off, Paste}
 use Rattle.bx_editor.specs.undo_groups.Groups.{after_insertion, goes_on, kind_of}
-use Rattle.bx_editor.specs.declared.message.Message.TheVariants.{NothingToPut, TextFull, Pasting}
-use Rattle.bx_editor.specs.Editor.{Editor, with_insertion, with_removal, with_typing}
-use Rattle.bx_editor.specs.Region.{region, is_selection, aged}
+use Rattle.bx_editor.specs.declared.message.Message.TheVariants.{NothingToPut, TextFull, Pasting, ViewOnly}
+use Rattle.bx_editor.specs.Editor.{Editor, rows_of, unpressed, with_edit, with_insertion, with_removal, with_typing}
+use Rattle.bx_editor.specs.Region.{region, is_selection, aged, line}
 use Rattle.bx_editor.specs.declared.search_state.SearchState.{SearchState}
 use Rattle.bx_editor.specs.declared.search_state.SearchState.TheVariants as search_states
 use Rattle.bx_common.specs.Characters.{largest_text}
@@ -62,19 +64,63 @@ typed d typing e new kind =
 abbrev pub line_end : Data → List ℕ → List ℕ
 line_end d text = if has_crlf_first d text then 0xD ∷ 0xA ∷ [] else 0xA ∷ []
 
--- NewLine types the line end of the text without the part that gives way
+-- the line end of the text without the part that gives way
+abbrev pub new_line_end : Data → Editor → List ℕ
+new_line_end d e = line_end d (splice e.content.text (yielding e).0 (yielding e).1 [])
+
+-- what indents a new line: the blanks and tabs with which the line begins, those that stand before the part that gives way
+abbrev pub new_indent : Data → Editor → List ℕ
+new_indent d e = if e.auto_indent then indent d e.content.text (yielding e).0 else []
+
+-- NewLine types the text's line end and the indent, as one edit
 abbrev pub after_new_line : Data → Typing → Editor → Editor
-after_new_line d typing e = typed d typing e (line_end d (splice e.content.text (yielding e).0 (yielding e).1 [])) Separator
+after_new_line d typing e = typed d typing e (new_line_end d e ++ new_indent d e) Separator
+
+-- how many units of the line stand before an offset
+abbrev pub units_in_line : Data → Editor → ℕ → ℕ
+units_in_line d e offset = unit_number d e.content.text offset - 1
+
+-- how many spaces reach from this many units to the next multiple of the tab's width
+abbrev pub spaces_on : ℕ → ℕ → ℕ
+spaces_on width units = width - units % width
+
+-- a typed tab: spaces, where it has a width
+abbrev pub after_tab : Data → Typing → Editor → Editor
+after_tab d typing e =
+    if e.tab_width == 0
+    then typed d typing e (encode_utf8 0x9) (kind_of (d.class 0x9))
+    else typed d typing e (replicate (spaces_on e.tab_width (units_in_line d e (yielding e).0)) 0x20) Blank
 
 -- a typed character
 abbrev pub after_character : Data → Typing → Editor → ℕ → Editor
-after_character d typing e c = typed d typing e (encode_utf8 c) (kind_of (d.class c))
+after_character d typing e c = if c == 0x9 then after_tab d typing e else typed d typing e (encode_utf8 c) (kind_of (d.class c))
 
 -- ---- the held text
 
--- Put inserts the held text; with nothing held a selection stays
+-- a line that is put over another one has a line end: its own, or the text's, but over an empty line none
+abbrev pub as_line : Data → Editor → List ℕ → List ℕ
+as_line d e held = if ends_with_separator d held || is_line_empty d e.content.text e.place then held else held ++ line_end d e.content.text
+
+-- bytes are put at the start of the place's line, and the cursor stays where it is in that line
+abbrev pub with_line_put : Data → Editor → List ℕ → Editor
+with_line_put d e new =
+    let start = (line d e).0 in
+    with_edit d e (insertion_before (rows_of d e) e.content start new e.place) (e.place + length new) false
+
+-- a whole line is put over the place's; without room the text stays as it is
+abbrev pub put_line : Data → Editor → List ℕ → Editor
+put_line d e new = if fits e.content.text (line d e).0 (line d e).0 new then with_line_put d e new else record e { message = Some TextFull }
+
+-- a whole line is held, and nothing is selected
+abbrev pub puts_line : Editor → Bool
+puts_line e = e.whole_line && not (is_selection e)
+
+-- Put inserts the held text, a whole line over the place's; with nothing held a selection stays
 abbrev pub after_put : Data → Editor → Editor
-after_put d e = if length e.held == 0 then record e { message = Some NothingToPut } else put_in d e e.held false
+after_put d e =
+    if length e.held == 0
+    then record e { message = Some NothingToPut }
+    else if puts_line e then put_line d e (as_line d e e.held) else put_in d e e.held false
 
 -- ---- pastes: what stands between PasteStart and PasteEnd goes into the text at once; `list` is what a paste has brought so far
 
@@ -82,14 +128,26 @@ after_put d e = if length e.held == 0 then record e { message = Some NothingToPu
 abbrev pub with_paste : Editor → Editor
 with_paste e = record e { pasted = Some []; message = Some Pasting }
 
+-- nothing is asked, and no search is on
+abbrev pub is_free : Prompt → SearchState → Bool
+is_free prompts.Off search_states.Off = true
+is_free _ _ = false
+
 -- it begins unless something is asked or sought, or one is under way
 abbrev pub paste_begun : Prompt → SearchState → Option (List ℕ) → Editor → Editor
 paste_begun prompts.Off search_states.Off None e = with_paste e
 paste_begun prompt search_state pasted e = e
 
+-- nothing can be pasted into a text that is only looked at
+abbrev pub refuses_paste : Editor → Bool
+refuses_paste e = e.read_only && is_free e.prompt e.search_state
+
 -- the effect of PasteStart
 abbrev pub after_paste_start : Editor → Editor
-after_paste_start e = with_typing (paste_begun e.prompt e.search_state e.pasted e) Paste
+after_paste_start e =
+    if refuses_paste e
+    then unpressed (record e { message = Some ViewOnly })
+    else unpressed (with_typing (paste_begun e.prompt e.search_state e.pasted e) Paste)
 
 -- ---- what it brings
 
@@ -117,6 +175,8 @@ after_pasted_letter d e c = record e {
   quit_before = false;
   goal = None;
   soft = aged e.soft;
+  clicks = None;
+  pressed = None;
 }
 
 -- ---- its end
@@ -140,4 +200,4 @@ paste_ended d e = ended_with d e e.pasted
 
 -- the effect of PasteEnd
 abbrev pub after_paste_end : Data → Editor → Editor
-after_paste_end d e = with_typing (paste_ended d e) Off
+after_paste_end d e = unpressed (with_typing (paste_ended d e) Off)

@@ -10,7 +10,7 @@ use Rattle.bx_editor.specs.declared.cursor.Soft.TheVariants.{Off, Fresh, Old}
 use Rattle.bx_editor.specs.Editor.{Editor, with_removal}
 use Rattle.bx_editor.specs.declared.cursor.Soft.{Soft}
 use Rattle.bx_keys.specs.declared.key.Key.{Key}
-use Rattle.bx_keys.specs.declared.key.Key.TheVariants.{Select, Repaint, Copy, Cut}
+use Rattle.bx_keys.specs.declared.key.Key.TheVariants.{Select, ScrollBack, ScrollOn, Repaint, Copy, Cut}
 
 -- ---- parts of the text, from one offset to another
 
@@ -44,9 +44,18 @@ abbrev pub after_mark : Editor → Editor
 after_mark e =
     if is_at_mark e.mark e.place then record e { mark = None; soft = Off; message = Some MarkOff } else record e { mark = Some e.place; soft = Off; message = Some MarkSet }
 
+-- the mark is a selection's
+abbrev pub is_soft : Soft → Bool
+is_soft Off = false
+is_soft _ = true
+
 -- Cancel removes the mark
 abbrev pub without_mark : Editor → Editor
 without_mark e = record e { mark = None; soft = Off }
+
+-- Copy leaves a selection, and removes another mark
+abbrev pub without_hard_mark : Editor → Editor
+without_hard_mark e = if is_soft e.soft then e else without_mark e
 
 -- the most bytes of held text that go out to a clipboard
 abbrev pub largest_clip : ℕ
@@ -56,18 +65,19 @@ largest_clip = 65536
 abbrev pub held_message : Bool → List ℕ → Option Message → Option Message
 held_message clipboard held own = if clipboard && nat_lt largest_clip (length held) then Some TooLongForClipboard else own
 
--- this text is held, with its message, and the mark is removed
-abbrev pub with_held : Editor → List ℕ → Message → Editor
-with_held e held own = record e { mark = None; soft = Off; held = held; message = held_message e.clipboard held (Some own) }
+-- this text is held, with its message; `whole_line`: it is a line. A mark that is no selection's is removed
+abbrev pub with_held : Editor → List ℕ → Bool → Message → Editor
+with_held e held whole_line own =
+    record (without_hard_mark e) { held = held; whole_line = whole_line; message = held_message e.clipboard held (Some own) }
 
 -- Copy makes the region the held text, or the line if the region is empty; if both are empty, the held text stays
 abbrev pub after_copy : Data → Editor → Editor
 after_copy d e =
     if is_empty (region e)
     then (if is_empty (line d e)
-    then record e { mark = None; soft = Off; message = Some NothingToCopy }
-    else with_held e (bytes_in e (line d e)) LineCopied)
-    else with_held e (bytes_in e (region e)) Copied
+    then record (without_hard_mark e) { message = Some NothingToCopy }
+    else with_held e (bytes_in e (line d e)) true LineCopied)
+    else with_held e (bytes_in e (region e)) false Copied
 
 -- Cut makes the part that Copy would take the held text, and removes it from the text
 abbrev pub after_cut : Data → Editor → Editor
@@ -76,6 +86,7 @@ after_cut d e =
     then after_copy d e
     else record (with_removal d e ((taken d e).0) ((taken d e).1) false) {
       held = bytes_in e (taken d e);
+      whole_line = is_empty (region e);
       message = held_message e.clipboard (bytes_in e (taken d e)) e.message;
     }
 
@@ -90,11 +101,6 @@ selecting e (Some mark) _ = e
 -- the effect of Select
 abbrev pub after_select : Editor → Editor
 after_select e = selecting e e.mark e.soft
-
--- the mark is a selection's
-abbrev pub is_soft : Soft → Bool
-is_soft Off = false
-is_soft _ = true
 
 -- the mark, once an old selection is taken off
 abbrev pub mark_left : Soft → Option ℕ → Option ℕ
@@ -119,9 +125,11 @@ abbrev pub aged : Soft → Soft
 aged Fresh = Old
 aged soft = soft
 
--- the softness that a key which the user presses leaves
+-- the softness that a key which the user presses leaves; the wheel ages it where it carries the cursor along
 abbrev pub soft_behind : Key → Soft → Soft
 soft_behind Select soft = soft
+soft_behind ScrollBack soft = soft
+soft_behind ScrollOn soft = soft
 soft_behind Repaint soft = soft
 soft_behind _ soft = aged soft
 

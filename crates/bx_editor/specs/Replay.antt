@@ -8,7 +8,7 @@ use Rattle.bx_editor.specs.Region.{aged}
 
 -- a Quit outside a search and a question ends what any key ends, and does nothing else
 abbrev pub after_passed_quit : Editor → Editor
-after_passed_quit e = record e { typing = Off; soft = aged e.soft; goal = None }
+after_passed_quit e = record e { typing = Off; soft = aged e.soft; goal = None; clicks = None; pressed = None }
 
 -- a Save ends a search and a question too; no undo counts as leading to the stored text, since a journal does not tell whether the
 -- save succeeded

@@ -19,7 +19,7 @@ use Rattle.bx_editor.specs.declared.search_state.SearchPurpose.{SearchPurpose}
 use Rattle.bx_editor.specs.declared.search_state.SearchPurpose.TheVariants.{Find, Replace}
 use Rattle.bx_editor.specs.declared.message.Message.{Message}
 use Rattle.bx_editor.specs.declared.message.Message.TheVariants.{Saved, SaveFailed, TextFull, NothingToUndo, NothingToRedo, Unsaved, Direction, MarkSet, MarkOff}
-use Rattle.bx_editor.specs.declared.message.Message.TheVariants.{Copied, LineCopied, NothingToCopy, NothingToPut, FromStart, FromEnd, NotFound, Help}
+use Rattle.bx_editor.specs.declared.message.Message.TheVariants.{Copied, LineCopied, NothingToCopy, NothingToPut, ViewOnly, FromStart, FromEnd, NotFound, Help}
 use Rattle.bx_editor.specs.declared.message.Message.TheVariants.{MoreHelp, MoreThanOneLine, NoSuchCharacter, Pasting, Replaced, Told, TooLongForClipboard, Notice}
 use Rattle.bx_editor.specs.declared.search_state.SearchState.{SearchState}
 use Rattle.bx_editor.specs.declared.search_state.SearchState.TheVariants.{Off, Begun, Typed, WithBegun, WithTyped, Replacing}
@@ -71,6 +71,7 @@ message_text Copied = codes "copied"
 message_text LineCopied = codes "line copied"
 message_text NothingToCopy = codes "nothing to copy"
 message_text NothingToPut = codes "nothing to put"
+message_text ViewOnly = codes "view only"
 message_text FromStart = codes "from the start"
 message_text FromEnd = codes "from the end"
 message_text NotFound = codes "not found"

@@ -17,6 +17,7 @@ use crate::undo_groups::Typing;
 use bx_document::Document;
 use bx_text::Slices;
 use bx_ucd::BidiData;
+use bx_view::Goal;
 use std::marker::Model;
 
 /// A text under edit, the cursor's place in it, the mark, the text copied or cut last, the query of a search, and the message
@@ -29,6 +30,7 @@ pub struct Editor<D: BidiData + Drop> {
     pub(crate) cursor: Cursor,
     pub(crate) past: Past,
     pub(crate) held: String,
+    pub(crate) whole_line: bool,
     pub(crate) query: String,
     pub(crate) purpose: SearchPurpose,
     pub(crate) origin: usize,
@@ -37,15 +39,21 @@ pub struct Editor<D: BidiData + Drop> {
     pub(crate) count: usize,
     pub(crate) prompt: Prompt,
     pub(crate) answer: String,
+    pub(crate) input_cursor: usize,
     pub(crate) pasted: Option<String>,
     pub(crate) typing: Typing,
     pub(crate) message: Option<Message>,
     pub(crate) quit_before: bool,
     pub(crate) ended: bool,
-    pub(crate) goal: Option<u16>,
+    pub(crate) goal: Option<Goal>,
     pub(crate) height: u16,
     pub(crate) top: usize,
     pub(crate) clipboard: bool,
+    pub(crate) read_only: bool,
+    pub(crate) auto_indent: bool,
+    pub(crate) tab_width: u8,
+    pub(crate) name: Option<String>,
+    pub(crate) home: bool,
 }
 
 impl<D: BidiData + Drop> Model for Editor<D> {
@@ -53,6 +61,7 @@ impl<D: BidiData + Drop> Model for Editor<D> {
     ghost use Rattle.bx_common.specs.Characters.{is_side};
     ghost use Rattle.bx_view.specs.Places.{IsTextPlace};
     ghost use Rattle.bx_editor.specs.Answers.{IsAnswer};
+    ghost use Rattle.bx_editor.specs.Clicks.{IsPressed};
     ghost use Rattle.bx_editor.specs.Functions.{EditorState};
     ghost use Rattle.bx_editor.specs.Origin.{BeganAt, StandsAt};
 
@@ -65,7 +74,10 @@ impl<D: BidiData + Drop> Model for Editor<D> {
         place = e.cursor.place;
         mark = e.cursor.mark;
         soft = e.cursor.soft;
+        clicks = e.cursor.clicks;
+        pressed = e.cursor.pressed;
         held = string_bytes e.held;
+        whole_line = e.whole_line;
         query = string_bytes e.query;
         search_state = e.cursor.search_state;
         purpose = e.purpose;
@@ -75,6 +87,7 @@ impl<D: BidiData + Drop> Model for Editor<D> {
         count = e.count;
         prompt = e.prompt;
         answer = string_bytes e.answer;
+        input_cursor = e.input_cursor;
         pasted = option_map string_bytes e.pasted;
         undo_groups = e.past.undo_groups.numbers;
         typing = e.typing;
@@ -89,12 +102,18 @@ impl<D: BidiData + Drop> Model for Editor<D> {
         width = e.document.document.w;
         top = e.top;
         clipboard = e.clipboard;
+        read_only = e.read_only;
+        auto_indent = e.auto_indent;
+        tab_width = e.tab_width;
+        name = option_map string_bytes e.name;
+        home = e.home;
       };
     } };
 
     ghost invariant = { λ e. IsTextPlace (D.data e.document.tables) e.document.document.content.text e.cursor.place
         × (is_side e.height ≡ true)
         × IfSome e.cursor.mark (IsTextPlace (D.data e.document.tables) e.document.document.content.text)
+        × IfSome e.cursor.pressed (IsPressed (D.data e.document.tables) e.document.document.content.text)
         × (length (chars (string_bytes e.query)) ≤ 64)
         × (length (chars (string_bytes e.replacement)) ≤ 64)
         × IsAnswer e.prompt (string_bytes e.answer)
@@ -110,6 +129,7 @@ impl<D: BidiData + Drop> Editor<D> {
     {
         self.document.set_width(width);
         self.height = height;
+        self.cursor.clicks = None;
     }
 
     /// Counts the text as changed since the last save, and no undo as leading to the stored text. Allocates nothing.

@@ -2,6 +2,7 @@
 #![tactic(auto)]
 
 mod asking;
+mod clicks;
 mod clipboard;
 mod cursor;
 mod editor;
@@ -12,6 +13,7 @@ mod matches;
 pub mod message;
 mod moving;
 mod opening;
+mod options;
 mod past;
 mod pasting;
 mod picture;
@@ -23,6 +25,7 @@ mod region;
 mod replacement;
 mod replacing;
 mod replay;
+mod scrolling;
 mod search_keys;
 pub mod search_state;
 mod searching;
@@ -33,6 +36,7 @@ mod undo_groups;
 mod undoing;
 mod wrapping;
 
+pub use clicks::{Clicks, Extent, Pressed};
 pub use cursor::Soft;
 pub use editor::Editor;
 pub use laws::{copies_go_out, paste_is_one_edit, paste_is_unseen};
@@ -42,6 +46,7 @@ pub use questions::{
     Prompt, Target, asked, asks_code, closing, coded, is_code_letter, is_line_letter, lengthened,
     named, shortened, told_is_printable, write_told,
 };
+pub use scrolling::Scroll;
 pub use search_state::{SearchPurpose, SearchState};
 pub use undo_groups::{
     Kind, Removal, Typing, UndoGroups, begin_where_edits_begin, edit_is_of_its_run,

@@ -29,6 +29,8 @@ pub enum Message {
     LineCopied,
     NothingToCopy,
     NothingToPut,
+    /// The text is only looked at.
+    ViewOnly,
     /// The match was found from the text's start: there is none after the place.
     FromStart,
     /// The match was found from the text's end: there is none before the place.

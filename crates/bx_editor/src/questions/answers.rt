@@ -15,6 +15,10 @@ pub enum Prompt {
     Name,
     /// Which character is put in, by its code.
     Code,
+    /// Under which name the text is saved.
+    File,
+    /// Whether the file, which another program changed, is overwritten.
+    Overwrite,
 }
 
 /// The number of a text's characters.

@@ -20,6 +20,8 @@ pub enum Typing {
     Deleting,
     /// A paste is being read.
     Paste,
+    /// A paste into an input line is being read, and a line end of it came: what is left of it does nothing.
+    Spent,
 }
 
 /// Kinds of characters that are put in.
