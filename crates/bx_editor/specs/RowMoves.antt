@@ -6,8 +6,7 @@ use Rattle.bx_keys.specs.declared.key.Key.TheVariants.{LineUp, LineDown, PageBac
 use Rattle.bx_view.specs.declared.moves.Goal.{Goal}
 use Rattle.bx_view.specs.declared.moves.Goal.TheVariants.{End}
 use Rattle.bx_view.specs.declared.moves.Vertical.{Vertical}
-use Rattle.bx_view.specs.Moves.{goal_of, rows_away}
-use Rattle.bx_view.specs.TextRows.{row_of}
+use Rattle.bx_view.specs.Moves.{goal_of, row_home, rows_away}
 use Rattle.bx_view.specs.Top.{is_shown, to_shown, top_away}
 use Rattle.bx_editor.specs.declared.questions.answers.Prompt.TheVariants as prompts
 use Rattle.bx_editor.specs.declared.search_state.SearchState.TheVariants as search_states
@@ -68,5 +67,5 @@ abbrev pub after_wheel : Data → Before → Editor → Vertical → Editor
 after_wheel d was e way =
     let top = wheel_top d e way in
     if shows_place d e top
-    then (if row_of (rows d e) top == row_of (rows d e) e.top then record e { message = was.message } else e)
+    then (if top == row_home (rows d e) e.top then record e { message = was.message } else e)
     else carried d e top
