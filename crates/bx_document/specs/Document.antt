@@ -3,7 +3,7 @@
 use Rattle.std.specs.Prelude.{ℕ, ◌+◌, List, [], length}
 use Rattle.bx_common.specs.declared.base.Base.{Base}
 use Rattle.bx_document.specs.declared.edits.RegionEnd.{RegionEnd}
-use Rattle.bx_document.specs.History.{exchange, insertion, removal, wrap, wrap_place}
+use Rattle.bx_document.specs.History.{exchange, insertion, insertion_before, removal, wrap, wrap_place}
 use Rattle.bx_text.specs.Edits.{Edited, opened, splice}
 use Rattle.bx_view.specs.Moves.{place_from}
 use Rattle.bx_view.specs.TextRows.{TextRow, text_rows}
@@ -45,6 +45,14 @@ place_after_removal d t start stop = place_from (rows_of d t (splice t.content.t
 -- after bytes are inserted at a place
 abbrev pub after_insertion : Data → Document → ℕ → List ℕ → Document
 after_insertion d t place new = record t { content = insertion (rows_of d t) t.content place new place }
+
+-- after bytes are inserted at an offset before the cursor, which was at `place`
+abbrev pub after_insertion_before : Data → Document → ℕ → List ℕ → ℕ → Document
+after_insertion_before d t at new place = record t { content = insertion_before (rows_of d t) t.content at new place }
+
+-- the place after that: where the cursor stood, moved on
+abbrev pub place_behind_insertion : Data → Document → ℕ → List ℕ → ℕ → ℕ
+place_behind_insertion d t at new place = place_from (rows_of d t (splice t.content.text at at new)) (place + length new)
 
 -- after the bytes from `start` to `stop` are removed; the cursor was at `place`
 abbrev pub after_removal : Data → Document → ℕ → ℕ → ℕ → Document

@@ -14,6 +14,10 @@ use Rattle.bx_document.specs.Swapped.{wrapped_end, wrapped_text}
 abbrev pub insertion : (List ℕ → List TextRow) → Edited → ℕ → List ℕ → ℕ → Edited
 insertion rows t at new place = inserted t at new place (place_from (rows (splice t.text at at new)) (at + length new))
 
+-- bytes are inserted at an offset before the cursor; it goes to the first place at or after where it stood, moved on by their length
+abbrev pub insertion_before : (List ℕ → List TextRow) → Edited → ℕ → List ℕ → ℕ → Edited
+insertion_before rows t at new place = inserted t at new place (place_from (rows (splice t.text at at new)) (place + length new))
+
 -- the bytes from `start` to `stop` are removed; the cursor goes to the first place at or after `start`
 abbrev pub removal : (List ℕ → List TextRow) → Edited → ℕ → ℕ → ℕ → Edited
 removal rows t start stop place = removed t start stop place (place_from (rows (splice t.text start stop [])) start)

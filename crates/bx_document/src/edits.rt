@@ -37,7 +37,7 @@ fn wrapped_end(end: RegionEnd, start: usize, stop: usize, front: &str) -> usize
 }
 
 /// A copy of the bytes from `start` to `stop` of the text, with `front` before and `back` after them.
-fn wrapped(
+pub(crate) fn wrapped(
     alloc: Global,
     text: &Text,
     start: usize,
@@ -60,7 +60,7 @@ fn wrapped(
 
 impl<D: BidiData + Drop> Document<D> {
     /// The place after a pending edit that replaces the bytes from `start` to `stop` with `new`.
-    fn place_after(&mut self, start: usize, stop: usize, new: &str) -> Result<usize, OutOfMemory>
+    pub(crate) fn place_after(&mut self, start: usize, stop: usize, new: &str) -> Result<usize, OutOfMemory>
         requires range { IsRange self.old.document.content.text start stop }
         requires fits { fits self.old.document.content.text start stop new.now ≡ true }
         ensures same { self.new ≡ self.old }

@@ -13,6 +13,7 @@ mod first_separator;
 mod history;
 mod indexed_text;
 mod laws;
+mod lines;
 mod moves;
 mod place_level;
 mod points;

@@ -38,7 +38,7 @@ fn is_point<D: BidiData>(c: char, tables: &D) -> bool
 }
 
 /// The last character of a text, and the text before it; None for the empty text.
-fn last_character(text: &str) -> Option<(char, &str)>
+pub(crate) fn last_character(text: &str) -> Option<(char, &str)>
     ensures { MatchOption result (length text.now ≡ 0) (λ (c, before).
         (text.now ≡ before.now ++ encode_utf8 c) × (chars text.now ≡ chars before.now ++ c ∷ []) × IsUtf8 before.now) }
 {

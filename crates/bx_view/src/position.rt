@@ -1,6 +1,7 @@
 //! The position of a place in its row and its paragraph.
-ghost use Rattle.std.specs.Prelude.{◌≡◌, ◌≤◌, IfOk};
+ghost use Rattle.std.specs.Prelude.{◌≡◌, ◌-◌, ◌≤◌, IfOk};
 ghost use Rattle.bx_text.specs.index.Paragraphs.{lengths, paragraph_of};
+ghost use Rattle.bx_view.specs.Numbers.{unit_number};
 ghost use Rattle.bx_view.specs.Position.{IsPosition};
 ghost use Rattle.bx_view.specs.TextRef.{IsViewBy, Keeps, StandsOn, bytes, rows};
 ghost use Rattle.bx_view.specs.TextRows.{cell_of, row_of};
@@ -44,6 +45,21 @@ impl View {
             paragraph: at.paragraph + 1,
             unit: row.paragraph.units_ahead(at.row) + standing.units_before + 1,
         })
+    }
+
+    /// How many units of its paragraph stand before a place.
+    pub fn units_in_line<D: BidiData>(
+        &mut self,
+        text_ref: &TextRef<'_, D>,
+        place: usize,
+    ) -> Result<usize, OutOfMemory>
+        requires data { IsViewBy text_ref.now self.old }
+        ensures keeps { Keeps text_ref.now self.old self.new }
+        ensures units { IfOk result (λ n. n ≡ unit_number (D.data text_ref.now.tables.now) (bytes text_ref.now) place - 1) }
+    {
+        let at = self.row_at(text_ref, place)?;
+        let position = self.position(text_ref, at, place)?;
+        Ok(position.unit - 1)
     }
 
     /// The column, from 1, of the cell of a place.
