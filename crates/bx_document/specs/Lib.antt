@@ -5,12 +5,14 @@ pub mod Points
 pub mod History
 pub mod Line
 pub mod IndexedText
+pub mod InputLine
 pub mod Past
 pub mod Backup
 pub mod PlaceLevel
 pub mod RegionSlots
 pub mod SeparatorReads
 pub mod Shown
+pub mod StatusRow
 pub mod Swapped
 pub mod Touched
 pub mod Narrow

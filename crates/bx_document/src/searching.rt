@@ -2,6 +2,7 @@
 ghost use Rattle.std.specs.Prelude.{◌≡◌, ◌≤◌, ◌<◌, ◌↔◌, ◌∷◌, [], None, chars, length, IfOk, IfSome, IsCharBoundary, IsNone, IsUtf8, MatchOption};
 ghost use Rattle.bx_find.specs.Letters.{letters};
 ghost use Rattle.bx_find.specs.Matches.{first_from, last_before, match_end, spans_from};
+ghost use Rattle.bx_find.specs.Parts.{first_between};
 ghost use Rattle.bx_text.specs.Edits.{largest_text};
 ghost use Rattle.bx_text.specs.Changes.{IsRange};
 ghost use Rattle.bx_view.specs.Moves.{place_at};
@@ -46,7 +47,23 @@ impl<D: BidiData + Drop> Document<D> {
         ensures found { result ≡ first_from (D.data self.now.tables) reading query.now self.now.document.content.text 0 }
         ensures boundary { IfSome result (IsCharBoundary self.now.document.content.text) }
     {
-        bx_find::first_before(&self.indexed, self.indexed.tables(), reading, query, x)
+        bx_find::first_between(&self.indexed, self.indexed.tables(), reading, query, 0, x)
+    }
+
+    /// The byte offset of a query's first match at or after `start`, if it is before `stop`. Allocates nothing.
+    pub fn first_between(
+        &self,
+        reading: Reading,
+        query: &Query,
+        start: usize,
+        stop: usize,
+    ) -> Option<usize>
+        requires start { IsCharBoundary self.now.document.content.text start }
+        requires stop { IsCharBoundary self.now.document.content.text stop }
+        ensures found { result ≡ first_between (D.data self.now.tables) reading query.now self.now.document.content.text start stop }
+        ensures boundary { IfSome result (IsCharBoundary self.now.document.content.text) }
+    {
+        bx_find::first_between(&self.indexed, self.indexed.tables(), reading, query, start, stop)
     }
 
     /// The byte offset of a query's last match before `x`. Allocates nothing.

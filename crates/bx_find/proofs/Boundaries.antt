@@ -4,7 +4,7 @@ use Rattle.std.specs.Prelude.{find, nat_le, nat_lt, encode_utf8}
 use Rattle.std.proofs.lemmas.List.Elements.{All-nil, All-cons, All-head, All-tail}
 use Rattle.bx_ucd.specs.Data.{Data}
 use Rattle.bx_find.specs.Matches.{is_match, matches, first_from, last_below, last_before}
-use Rattle.bx_find.specs.Parts.{first_before, last_above, last_from}
+use Rattle.bx_find.specs.Parts.{first_between, if_below, last_above, last_from}
 use Rattle.bx_find.specs.declared.letters.Reading.{Reading}
 use Rattle.bx_find.proofs.Offsets.{widths, widths-more}
 use Rattle.bx_find.proofs.Nearest.{bound_at}
@@ -18,6 +18,10 @@ module _ (P : ℕ → Type 0) where
     | true ↦ All-head P at ats a
     | false ↦ of-find f ats (All-tail P at ats a)
   ]
+
+  of-bounded : (x : ℕ) (o : Option ℕ) → IfSome o P → IfSome (if_below x o) P
+  of-bounded x None h = tt
+  of-bounded x (Some at) h = elim (nat_lt at x) as (λ b. IfSome (cond b (Some at) None) P) [ true ↦ h | false ↦ tt ]
 
   of-below : (x : ℕ) (o : Option ℕ) (ats : List ℕ) → IfSome o P → All P ats → IfSome (last_below x o ats) P
   of-below x o [] h a = h
@@ -62,9 +66,10 @@ module _ (ucd : Data) (reading : Reading) (sought : List ℕ) where
     pub first_from_bound : (o : Option ℕ) → o ≡ first_from ucd reading sought text x → IfSome o (IsCharBoundary text)
     first_from_bound o e = subst (λ p. IfSome p (IsCharBoundary text)) (sym e) (of-find (IsCharBoundary text) (nat_le x) _ all)
 
-    pub first_before_bound : (o : Option ℕ) → o ≡ first_before ucd reading sought text x → IfSome o (IsCharBoundary text)
-    first_before_bound o e =
-        subst (λ p. IfSome p (IsCharBoundary text)) (sym e) (of-find (IsCharBoundary text) (λ at. nat_lt at x) _ all)
+    pub first_between_bound : (stop : ℕ) (o : Option ℕ) → o ≡ first_between ucd reading sought text x stop → IfSome o (IsCharBoundary text)
+    first_between_bound stop o e =
+        subst (λ p. IfSome p (IsCharBoundary text)) (sym e)
+        (of-bounded (IsCharBoundary text) stop (first_from ucd reading sought text x) (first_from_bound _ refl))
 
     pub last_before_bound : (o : Option ℕ) → o ≡ last_before ucd reading sought text x → IfSome o (IsCharBoundary text)
     last_before_bound o e = subst (λ p. IfSome p (IsCharBoundary text)) (sym e) (of-below (IsCharBoundary text) x None _ tt all)

@@ -10,7 +10,7 @@ use Rattle.bx_ucd.specs.Data.{Data}
 use Rattle.bx_find.specs.Letters.{is_passed_over, letters_of, letters}
 use Rattle.bx_find.specs.Short.{is_simple, simple_letter}
 use Rattle.bx_find.specs.Matches.{begins, begins_some, is_some, is_match, matches, first_from, last_below, last_before}
-use Rattle.bx_find.specs.Parts.{first_below, first_before, last_above, last_from}
+use Rattle.bx_find.specs.Parts.{first_between, if_below, last_above, last_from}
 use Rattle.bx_find.specs.Prefix.{Placed, placed_first, placed, found, with_letters, offsets_of, to_come}
 use Rattle.bx_find.specs.declared.letters.Reading.{Reading}
 use Rattle.bx_find.proofs.LettersOf.{simple}
@@ -29,10 +29,9 @@ letters-first : (place : Option ℕ) (ls : List ℕ) → letters_in (placed_firs
 letters-first place [] = refl
 letters-first place (l ∷ ls) = ap (λ ks. l ∷ ks) (letters-first None ls)
 
--- an offset, if it is below x
-abbrev pub if_below : ℕ → Option ℕ → Option ℕ
-if_below x None = None
-if_below x (Some at) = if nat_lt at x then Some at else None
+-- the first of the offsets below x
+abbrev first_below : ℕ → List ℕ → Option ℕ
+first_below x ats = find (λ at. nat_lt at x) ats
 
 pub below_yes : (x at : ℕ) → at < x → if_below x (Some at) ≡ Some at
 below_yes x at h = let e : nat_lt at x ≡ true = grind (arith, nat_tests) in ap (λ b. if b then Some at else None) e
@@ -212,11 +211,6 @@ module _ (ucd : Data) (reading : Reading) (sought : List ℕ) where
   below-first x at [] = refl
   below-first x at (c ∷ cs) = below-first-by x at c cs (is_match ucd reading sought (c ∷ cs)) refl (below-first x (at + length (encode_utf8 c)) cs)
 
-  pub before_by_first : (text : List ℕ) (x : ℕ)
-      → first_before ucd reading sought text x ≡ if_below x (slice_get (to_come ucd reading sought [] 0 (chars (drop 0 text))) 0)
-  before_by_first text x =
-      below-first x 0 (chars text) ∙ ap (λ (os : List ℕ). if_below x (slice_get os 0)) (matches-placed 0 (chars text))
-
   -- the prefix is empty, and all that follows is past x
   pub none_first : (x at : ℕ) (prefix : List (Option ℕ)) (cs : List ℕ) → length prefix ≡ 0 → x ≤ at
       → if_below x (slice_get (to_come ucd reading sought prefix at cs) 0) ≡ None
@@ -312,10 +306,16 @@ module _ (ucd : Data) (reading : Reading) (sought : List ℕ) where
           ap (λ b. if b then Some at else find (nat_le 0) ats) any ∙ sym (ap (λ b. if b then Some at else first_below x ats) below)
       around-by x at ats (inr l) h = let no = sym h ∙ cond-here at x ats l in absurd (cc)
 
+  first-any : (ats : List ℕ) → find (nat_le 0) ats ≡ slice_get ats 0
+  first-any [] = refl
+  first-any (at ∷ ats) = let any : nat_le 0 at ≡ true = grind (arith, nat_tests) in ap (λ b. if b then Some at else find (nat_le 0) ats) any
+
   -- no match is at or after x: the first of all is before x
   pub first_around : (text : List ℕ) (x : ℕ) → first_from ucd reading sought text x ≡ None
-      → first_from ucd reading sought text 0 ≡ first_before ucd reading sought text x
-  first_around text x h = around x (matches ucd reading sought 0 (chars text)) h
+      → first_from ucd reading sought text 0 ≡ first_between ucd reading sought text 0 x
+  first_around text x h =
+      let ats = matches ucd reading sought 0 (chars text) in
+      around x ats h ∙ below-first x 0 (chars text) ∙ ap (if_below x) (sym (first-any ats))
 
   last-not : (x at : ℕ) (o : Option ℕ) (ats : List ℕ) → x ≤ at → last_below x o (at ∷ ats) ≡ last_below x o ats
   last-not x at o ats h = let e : nat_lt at x ≡ false = grind (arith, nat_tests) in rw (e, last_below) refl

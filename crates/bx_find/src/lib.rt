@@ -18,5 +18,5 @@ mod spans;
 pub use haystack::Haystack;
 pub use letters::{Reading, is_passed_over};
 pub use query::Query;
-pub use search::{first_before, first_from, last_before, last_from};
+pub use search::{first_between, first_from, last_before, last_from};
 pub use spans::{first_span, match_end};

@@ -1,7 +1,7 @@
 //! The search of a text for a query: the nearest matches of offsets.
 ghost use Rattle.std.specs.Prelude.{◌≡◌, None, length, IfSome, IsCharBoundary, IsUtf8};
 ghost use Rattle.bx_find.specs.Matches.{first_from, last_before};
-ghost use Rattle.bx_find.specs.Parts.{first_before, last_from};
+ghost use Rattle.bx_find.specs.Parts.{first_between, last_from};
 
 use crate::backward::{Latest, last_in};
 use crate::forward::first_in;
@@ -55,17 +55,19 @@ pub(crate) fn first_match<H: Haystack, D: BidiData>(
     None
 }
 
-/// The byte offset of the first match before `x`. Reads the text from its start to `x`, and beyond while a match that begins before
-/// `x` may go on.
-pub fn first_before<H: Haystack, D: BidiData>(
+/// The byte offset of the first match at or after `start`, if it is before `stop`. Reads the text from `start` to `stop`, and beyond
+/// while a match that begins before `stop` may go on.
+pub fn first_between<H: Haystack, D: BidiData>(
     haystack: &H,
     tables: &D,
     reading: Reading,
     query: &Query,
-    x: usize,
+    start: usize,
+    stop: usize,
 ) -> Option<usize>
-    requires { IsCharBoundary (H.text haystack.now) x }
-    ensures found { result ≡ first_before (D.data tables.now) reading query.now (H.text haystack.now) x }
+    requires start { IsCharBoundary (H.text haystack.now) start }
+    requires stop { IsCharBoundary (H.text haystack.now) stop }
+    ensures found { result ≡ first_between (D.data tables.now) reading query.now (H.text haystack.now) start stop }
     ensures boundary { IfSome result (IsCharBoundary (H.text haystack.now)) }
 {
     let sought = Sought {
@@ -75,14 +77,14 @@ pub fn first_before<H: Haystack, D: BidiData>(
     };
     let len = haystack.len();
     let mut prefix = query.empty_prefix();
-    let mut at = 0;
+    let mut at = start;
     while at < len {
-        if at >= x && prefix.len() == 0 {
+        if at >= stop && prefix.len() == 0 {
             return None;
         }
-        let piece = upto(haystack.piece_at(at), at, x);
+        let piece = upto(haystack.piece_at(at), at, stop);
         if let Some(found) = first_in(&sought, &mut prefix, piece, at) {
-            return if found < x { Some(found) } else { None };
+            return if found < stop { Some(found) } else { None };
         }
         at += piece.len();
     }

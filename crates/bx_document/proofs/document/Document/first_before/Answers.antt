@@ -10,6 +10,6 @@ returns-clause-found g c =
     let same = lent c.tables.ensures refl c.self.view_is in
     let none = subst (λ s. first_from (g.D.BidiData.data s.tables) c.args.reading c.args.query.now s.document.content.text c.args.x ≡ None)
     (sym same) c.requires.none_from in
-    c.first_before.ensures.found
+    c.first_between.ensures.found
     ∙ sym (first_around (g.D.BidiData.data c.tables.result.now) c.args.reading c.args.query.now c.self.inside.indexed.content.text c.args.x none)
     ∙ ap (λ s. first_from (g.D.BidiData.data s.tables) c.args.reading c.args.query.now s.document.content.text 0) same
